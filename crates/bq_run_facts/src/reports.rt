@@ -1,24 +1,31 @@
 //! The report on a workspace.
 
-ghost use Rattle.std.specs.Prelude.{◌≡◌, Ok, IfOk};
+ghost use Rattle.std.specs.Prelude.{◌≡◌, ◌++◌, ℕ, Ok, IfOk};
+ghost use Rattle.std.specs.List.{flat_map};
 ghost use Rattle.std.specs.Option.{option_copied};
 ghost use Rattle.bq_load_discover.specs.LoadGraph.{IsLoadGraph, inputs_of};
 ghost use Rattle.bq_load_discover.specs.Schema.{schema_in};
 ghost use Rattle.bq_label.specs.Packages.{packages_of};
+ghost use Rattle.bq_load_fault_line.specs.FaultLine.{put_lines};
+ghost use Rattle.bq_load_fault_line.specs.LineText.{line_text};
+ghost use Rattle.bq_run_report.specs.Ending.{status_by};
 ghost use Rattle.bq_run_report.specs.Report.{inside, report_view};
 ghost use Rattle.bq_run.specs.Run.{IsInRange};
-ghost use Rattle.bq_run.specs.WorkspaceRun.{loaded_in};
-ghost use Rattle.bq_run_facts.specs.Facts.{IsFactsBy, IsFactsOn, TellsFacts};
-ghost use Rattle.bq_run_facts.specs.Lines.{module_lines};
+ghost use Rattle.bq_run.specs.WorkspaceRun.{loaded_in, refused};
+ghost use Rattle.bq_run_report.specs.declared.ending.NoAnswer.TheVariants.{Schema as BadSchema, TooManyModules};
+ghost use Rattle.bq_run_facts.specs.Facts.{IsFactsBy, IsFactsOn, Tells, TellsFacts};
+ghost use Rattle.bq_run_facts.specs.Lines.{fault_objects, module_lines};
 
 use crate::lines::{push_faults, push_modules};
 use crate::replies::facts_over;
+use bq_base_rope::Rope;
 use bq_label::{Packages, Workspace};
 use bq_load::{Loaded, OpenGate, Pool};
 use bq_load_discover::{LoadErr, LoadGraph, Module, discover_by_workers, schema_of};
+use bq_load_fault_line::FaultLines;
 use bq_package_schema::Schema;
 use bq_query_check::{CheckedQuery, parse_query};
-use bq_query_target_graph::build_graph;
+use bq_query_target_graph::{TargetGraph, build_graph};
 use bq_run::{Options, refused_report};
 use bq_run_report::{NoAnswer, Report, refusal_of, status_by};
 use bq_value_seed::Seed;
@@ -52,8 +59,50 @@ fn read_before(
     })
 }
 
-/// Makes the report on a loaded workspace. A label that names no target is one more fault, F79.
+/// What a loaded workspace has to say on standard error.
+#[derive(Drop)]
+struct Told {
+    prints: Rope,
+    /// The faults of its modules.
+    faults: FaultLines,
+    /// Labels that name no target, F79.
+    dangling: FaultLines,
+}
+
+/// Makes the report over the graph of the targets.
 fn report_over(
+    alloc: Global,
+    before: Before,
+    told: Told,
+    graph: &TargetGraph,
+    asked: Option<&CheckedQuery>,
+) -> Result<Report, AllocError>
+    ensures faults { IfOk result (λ r. r.faults ≡ told.prints ++ flat_map line_text (put_lines told.faults told.dangling)) }
+    ensures reply { IfOk result (λ r. Tells before.packages graph.now (option_copied asked.entry) (before.modules.items ++ fault_objects (put_lines told.faults told.dangling)) (status_by (put_lines told.faults told.dangling)) (record { text = r.answer.items; end = r.end })) }
+{
+    let Before {
+        modules: mut further,
+        packages,
+    } = before;
+    let Told {
+        prints: mut text,
+        mut faults,
+        dangling,
+    } = told;
+    faults.add_all(dangling)?;
+    let status = status_by(&faults);
+    push_faults(alloc, &mut further, &faults)?;
+    faults.append_to(alloc, &mut text)?;
+    let reply = facts_over(alloc, &packages, graph, asked, &further, status)?;
+    Ok(Report {
+        faults: text,
+        answer: reply.text,
+        end: reply.end,
+    })
+}
+
+/// Makes the report on a loaded workspace. A label that names no target is one more fault.
+fn report_loaded(
     alloc: Global,
     before: Before,
     loaded: Loaded,
@@ -61,29 +110,22 @@ fn report_over(
 ) -> Result<Report, AllocError>
     ensures { IfOk result (λ r. TellsFacts before.packages before.modules.items (inside loaded) (option_copied asked.entry) (report_view r)) }
 {
-    let Before {
-        modules: mut further,
-        packages: known,
-    } = before;
     let Loaded {
         modules,
         packages,
-        mut faults,
+        faults,
         prints,
     } = loaded;
     drop(modules); // so that the graph gets the memory of their values
     let (graph, dangling) = build_graph(alloc, packages)?;
-    faults.add_all(dangling)?;
-    let status = status_by(&faults);
-    push_faults(alloc, &mut further, &faults)?;
-    let mut text = prints;
-    faults.append_to(alloc, &mut text)?;
-    let reply = facts_over(alloc, &known, &graph, asked, &further, status)?;
-    Ok(Report {
-        faults: text,
-        answer: reply.text,
-        end: reply.end,
-    })
+    let told = Told {
+        prints,
+        faults,
+        dangling,
+    };
+    let report = report_over(alloc, before, told, &graph, asked);
+    drop(graph); // PROOF: one call lets the graph go
+    report
 }
 
 /// Makes the report on a workspace with this load graph.
@@ -115,7 +157,18 @@ fn report_graph<T: Threads + Wait + RandomSource + Sync>(
         jobs,
     )?;
     let loaded = pool.load(rt, alloc, seats, &OpenGate)?;
-    report_over(alloc, before, loaded, asked)
+    report_loaded(alloc, before, loaded, asked)
+}
+
+/// Makes the report of a run that finds no load graph.
+fn without_graph(alloc: Global, why: LoadErr) -> Result<Report, AllocError>
+    ensures why { IfOk result (λ _. why ≡ LoadErr.TooManyModules) }
+    ensures report { IfOk result (λ r. report_view r ≡ refused TooManyModules) }
+{
+    match why {
+        LoadErr::TooManyModules => Ok(refused_report(alloc, NoAnswer::TooManyModules)),
+        _ => Err(AllocError),
+    }
 }
 
 /// Makes the report on a workspace whose schema and query are read.
@@ -133,8 +186,17 @@ fn report_schema<T: Threads + Wait + RandomSource + Sync>(
 {
     match discover_by_workers(rt, alloc, workspace, schema, options.jobs as usize) {
         Ok(graph) => report_graph(rt, alloc, workspace, schema, graph, asked, options),
-        Err(LoadErr::TooManyModules) => Ok(refused_report(alloc, NoAnswer::TooManyModules)),
-        Err(_) => Err(AllocError),
+        Err(why) => without_graph(alloc, why), // PROOF: nothing is left to let go of
+    }
+}
+
+/// Makes the report of a run that finds no schema.
+fn without_schema(alloc: Global, why: LoadErr) -> Result<Report, AllocError>
+    ensures { IfOk result (λ r. (line : ℕ) × (why ≡ LoadErr.Schema line) × (report_view r ≡ refused (BadSchema line))) }
+{
+    match why {
+        LoadErr::Schema(line) => Ok(refused_report(alloc, NoAnswer::Schema(line))),
+        _ => Err(AllocError),
     }
 }
 
@@ -150,9 +212,12 @@ fn report_asked<T: Threads + Wait + RandomSource + Sync>(
     ensures { IfOk result (λ r. IsFactsBy options.now.max_steps workspace.now (option_copied asked.entry) (report_view r)) }
 {
     match schema_of(alloc, workspace) {
-        Ok(schema) => report_schema(rt, alloc, workspace, &schema, asked, options),
-        Err(LoadErr::Schema(line)) => Ok(refused_report(alloc, NoAnswer::Schema(line))),
-        Err(_) => Err(AllocError),
+        Ok(schema) => {
+            let report = report_schema(rt, alloc, workspace, &schema, asked, options);
+            drop(schema); // PROOF: one call lets the schema go
+            report
+        }
+        Err(why) => without_schema(alloc, why),
     }
 }
 

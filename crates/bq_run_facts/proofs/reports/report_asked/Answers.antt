@@ -1,7 +1,16 @@
-use Rattle.std.proofs.Common.{rules}
+use Rattle.std.specs.Prelude.{option_copied}
+use Rattle.std.proofs.lemmas.Result.{IfOk-weaker}
+use Rattle.std.proofs.Common.{◌≡◌, ℕ}
+use Rattle.bq_load_discover.specs.declared.load_err.LoadErr.TheVariants as e
+use Rattle.bq_run_report.specs.Report.{report_view}
+use Rattle.bq_run_report.specs.declared.ending.NoAnswer.TheVariants.{Schema}
+use Rattle.bq_run.specs.WorkspaceRun.{refused}
 use Rattle.bq_run_facts.specs.Facts.{IsFactsBy}
 use Rattle.bq_run_facts.proofs.reports.report_asked.Goals as goal
 
-pub returns-in-Err-Schema : goal.returns-in-Err-Schema
-returns-in-Err-Schema g c =
-    IsFactsBy.wrong_schema c.in-Err-Schema.line (c.in-Err-Schema.ensures c.in-Err-Schema.line (search rules)) c.refused_report.ensures
+pub returns-in-Err : goal.returns-in-Err
+returns-in-Err g c =
+    let why = c.in-Err.why in
+    IfOk-weaker c.without_schema.result (λ r. (line : ℕ) × (why ≡ e.Schema line) × (report_view r ≡ refused (Schema line)))
+    (λ r. IsFactsBy c.args.options.now.max_steps c.args.workspace.now (option_copied c.args.asked) (report_view r))
+    (λ r h. IsFactsBy.wrong_schema h.0 (c.in-Err.ensures h.0 h.1) h.2) c.without_schema.ensures

@@ -1,12 +1,19 @@
-use Rattle.std.proofs.Common.{rules}
+use Rattle.std.proofs.Common.{◌≡◌, Result, Ok, Err}
+use Rattle.std.specs.Prelude.{IfOk}
 use Rattle.std.specs.Prelude.{option_copied}
 use Rattle.std.proofs.lemmas.Result.{IfOk-weaker}
 use Rattle.bq_label.specs.Packages.{packages_of}
 use Rattle.bq_run_report.specs.Report.{report_view}
-use Rattle.bq_run.specs.WorkspaceRun.{loaded_in}
+use Rattle.bq_load_discover.specs.declared.load_err.LoadErr.TheVariants as e
+use Rattle.bq_run_report.specs.declared.ending.NoAnswer.TheVariants.{TooManyModules}
+use Rattle.bq_run.specs.WorkspaceRun.{loaded_in, refused}
 use Rattle.bq_run_facts.specs.Facts.{IsFactsBy, TellsFacts}
 use Rattle.bq_run_facts.specs.Lines.{module_lines}
 use Rattle.bq_run_facts.proofs.reports.report_schema.Goals as goal
+
+both : {A E : Type 0} (result : Result A E) (P Q R : A → Type 0) → ((x : A) → P x → Q x → R x) → IfOk result P → IfOk result Q → IfOk result R
+both (Ok x) P Q R f p q = f x p q
+both (Err e) P Q R f p q = tt
 
 pub returns-in-Ok : goal.returns-in-Ok
 returns-in-Ok g c =
@@ -19,6 +26,10 @@ returns-in-Ok g c =
     (λ r. IsFactsBy limit files asked (report_view r))
     (λ r h. IsFactsBy.loaded rules graph c.requires.schema c.in-Ok.ensures h) c.report_graph.ensures
 
-pub returns-in-Err-TooManyModules : goal.returns-in-Err-TooManyModules
-returns-in-Err-TooManyModules g c =
-    IsFactsBy.too_many c.args.schema.now c.requires.schema (c.in-Err-TooManyModules.ensures.0 (search rules)) c.refused_report.ensures
+pub returns-in-Err : goal.returns-in-Err
+returns-in-Err g c =
+    let files = c.args.workspace.now in
+    let limit = c.args.options.now.max_steps in
+    let asked = option_copied c.args.asked in
+    both c.without_graph.result (λ r. c.in-Err.why ≡ e.TooManyModules) (λ r. report_view r ≡ refused TooManyModules) (λ r. IsFactsBy limit files asked (report_view r))
+    (λ r h k. IsFactsBy.too_many c.args.schema.now c.requires.schema (c.in-Err.ensures.0 h) k) c.without_graph.ensures.why c.without_graph.ensures.report
