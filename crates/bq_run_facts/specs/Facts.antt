@@ -9,6 +9,7 @@ use Rattle.bq_package_schema.specs.Schema.{Rules}
 use Rattle.bq_load_discover.specs.LoadGraph.{GraphParts as LoadParts, IsLoadGraph, inputs_of}
 use Rattle.bq_load_discover.specs.Modules.{AreTooMany}
 use Rattle.bq_load_discover.specs.Schema.{schema_in}
+use Rattle.bq_load_fault_line.specs.declared.fault_line.FaultLine.{FaultLine}
 use Rattle.bq_query_lex.specs.declared.query_error.QueryErr.{QueryErr}
 use Rattle.bq_query_target_graph.specs.Graph.{GraphParts}
 use Rattle.bq_query_target_graph.specs.Edges.{IsGraphOf}
@@ -55,12 +56,16 @@ TellsBy (Some why) packages w asked further status reply = reply ≡ record { te
 abbrev pub Tells : List BuildFile → GraphParts → Option CheckedQuery → List ℕ → Status → ReplyView → Type 0
 Tells packages w asked further status reply = TellsBy (fault_by w asked) packages w asked further status reply
 
--- The report over the graph of the targets of a workspace that is loaded: the lines of targets, these of its modules, and those of its faults.
+-- the lines of targets, these of modules, and those of these faults
+abbrev pub TellsAll : List BuildFile → List ℕ → GraphParts → Option CheckedQuery → List FaultLine → ReportView → Type 0
+TellsAll packages modules w asked faults r = Tells packages w asked (modules ++ fault_objects faults) (status_by faults) (record { text = r.answer; end = r.end })
+
+-- The report over the graph of the targets of a workspace that is loaded.
 pub record TellsFacts (packages : List BuildFile) (modules : List ℕ) (i : Inside) (asked : Option CheckedQuery) (r : ReportView) : Type 0 where
   pub graph : GraphParts
   pub made : IsGraphOf i.packages graph
   pub faults : r.faults ≡ fault_text i
-  pub reply : Tells packages graph asked (modules ++ fault_objects (all_faults i)) (status_by (all_faults i)) (record { text = r.answer; end = r.end })
+  pub reply : TellsAll packages modules graph asked (all_faults i) r
 
 -- ---- the run
 

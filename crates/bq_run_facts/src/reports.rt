@@ -8,13 +8,12 @@ ghost use Rattle.bq_load_discover.specs.Schema.{schema_in};
 ghost use Rattle.bq_label.specs.Packages.{packages_of};
 ghost use Rattle.bq_load_fault_line.specs.FaultLine.{put_lines};
 ghost use Rattle.bq_load_fault_line.specs.LineText.{line_text};
-ghost use Rattle.bq_run_report.specs.Ending.{status_by};
 ghost use Rattle.bq_run_report.specs.Report.{inside, report_view};
 ghost use Rattle.bq_run.specs.Run.{IsInRange};
 ghost use Rattle.bq_run.specs.WorkspaceRun.{loaded_in, refused};
 ghost use Rattle.bq_run_report.specs.declared.ending.NoAnswer.TheVariants.{Schema as BadSchema, TooManyModules};
-ghost use Rattle.bq_run_facts.specs.Facts.{IsFactsBy, IsFactsOn, Tells, TellsFacts};
-ghost use Rattle.bq_run_facts.specs.Lines.{fault_objects, module_lines};
+ghost use Rattle.bq_run_facts.specs.Facts.{IsFactsBy, IsFactsOn, TellsAll, TellsFacts};
+ghost use Rattle.bq_run_facts.specs.Lines.{module_lines};
 
 use crate::lines::{push_faults, push_modules};
 use crate::replies::facts_over;
@@ -78,7 +77,7 @@ fn report_over(
     asked: Option<&CheckedQuery>,
 ) -> Result<Report, AllocError>
     ensures faults { IfOk result (λ r. r.faults ≡ told.prints ++ flat_map line_text (put_lines told.faults told.dangling)) }
-    ensures reply { IfOk result (λ r. Tells before.packages graph.now (option_copied asked.entry) (before.modules.items ++ fault_objects (put_lines told.faults told.dangling)) (status_by (put_lines told.faults told.dangling)) (record { text = r.answer.items; end = r.end })) }
+    ensures reply { IfOk result (λ r. TellsAll before.packages before.modules.items graph.now (option_copied asked.entry) (put_lines told.faults told.dangling) (report_view r)) }
 {
     let Before {
         modules: mut further,
