@@ -69,7 +69,7 @@ module _ {W : Type 0} (names : List Name) (host : HostCalls W) (hosts : HostTake
   files_fail_at code number file loaded imports kept limit =
       let own : Own = record { number = number; functions = file.functions; loaded = imports } in
       let units = frozen_units code loaded in
-      let s = (started (first_store number loaded) limit, kept) in
+      let s : State × W = (started (first_store number loaded) limit, kept) in
       let globals = first_globals file.loads imports empty in
       ended_told file.statements file imports (run_all file.statements names host hosts units own file.statements globals s) refl
       (all_told file.statements names host hosts units own file.statements (λ t c. c) globals s)
