@@ -8,3 +8,5 @@ pub mod Files
 pub mod Callable
 -- rules
 pub mod Rules
+-- the lines of faults
+pub mod Lines

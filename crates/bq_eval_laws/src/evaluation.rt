@@ -2,7 +2,7 @@
 
 ghost use Rattle.std.specs.Prelude.{List};
 ghost use Rattle.bq_resolve_scope.specs.Names.{Name};
-ghost use Rattle.bq_eval_laws.specs.Evaluations.Files.{HostTakes, FilesTakeTheirSteps, OtherModulesStay, CallsKeepRules};
+ghost use Rattle.bq_eval_laws.specs.Evaluations.Files.{HostTakes, FilesTakeTheirSteps, FilesFailAtTheirStatements, OtherModulesStay, CallsKeepRules};
 ghost use Rattle.bq_eval_laws.specs.Evaluations.Callable.{FunctionsStayCallable};
 
 use bq_eval_host::Host;
@@ -27,4 +27,9 @@ pub fn calls_keep_rules<H: Host>()
 /// A module that loads another can call the functions that this one could, its own and those of each module that it reached.
 pub fn functions_stay_callable<H: Host>()
     ensures { (names : List Name) → HostTakes H.means → FunctionsStayCallable names H.means }
+{}
+
+/// A fault of a file's evaluation names the line of one of the file's own top-level statements, whichever function it was in.
+pub fn files_fail_at_their_statements<H: Host>()
+    ensures { (names : List Name) → HostTakes H.means → FilesFailAtTheirStatements names H.means }
 {}

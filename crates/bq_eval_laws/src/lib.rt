@@ -2,7 +2,7 @@
 //! `bq_eval_meaning_spec`.
 //!
 //! In: nothing; the functions do nothing, and their contracts are the laws. The promise: a file has a number of steps and an outcome of
-//! its own, which no limit changes; a cell of another module holds at a file's end what it held at its start; a rule holds the same
+//! its own, which no limit changes, and a fault of it names the line of one of its statements; a cell of another module holds at a file's end what it held at its start; a rule holds the same
 //! attributes after each call; a module that loads another can call the functions that this one could; arguments are F52 exactly where
 //! they don't fit, said of the call alone; F52 comes before F50, and F50 before F51; and at most 100 functions are active.
 //!
@@ -12,7 +12,8 @@
 //!   (bq_builtin_laws) says of an action that it has a number of steps and an outcome of its own. By the laws there it holds of what a
 //!   machine does, of walks over values and texts, and so of operators, methods, built-in functions and what declares rules; and of one
 //!   action after another. So it is a relation that respects the rules of the language (`bq_eval_meaning_laws`), and holds of files
-//!   (`Files`);
+//!   (`Files`). `TakesInLine` says of all but the beginning of a top-level statement that it leaves the line, which a fault names
+//!   (`Lines`);
 //! - `call`: `specs/Calls/Misfits.antt` says which arguments don't fit.
 #![tactic(auto)]
 
@@ -24,5 +25,6 @@ pub use call::{
     misfits_are_refused,
 };
 pub use evaluation::{
-    calls_keep_rules, files_take_their_steps, functions_stay_callable, other_modules_stay,
+    calls_keep_rules, files_fail_at_their_statements, files_take_their_steps,
+    functions_stay_callable, other_modules_stay,
 };

@@ -30,7 +30,6 @@ alike m = record {
   of_both = λ A B a b f g h k s. alike_both a b f g h k s;
   of_choice = λ A v a b c d h k s. alike_if (m.truth v s) a b c d s (h s) (k s);
   of_step = λ n s. refl;
-  of_line = λ n s. refl;
   of_unary = λ o v s. refl;
   of_binary = λ o v w s. refl;
   of_compare = λ o v w s. refl;

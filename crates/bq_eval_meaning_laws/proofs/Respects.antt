@@ -1,5 +1,6 @@
 -- Relations between actions that respect the rules of the language: they hold of a value, of a fault, of what is asked for, of one action
--- after another where they hold of both, and of a choice where they hold of what is chosen from. So they hold of what a program means.
+-- after another where they hold of both, and of a choice where they hold of what is chosen from. So they hold of what a program means; of a
+-- file, if they hold of the beginning of a statement on any line too (`OfLines`).
 use Rattle.std.proofs.Common.{ℕ, List}
 use Rattle.std.specs.Prelude.{if◌then◌else◌}
 use Rattle.bq_base.specs.declared.fault.FaultKind.{FaultKind}
@@ -27,7 +28,6 @@ pub record Respects {S : Type 0} (m : Primitives S) (K : Relation S) : Type 1 wh
   pub of_both : (A B : Type 0) (a b : Action S A) (f g : A → Action S B) → K A a b → ((x : A) → K B (f x) (g x)) → K B (a >>= f) (b >>= g)
   pub of_choice : (A : Type 0) (v : Datum) (a b c d : Action S A) → K A a b → K A c d → K A (choosing m v a c) (choosing m v b d)
   pub of_step : (n : ℕ) → K (Unit {0}) (m.step n) (m.step n)
-  pub of_line : (n : ℕ) → K (Unit {0}) (change m (m.at_line n)) (change m (m.at_line n))
   pub of_unary : (o : UnaryOperator) (v : Datum) → K Datum (m.unary o v) (m.unary o v)
   pub of_binary : (o : Operator) (v w : Datum) → K Datum (m.binary o v w) (m.binary o v w)
   pub of_compare : (o : Comparison) (v w : Datum) → K Datum (m.compare o v w) (m.compare o v w)
@@ -52,3 +52,7 @@ pub record Respects {S : Type 0} (m : Primitives S) (K : Relation S) : Type 1 wh
   pub of_method : (name : List ℕ) (v : Datum) (p : Passed) → K Datum (m.call_method name v p) (m.call_method name v p)
   pub of_enter : (home place : ℕ) → K (Unit {0}) (m.enter home place) (m.enter home place)
   pub of_leave : K (Unit {0}) (change m m.leave) (change m m.leave)
+
+-- the relation holds of what each top-level statement begins with
+abbrev pub OfLines : {S : Type 0} → Primitives S → Relation S → Type 0
+OfLines m K = (n : ℕ) → K (Unit {0}) (change m (m.at_line n)) (change m (m.at_line n))

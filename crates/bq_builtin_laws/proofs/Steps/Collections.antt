@@ -38,7 +38,7 @@ use Rattle.bq_builtin_string_methods.specs.Method.{string_method, takes, as_stri
 use Rattle.bq_builtin_string_methods.specs.declared.method.StringMethod.{StringMethod}
 use Rattle.bq_builtin_string_methods.specs.declared.method.StringMethod.TheVariants as s
 use Rattle.bq_builtin_laws.specs.Steps.Steps.{machine}
-use Rattle.bq_builtin_laws.proofs.Steps.Owning.{at_state}
+use Rattle.bq_builtin_laws.proofs.Steps.Owning.{here_at_state}
 use Rattle.bq_builtin_laws.specs.Steps.Laws.{Own}
 use Rattle.bq_builtin_laws.proofs.Steps.Machine.{pure_owns, stop_owns, given_owns, bind_owns, then_owns, look_owns, walk_owns, new_owns, content_owns, may_owns, SparesRules, changing_owns, elements_owns}
 use Rattle.bq_builtin_laws.proofs.Steps.Operators.{key_owns, united_spares}
@@ -124,7 +124,7 @@ read_by_owns None v g = bind_owns (elements v) _ (elements_owns v) (λ xs. look_
 
 read_owns : (v : Datum) (g : GivenView) → Own (read v g)
 unfolding read
-read_owns v g u = at_state machine (read v g) (read_by (given_pairs.dict_of u.store v) v g) u (λ n. refl) (read_by_owns (given_pairs.dict_of u.store v) v g u)
+read_owns v g u = here_at_state machine (read v g) (read_by (given_pairs.dict_of u.store v) v g) u (λ n. refl) refl (read_by_owns (given_pairs.dict_of u.store v) v g u)
 
 optional_owns : (o : Option Datum) (g : GivenView) → Own (read_optional o g)
 optional_owns None g = pure_owns g

@@ -3,7 +3,7 @@ use Rattle.std.proofs.Common.{◌≡◌, ◌∙◌, ◌<◌, ◌≤◌, ◌⊎�
 use Rattle.std.proofs.lemmas.Bool.{cases_lt}
 use Rattle.bq_value.specs.Cells.{StoreView}
 use Rattle.bq_builtin_machine.specs.Action.{Action, Run, done, stopped, following}
-use Rattle.bq_builtin_laws.specs.Steps.Steps.{Seen, Begins, leaving, printed, IsCutShort, Stays, Leaves, Takes}
+use Rattle.bq_builtin_laws.specs.Steps.Steps.{Seen, Begins, leaving, printed, IsCutShort, Stays, Leaves, Takes, InLine, TakesInLine}
 
 pub begins_itself : (ps : List (List ℕ)) → Begins ps ps
 begins_itself ps = ([], append-nil ps)
@@ -90,3 +90,20 @@ module _ {S : Type 0} (c : Seen S) where
 
     pub followed : Takes c action s → ((x : A) (t : S) → Takes c (f x) t) → Takes c (λ t. following (action t) f) s
     followed o next = followed_by o.steps o.outcome o.enough o.short o.grows o.leaves next
+
+  -- ---- the same in the line of the statement that is running
+
+  pub here_at_no_cost : {A : Type 0} (action : Action S A) (s : S) (outcome : Run S A) → ((n : ℕ) → action (c.left n s) ≡ leaving c n outcome) → Begins (c.prints s) (printed c outcome)
+      → Leaves c (c.store s) outcome → InLine c (c.line s) (action s) → TakesInLine c action s
+  here_at_no_cost action s outcome is grows leaves line = record { takes = at_no_cost action s outcome is grows leaves; line = line }
+
+  pub here_at_state : {A : Type 0} (action other : Action S A) (s : S) → ((n : ℕ) → action (c.left n s) ≡ other (c.left n s)) → action s ≡ other s → TakesInLine c other s → TakesInLine c action s
+  here_at_state action other s same now o = record { takes = at_state action other s same o.takes; line = subst (InLine c (c.line s)) (sym now) o.line }
+
+  module _ {A B : Type 0} (action : Action S A) (f : A → Action S B) (s : S) where
+    line_after : (r : Run S A) → InLine c (c.line s) r → ((x : A) (t : S) → TakesInLine c (f x) t) → InLine c (c.line s) (following r f)
+    line_after (done x t) same next = subst (λ (n : ℕ). InLine c n (f x t)) same (next x t).line
+    line_after (stopped why) same next = same
+
+    pub here_followed : TakesInLine c action s → ((x : A) (t : S) → TakesInLine c (f x) t) → TakesInLine c (λ t. following (action t) f) s
+    here_followed o next = record { takes = followed action f s o.takes (λ x t. (next x t).takes); line = line_after (action s) o.line next }

@@ -12,11 +12,11 @@ use Rattle.bq_builtin_operators.specs.Operate as operate
 use Rattle.bq_builtin_operators.specs.InPlace as in_place
 use Rattle.bq_builtin_methods.specs.Call as methods
 use Rattle.bq_builtin.specs.Call as functions
-use Rattle.bq_builtin_laws.specs.Steps.Steps.{machine, Takes}
+use Rattle.bq_builtin_laws.specs.Steps.Steps.{machine, TakesInLine}
 
--- an action of a machine has a number of steps and an outcome of its own, in any state
+-- an action of a machine has a number of steps and an outcome of its own, in any state, and leaves the line of the statement that is running
 abbrev pub Own : {A : Type 0} → Action State A → Type 0
-Own action = (s : State) → Takes machine action s
+Own action = (s : State) → TakesInLine machine action s
 
 abbrev pub OperatorsOwn : Type 0
 OperatorsOwn =

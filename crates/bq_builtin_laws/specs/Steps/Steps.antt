@@ -8,19 +8,21 @@ use Rattle.bq_builtin_machine.specs.Action.{Action, Run, done, stopped}
 use Rattle.bq_builtin_machine.specs.Machine.{with_steps}
 use Rattle.bq_builtin_machine.specs.State.{State}
 
--- What is seen of a state: the same state with another number of steps left; what is printed; and its store.
+-- What is seen of a state: the same state with another number of steps left; what is printed; its store; and the line of the statement that
+-- is running.
 pub record Seen (S : Type 0) : Type 0 where
   pub left : ℕ → S → S
   pub prints : S → List (List ℕ)
   pub store : S → StoreView
+  pub line : S → ℕ
 
 -- of a machine
 abbrev pub machine : Seen State
-machine = record { left = with_steps; prints = λ s. s.prints; store = λ s. s.store }
+machine = record { left = with_steps; prints = λ s. s.prints; store = λ s. s.store; line = λ s. s.line }
 
 -- of a machine, beside what a host keeps
 abbrev pub hosted : {W : Type 0} → Seen (State × W)
-hosted = record { left = λ n s. (with_steps n s.0, s.1); prints = λ s. s.0.prints; store = λ s. s.0.store }
+hosted = record { left = λ n s. (with_steps n s.0, s.1); prints = λ s. s.0.prints; store = λ s. s.0.store; line = λ s. s.0.line }
 
 -- What no action changes of a store: the running module's number, the frozen modules, and the rules that were declared.
 pub record Stays (before after : StoreView) : Type 0 where
@@ -60,3 +62,13 @@ module _ {S : Type 0} (c : Seen S) where
     pub short : (n : ℕ) → n < steps → IsCutShort (action (c.left n s)) (printed outcome)
     pub grows : Begins (c.prints s) (printed outcome)
     pub leaves : Leaves (c.store s) outcome
+
+  -- the line of the statement that is running stays, and a fault names it
+  abbrev pub InLine : {A : Type 0} → ℕ → Run S A → Type 0
+  InLine line (done x s) = c.line s ≡ line
+  InLine line (stopped why) = why.line ≡ line
+
+  -- so does each action but the one that a statement begins with
+  pub record TakesInLine {A : Type 0} (action : Action S A) (s : S) : Type 0 where
+    pub takes : Takes action s
+    pub line : InLine (c.line s) (action s)

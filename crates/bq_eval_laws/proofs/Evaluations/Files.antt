@@ -15,7 +15,7 @@ use Rattle.bq_eval.specs.Module.{Ended, evaluated, failed, first_store, frozen_v
 use Rattle.bq_eval_meaning_laws.proofs.ModuleRules.{module_rule}
 use Rattle.bq_eval_laws.specs.Evaluations.Files.{HostTakes, prints_of, EndsShort, FileTakes, FrozenAre, ends, FilesTakeTheirSteps, OtherModulesStay}
 use Rattle.bq_builtin_laws.specs.Steps.Steps.{hosted, leaving, printed, IsCutShort, Stays, Leaves, Takes}
-use Rattle.bq_eval_laws.proofs.Evaluations.Hosts.{OwnsItsSteps, own_steps}
+use Rattle.bq_eval_laws.proofs.Evaluations.Hosts.{TakesItsSteps, take_steps, lines_take}
 
 module _ {W : Type 0} (file : Resolved) (imports : List Datum) where
   ended_leaving : (n : ℕ) (r : Run (State × W) Frame) → ended file imports (leaving hosted n r) ≡ ended file imports r
@@ -62,7 +62,7 @@ module _ {W : Type 0} (names : List Name) (host : HostCalls W) (hosts : HostTake
   at_start = (started (first_store number loaded) 0, kept)
 
   run_takes : Takes hosted (module_meaning (primitives names host) (frozen_units code loaded) number file imports) at_start
-  run_takes = module_rule (primitives names host) (OwnsItsSteps W) (own_steps names host hosts) (frozen_units code loaded) number file imports at_start
+  run_takes = module_rule (primitives names host) (TakesItsSteps W) (take_steps names host hosts) (lines_take names host hosts) (frozen_units code loaded) number file imports at_start
 
   file_enough : (limit : ℕ) → run_takes.steps ≤ limit → ends names host code number file loaded imports kept limit ≡ ended file imports run_takes.outcome
   unfolding module_run

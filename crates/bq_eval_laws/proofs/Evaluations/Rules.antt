@@ -14,7 +14,7 @@ use Rattle.bq_eval_operations.specs.Runtime.{primitives}
 use Rattle.bq_eval_meaning_laws.proofs.CallRules.{calls_rule}
 use Rattle.bq_builtin_laws.specs.Steps.Steps.{hosted, leaving, printed, IsCutShort, Stays, Leaves, Takes}
 use Rattle.bq_eval_laws.specs.Evaluations.Files.{HostTakes, CallsKeepRules}
-use Rattle.bq_eval_laws.proofs.Evaluations.Hosts.{OwnsItsSteps, own_steps}
+use Rattle.bq_eval_laws.proofs.Evaluations.Hosts.{TakesItsSteps, take_steps}
 
 module _ {W A : Type 0} (action : Action (State × W) A) (s : State × W) (o : Takes hosted action s) (x : A) (t : State × W) (is : action s ≡ done x t) where
   -- by the outcome, with a number of steps more left
@@ -46,5 +46,5 @@ still_there s t stay home number class false own at =
 module _ {W : Type 0} (names : List Name) (host : HostCalls W) (hosts : HostTakes host) where
   pub rules_stay : CallsKeepRules names host
   rules_stay left units v args s result t is home number class at =
-      let owns : Takes hosted (calls left (primitives names host) units v args) s = calls_rule (primitives names host) (OwnsItsSteps W) (own_steps names host hosts) left units v args s in
+      let owns : Takes hosted (calls left (primitives names host) units v args) s = calls_rule (primitives names host) (TakesItsSteps W) (take_steps names host hosts) left units v args s in
       still_there s.0.store t.0.store (stays_after (calls left (primitives names host) units v args) s owns result t is) home number class (home == s.0.store.own) refl at

@@ -1,7 +1,9 @@
 -- The laws of files: their steps, the frozen modules, and the rules that are declared.
-use Rattle.std.specs.Prelude.{◌≡◌, ◌≢◌, ℕ, ◌<◌, ◌≤◌, List, Option, Some}
+use Rattle.std.specs.Prelude.{◌≡◌, ◌≢◌, ℕ, ◌<◌, ◌≤◌, List, Option, Some, Contains}
+use Rattle.bq_base.specs.declared.fault.Fault.{Fault}
 use Rattle.bq_base.specs.declared.fault.FaultKind.TheVariants.{StepLimit}
 use Rattle.bq_resolve_scope.specs.Names.{Name}
+use Rattle.bq_resolve_scope.specs.declared.code.CodeTopLevel.{CodeTopLevel}
 use Rattle.bq_resolve_scope.specs.declared.code.Resolved.{Resolved}
 use Rattle.bq_resolve_predeclared.specs.declared.host_function.HostFunction.{HostFunction}
 use Rattle.bq_package_rule_class.specs.Class.{Class}
@@ -15,14 +17,14 @@ use Rattle.bq_eval_meaning_spec.specs.Calls.{Units, calls}
 use Rattle.bq_eval_operations.specs.Calling.{HostCalls}
 use Rattle.bq_eval_operations.specs.Runtime.{primitives}
 use Rattle.bq_eval.specs.Module.{Ended, evaluated, failed, ended, first_store, module_run}
-use Rattle.bq_builtin_laws.specs.Steps.Steps.{hosted, Begins, Takes}
+use Rattle.bq_builtin_laws.specs.Steps.Steps.{hosted, Begins, TakesInLine}
 
--- a host whose calls don't look at the steps that are left, nor change what was printed, the frozen modules or a rule: those of its own
--- functions, and those of rules that .bzl files declare
+-- a host whose calls don't look at the steps that are left, nor change what was printed, the frozen modules, a rule or the line of the
+-- statement that is running: those of its own functions, and those of rules that .bzl files declare
 abbrev pub HostTakes : {W : Type 0} → HostCalls W → Type 0
 HostTakes {W = W} host =
-    ((function : HostFunction) (args : Passed) (s : State × W) → Takes hosted (host.call function args) s)
-    × ((kind : List ℕ) (class : Class) (args : Passed) (s : State × W) → Takes hosted (host.call_rule kind class args) s)
+    ((function : HostFunction) (args : Passed) (s : State × W) → TakesInLine hosted (host.call function args) s)
+    × ((kind : List ℕ) (class : Class) (args : Passed) (s : State × W) → TakesInLine hosted (host.call_rule kind class args) s)
 
 abbrev pub prints_of : Ended → List (List ℕ)
 prints_of (evaluated frozen prints) = prints
@@ -46,6 +48,17 @@ abbrev pub FrozenAre : Ended → (FrozenView → Type 0) → Type 0
 FrozenAre (evaluated frozen prints) P = P frozen
 FrozenAre (failed fault prints) P = Unit {0}
 
+-- the fault names the line of one of these statements
+pub record IsAtStatement (statements : List CodeTopLevel) (fault : Fault) : Type 0 where
+  pub statement : CodeTopLevel
+  pub among : Contains statements statement
+  pub line : fault.line ≡ statement.line
+
+-- a file that failed is at one of its own statements
+abbrev pub FailsAtAStatement : Resolved → Ended → Type 0
+FailsAtAStatement file (evaluated frozen prints) = Unit {0}
+FailsAtAStatement file (failed fault prints) = IsAtStatement file.statements fault
+
 module _ {W : Type 0} (names : List Name) (host : HostCalls W) where
   -- what a file ends in, under that limit
   abbrev pub ends : List (Option Resolved) → ℕ → Resolved → List FrozenView → List Datum → W → ℕ → Ended
@@ -59,6 +72,11 @@ module _ {W : Type 0} (names : List Name) (host : HostCalls W) where
   OtherModulesStay =
       (code : List (Option Resolved)) (number : ℕ) (file : Resolved) (loaded : List FrozenView) (imports : List Datum) (kept : W) (limit : ℕ) (home cell : ℕ) → home ≢ number
       → FrozenAre (ends code number file loaded imports kept limit) (λ f. frozen_at f home cell ≡ content_at (first_store number loaded) home cell)
+
+  -- A fault names the line of one of the file's own top-level statements, whichever module's function it was in.
+  abbrev pub FilesFailAtTheirStatements : Type 0
+  FilesFailAtTheirStatements =
+      (code : List (Option Resolved)) (number : ℕ) (file : Resolved) (loaded : List FrozenView) (imports : List Datum) (kept : W) (limit : ℕ) → FailsAtAStatement file (ends code number file loaded imports kept limit)
 
   -- A rule holds the attributes that it was declared with, whatever is called after that.
   abbrev pub CallsKeepRules : Type 0

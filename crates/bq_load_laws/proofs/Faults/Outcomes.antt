@@ -34,7 +34,10 @@ use Rattle.bq_load_label.proofs.Tests.{there_is_file}
 use Rattle.bq_load_laws.proofs.Graphs.Nothing.{loads_nothing}
 use Rattle.bq_load_outcome_spec.proofs.Solution.{outcome_is, evaluated_is}
 use Rattle.bq_parse_grammar.specs.Lexeme.{lexemes}
+use Rattle.bq_eval_laws.specs.Evaluations.Files.{FailsAtAStatement}
+use Rattle.bq_eval_laws.proofs.Evaluations.Lines.{files_fail_at}
 use Rattle.bq_package.specs.Calls.{meaning}
+use Rattle.bq_package_laws.proofs.BuildFiles.Calls.{calls_own}
 use Rattle.bq_package_fault_laws.specs.Faults.{FailsAsEvaluated, IsResolvedFile, IfAny}
 use Rattle.bq_package_fault_laws.proofs.BuildCalls.{calls_refuse}
 use Rattle.bq_package_fault_laws.proofs.Files.{files_fail}
@@ -128,9 +131,9 @@ module _ (inputs : InputParts) (x : LoadingParts) (all : AllByRecursion IfAny x.
     is_resolved : IsResolvedFile front.code
     is_resolved = resolved_by inputs l (Ok front) is
 
-    by_end : (e : Ended) (p : Option PackageTargets) → FailsAsEvaluated e → Fails l (module_by e p)
-    by_end (ran made prints) p h = tt
-    by_end (failed why prints) p h = FailsIn.of_evaluation is.0 front.code is.1 is.2 h
+    by_end : (e : Ended) (p : Option PackageTargets) → FailsAsEvaluated e → FailsAtAStatement front.code e → Fails l (module_by e p)
+    by_end (ran made prints) p h at = tt
+    by_end (failed why prints) p h at = FailsIn.of_evaluation is.0 front.code is.1 is.2 h at
 
     by_run : (values : List Datum) → Fails l (module_after front.code values (evaluation x m l front.code modules values))
     unfolding module_after evaluation
@@ -138,6 +141,7 @@ module _ (inputs : InputParts) (x : LoadingParts) (all : AllByRecursion IfAny x.
         by_end (ended front.code values (module_run x.names meaning x.code m front.code (map (λ v. v.frozen) modules) values x.limit (kept_first x l)))
         (package_left (kept_after (module_run x.names meaning x.code m front.code (map (λ v. v.frozen) modules) values x.limit (kept_first x l))))
         (files_fail x.names meaning calls_refuse x.code all m front.code is_resolved (map (λ v. v.frozen) modules) values x.limit (kept_first x l))
+        (files_fail_at x.names meaning calls_own x.code m front.code (map (λ v. v.frozen) modules) values (kept_first x l) x.limit)
 
     by_values : (r : Result (List Datum) Fault) → ByLoads front.code.loads r → Fails l (by_imports x m l front.code modules r)
     by_values (Err why) h = FailsIn.of_loads is.0 front.code is.1 is.2 h.0 h.1

@@ -28,7 +28,7 @@ use Rattle.bq_eval_operations.specs.Making as making
 use Rattle.bq_eval_operations.specs.Passing as passing
 use Rattle.bq_eval_operations.specs.Unpacking as unpacking
 use Rattle.bq_eval_operations.specs.Runtime.{primitives}
-use Rattle.bq_eval_meaning_laws.proofs.Respects.{Relation, Respects}
+use Rattle.bq_eval_meaning_laws.proofs.Respects.{Relation, Respects, OfLines}
 
 module _ {W : Type 0} (P : W → Type 0) where
   -- what is kept after it has the property
@@ -83,7 +83,6 @@ module _ {W : Type 0} (P : W → Type 0) where
       of_both = λ A B a b f g h k s q. followed (a s) f (h s q) k;
       of_choice = λ A v a b c d h k s q. chosen A a c s (truth_of s.0.store v) h k q;
       of_step = λ n s h. beside_left s.1 h (machine.step n s.0);
-      of_line = λ n s h. h;
       of_unary = λ o v s h. beside_left s.1 h (operate.unary o v s.0);
       of_binary = λ o v w s h. beside_left s.1 h (operate.binary o v w s.0);
       of_compare = λ o v w s h. beside_left s.1 h (operate.compare o v w s.0);
@@ -113,3 +112,7 @@ module _ {W : Type 0} (P : W → Type 0) where
         chosen : (A : Type 0) (a c : Action (State × W) A) (s : State × W) (t : Bool) → Keeps A a a → Keeps A c c → P s.1 → Left ((if t then a else c) s)
         chosen A a c s true h k q = h s q
         chosen A a c s false h k q = k s q
+
+    pub lines_keep : OfLines (primitives names host) Keeps
+    unfolding primitives
+    lines_keep n s h = h

@@ -26,7 +26,7 @@ use Rattle.bq_load.specs.Imports.{imports}
 use Rattle.bq_load.specs.Evaluation.{kept_by, kept_first, evaluation, module_after, loaded_parts, by_imports, file_means, code_in, by_code, by_source, means}
 use Rattle.bq_load.specs.Loaded.{own_package}
 use Rattle.bq_load_laws.specs.Packages.Packages.{IsOwnOf, FilesMakeTheirPackages, PackagesCount}
-use Rattle.bq_load_laws.proofs.Packages.Keeping.{Left, Keeps, all_keep}
+use Rattle.bq_load_laws.proofs.Packages.Keeping.{Left, Keeps, all_keep, lines_keep}
 use Rattle.bq_load_laws.proofs.Packages.Calls.{Held, calls_keep, rules_keep}
 
 begun : (x : LoadingParts) (l : LabelParts) (k : FileKind) → Held k l (kept_by x l k)
@@ -39,7 +39,7 @@ unfolding evaluation module_run
 left_by x m l file modules values =
     let loaded = map (λ v. v.frozen) modules in
     let kept = Held (kind_of l) l in
-    module_rule (primitives x.names meaning) (Keeps kept) (all_keep kept x.names meaning (calls_keep (kind_of l) l) (rules_keep (kind_of l) l)) (frozen_units x.code loaded) m file values (started (first_store m loaded) x.limit, kept_first x l) (begun x l (kind_of l))
+    module_rule (primitives x.names meaning) (Keeps kept) (all_keep kept x.names meaning (calls_keep (kind_of l) l) (rules_keep (kind_of l) l)) (lines_keep kept x.names meaning (calls_keep (kind_of l) l) (rules_keep (kind_of l) l)) (frozen_units x.code loaded) m file values (started (first_store m loaded) x.limit, kept_first x l) (begun x l (kind_of l))
 
 packed : (k : FileKind) (l : LabelParts) (kept : HeldPackage) → Held k l kept → IsOwnOf k l (option_map finished (package_in kept))
 unfolding finished

@@ -20,6 +20,7 @@ use Rattle.bq_label.specs.Packages.{label_file}
 use Rattle.bq_label.specs.Workspace.{IsWorkspace}
 use Rattle.bq_package_schema.specs.Schema.{Rules}
 use Rattle.bq_eval_host.specs.Refusals.{is_from, is_refusal}
+use Rattle.bq_eval_laws.specs.Evaluations.Files.{IsAtStatement}
 use Rattle.bq_load_fault_line.specs.declared.fault_line.FaultLine.{FaultLine}
 use Rattle.bq_load_front.specs.Front.{kind_of}
 use Rattle.bq_load_front.specs.Inputs.{InputParts, universe_of}
@@ -62,7 +63,7 @@ pub record IsAtLoad (loads : List LoadStmt) (why : Fault) : Type 0 where
   pub line : why.line ≡ load.line
 
 -- The module of this label fails with this fault: its text has no tokens; or these are no statements; or the names of these stand for nothing;
--- or it has a code, and fails by its loads, at the line of one of them, or in its evaluation.
+-- or it has a code, and fails by its loads, at the line of one of them, or in its evaluation, at the line of one of its statements.
 pub data FailsIn (inputs : InputParts) (l : LabelParts) (why : Fault) : Type 0 where
   of_tokens : (x : File) → label_file inputs.files l ≡ Some x → Lexes x.content (Err why) → is_of_tokens why.kind ≡ true → FailsIn inputs l why
   of_statements : (x : File) (tokens : List Token) → label_file inputs.files l ≡ Some x → Lexes x.content (Ok tokens) → Parses (kind_of l) (lexemes x.content tokens) (Err why)
@@ -70,7 +71,7 @@ pub data FailsIn (inputs : InputParts) (l : LabelParts) (why : Fault) : Type 0 w
   of_names : (x : File) (tokens : List Token) (trees : List TopLevel) → label_file inputs.files l ≡ Some x → Lexes x.content (Ok tokens) → Parses (kind_of l) (lexemes x.content tokens) (Ok trees)
       → resolved (universe_at inputs l) trees ≡ Err why → is_of_names why.kind ≡ true → FailsIn inputs l why
   of_loads : (x : File) (code : Resolved) → label_file inputs.files l ≡ Some x → HasCode (universe_at inputs l) x.content code → is_of_loads why.kind ≡ true → IsAtLoad code.loads why → FailsIn inputs l why
-  of_evaluation : (x : File) (code : Resolved) → label_file inputs.files l ≡ Some x → HasCode (universe_at inputs l) x.content code → is_refusal why.kind ≡ true → FailsIn inputs l why
+  of_evaluation : (x : File) (code : Resolved) → label_file inputs.files l ≡ Some x → HasCode (universe_at inputs l) x.content code → is_refusal why.kind ≡ true → IsAtStatement code.statements why → FailsIn inputs l why
 
 -- a module's outcome is a value, or a fault of one of its parts
 abbrev pub FailsInItsPart : InputParts → OutcomeView → Type 0

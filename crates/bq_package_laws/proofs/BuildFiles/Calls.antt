@@ -22,10 +22,10 @@ use Rattle.bq_package.specs.Calls.{Declaring, HeldPackage, outside, declaring, n
 use Rattle.bq_eval_laws.specs.Evaluations.Files.{HostTakes}
 use Rattle.bq_eval_laws.proofs.Evaluations.Hosts.{beside_owns}
 use Rattle.bq_builtin_laws.specs.Steps.Laws.{Own}
-use Rattle.bq_builtin_laws.specs.Steps.Steps.{hosted, Begins, leaving, printed, Leaves, Takes}
+use Rattle.bq_builtin_laws.specs.Steps.Steps.{hosted, Begins, leaving, printed, Leaves, InLine, TakesInLine}
 use Rattle.bq_builtin_laws.proofs.Steps.Collections.{new_list_owns}
 use Rattle.bq_builtin_laws.proofs.Steps.Machine.{given_owns, bind_owns}
-use Rattle.bq_builtin_laws.proofs.Steps.Owning.{begins_itself, stays_itself, at_no_cost, at_state}
+use Rattle.bq_builtin_laws.proofs.Steps.Owning.{begins_itself, stays_itself, here_at_no_cost, here_at_state}
 
 abbrev Ending : Type 0
 Ending = Run (State × HeldPackage) Datum
@@ -45,6 +45,10 @@ module _ (s : State) (d : Declaring) where
   settled_leaves (Accepted after) = stays_itself s.store
   settled_leaves (Refused after) = tt
 
+  settled_line : (x : Declared) → InLine {S = State × HeldPackage} hosted s.line (settled s d x)
+  settled_line (Accepted after) = refl
+  settled_line (Refused after) = refl
+
   module _ {A : Type 0} (declare : A → Declared) where
     declares_more : (n : ℕ) (r : Result A FaultKind) → declares (with_steps n s) d r declare ≡ leaving hosted n (declares s d r declare)
     declares_more n (Ok a) = settled_more n (declare a)
@@ -58,14 +62,20 @@ module _ (s : State) (d : Declaring) where
     declares_leaves (Ok a) = settled_leaves (declare a)
     declares_leaves (Err why) = tt
 
-    declares_own : (a : Action (State × HeldPackage) Datum) (r : Result A FaultKind) → ((n : ℕ) → a (with_steps n s, declaring d) ≡ declares (with_steps n s) d r declare) → Takes hosted a (s, declaring d)
-    declares_own a r is = at_state hosted a (λ q. declares q.0 d r declare) (s, declaring d) is (at_no_cost hosted (λ q. declares q.0 d r declare) (s, declaring d) (declares s d r declare) (λ n. declares_more n r) (declares_prints r) (declares_leaves r))
+    declares_line : (r : Result A FaultKind) → InLine {S = State × HeldPackage} hosted s.line (declares s d r declare)
+    declares_line (Ok a) = settled_line (declare a)
+    declares_line (Err why) = refl
+
+    declares_own : (a : Action (State × HeldPackage) Datum) (r : Result A FaultKind) → ((n : ℕ) → a (with_steps n s, declaring d) ≡ declares (with_steps n s) d r declare) → TakesInLine hosted a (s, declaring d)
+    declares_own a r is =
+        here_at_state hosted a (λ q. declares q.0 d r declare) (s, declaring d) is (is s.steps)
+        (here_at_no_cost hosted (λ q. declares q.0 d r declare) (s, declaring d) (declares s d r declare) (λ n. declares_more n r) (declares_prints r) (declares_leaves r) (declares_line r))
 
 -- ---- calls that give a value
 
 module _ (s : State) (d : Declaring) where
-  machine_owns : (a : Action (State × HeldPackage) Datum) (m : Action State Datum) → ((n : ℕ) → a (with_steps n s, declaring d) ≡ on_machine m (with_steps n s, declaring d)) → Own m → Takes hosted a (s, declaring d)
-  machine_owns a m is owns = at_state hosted a (on_machine m) (s, declaring d) is (beside_owns (declaring d) m s (owns s))
+  machine_owns : (a : Action (State × HeldPackage) Datum) (m : Action State Datum) → ((n : ℕ) → a (with_steps n s, declaring d) ≡ on_machine m (with_steps n s, declaring d)) → Own m → TakesInLine hosted a (s, declaring d)
+  machine_owns a m is owns = here_at_state hosted a (on_machine m) (s, declaring d) is (is s.steps) (beside_owns (declaring d) m s (owns s))
 
 strings_own : (texts : List (List ℕ)) → Own (new_strings texts)
 unfolding new_strings
@@ -77,7 +87,7 @@ strings_own texts = new_list_owns _
 abbrev called : HostFunction → Passed → Action (State × HeldPackage) Datum
 called f passed = λ q. call_by q.0 q.1 f passed
 
-in_package : (s : State) (d : Declaring) (f : HostFunction) (passed : Passed) → Takes hosted (called f passed) (s, declaring d)
+in_package : (s : State) (d : Declaring) (f : HostFunction) (passed : Passed) → TakesInLine hosted (called f passed) (s, declaring d)
 unfolding call_in
 in_package s d b.Glob passed = machine_owns s d (called b.Glob passed) _ (λ n. refl) (bind_owns (given (globbed d.place s.store passed)) new_strings (given_owns _) strings_own)
 in_package s d b.PackageName passed = machine_owns s d (called b.PackageName passed) (given (package_name d.place passed)) (λ n. refl) (given_owns _)
@@ -87,16 +97,16 @@ in_package s d b.ExportsFiles passed = declares_own s d (λ ls. exported d.packa
 in_package s d b.PackageGroup passed = declares_own s d (declared d.package) (called b.PackageGroup passed) (group_named d.place s.store s.line passed) (λ n. refl)
 in_package s d (b.Rule rule) passed = declares_own s d (declared d.package) (called (b.Rule rule) passed) (rule_target d.place s.store s.line rule passed) (λ n. refl)
 
-by_kept : (s : State) (kept : HeldPackage) (f : HostFunction) (passed : Passed) → Takes hosted (called f passed) (s, kept)
+by_kept : (s : State) (kept : HeldPackage) (f : HostFunction) (passed : Passed) → TakesInLine hosted (called f passed) (s, kept)
 by_kept s (outside own packages) f passed =
-    at_no_cost hosted (called f passed) (s, outside own packages) (stopped (stop_at NotInPackage s)) (λ n. refl) (begins_itself s.prints) tt
+    here_at_no_cost hosted (called f passed) (s, outside own packages) (stopped (stop_at NotInPackage s)) (λ n. refl) (begins_itself s.prints) tt refl
 by_kept s (declaring d) f passed = in_package s d f passed
 
 -- a call of a rule that a .bzl file declares
-rule_by_kept : (s : State) (kept : HeldPackage) (rule : List ℕ) (class : Class) (passed : Passed) → Takes hosted (rule_call rule class passed) (s, kept)
+rule_by_kept : (s : State) (kept : HeldPackage) (rule : List ℕ) (class : Class) (passed : Passed) → TakesInLine hosted (rule_call rule class passed) (s, kept)
 unfolding rule_call
 rule_by_kept s (outside own packages) rule class passed =
-    at_no_cost hosted (rule_call rule class passed) (s, outside own packages) (stopped (stop_at NotInPackage s)) (λ n. refl) (begins_itself s.prints) tt
+    here_at_no_cost hosted (rule_call rule class passed) (s, outside own packages) (stopped (stop_at NotInPackage s)) (λ n. refl) (begins_itself s.prints) tt refl
 rule_by_kept s (declaring d) rule class passed =
     declares_own s d (declared d.package) (rule_call rule class passed) (declared_target d.place s.store s.line rule class passed) (λ n. refl)
 
