@@ -13,7 +13,6 @@ import shutil
 import subprocess
 import sys
 import tempfile
-import time
 from concurrent.futures import FIRST_COMPLETED, ThreadPoolExecutor, wait
 
 import kit
@@ -164,7 +163,3 @@ class Kept:
                     why, seconds = task.result()
                     (failed if why else ended).add(key)
                     yield *key, why, seconds
-
-
-def clock():
-    return time.strftime("%H:%M:%S")
