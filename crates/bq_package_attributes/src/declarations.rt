@@ -43,7 +43,7 @@ fn gives_mandatory(
         if !attribute.is_mandatory {
             continue;
         }
-        if !gives(alloc, keywords, name)? {
+        if !gives(alloc, keywords, name.as_slice())? {
             return Ok(false);
         }
     }
@@ -55,7 +55,7 @@ fn gives_mandatory(
 fn add_default(
     alloc: Global,
     keywords: &Keywords,
-    name: &[u8],
+    name: &Bytes,
     attribute: &Attribute,
     attributes: &mut Items<GivenAttribute>,
 ) -> Result<(), AllocError>
@@ -67,11 +67,11 @@ fn add_default(
         Some(AttributeValue::OutputList(_)) => return Ok(()),
         Some(value) => value,
     };
-    if gives(alloc, keywords, name)? {
+    if gives(alloc, keywords, name.as_slice())? {
         return Ok(());
     }
-    let name = Bytes::from_slice(alloc, name)?;
-    let value = value.share(alloc)?;
+    let name = name.share()?;
+    let value = value.share()?;
     attributes.push(GivenAttribute { name, value })?;
     Ok(())
 }

@@ -1,7 +1,7 @@
 use Rattle.std.proofs.Common.{length}
 use Rattle.bq_label_glob.specs.Matching.{matches, is_any_segments, fits_segment, segments_from}
 use Rattle.bq_label_glob.proofs.Greedy.{HoldsAt, work_at}
-use Rattle.bq_label_glob.proofs.pattern.Pattern.matches.Given as goal
+use Rattle.bq_label_glob.proofs.pattern.is_match.Given as goal
 
 abbrev pub invariant-segments : goal.invariant-segments
 invariant-segments l = HoldsAt is_any_segments fits_segment (segments_from l.pattern) (segments_from l.path) (matches l.pattern l.path) (length (segments_from l.pattern 0)) (length (segments_from l.path 0)) l.retry l.p l.t
