@@ -108,7 +108,7 @@ def bytes_at(tree, path):
 
 
 def followed(project, base, head, overlays=()):
-    """What has to be listed, and whether it may be incomplete."""
+    """What has to be listed, whether all is there, and the labels of all targets."""
     bench, sides = project.bench, []
     for name, revision in (("base", base), ("head", head)):
         room = f"{bench.room}/followed-{name}"
@@ -124,9 +124,8 @@ def followed(project, base, head, overlays=()):
         elif any(it.get(key) != old[label].get(key) for key in ("kind", "attributes", "deps")):
             changed.add(label)
     changed |= {label for label, it in old.items() if label in new and any(dep not in new for dep in it.get("deps", ()))}
-    if not changed:
-        return [], old_whole and new_whole
-    return dependents(bench, bundle, sorted({label.partition("//")[0] for label in new}), sorted(changed)), old_whole and new_whole
+    listed = dependents(bench, bundle, sorted({label.partition("//")[0] for label in new}), sorted(changed)) if changed else []
+    return listed, old_whole and new_whole, {*new}
 
 
 def dependents(bench, bundle, repositories, changed):
@@ -141,8 +140,8 @@ def dependents(bench, bundle, repositories, changed):
 
 
 def compared(project, what, exactly, words=(), base="HEAD~1", head="HEAD", overlays=()):
-    """Compares the list of a change with what follows."""
-    wanted, is_whole = followed(project, base, head, overlays)
+    """Compares the list of a change with what follows. Gives the list, what is said beside it, and the labels of all targets."""
+    wanted, is_whole, of = followed(project, base, head, overlays)
     output, errors, status = project.affected("--base", base, "--head", head, *words)
     found = output.splitlines()
     missing = sorted(set(wanted) - set(found))
@@ -150,7 +149,7 @@ def compared(project, what, exactly, words=(), base="HEAD~1", head="HEAD", overl
     if exactly:
         project.bench.compare(f"{what}: too much", sorted(set(found) - set(wanted)), [])
     project.bench.compare(f"{what}: status", (status, found == sorted(found)), (0 if is_whole else 3, True))
-    return found, errors
+    return found, errors, of
 
 
 class Maker:
