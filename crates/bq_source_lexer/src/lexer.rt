@@ -10,9 +10,7 @@ ghost use Rattle.bq_source.specs.Piece.{IsPart, Fits};
 
 use crate::place::{Lexer, MAX_FILE_BYTES, Margin, OpenBracket};
 use bq_base::{Fault, FaultKind, SourceErr};
-use bq_source::{
-    Extent, Lexeme, Piece, RunClass, Token, TokenKind, newlines, next_piece, run_len,
-};
+use bq_source::{Extent, Lexeme, Piece, RunClass, Token, TokenKind, newlines, next_piece, run_len};
 use std::alloc::{AllocError, Global};
 
 /// A token with the blanks before it mostly takes more: so much room is taken at once, and of a text with more tokens the list grows.
