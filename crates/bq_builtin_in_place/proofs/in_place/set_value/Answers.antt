@@ -1,6 +1,6 @@
-use Rattle.bq_builtin_operators.specs.InPlace.{pair_put}
-use Rattle.bq_builtin_operators.proofs.Changes.{content_changed}
-use Rattle.bq_builtin_operators.proofs.in_place.set_value.Goals as goal
+use Rattle.bq_builtin_in_place.specs.InPlace.{pair_put}
+use Rattle.bq_builtin_in_place.proofs.Changes.{content_changed}
+use Rattle.bq_builtin_in_place.proofs.in_place.set_value.Goals as goal
 
 pub returns : goal.returns
 returns c =

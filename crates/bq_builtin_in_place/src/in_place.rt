@@ -8,15 +8,12 @@ ghost use Rattle.bq_builtin_machine.specs.Cells.{changing};
 ghost use Rattle.bq_value.specs.Pairs.{put};
 ghost use Rattle.bq_builtin_operators.specs.Sequence.{limited, joined};
 ghost use Rattle.bq_builtin_operators.specs.Union.{put_all};
-ghost use Rattle.bq_builtin_operators.specs.InPlace.{list_extended, dict_united, element_set, pair_put, augment_sum, augment_union, augment, set_item, set_index};
+ghost use Rattle.bq_builtin_in_place.specs.InPlace.{list_extended, dict_united, element_set, pair_put, augment_sum, augment_union, augment, set_item, set_index};
 
-use crate::operand::{dict_in, int_of, list_in};
-use crate::operate::binary;
-use crate::sum::sum;
-use crate::union::union;
 use bq_base::FaultKind;
 use bq_builtin_machine::{Elements, Machine};
 use bq_builtin_numbers::{MAX_LEN, index, joined_len};
+use bq_builtin_operators::{binary, dict_in, int_of, list_in};
 use bq_parse_grammar::Operator;
 use bq_value::{Body, Cell, Content, Dict, EvalErr, Key, Node, Value};
 use std::alloc::{AllocError, Global};
@@ -40,7 +37,7 @@ pub fn augment(
 }
 
 /// Carries out `a += b`; for a list F40, F47, F48, F54.
-#[tactic(auto, unfolding(crate::specs::InPlace::augment_sum))]
+#[tactic(auto, unfolding(crate::specs::InPlace::augment_sum, bq_builtin_operators::specs::Operate::binary))]
 fn augment_sum(alloc: Global, machine: &mut Machine, a: &Value, b: &Value) -> Result<Value, EvalErr>
     ensures { Does (λ value. value) result machine.new (augment_sum a.now b.now machine.old) }
 {
@@ -51,7 +48,7 @@ fn augment_sum(alloc: Global, machine: &mut Machine, a: &Value, b: &Value) -> Re
             extend(machine, *cell, more)?;
             Ok(Value::cell(*cell))
         }
-        _ => sum(alloc, machine, a, b),
+        _ => binary(alloc, machine, Operator::Add, a, b),
     }
 }
 
@@ -75,7 +72,7 @@ fn list_extended(content: &mut Content, more: Elements) -> Result<(), EvalErr>
 }
 
 /// Appends these elements (F54).
-#[tactic(auto, using(crate::proofs::Sequences::joined_is))]
+#[tactic(auto, using(bq_builtin_operators::proofs::Sequences::joined_is))]
 fn push_all(values: &mut Vec<Value>, more: Elements) -> Result<(), EvalErr>
     ensures { Gives (λ _. values.new.items) Bad result (joined values.old.items more) }
 {
@@ -94,7 +91,7 @@ fn push_elements(values: &mut Vec<Value>, mut more: Elements) -> Result<(), Allo
 }
 
 /// Carries out `a |= b`; for a dict F40, F47, F48, F54.
-#[tactic(auto, unfolding(crate::specs::InPlace::augment_union))]
+#[tactic(auto, unfolding(crate::specs::InPlace::augment_union, bq_builtin_operators::specs::Operate::binary))]
 fn augment_union(
     alloc: Global,
     machine: &mut Machine,
@@ -110,7 +107,7 @@ fn augment_union(
             unite(machine, *cell, &more)?;
             Ok(Value::cell(*cell))
         }
-        _ => union(alloc, machine, a, b),
+        _ => binary(alloc, machine, Operator::BitOr, a, b),
     }
 }
 

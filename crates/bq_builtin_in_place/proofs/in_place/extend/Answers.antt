@@ -1,6 +1,6 @@
-use Rattle.bq_builtin_operators.specs.InPlace.{list_extended}
-use Rattle.bq_builtin_operators.proofs.Changes.{content_changed}
-use Rattle.bq_builtin_operators.proofs.in_place.extend.Goals as goal
+use Rattle.bq_builtin_in_place.specs.InPlace.{list_extended}
+use Rattle.bq_builtin_in_place.proofs.Changes.{content_changed}
+use Rattle.bq_builtin_in_place.proofs.in_place.extend.Goals as goal
 
 pub returns : goal.returns
 returns c =

@@ -2,9 +2,9 @@ use Rattle.std.proofs.Common.{subst, ℤ, FitsSigned, w64}
 use Rattle.std.proofs.lemmas.Int.{to_z-of_z}
 use Rattle.bq_base.specs.Gives.{Gives}
 use Rattle.bq_value.specs.declared.error.EvalErr.TheVariants.{Bad}
-use Rattle.bq_builtin_operators.specs.InPlace.{element_set}
-use Rattle.bq_builtin_operators.proofs.Changes.{content_changed}
-use Rattle.bq_builtin_operators.proofs.in_place.set_element.Goals as goal
+use Rattle.bq_builtin_in_place.specs.InPlace.{element_set}
+use Rattle.bq_builtin_in_place.proofs.Changes.{content_changed}
+use Rattle.bq_builtin_in_place.proofs.in_place.set_element.Goals as goal
 
 pub returns : goal.returns
 returns c =
