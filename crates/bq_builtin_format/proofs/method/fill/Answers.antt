@@ -6,7 +6,7 @@ use Rattle.bq_builtin_format.specs.Percent.{DraftView, blank}
 use Rattle.bq_builtin_format.specs.Piece.{literal, pieces}
 use Rattle.bq_builtin_format.specs.Argument.{no_fields}
 use Rattle.bq_builtin_format.proofs.Fields.{made_from, made_more, made_bad, made_end, formatted_when}
-use Rattle.bq_builtin_format.proofs.method.format.Goals as goal
+use Rattle.bq_builtin_format.proofs.method.fill.Goals as goal
 
 pub loop-name-init : goal.loop-name-init
 loop-name-init c =

@@ -3,7 +3,7 @@ use Rattle.bq_builtin_format.specs.Percent.{blank}
 use Rattle.bq_builtin_format.specs.Piece.{field_of, pieces}
 use Rattle.bq_builtin_format.specs.Argument.{no_fields}
 use Rattle.bq_builtin_format.specs.Method.{made}
-use Rattle.bq_builtin_format.proofs.method.format.Given as goal
+use Rattle.bq_builtin_format.proofs.method.fill.Given as goal
 
 -- what is left gives what all gives, and begins with a field if it is not empty
 abbrev pub invariant-loop-name : goal.invariant-loop-name
