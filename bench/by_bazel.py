@@ -34,7 +34,7 @@ class Bazel:
         self.git("fetch", "-q", "origin")
         self.git("checkout", "-q", "--force", "FETCH_HEAD")
         self.git("clean", "-fdqx")
-        for name in ("WORKSPACE.bazel", "WORKSPACE"):
+        for name in (".bazelversion", "WORKSPACE.bazel", "WORKSPACE"):
             if os.path.lexists(f"{self.tree}/{name}"):
                 os.remove(f"{self.tree}/{name}")
         with open(f"{self.tree}/WORKSPACE", "w", encoding="ascii"):
@@ -67,4 +67,5 @@ class Bazel:
             if label not in found:
                 found.add(label)
                 pending += users[label]
+        # (what a rule writes isn't asked for: bq knows fewer of Bazel's implicit outputs)
         return {label for label in found if now[label][0] is not None}

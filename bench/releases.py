@@ -46,7 +46,7 @@ class Releases(histories.Project):
     """A repository that has one release after another."""
 
     def __init__(self, bench, name):
-        self.bench, self.name, self.folder = bench, name, f"{bench.room}/{name}"
+        self.bench, self.name, self.folder, self.last = bench, name, f"{bench.room}/{name}", None
         shutil.rmtree(self.folder, ignore_errors=True)
         os.makedirs(self.folder)
         self.git("init", "-q")
