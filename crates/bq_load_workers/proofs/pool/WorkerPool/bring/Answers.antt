@@ -8,8 +8,8 @@ use Rattle.bq_load_workers.specs.declared.pool.FinishedModule.{FinishedModule}
 use Rattle.bq_load_workers.proofs.Bringing.{brought_more}
 use Rattle.bq_load_workers.proofs.pool.WorkerPool.bring.Goals as goal
 
-pub returns-then-wins-clause-brought : goal.returns-then-wins-clause-brought
-returns-then-wins-clause-brought g c before h = subst (λ (f : List ℕ). Brought g.E.Evaluate.see g.E.Evaluate.see_fault (outcome (g.E.Evaluate.means c.args.self.now.evaluator) c.args.self.now.graph) (length c.args.self.now.graph) before f c.args.modules.now.items) (sym c.wins.ensures.finished) h
+pub returns-then-not-wins-clause-brought : goal.returns-then-not-wins-clause-brought
+returns-then-not-wins-clause-brought g c before h = subst (λ (f : List ℕ). Brought g.E.Evaluate.see g.E.Evaluate.see_fault (outcome (g.E.Evaluate.means c.args.self.now.evaluator) c.args.self.now.graph) (length c.args.self.now.graph) before f c.args.modules.now.items) (sym c.wins.ensures.finished) h
 
 pub find-requires-clause-seat : goal.find-requires-clause-seat
 find-requires-clause-seat g c _ _ = c.wins.ensures.seat
@@ -18,7 +18,7 @@ pub find-requires-clause-known : goal.find-requires-clause-known
 find-requires-clause-known g c _ _ = c.requires.known
 
 pub find-requires-clause-holds : goal.find-requires-clause-holds
-find-requires-clause-holds g c _ _ = c.wins.ensures.holds c.if-wins.true
+find-requires-clause-holds g c _ _ = c.wins.ensures.holds c.if-not-wins.false
 
 pub deliver-requires-clause-seat : goal.deliver-requires-clause-seat
 deliver-requires-clause-seat g c _ _ = c.find.ensures.seat
