@@ -15,7 +15,7 @@ use Rattle.bq_label.specs.declared.packages.BuildFile.{BuildFile}
 use Rattle.bq_label.specs.Paths.{common_len}
 use Rattle.bq_label.specs.Label.{PackageParts, package_at}
 use Rattle.bq_label.specs.Packages.{id_cmp, package_cmp, is_package_id, package_named, common_in, HasNoneLonger}
-use Rattle.bq_label.proofs.Above.{same_bytes, equal_bytes}
+use Rattle.bq_label.proofs.Above.{same_bytes}
 use Rattle.bq_label.proofs.Readings.{first_of_two, second_of_two}
 use Rattle.bq_label.proofs.Searches.{find_none}
 use Rattle.bq_label.proofs.Neighbours.{below_longer, below_whole, first_decides}
