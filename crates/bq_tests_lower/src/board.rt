@@ -574,17 +574,24 @@ fn random_loads(alloc: Global, seed: u64) -> Result<Vec<Vec<u32>>, AllocError>
     let mut state = seed * 2 + 1;
     let mut rows = Vec::new(alloc);
     for m in 0..MODULES {
-        let mut row = Vec::new(alloc);
-        for _ in 0..8 {
-            state = step(state);
-            let l = state % MODULES;
-            if rank(l, seed) < rank(m, seed) {
-                row.push(l as u32)?;
-            }
-        }
-        rows.push(row)?;
+        rows.push(random_row(alloc, seed, m, &mut state)?)?;
     }
     Ok(rows)
+}
+
+// The loads of a module.
+fn random_row(alloc: Global, seed: u64, m: u64, state: &mut u64) -> Result<Vec<u32>, AllocError>
+    requires { (m < 2000) × (seed < 2000) }
+{
+    let mut row = Vec::new(alloc);
+    for _ in 0..8 {
+        *state = step(*state);
+        let l = *state % MODULES;
+        if rank(l, seed) < rank(m, seed) {
+            row.push(l as u32)?;
+        }
+    }
+    Ok(row)
 }
 
 // The next of a row of numbers that look random.

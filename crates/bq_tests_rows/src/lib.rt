@@ -131,12 +131,46 @@ pub fn wanted_of(alloc: Global, line: &[u8]) -> Result<Vec<u8>, AllocError> {
 }
 
 /// The answer of a subject to the row of a line.
-pub fn answer_of(
-    alloc: Global,
-    line: &[u8],
-    subject: &impl Subject,
-) -> Result<Vec<u8>, AllocError> {
+fn answer_of(alloc: Global, line: &[u8], subject: &impl Subject) -> Result<Vec<u8>, AllocError> {
     let row = row_of(line);
     let text = row.bytes(alloc, 0)?;
     subject.answer(alloc, &text, row)
+}
+
+/// The rows of a table whose answer isn't the one that is wanted, each on a line before its answer.
+pub fn wrong_rows(
+    alloc: Global,
+    table: &str,
+    subject: &impl Subject,
+) -> Result<Vec<u8>, AllocError> {
+    let mut wrong = Vec::new(alloc);
+    for line in table.lines() {
+        if is_row(line.as_bytes()) {
+            let found = answer_of(alloc, line.as_bytes(), subject)?;
+            add_if_wrong(alloc, line.as_bytes(), &found, &mut wrong)?;
+        }
+    }
+    Ok(wrong)
+}
+
+/// Adds a line and the answer to its row, if the row wants another.
+pub fn add_if_wrong(
+    alloc: Global,
+    line: &[u8],
+    found: &[u8],
+    wrong: &mut Vec<u8>,
+) -> Result<(), AllocError> {
+    if is_wanted(alloc, line, found)? {
+        return Ok(());
+    }
+    for text in [line, b"\n", found, b"\n"] {
+        wrong.extend_from_slice(text)?;
+    }
+    Ok(())
+}
+
+/// Whether this is the answer that the row of this line wants.
+fn is_wanted(alloc: Global, line: &[u8], found: &[u8]) -> Result<bool, AllocError> {
+    let wanted = wanted_of(alloc, line)?;
+    Ok(found == wanted.as_slice())
 }

@@ -1,11 +1,11 @@
 -- A cell that is lent to be changed.
 use Rattle.std.specs.Prelude.{ℕ, set, Result}
 use Rattle.std.specs.Borrow.{Lends, LendsIfOk, MutBor, Fml}
-use Rattle.bq_value.specs.Cells.{StoreView, with_cells}
-use Rattle.bq_value.specs.Contents.{Contents}
+use Rattle.bq_value_modules.specs.Cells.{StoreView, with_cells}
+use Rattle.bq_value_content.specs.Contents.{Contents}
 use Rattle.bq_value.specs.declared.error.EvalErr.{EvalErr}
 use Rattle.bq_value.specs.contracts.store.Store.{the_row}
-use Rattle.bq_value.specs.contracts.content.Content.{the_row as content_row}
+use Rattle.bq_value_content.specs.contracts.content.Content.{the_row as content_row}
 
 -- the store in which the running module's cell of that number holds this
 abbrev pub with_cell : StoreView → ℕ → Contents → StoreView

@@ -1,5 +1,5 @@
 -- What the fields of a store and of a frozen module stand for.
-use Rattle.bq_value.specs.Cells.{StoreView, FrozenView}
+use Rattle.bq_value_modules.specs.Cells.{StoreView, FrozenView}
 use Rattle.bq_value.specs.declared.frozen.Frozen.TheInside.{Inside as FrozenInside}
 use Rattle.bq_value.specs.declared.store.Store.TheInside.{Inside}
 

@@ -1,15 +1,13 @@
 //! Modules whose evaluation has ended (Starlark, "Freezing a value").
 
 ghost use Rattle.std.specs.Prelude.{◌≡◌, None, Some, MatchOption, IfOk};
-ghost use Rattle.bq_value.specs.Cells.{frozen_at, globals_at, frozen};
+ghost use Rattle.bq_value_modules.specs.Cells.{frozen_at, globals_at, frozen};
 
-use crate::content::Content;
-use crate::kinds::kinds_of;
-use crate::modules::Modules;
-use crate::shared::{Cells, Shared};
 use crate::store::Store;
-use crate::value::{Cell, Value};
 use bq_base::Bytes;
+use bq_value_content::{Content, kinds_of};
+use bq_value_datum::{Cell, Value};
+use bq_value_modules::{Cells, Modules, Shared};
 use std::alloc::{AllocError, Global};
 use std::marker::Model;
 use std::sync::Arc;
@@ -23,7 +21,7 @@ pub struct Frozen {
 }
 
 impl Model for Frozen {
-    ghost use Rattle.bq_value.specs.Cells.{FrozenView, coded_frozen};
+    ghost use Rattle.bq_value_modules.specs.Cells.{FrozenView, coded_frozen};
 
     ghost Value = { FrozenView };
 
@@ -50,7 +48,7 @@ impl Frozen {
     }
 
     /// Returns the values of the globals of module `home`, if it is this one or one that it reaches.
-    #[tactic(auto, unfolding(crate::specs::Cells::globals_at))]
+    #[tactic(auto, unfolding(bq_value_modules::specs::Cells::globals_at))]
     pub fn globals_of(&self, home: u32) -> Option<&[Value]>
         ensures { MatchOption result (globals_at self.now home ≡ None) (λ g. globals_at self.now home ≡ Some g.now) }
     {
@@ -61,7 +59,7 @@ impl Frozen {
     }
 
     /// Returns what `cell` holds.
-    #[tactic(auto, unfolding(crate::specs::Cells::frozen_at))]
+    #[tactic(auto, unfolding(bq_value_modules::specs::Cells::frozen_at))]
     pub fn content(&self, cell: Cell) -> Option<&Content>
         ensures { MatchOption result (frozen_at self.now cell.module cell.number ≡ None) (λ c. frozen_at self.now cell.module cell.number ≡ Some c.now) }
     {

@@ -4,14 +4,14 @@ ghost use Rattle.std.specs.Prelude.{◌≡◌, [], ◌∷◌, ◌++◌, None, So
 ghost use Rattle.std.specs.Prelude.{◌<◌, ◌≢◌, slice_get, option_copied, IsOkAnd, IsErrOf};
 ghost use Rattle.std.specs.Borrow.{sem};
 ghost use Rattle.bq_value.specs.Lending.{LendsCell, LendsCellIfOk};
-ghost use Rattle.bq_value.specs.Cells.{content_at, kind_of, with_cells, loading};
+ghost use Rattle.bq_value_modules.specs.Cells.{content_at, kind_of, with_cells, loading};
 
-use crate::content::Content;
 use crate::error::EvalErr;
 use crate::frozen::Frozen;
-use crate::modules::Modules;
-use crate::value::Cell;
 use bq_base::{Bytes, FaultKind};
+use bq_value_content::Content;
+use bq_value_datum::Cell;
+use bq_value_modules::Modules;
 use bq_value_seed::Seed;
 use std::alloc::{AllocError, Global};
 use std::marker::Model;
@@ -27,7 +27,7 @@ pub struct Store {
 }
 
 impl Model for Store {
-    ghost use Rattle.bq_value.specs.Cells.{StoreView, coded_store};
+    ghost use Rattle.bq_value_modules.specs.Cells.{StoreView, coded_store};
 
     ghost Value = { StoreView };
 
@@ -87,7 +87,7 @@ impl Store {
     }
 
     /// Returns what `cell` holds.
-    #[tactic(auto, unfolding(crate::specs::Cells::content_at))]
+    #[tactic(auto, unfolding(bq_value_modules::specs::Cells::content_at))]
     pub fn content(&self, cell: Cell) -> Option<&Content>
         ensures { MatchOption result (content_at self.now cell.module cell.number ≡ None) (λ c. content_at self.now cell.module cell.number ≡ Some c.now) }
     {
@@ -99,7 +99,7 @@ impl Store {
     }
 
     /// Returns the kind of the rule in a cell of a frozen module. A rule of the running module has none yet.
-    #[tactic(auto, unfolding(crate::specs::Cells::kind_of))]
+    #[tactic(auto, unfolding(bq_value_modules::specs::Cells::kind_of))]
     pub fn kind(&self, cell: Cell) -> Option<&Bytes>
         ensures { option_copied result ≡ kind_of self.now cell.module cell.number }
     {

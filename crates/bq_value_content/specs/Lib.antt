@@ -1,0 +1,4 @@
+pub mod Pairs
+pub mod Contents
+pub mod ContentOf
+pub mod Kinds
