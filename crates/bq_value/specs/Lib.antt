@@ -8,6 +8,6 @@ pub use Rattle.bq_value_datum.specs.declared.value.Cell
 pub use Rattle.bq_value_content.specs.Pairs
 pub use Rattle.bq_value_content.specs.Contents
 pub use Rattle.bq_value_content.specs.Kinds
-pub use Rattle.bq_value_modules.specs.Cells
+pub use Rattle.bq_value.specs.Cells
 pub mod StoreOf
 pub mod Lending
