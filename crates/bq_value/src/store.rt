@@ -9,7 +9,7 @@ ghost use Rattle.bq_value.specs.Cells.{content_at, kind_of, with_cells, loading}
 use crate::error::EvalErr;
 use crate::frozen::Frozen;
 use crate::modules::Modules;
-use bq_base::Bytes;
+use bq_base::{Bytes, FaultKind};
 use bq_value_content::{Content, Made};
 use bq_value_datum::Cell;
 use bq_value_seed::Seed;
