@@ -1,8 +1,10 @@
 """What a run of the gate takes, by crate and by kind of check: its processes are read in Linux's /proc while it runs."""
 import collections
+import hashlib
 import json
 import os
 import re
+import statistics
 import subprocess
 import time
 
@@ -71,19 +73,50 @@ def watch(command, folder):
 
 
 def remember(rows, path):
-    """Adds the checks of a run to those that are kept in a file: a line of JSON each. A later run proves only what changed, and what it
-    takes replaces what the same check of the crate took before."""
-    known = {}
-    if os.path.exists(path):
-        with open(path, encoding="utf-8") as lines:
-            known = {tuple(json.loads(line)[:2]): json.loads(line)[2] for line in lines}
+    """Adds the checks of a run to those that are kept in a file: a line of JSON each, with the sum of the crate's texts. A later run
+    proves only what changed, and what it takes replaces what the same check of the crate took before."""
+    known = kept(path) if os.path.exists(path) else {}
     found = collections.Counter()
     for crate, kind, seconds in rows:
         found[crate, kind] += seconds
-    known.update(found)
+    known |= {(crate, kind): (seconds, text_of(crate)) for (crate, kind), seconds in found.items()}
     with open(path, "w", encoding="utf-8") as lines:
-        lines.writelines(json.dumps([*key, round(seconds, 1)]) + "\n" for key, seconds in known.items())
-    return [(*key, seconds) for key, seconds in known.items()]
+        lines.writelines(json.dumps([*key, round(seconds, 1), text]) + "\n" for key, (seconds, text) in known.items())
+    return [(*key, seconds) for key, (seconds, _) in known.items()]
+
+
+def kept(path):
+    """The checks in such a file: the seconds and the sum of each crate and kind. (A file of an older version of this script has no sums.)"""
+    with open(path, encoding="utf-8") as lines:
+        rows = [json.loads(line) for line in lines]
+    return {(crate, kind): (seconds, *(text or [""])) for crate, kind, seconds, *text in rows}
+
+
+def text_of(crate):
+    """The sum of the files that a crate's checks are about, without those of the crates below it; nothing of a crate of the toolchain."""
+    found = hashlib.sha256()
+    if not os.path.isdir(f"{kit.ROOT}/crates/{crate}"):
+        return ""
+    for part in (*kit.PARTS, "must-fail"):
+        for at, folders, names in os.walk(f"{kit.ROOT}/crates/{crate}/{part}"):
+            folders.sort()
+            for name in sorted(names):
+                with open(f"{at}/{name}", "rb") as file:
+                    found.update(repr((os.path.relpath(at, kit.ROOT), name, file.read())).encode())
+    return found.hexdigest()[:24]
+
+
+def beside(before, after):
+    """The lines of a table: what the checks took whose crates have the same texts in both files."""
+    yield "kind of check | crates in both, with the same text | before, s | after, s | after over before | a crate's, least, middle and most"
+    yield "--- | ---: | ---: | ---: | ---: | ---"
+    same = [key for key, (_, text) in before.items() if text and after.get(key, (0, ""))[1] == text]
+    for kind, name in [*KINDS.items(), ("", "all")]:
+        pairs = [(before[key][0], after[key][0]) for key in same if key[1] == kind or not kind]
+        sums, each = [sum(it) for it in zip(*pairs)] or [0, 0], sorted(two / one for one, two in pairs if one)
+        if each:
+            of_each = f"{each[0]:.2f}, {statistics.median(each):.2f}, {each[-1]:.2f}"
+            yield f"{name} | {len(pairs)} | {sums[0]:.0f} | {sums[1]:.0f} | {sums[1] / sums[0]:.2f} | {of_each}"
 
 
 def edits(crate):

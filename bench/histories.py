@@ -4,7 +4,7 @@ Beside each list stands what follows from it by a way of its own (`followed`): b
 tools/bundle as a user would, and the lines of `bq --facts` and the bytes of files are compared as they are; what depends on a changed
 target says `rdeps` of bq. Nothing that is found so may be missing, and where a workspace needs no overlay nothing more may be listed.
 """
-import functools
+import collections
 import json
 import os
 import random
@@ -39,7 +39,7 @@ class Project:
     """A workspace in a repository of git, in a folder of the bench's room."""
 
     def __init__(self, bench, name, files):
-        self.bench, self.name, self.folder = bench, name, f"{bench.room}/{name}"
+        self.bench, self.name, self.folder, self.last = bench, name, f"{bench.room}/{name}", None
         bench.lay_out(name, files)
         self.git("init", "-q")
         self.commit()
@@ -107,26 +107,35 @@ def bytes_at(tree, path):
         return file.read(), os.access(place, os.X_OK)
 
 
+Side = collections.namedtuple("Side", "key room tree targets bundle is_whole")
+
+
+def side(project, revision, overlays, beside=None):
+    """A revision that is checked out, and what `told` says of it. (The head of a change is kept: it is mostly the base of the next.)"""
+    key = project.git("rev-parse", revision), *overlays
+    if project.last and project.last.key == key and not beside:
+        return project.last
+    room = f"{project.bench.room}/followed-{2 if beside and beside.room.endswith('1') else 1}"
+    tree = project.checkout(revision, f"{room}/tree")
+    return Side(key, room, tree, *told(project.bench, tree, room, list(overlays)))
+
+
 def followed(project, base, head, overlays=()):
-    """What has to be listed, and whether it may be incomplete."""
-    bench, sides = project.bench, []
-    for name, revision in (("base", base), ("head", head)):
-        room = f"{bench.room}/followed-{name}"
-        tree = project.checkout(revision, f"{room}/tree")
-        sides.append((tree, *told(bench, tree, room, list(overlays))))
-    (old_tree, old, _, old_whole), (new_tree, new, bundle, new_whole) = sides
-    changed = set()
+    """What has to be listed, whether all is there, and the labels of all targets."""
+    bench = project.bench
+    before = side(project, base, overlays)
+    after = project.last = side(project, head, overlays, before)
+    changed, old, new = set(), before.targets, after.targets
     for label, it in new.items():
         if label not in old:
             changed.add(label)
         elif it["kind"] == "source file" == old[label]["kind"]:
-            changed |= {label} if bytes_at(old_tree, it["file"]) != bytes_at(new_tree, it["file"]) else set()
+            changed |= {label} if bytes_at(before.tree, it["file"]) != bytes_at(after.tree, it["file"]) else set()
         elif any(it.get(key) != old[label].get(key) for key in ("kind", "attributes", "deps")):
             changed.add(label)
     changed |= {label for label, it in old.items() if label in new and any(dep not in new for dep in it.get("deps", ()))}
-    if not changed:
-        return [], old_whole and new_whole
-    return dependents(bench, bundle, sorted({label.partition("//")[0] for label in new}), sorted(changed)), old_whole and new_whole
+    listed = dependents(bench, after.bundle, sorted({label.partition("//")[0] for label in new}), sorted(changed)) if changed else []
+    return listed, before.is_whole and after.is_whole, {*new}
 
 
 def dependents(bench, bundle, repositories, changed):
@@ -141,8 +150,8 @@ def dependents(bench, bundle, repositories, changed):
 
 
 def compared(project, what, exactly, words=(), base="HEAD~1", head="HEAD", overlays=()):
-    """Compares the list of a change with what follows."""
-    wanted, is_whole = followed(project, base, head, overlays)
+    """Compares the list of a change with what follows. Gives the list, what is said beside it, and the labels of all targets."""
+    wanted, is_whole, of = followed(project, base, head, overlays)
     output, errors, status = project.affected("--base", base, "--head", head, *words)
     found = output.splitlines()
     missing = sorted(set(wanted) - set(found))
@@ -150,7 +159,7 @@ def compared(project, what, exactly, words=(), base="HEAD~1", head="HEAD", overl
     if exactly:
         project.bench.compare(f"{what}: too much", sorted(set(found) - set(wanted)), [])
     project.bench.compare(f"{what}: status", (status, found == sorted(found)), (0 if is_whole else 3, True))
-    return found, errors
+    return found, errors, of
 
 
 class Maker:
@@ -315,6 +324,11 @@ LOSSY = {
     "rules.bzl": 'def _impl(ctx):\n    return [DefaultInfo(files = depset(ctx.files.srcs))]\nown = rule(implementation = _impl, attrs = {"srcs": attr.label_list()})\n',
     "d/BUILD": 'load("@r//:r.bzl", "x_test")\nx_test(name = "eight")\n',
     "e/BUILD": 'load("@r//:r.bzl", "flags", "x_test")\nx_test(name = "nine", copts = flags("a"))\nx_test("ten", "small")\nx_test(name = "eleven", n = 1)\n',
+    "f/BUILD": 'load("@r//:r.bzl", "x_test")\nconfig_setting(name = "c", values = {"a": "1"})\nOPTS = select({":c": ["-a"], "//conditions:default": []})\n'
+               'x_test(name = "twelve", copts = OPTS)\nx_test(name = "thirteen", size = "small")\n',
+    "opts.bzl": 'OPTS = select({"//f:c": ["-b"], "//conditions:default": []})\nSIZE = "small"\n',
+    "g/BUILD": 'load("@r//:r.bzl", "x_test")\nload("//:opts.bzl", "OPTS")\nx_test(name = "fourteen", copts = OPTS)\nx_test(name = "fifteen")\n',
+    "pack.bzl": 'def pack(features):\n    native.package(features = [features])\n', "h/BUILD": 'load("//:pack.bzl", "pack")\npack("a")\nfilegroup(name = "sixteen")\n',
 }
 # what changes what an overlay leaves out: the file, the texts, and what is listed
 HIDDEN = (
@@ -332,6 +346,11 @@ HIDDEN = (
     ("e/BUILD", 'flags("a")', 'flags("b")', "//e:nine"),
     ("e/BUILD", '"ten", "small"', '"ten", "large"', "//e:ten"),
     ("e/BUILD", "n = 1", "n = 2", "//e:eleven"),
+    ("h/BUILD", 'pack("a")', 'pack("b")', "//h:sixteen"),
+    ("pack.bzl", "[features]", '[features, "c"]', "//h:sixteen"),
+    ("pack.bzl", "def pack", "# a comment\ndef pack", ""),
+    ("f/BUILD", '"1"', '"2"', "//f:c //f:twelve //g:fourteen"),
+    ("f/BUILD", 'name = "c"', 'name = "d"', "//f:d //f:twelve //g:fourteen"),
 )
 
 
@@ -348,7 +367,8 @@ def overlays(bench):
     bench.compare("a macro without targets", (output, "targets may be missing: head: 2 calls of plain (other.bzl:2" in errors, status), ("", True, 3))
     found = project.affected("--base", "HEAD", "--kind", "rule", "--all-on-fault")
     bench.compare("all, for a macro without targets", (found[0].split(), found[2]),
-                  ("//a:four //a:one //a:three //a:two //b:five //b:six //c:seven //d:eight //e:eleven //e:nine //e:ten".split(), 0))
+                  ("//a:four //a:one //a:three //a:two //b:five //b:six //c:seven //d:eight //e:eleven //e:nine //e:ten "
+                   "//f:c //f:thirteen //f:twelve //g:fifteen //g:fourteen //h:sixteen".split(), 0))
 
 
 def modules(bench):

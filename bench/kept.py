@@ -1,8 +1,10 @@
 """Libraries of crates as the gate builds them, kept by their texts: each is proved once on a machine, whichever clone asks for it.
 
 rt's own modules say how a crate is checked; what is here keeps what they build in a folder of the user's cache, under a sum of the crate's
-texts and of those below it. The gate trusts none of it.
+texts and of those below it. What a gate that keeps its own libraries has proved of the same text is taken from there, its sums compared as
+the gate does. The gate trusts none of what is here.
 """
+import contextlib
 import fcntl
 import hashlib
 import importlib.machinery
@@ -13,6 +15,7 @@ import shutil
 import subprocess
 import sys
 import tempfile
+import types
 from concurrent.futures import FIRST_COMPLETED, ThreadPoolExecutor, wait
 
 import kit
@@ -41,6 +44,9 @@ class Kept:
         self.lib.Crate = rt.Crate
         # as in the gate, the crates above a library load its statements and not its proofs
         rt.Crate.cuts_libraries = True
+        # (the gate's keys have what HANDLES allows)
+        rt.Crate.allowed = rt.handles_of(root)
+        self.gate = rt.Kept([]) if hasattr(rt, "Kept") and os.path.isdir(rt.STORE) else None
         # (its first call sets a signal's handler, which only the main thread may)
         self.lib.guarded()
         self.crates = {it.name: it for it in self.lib.crates_below(root)}
@@ -88,8 +94,30 @@ class Kept:
         with open(os.devnull, "w", encoding="utf-8") as crate.out:
             return crate.words(["--jobs", str(jobs)], tests=tests, keeps=False)
 
+    @contextlib.contextmanager
+    def as_the_gate(self, crate):
+        """A crate, with its place in the store where the gate's crates have their libraries."""
+        with tempfile.TemporaryDirectory(prefix="bench-") as room:
+            os.mkdir(f"{room}/out")
+            os.symlink(self.place(crate), f"{room}/out/rlib")
+            yield types.SimpleNamespace(name=crate.name, folder=room, is_program=crate.is_program, is_static=crate.is_static)
+
+    def take(self, crate):
+        """Takes a crate's library from what the gate keeps, if it has proved the same text over the same libraries. Returns whether it could."""
+        if not self.gate or crate.is_program or crate.is_static:
+            return False
+        for it in crate.below():
+            if it.name not in self.gate.rlibs:
+                with self.as_the_gate(it) as like:
+                    self.gate.is_built(like)
+        # (what a run that was killed has left would be written into, and may be the gate's own)
+        shutil.rmtree(crate.rlib, ignore_errors=True)
+        with self.as_the_gate(crate) as like:
+            return self.gate.give(like, False, self.gate.key(crate))
+
     def prove(self, crate, tests, jobs=1):
-        """Proves a crate, or its tests, from nothing, and keeps the library. Returns what was said where that failed, and its seconds."""
+        """Proves a crate, or its tests, from nothing, and keeps the library. Returns what was said where that failed, and its seconds, 0 where
+        it was proved elsewhere."""
         here = self.place(crate, tests)
         os.makedirs(here, exist_ok=True)
         with open(f"{here}/lock", "w", encoding="utf-8") as lock:
@@ -97,23 +125,27 @@ class Kept:
             fcntl.flock(lock, fcntl.LOCK_EX)
             if self.is_there(crate, tests):
                 return None, 0
-            words = self.words(crate, tests, jobs)
-            if tests or crate.is_program:
-                words = ["check", *words]
-            else:
-                shutil.rmtree(crate.rlib, ignore_errors=True)
-                words = ["build", *words, "--statements", "-o", crate.rlib]
-            status, said, seconds, peak = self.run(words, crate.folder)
+            is_taken = not tests and self.take(crate)
+            status, said, seconds, peak = (0, "taken from the gate", 0, 0) if is_taken else self.build(crate, tests, jobs)
             self.sums.pop(crate.name)
             if here != self.place(crate, tests):
                 return "its text changed while it was proved", seconds
             if status:
                 return said, seconds
-            with open(f"{STORE}/log", "a", encoding="utf-8") as log:
-                print(json.dumps({"crate": crate.name, "tests": tests, "seconds": round(seconds, 1), "bytes": peak}), file=log)
+            if not is_taken:
+                with open(f"{STORE}/log", "a", encoding="utf-8") as log:
+                    print(json.dumps({"crate": crate.name, "tests": tests, "seconds": round(seconds, 1), "bytes": peak}), file=log)
             with open(f"{here}/proved", "w", encoding="utf-8") as file:
                 file.write(said.splitlines()[-1])
             return None, seconds
+
+    def build(self, crate, tests, jobs):
+        """Proves a crate, or its tests, from nothing; gives what `run` does."""
+        words = self.words(crate, tests, jobs)
+        if tests or crate.is_program:
+            return self.run(["check", *words], crate.folder)
+        shutil.rmtree(crate.rlib, ignore_errors=True)
+        return self.run(["build", *words, "--statements", "-o", crate.rlib], crate.folder)
 
     def check(self, crate, flags):
         """Checks a crate over what its last check kept in out/, and prints what the prover says. Returns its status."""

@@ -1,17 +1,25 @@
-"""Changes between releases of real projects, for bench/real --changes: each release of Debian's suites is a tree, what differs between two of
-them is put into a repository of git in several commits, and the list of tools/affected for each commit is held to what follows from the
-facts in another way (bench/histories.py)."""
+"""Changes of real projects, for bench/real --changes: each release of Debian's suites is a tree. Debian's patches of it are applied one by one, each
+a commit, and what differs from there to the next release is put into several commits. The list of tools/affected for each commit is held to
+what follows from the facts in another way (bench/histories.py), and with a Bazel to what follows from its answers (bench/by_bazel.py)."""
 import hashlib
 import os
+import re
 import shutil
 import subprocess
+import tarfile
+from collections import Counter, namedtuple
 
 import histories
+from by_bazel import Bazel
 from workspace import has_content
 
-SUITES = ("bookworm", "trixie", "sid")
+# (the oldest first)
+SUITES = ("bullseye", "bookworm", "trixie", "trixie-backports", "sid", "experimental")
 # into how many commits the difference of two releases is put
 PARTS = 6
+TOUCHED = re.compile(rb"^(?:---|\+\+\+) [^/\s]+/([^\t\n\r]+)", re.M)
+
+Release = namedtuple("Release", "version tree patches")
 
 
 class Real:
@@ -38,7 +46,7 @@ class Releases(histories.Project):
     """A repository that has one release after another."""
 
     def __init__(self, bench, name):
-        self.bench, self.name, self.folder = bench, name, f"{bench.room}/{name}"
+        self.bench, self.name, self.folder, self.last = bench, name, f"{bench.room}/{name}", None
         shutil.rmtree(self.folder, ignore_errors=True)
         os.makedirs(self.folder)
         self.git("init", "-q")
@@ -53,7 +61,15 @@ class Releases(histories.Project):
             for path in sorted(odd[first:first + size], key=lambda it: it in wanted):
                 self.put(path, tree)
             self.commit()
-            yield first // size
+            yield
+
+    def patched(self, patches):
+        """Commits each patch. (What Debian has left out of the release can't be patched.)"""
+        for text in patches:
+            words = [*histories.GIT, "apply", "-p1", "--whitespace=nowarn", "-"]
+            if subprocess.run(words, cwd=self.folder, input=text, capture_output=True, check=False).returncode == 0:
+                self.commit()
+                yield
 
     def put(self, path, tree):
         place = f"{self.folder}/{path}"
@@ -89,20 +105,40 @@ def entry(path):
         return file.read(), os.access(path, os.X_OK)
 
 
-def shown(path, data):
-    """What a file of a tree holds: its bytes where they count, else their sum, which differs where they do."""
-    return data() if has_content(path) else hashlib.sha256(data()).hexdigest().encode()
+def patches_of(path):
+    """The patches of a source package, from the tarball that has Debian's part of it, in their order."""
+    with tarfile.open(path) as archive:
+        found = {member.name.removeprefix("./").removeprefix("debian/patches/"): member for member in archive if member.isfile()}
+        series = archive.extractfile(found["series"]).read().decode() if "series" in found else ""
+        names = [line.split()[0] for line in series.splitlines() if line.strip() and not line.startswith("#")]
+        return [archive.extractfile(found[name]).read() for name in names if name in found]
 
 
-def row(program, folder, name, trees):
-    """A project's changes: how many, those that changed targets, how many targets were listed, how many lists aren't complete, and what is missing."""
+def shown(patches):
+    """What a file of a tree holds: its bytes where they count or are patched, else their sum, which differs where they do."""
+    whole = {path.decode("utf-8", "surrogateescape") for text in patches for path in TOUCHED.findall(text)} | {".bazelignore"}
+    return lambda path, data: data() if has_content(path) or path in whole else hashlib.sha256(data()).hexdigest().encode()
+
+
+def row(program, folder, name, found, repositories):
+    """The figures of a project's changes, by the columns of the table, and what is missing. With repositories Bazel is asked too."""
     bench = Real(program, f"{folder}/changes")
-    project = Releases(bench, name)
-    changes = some = listed = unsafe = 0
-    for at, tree in enumerate(trees):
-        for _ in project.steps_to(tree):
-            if at:
-                found, errors = histories.compared(project, f"{name} {changes}", False)
-                changes, some, listed = changes + 1, some + bool(found), listed + len(found)
-                unsafe += "targets may be missing" in errors
-    return changes, some, listed, unsafe, [it for it in bench.differing if it.endswith("missing")]
+    project, figures, missing = Releases(bench, name), Counter(), []
+    bazel = Bazel(project.folder, bench.room, repositories) if repositories else None
+    for at, release in enumerate(found):
+        for is_patch, steps in ((False, project.steps_to(release.tree)), (True, project.patched(release.patches))):
+            for _ in steps:
+                wanted = bazel.concerned() if bazel else None
+                if not at and not is_patch:
+                    continue
+                listed, errors, labels = histories.compared(project, f"{name}, change {figures['changes']}", False)
+                is_safe = "targets may be missing" not in errors
+                figures.update(changes=1, patches=is_patch, concerning=bool(listed), listed=len(listed), of=len(labels), unsafe=not is_safe)
+                figures.update(by_bazel=wanted is not None)
+                # (what stands in for another repository's macro may declare less)
+                if wanted is not None and is_safe and (lacking := (wanted & labels) - {*listed}):
+                    missing.append(f"{name}, change {figures['changes'] - 1}: missing, by Bazel: {' '.join(sorted(lacking))}")
+    if bazel:
+        bazel.stop()
+    missing += [it for it in bench.differing if it.endswith("missing")]
+    return [figures[it] for it in ("changes", "patches", "concerning", "listed", "of", "unsafe", "by_bazel")] + [len(missing)], missing

@@ -6,8 +6,8 @@ from collections import Counter, defaultdict
 from definitions import taken, value_for
 from facts import VALUE_METHODS
 from guesses import BY_NAME, DICTS, type_of
-from reading import BUILD_FUNCTIONS, NATIVE_VALUES, has_name, kind_of, makers_of, names_bound, parsed
-from replacements import NAMES, label_in, labels_bound, replacement
+from reading import BUILD_FUNCTIONS, has_name, kind_of, makers_of, names_bound, parsed
+from replacements import NAMES, NATIVE_VALUES, label_in, labels_bound, replacement
 
 LISTS = ("labels", "strings", "list")
 DEFAULT = "//conditions:default"

@@ -6,7 +6,8 @@ from collections import Counter, defaultdict
 
 from definitions import definition
 from guesses import DICTS
-from reading import BUILD_FUNCTIONS, BUILT_INS, LEFT_OUT, NATIVE_VALUES, read
+from reading import BUILD_FUNCTIONS, BUILT_INS, LEFT_OUT, read
+from replacements import NATIVE_VALUES
 from skylib import MEMBERS, REPOSITORY as SKYLIB
 from workspace import SCHEMA, content, files, has_content, is_path
 

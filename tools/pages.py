@@ -7,6 +7,7 @@ import re
 
 ROOT = os.path.dirname(os.path.dirname(os.path.realpath(__file__)))
 USE = re.compile(r"^(?:pub )?use Rattle\.(\w+)\.specs\.([\w.\-«»]+?)(?:\.\{([^}]*)\}|\s+as\s+(\S+))\s*$")
+PASSED_ON = re.compile(r"^pub use Rattle\.(\w+)\.specs\.((?:[\w\-]+\.)*([\w\-]+))\s*$")
 DECLARED = re.compile(r"^\s*(?:abbrev|unfoldable|opaque)(?: mutual)?(?: pub)? ([^\s:({]+)\s*[:({]")
 TYPE = re.compile(r"^\s*(?:pub )?(?:data|record) (?:pub )?(?!where\b|in\b|\{)([^\s:({]+)")
 SIGNATURE = re.compile(r"^(?:pub )?([^\s:({=]+)\s*:\s")
@@ -76,17 +77,26 @@ def declared(line):
     return found[1] if found and found[1] not in ("use", "mod", "pub") else None
 
 
+def passed_on(top):
+    """The pages that a crate passes on from crates below, by their names here."""
+    if not os.path.exists(f"{top}/Lib.antt"):
+        return {}
+    with open(f"{top}/Lib.antt", encoding="utf-8") as file:
+        return {line[3]: (line[1], line[2]) for line in map(PASSED_ON.match, file) if line}
+
+
 def pages():
-    """All pages of the repository's crates, by crate and page."""
-    found = {}
+    """All pages of the repository's crates, by crate and page; a page that other crates pass on, by their names too."""
+    found, passed = {}, {}
     for crate in sorted(os.listdir(f"{ROOT}/crates")):
         top = f"{ROOT}/crates/{crate}/specs"
+        passed |= {(crate, page): at for page, at in passed_on(top).items()}
         for at, _, files in sorted(os.walk(top)):
             for file in sorted(files):
                 if file.endswith(".antt") and file != "Lib.antt":
                     page = os.path.relpath(f"{at}/{file}", top)[: -len(".antt")].replace("/", ".")
                     found[crate, page] = Page(crate, page, f"{at}/{file}")
-    return found
+    return found | {page: found[at] for page, at in passed.items() if at in found}
 
 
 def words_of(text):

@@ -17,11 +17,7 @@ LEFT_OUT = set("""abs analysis_test_transition apple_common apple_support aspect
     DefaultInfo depset distribs CcInfo environment_group exec_group existing_rule existing_rules float getattr hasattr hash InstrumentedFilesInfo
     JavaInfo java_common json Label module_extension native OutputGroupInfo platform_common proto provider ProtoInfo PyInfo PyRuntimeInfo
     repository_name repository_rule rule RunEnvironmentInfo set struct subpackages tag_class testing transition workspace dir
-    CcToolchainConfigInfo CcSharedLibraryInfo DebugPackageInfo ErlangInfo macro module_version symbolic_macro visibility""".split())
-
-
-# what stands for a call of a member of `native` that bq leaves out, as for a workspace in which nothing was declared before
-NATIVE_VALUES = {"repository_name": '"@"', "repo_name": '""', "module_name": "None", "module_version": "None", "existing_rules": "{}", "existing_rule": "None"}
+    CcToolchainConfigInfo CcSharedLibraryInfo DebugPackageInfo ErlangInfo macro module_name module_version repo_name symbolic_macro visibility""".split())
 
 
 def passed(value):

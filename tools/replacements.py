@@ -12,8 +12,10 @@ LABEL_MEMBERS = {
     "workspace_name": 't[1:].partition("//")[0] if t.startswith("@") else ""',
     "repo_name": 't[1:].partition("//")[0] if t.startswith("@") else ""',
 }
+# what stands for a call of a member of `native` that bq leaves out, as for a workspace in which nothing was declared before
+NATIVE_VALUES = {"repository_name": '"@"', "repo_name": '""', "module_name": "None", "module_version": "None", "existing_rules": "{}", "existing_rule": "None"}
 # functions whose calls are replaced; a file or function that binds such a name means something else
-NAMES = ("Label", "abs", "depset", "hasattr", "json")
+NAMES = ("Label", "abs", "depset", "hasattr", "json", *NATIVE_VALUES)
 
 
 @dataclass
@@ -77,6 +79,9 @@ def replacement(node, bound=(), labels=()):
             return Replacement("a function", ["True"]) if name == "native" or name.endswith("_common") else None
         case ast.Call(func=ast.Attribute(value=ast.Name(id="json"), attr="encode" | "encode_indent"), args=[of, *_]) if "json" not in bound:
             return Replacement("a function", ["repr(", of, ")"])
+        case ast.Call(func=ast.Name(id=name)) if name in NATIVE_VALUES and name not in bound:
+            # (as BUILD files call what .bzl files call as a member of `native`)
+            return Replacement("a function", [NATIVE_VALUES[name]])
         case ast.BinOp(op=ast.Div(), left=left, right=right):
             return Replacement("a division", ["((", left, ") // (", right, "))"])
         case _:

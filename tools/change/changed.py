@@ -4,6 +4,7 @@ import os
 from collections import namedtuple
 
 from change.hidden import hidden
+from change.unseen import unseen
 from paths import users_of
 from workspace import ROOT_FILES, SCHEMA
 
@@ -21,7 +22,7 @@ def compare(base, head):
         if reason := reason_of(target, base.facts.targets.get(label), base, head):
             targets[label] = reason
     deleted = [label for label in base.facts.targets if label not in head.facts.targets]
-    users = users_of(base.facts.targets)
+    users = users_in(base) if deleted else {}
     for label in deleted:
         for user in users[label]:
             if user in head.facts.targets:
@@ -36,6 +37,15 @@ def compare(base, head):
             targets.setdefault(label, f"{settings[0]}, and it depends on another repository")
         notes.append(f"{' and '.join(settings)}: what depends on another repository counts as changed ({len(found)} targets), and no other target")
     return Change(targets, deleted, in_no_target(changed, base, head), notes)
+
+
+def users_in(side):
+    """The targets of a side that depend on each directly, also where an overlay leaves that out."""
+    found = users_of(side.facts.targets)
+    for label, others in unseen(side).items():
+        for it in sorted(others):
+            found[it].append(label)
+    return found
 
 
 def reason_of(target, before, base, head):

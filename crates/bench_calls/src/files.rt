@@ -10,7 +10,7 @@ use bq_parse::{ParsedFile, parse};
 use bq_parse_grammar::FileKind;
 use bq_resolve::resolve;
 use bq_resolve_scope::Universe;
-use bq_source::lex;
+use bq_source_lexer::lex;
 
 /// The kind of the file of this path.
 fn kind_of(path: &[u8]) -> FileKind {

@@ -3,6 +3,7 @@
 use crate::shown::{show_lines, show_refused};
 use crate::window;
 use anyhow::Result;
+use bq_base::Bytes;
 use bq_label::{Label, Packages, Workspace};
 use bq_label_glob::{Pattern, glob, read_pattern};
 
@@ -32,7 +33,8 @@ fn glob_in(
 pub fn glob_each(rt: &HostRuntime, workspace: &Workspace) -> Result<()> {
     let packages = Packages::of(rt.alloc(), workspace)?;
     let mut patterns = Vec::new(rt.alloc());
-    patterns.push(read_pattern(rt.alloc(), b"**")?)?;
+    let text = Bytes::from_slice(rt.alloc(), b"**")?;
+    patterns.push(read_pattern(&text)?)?;
     for build_file in packages.all() {
         if let Some(label) = build_file.label(rt.alloc())? {
             glob_in(rt, workspace, &packages, &label, &patterns)?;

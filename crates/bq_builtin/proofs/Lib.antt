@@ -2,6 +2,8 @@
 pub mod Answering
 -- a stable sort gives the one list in order
 pub mod Sorting
+-- `all` and `any` by one element
+pub mod Counts
 -- the integers of ranges
 pub mod Ranges
 -- texts as integers

@@ -1,5 +1,5 @@
 -- The functions `all`, `any` and `bool` (Starlark, "all", "any", "bool").
-use Rattle.std.specs.Prelude.{Bool, false, List, Option, Some, None, Result, Ok}
+use Rattle.std.specs.Prelude.{Bool, true, false, not, List, [], ◌∷◌, Option, Some, None, Result, Ok, if◌then◌else◌}
 use Rattle.std.specs.List.{list_all, list_any}
 use Rattle.bq_base.specs.declared.fault.FaultKind.{FaultKind}
 use Rattle.bq_value.specs.Datum.{Datum, boolean}
@@ -17,6 +17,16 @@ all_true s xs = list_all (truth_of s) xs
 -- whether one of these counts as true
 unfoldable pub any_true : StoreView → List Datum → Bool
 any_true s xs = list_any (truth_of s) xs
+
+-- whether a value counts as this truth value
+abbrev pub counts : StoreView → Bool → Datum → Bool
+counts s true x = truth_of s x
+counts s false x = not (truth_of s x)
+
+-- whether one of these does
+abbrev pub one_counts : StoreView → Bool → List Datum → Bool
+one_counts s wanted [] = false
+one_counts s wanted (x ∷ xs) = if counts s wanted x then true else one_counts s wanted xs
 
 -- `all(x)`: whether each element counts as true
 unfoldable pub all : StoreView → Passed → Result Datum FaultKind

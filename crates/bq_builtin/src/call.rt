@@ -102,8 +102,8 @@ fn value(
     ensures { Gives (λ v. v) Bad result (value function machine.now.store args.now) }
 {
     match function {
-        ValueFunction::All => all(alloc, machine, args),
-        ValueFunction::Any => any(alloc, machine, args),
+        ValueFunction::All => all(machine, args),
+        ValueFunction::Any => any(machine, args),
         ValueFunction::Bool => bool(machine, args),
         ValueFunction::Int => int(args),
         ValueFunction::Len => len(machine, args),

@@ -13,7 +13,7 @@ use Rattle.bq_builtin_machine.specs.Cells.{Change, changing, may_change, content
 use Rattle.bq_builtin_machine.specs.Machine.{key}
 use Rattle.bq_builtin_operators.specs.Sequence.{limited}
 use Rattle.bq_builtin_operators.specs.Union.{put_all}
-use Rattle.bq_builtin_operators.specs.InPlace.{dict_united}
+use Rattle.bq_builtin_in_place.specs.InPlace.{dict_united}
 use Rattle.bq_builtin_collections.specs.declared.dict_edit.DictEdit.{DictEdit}
 use Rattle.bq_builtin_collections.specs.declared.dict_edit.DictEdit.TheVariants as edit
 use Rattle.bq_builtin_collections.specs.Arguments.{no_argument, one_or_two, or_none}

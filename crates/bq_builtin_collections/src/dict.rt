@@ -9,8 +9,8 @@ use crate::arguments::{no_argument, one_or_two};
 use crate::dict_edit::{DictEdit, change_dict, pair_tuple};
 use crate::pairs_given::PairsGiven;
 use bq_base::FaultKind;
+use bq_builtin_in_place::{put_pairs, unite};
 use bq_builtin_machine::{Args, Machine, keys_of};
-use bq_builtin_operators::{put_pairs, unite};
 use bq_value::{Body, Cell, Dict, EvalErr, Key, Value};
 use std::alloc::{AllocError, Global};
 

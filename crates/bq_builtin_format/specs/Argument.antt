@@ -1,6 +1,6 @@
 -- Which value a field names (Starlark, "string·format"): no text means the next value, digits the number of one, a word the name
 -- of a named one. Any other text names none.
-use Rattle.std.specs.Prelude.{ℕ, Bool, true, false, ◌&&◌, List, [], ◌∷◌, drop, slice_get, bytes_eq, Option, Some, None, if◌then◌else◌}
+use Rattle.std.specs.Prelude.{◌≡◌, ℕ, Bool, true, false, ◌&&◌, List, [], ◌∷◌, drop, take, map, length, slice_get, bytes_eq, Option, Some, None, if◌then◌else◌}
 use Rattle.std.specs.List.{list_all}
 use Rattle.std.specs.Str.Parse.{digits_value}
 use Rattle.bq_source.specs.Lexis.{is_letter, is_word, is_digit}
@@ -21,6 +21,10 @@ is_name (b ∷ bs) = is_letter b && list_all is_word bs
 abbrev pub named_value : List ℕ → List (List ℕ × Datum) → Option Datum
 named_value name [] = None
 named_value name (p ∷ ps) = if bytes_eq p.0 name then Some p.1 else named_value name ps
+
+-- the first of these pairs have these names
+abbrev pub BeginWith : List (List ℕ × Datum) → List (List ℕ) → Type 0
+BeginWith ps names = take (length names) (map (λ p. p.0) ps) ≡ names
 
 -- `next` are the values from the next one on
 abbrev pub argument : List Datum → List (List ℕ × Datum) → List Datum → List ℕ → Option Datum

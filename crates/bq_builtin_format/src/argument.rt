@@ -4,9 +4,9 @@ ghost use Rattle.std.specs.Prelude.{◌≡◌, ◌+◌, ◌*◌, ◌^◌, ◌<�
 ghost use Rattle.std.specs.Char.{digit_value};
 ghost use Rattle.std.specs.Str.Parse.{digits_value};
 ghost use Rattle.bq_source.specs.Lexis.{is_digit};
-ghost use Rattle.bq_builtin_format.specs.Argument.{is_number, is_name, named_value, argument, next_after, no_fields, numbering_after, is_mixed};
+ghost use Rattle.bq_builtin_format.specs.Argument.{is_number, is_name, argument, next_after, no_fields, numbering_after, is_mixed};
 
-use bq_base::Bytes;
+use crate::named::Named;
 use bq_source::{is_letter, is_word};
 use bq_value::Value;
 
@@ -66,22 +66,10 @@ fn numbered_value<'v>(values: &'v [Value], digits: &[u8]) -> Option<&'v Value>
     values.get(number)
 }
 
-/// Returns the value of this name.
-fn named_value<'v>(named: &'v [(Bytes, Value)], name: &[u8]) -> Option<&'v Value>
-    ensures { option_copied result ≡ named_value name.now named.now }
-{
-    for (key, value) in named {
-        if key.as_slice() == name {
-            return Some(value);
-        }
-    }
-    None
-}
-
 /// Returns the value that a field of this text names, where `next` are the values from the next one on.
 pub fn argument<'v>(
     values: &'v [Value],
-    named: &'v [(Bytes, Value)],
+    named: &Named<'v>,
     next: &'v [Value],
     text: &[u8],
 ) -> Option<&'v Value>
@@ -94,7 +82,7 @@ pub fn argument<'v>(
         return numbered_value(values, text);
     }
     if is_name(text) {
-        return named_value(named, text);
+        return named.value(text);
     }
     None
 }

@@ -11,7 +11,7 @@
 //! - `draft`: what is written, and whether something was malformed;
 //! - `operator`: conversions, and the operator `%`;
 //! - `piece`: the pieces of a format for the method;
-//! - `argument`: which value a field names;
+//! - `named`, `argument`: which value a field names;
 //! - `method`: the method `format`;
 //! - `laws`: what the definitions say together.
 #![tactic(auto)]
@@ -20,6 +20,7 @@ mod argument;
 mod draft;
 pub mod laws;
 mod method;
+mod named;
 mod operator;
 mod piece;
 

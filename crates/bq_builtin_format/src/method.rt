@@ -8,6 +8,7 @@ ghost use Rattle.bq_builtin_format.specs.Percent.{text_by};
 
 use crate::argument::{Numbering, argument, next_after};
 use crate::draft::Draft;
+use crate::named::Named;
 use crate::piece::{field_of, write_literal};
 use bq_base::Bytes;
 use bq_value::{EvalErr, Store, Value};
@@ -49,7 +50,6 @@ fn finish(
 }
 
 /// Fills a format with values, as the method `format` does. Returns the text and how many of the steps are left.
-#[tactic(auto, unfolding(crate::specs::Method::formatted))]
 pub fn format(
     alloc: Global,
     store: &Store,
@@ -57,6 +57,22 @@ pub fn format(
     text: &[u8],
     values: &[Value],
     named: &[(Bytes, Value)],
+) -> Result<(Bytes, u64), EvalErr>
+    ensures { Gives (λ answer. answer) Bad result (formatted store.now steps text.now values.now named.now) }
+{
+    let named = Named::of(alloc, named, text.len())?;
+    fill(alloc, store, steps, text, values, &named)
+}
+
+/// Fills a format as `format` does.
+#[tactic(auto, unfolding(crate::specs::Method::formatted))]
+fn fill<'v>(
+    alloc: Global,
+    store: &Store,
+    steps: u64,
+    text: &[u8],
+    values: &'v [Value],
+    named: &Named<'v>,
 ) -> Result<(Bytes, u64), EvalErr>
     ensures { Gives (λ answer. answer) Bad result (formatted store.now steps text.now values.now named.now) }
 {

@@ -10,7 +10,7 @@ ghost use Rattle.bq_value.specs.Pairs.{found};
 ghost use Rattle.bq_builtin_machine.specs.Action.{stopped};
 ghost use Rattle.bq_builtin_machine.specs.Args.{Passed};
 ghost use Rattle.bq_builtin_machine.specs.State.{State, stop_at};
-ghost use Rattle.bq_builtin_operators.specs.InPlace.{augment, set_index};
+ghost use Rattle.bq_builtin_in_place.specs.InPlace.{augment, set_index};
 ghost use Rattle.bq_builtin_collections.specs.Arguments.{no_argument, one_argument, two_arguments, optional_argument, one_or_two};
 ghost use Rattle.bq_builtin_collections.specs.Dict as dict;
 ghost use Rattle.bq_builtin_collections.specs.Dict.{first_out, pair_tuple, with_default};

@@ -11,7 +11,7 @@
 //! - `operator`, by the definition of `bq_builtin_operators`: of two opposite comparisons one is true where the other is
 //!   false; what is in a list or tuple is equal to one of its elements; what is in a dict is what the dict has a value
 //!   for; and a slice goes by 1 if its step is left out;
-//! - `collection`, by the definitions of `bq_builtin_collections` and `bq_builtin_operators`: each method that changes a
+//! - `collection`, by the definitions of `bq_builtin_collections` and `bq_builtin_in_place`: each method that changes a
 //!   list or dict, and each assignment to an index or key, fails for the first of the reasons that are listed for it
 //!   (`specs/Collections/Orders.antt`, as docs/LANGUAGE.md has a table of them); `+=` keeps a list the same list;
 //!   `popitem` takes the first of a dict's items; what changes lists and dicts refuses a rule because of its type; `get`

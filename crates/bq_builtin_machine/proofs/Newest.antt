@@ -3,7 +3,7 @@ use Rattle.std.proofs.Common.{◌≡◌, ◌∙◌, ap, refl, ℕ, ◌-◌, Bool
 use Rattle.std.proofs.Math.Seq.{take-append_seam}
 use Rattle.std.specs.List.{list_any}
 use Rattle.std.specs.Cmp.{unsigned_Decides}
-use Rattle.bq_value.specs.declared.value.Cell.{Cell}
+use Rattle.bq_value.specs.Cell.{Cell}
 use Rattle.bq_builtin_machine.specs.Calls.{without_newest, is_active}
 use Rattle.bq_builtin_machine.specs.Cells.{is_walked}
 

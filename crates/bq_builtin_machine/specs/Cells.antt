@@ -7,7 +7,7 @@ use Rattle.bq_value.specs.Datum.{Datum, cell}
 use Rattle.bq_value.specs.Contents.{Contents, items, pairs}
 use Rattle.bq_value.specs.Cells.{StoreView, content_at, with_cells}
 use Rattle.bq_value.specs.Lending.{with_cell}
-use Rattle.bq_value.specs.declared.value.Cell.{Cell}
+use Rattle.bq_value.specs.Cell.{Cell}
 use Rattle.bq_builtin_machine.specs.State.{State}
 use Rattle.bq_builtin_machine.specs.Action.{Action, done, ◌>>=◌, ◌>>◌, pure, stop, given, look, change}
 

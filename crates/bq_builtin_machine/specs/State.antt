@@ -3,7 +3,7 @@ use Rattle.std.specs.Prelude.{ℕ, List, [], refl}
 use Rattle.std.specs.Coded.{Coded, code_by, coded×, coded_ℕ, coded_list}
 use Rattle.bq_base.specs.declared.fault.FaultKind.{FaultKind}
 use Rattle.bq_value.specs.Cells.{StoreView, coded_store}
-use Rattle.bq_value.specs.declared.value.Cell.{Cell}
+use Rattle.bq_value.specs.Cell.{Cell}
 
 -- The store, the steps that are left, the texts printed so far in order, the functions that are active (the module and the place of
 -- each one's `def`, the newest last), the cells that are being walked (one for each walk, the newest last), the line of the

@@ -10,4 +10,3 @@ pub mod Product
 pub mod Remainder
 pub mod Union
 pub mod Operate
-pub mod InPlace

@@ -16,12 +16,10 @@
 //! - `subscript`: the item at an index or a key;
 //! - `slicing`: slices;
 //! - `operate`: a call for each kind of operator;
-//! - `in_place`: changes of a list or dict in place;
 //! - `laws`: what the definitions say together.
 #![tactic(auto)]
 
 mod comparing;
-mod in_place;
 mod integers;
 pub mod laws;
 mod membership;
@@ -36,5 +34,5 @@ mod sum;
 mod union;
 mod walks;
 
-pub use in_place::{augment, put_pairs, set_index, unite};
+pub use operand::{dict_in, int_of, list_in};
 pub use operate::{binary, compare, index, slice, unary};

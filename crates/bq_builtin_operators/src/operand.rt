@@ -9,7 +9,7 @@ use bq_base::FaultKind;
 use bq_value::{Body, Dict, EvalErr, Node, Store, Value};
 
 /// Returns an integer.
-pub(crate) fn int_of(value: &Value) -> Result<i64, FaultKind>
+pub fn int_of(value: &Value) -> Result<i64, FaultKind>
     ensures { result ≡ int_of value.now }
 {
     match &value.node {
@@ -19,7 +19,7 @@ pub(crate) fn int_of(value: &Value) -> Result<i64, FaultKind>
 }
 
 /// Returns the values of a list.
-pub(crate) fn list_in<'s>(store: &'s Store, value: &Value) -> Result<&'s [Value], EvalErr>
+pub fn list_in<'s>(store: &'s Store, value: &Value) -> Result<&'s [Value], EvalErr>
     ensures { Gives (λ xs. xs.now) Bad result (list_in store.now value.now) }
 {
     match &value.node {
@@ -36,7 +36,7 @@ pub(crate) fn list_in<'s>(store: &'s Store, value: &Value) -> Result<&'s [Value]
 }
 
 /// Returns the pairs of a dict.
-pub(crate) fn dict_in<'s>(store: &'s Store, value: &Value) -> Result<&'s Dict, EvalErr>
+pub fn dict_in<'s>(store: &'s Store, value: &Value) -> Result<&'s Dict, EvalErr>
     ensures { Gives (λ ps. ps.now) Bad result (dict_in store.now value.now) }
 {
     match &value.node {

@@ -31,21 +31,21 @@ fn implemented(value: Option<&Value>) -> Result<(), FaultKind>
 }
 
 /// Returns an attribute, or F40.
-fn attribute_in(alloc: Global, value: &Value) -> Result<Attribute, EvalErr>
+fn attribute_in(value: &Value) -> Result<Attribute, EvalErr>
     ensures { Gives (λ x. x) Bad result (attribute_in value.now) }
 {
     match &value.node {
-        Node::Attribute(attribute) => Ok(attribute.share(alloc)?),
+        Node::Attribute(attribute) => Ok(attribute.share()?),
         _ => Err(EvalErr::Bad(FaultKind::WrongType)),
     }
 }
 
 /// Returns the name and the attribute of an entry of `attrs`, or F40.
-fn entry(alloc: Global, key: &Value, value: &Value) -> Result<(Bytes, Attribute), EvalErr>
+fn entry(key: &Value, value: &Value) -> Result<(Bytes, Attribute), EvalErr>
     ensures { Gives (λ e. e) Bad result (entry (key.now, value.now)) }
 {
     let name = text_in(key, FaultKind::WrongType)?;
-    Ok((name, attribute_in(alloc, value)?))
+    Ok((name, attribute_in(value)?))
 }
 
 /// Returns the attributes that a dict holds, in its order.
@@ -57,7 +57,7 @@ fn entries(alloc: Global, dict: &Dict) -> Result<RuleClass, EvalErr>
     let mut attributes = Attributes::new(alloc);
     for i in 0..dict.len() {
         let (key, value) = dict.pair(i);
-        let (name, attribute) = entry(alloc, key.value(), value)?;
+        let (name, attribute) = entry(key.value(), value)?;
         match attributes.with(alloc, name.as_slice(), attribute)? {
             Some(more) => attributes = more,
             // no key is twice
@@ -111,7 +111,7 @@ fn are_named(class: &RuleClass) -> bool
         let Some((name, _)) = class.entry(place) else {
             return true;
         };
-        if !may_be_named(name) {
+        if !may_be_named(name.as_slice()) {
             return false;
         }
     }

@@ -9,6 +9,7 @@ pub mod Neighbours
 pub mod Segments
 pub mod Repositories
 pub mod BuildFiles
+pub mod Ancestors
 pub mod Owners
 pub mod FullForms
 pub mod Listings

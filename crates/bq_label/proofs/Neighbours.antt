@@ -31,7 +31,7 @@ same_from_tied x y h = grind (arith, nat_tests)
 not_tied : (x y : ℕ) → (x == y) ≡ false → nat_cmp x y ≢ Equal
 not_tied x y n e = let same : x ≡ y = same_from_tied x y e in let yes : (x == y) ≡ true = grind (arith, nat_tests) in false≢true (sym n ∙ yes)
 
-first_decides : (o a b : Ordering) → o ≢ Equal → ordering_then o a ≡ Less → ordering_then o b ≡ Less
+pub first_decides : (o a b : Ordering) → o ≢ Equal → ordering_then o a ≡ Less → ordering_then o b ≡ Less
 first_decides Less a b n h = refl
 first_decides Equal a b n h = absurd (n refl)
 first_decides Greater a b n h = h
@@ -82,7 +82,7 @@ stops (x ∷ xs) [] (suc i) n = none (drop i xs)
 stops (x ∷ xs) (y ∷ ys) (suc i) n = stops xs ys i (λ l e. n (omega arith) e)
 
 -- a longer beginning of the greater text is greater too
-below_longer : (xs ys : List ℕ) (k : ℕ) → slice_cmp nat_cmp xs ys ≡ Less → common_len xs ys < k → k ≤ length ys → slice_cmp nat_cmp xs (take k ys) ≡ Less
+pub below_longer : (xs ys : List ℕ) (k : ℕ) → slice_cmp nat_cmp xs ys ≡ Less → common_len xs ys < k → k ≤ length ys → slice_cmp nat_cmp xs (take k ys) ≡ Less
 unfolding common_len
 below_longer xs ys zero s l b = absurd (omega arith)
 below_longer [] [] (suc k) s l b = absurd (omega arith)
@@ -97,7 +97,7 @@ below_longer (x ∷ xs) (y ∷ ys) (suc k) s l b = elim (cases_Bool (x == y)) [
   | inr n ↦ first_decides (nat_cmp x y) (slice_cmp nat_cmp xs ys) (slice_cmp nat_cmp xs (take k ys)) (not_tied x y n) s
 ]
 
-below_whole : (ys : List ℕ) (k : ℕ) → k < length ys → slice_cmp nat_cmp (take k ys) ys ≡ Less
+pub below_whole : (ys : List ℕ) (k : ℕ) → k < length ys → slice_cmp nat_cmp (take k ys) ys ≡ Less
 below_whole [] k l = absurd (omega arith)
 below_whole (y ∷ ys) zero l = refl
 below_whole (y ∷ ys) (suc k) l = ap (λ (o : Ordering). ordering_then o (slice_cmp nat_cmp (take k ys) ys)) (tied_itself nat_cmp_total y) ∙ below_whole ys k (omega arith)

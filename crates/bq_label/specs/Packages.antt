@@ -1,13 +1,13 @@
 -- Repositories, packages and the owners of paths (Bazel, "Repositories, packages, and targets").
-use Rattle.std.specs.Prelude.{◌≡◌, ◌≢◌, ℕ, ◌++◌, ◌-◌, ◌≤◌, ◌⊎◌, ◌&&◌, ◌||◌, Bool, not, nat_eq, nat_lt, List, [], ◌∷◌, length, take, drop, Option, Some, None, bytes_eq, codes, true, false, if◌then◌else◌, option_and_then}
+use Rattle.std.specs.Prelude.{◌≡◌, ◌≢◌, ℕ, ◌++◌, ◌-◌, ◌<◌, ◌≤◌, ◌⊎◌, ◌&&◌, ◌||◌, Bool, not, nat_eq, nat_lt, List, [], ◌∷◌, length, take, drop, Option, Some, None, bytes_eq, codes, true, false, if◌then◌else◌, option_and_then}
 use Rattle.std.specs.List.{list_any, starts_with, find, filter, filter_map, Contains}
 use Rattle.std.specs.Option.{option_map}
 use Rattle.std.specs.declared.cmp.Ordering.{Ordering}
-use Rattle.std.specs.Ordering.{nat_cmp, ordering_then}
+use Rattle.std.specs.Ordering.{nat_cmp, ordering_then, is_lt}
 use Rattle.std.specs.Cmp.Lexicographic.{slice_cmp}
 use Rattle.bq_label.specs.declared.workspace.File.{File}
 use Rattle.bq_label.specs.declared.packages.BuildFile.{BuildFile}
-use Rattle.bq_label.specs.Paths.{is_repository, is_path}
+use Rattle.bq_label.specs.Paths.{is_repository, is_path, common_len}
 use Rattle.bq_label.specs.Label.{PackageParts, LabelParts, package_at, label_in, IsPackage, last_segment}
 use Rattle.bq_label.specs.Reading.{split_once}
 use Rattle.bq_label.specs.Order.{in_order}
@@ -138,6 +138,18 @@ nearest_over packages repo rest = nearest (filter (is_over repo rest) packages)
 -- a path's owner: the package whose directory is the nearest above it in its repository
 unfoldable pub owner_of : List BuildFile → List ℕ → Option BuildFile
 owner_of packages path = option_and_then (λ h. nearest_over packages h.0 h.1) (split_repository path)
+
+-- a package comes before this one in their order
+abbrev pub comes_before : PackageParts → PackageParts → Bool
+comes_before target p = is_lt (id_cmp p target)
+
+-- how many bytes a package's path has in common with a path of a repository
+abbrev pub common_in : PackageParts → List ℕ → List ℕ → ℕ
+common_in p repo path = if bytes_eq p.repo repo then common_len p.package path else 0
+
+-- no package of the repository is a directory above the path that has more than so many bytes
+abbrev pub HasNoneLonger : List BuildFile → List ℕ → List ℕ → ℕ → Type 0
+HasNoneLonger packages repo path n = (k : ℕ) → n < k → k < length path → package_named packages (package_at repo (take k path)) ≡ None
 
 -- the path of the BUILD file of this name
 abbrev pub build_path : PackageParts → List ℕ → List ℕ

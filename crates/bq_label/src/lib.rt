@@ -32,6 +32,6 @@ pub use package_id::PackageId;
 pub use packages::{BuildFile, Packages};
 pub use path::{is_path, is_repository, is_segment};
 pub use print::print_label;
-pub use read::read_label;
+pub use read::{read_label, read_shared_label};
 pub use repository::{label_file, label_path};
 pub use workspace::{File, MAX_FILES, PathErr, Workspace};

@@ -1,6 +1,6 @@
 //! The packages of a workspace.
 
-ghost use Rattle.std.specs.Prelude.{◌≡◌, List, Some, None, IfSome, IfNone, IfOk, slice_get, MatchResult, true};
+ghost use Rattle.std.specs.Prelude.{◌≡◌, ◌≤◌, List, length, Some, None, IfSome, IfNone, IfOk, slice_get, MatchResult, true};
 ghost use Rattle.std.specs.List.{list_all};
 ghost use Rattle.std.specs.List.Sorted.{IsStrictlySortedBy};
 ghost use Rattle.std.specs.Option.{option_copied};
@@ -8,14 +8,14 @@ ghost use Rattle.bq_label.specs.Paths.{is_path};
 ghost use Rattle.bq_label.specs.Label.{package_at, last_segment};
 ghost use Rattle.bq_label.specs.Workspace.{paths_of};
 ghost use Rattle.bq_label.specs.Packages.{is_build_file, directory_of, package_of_file, packages_of, build_label};
-ghost use Rattle.bq_label.specs.Packages.{package_cmp, id_cmp, package_named, owner_of, nearest_over};
+ghost use Rattle.bq_label.specs.Packages.{package_cmp, id_cmp, package_named, owner_of, nearest_over, comes_before, common_in, HasNoneLonger};
 
 use crate::label::Label;
 use crate::package_id::PackageId;
 use crate::path::is_path;
 use crate::repository::split_repository;
 use crate::split::{directory_of, last_segment};
-use crate::workspace::{File, Workspace};
+use crate::workspace::{File, Workspace, common_len};
 use bq_base::Bytes;
 use std::alloc::{AllocError, Global};
 use std::cmp::Ordering;
@@ -127,6 +127,39 @@ fn find_package<'a>(packages: &'a [BuildFile], repo: &[u8], path: &[u8]) -> Opti
     }
 }
 
+/// Returns whether the package comes before this name.
+fn comes_before(id: &PackageId, repo: &[u8], path: &[u8]) -> bool
+    ensures { result ≡ comes_before (package_at repo.now path.now) id.now }
+{
+    compare(id, repo, path).is_lt()
+}
+
+/// Returns how many bytes the package's path has in common with a path of a repository; 0 if it is of another one.
+fn common_in(id: &PackageId, repo: &[u8], path: &[u8]) -> usize
+    ensures { result ≡ common_in id.now repo.now path.now }
+{
+    if id.repo().as_slice() != repo {
+        return 0;
+    }
+    common_len(id.package().as_slice(), path)
+}
+
+/// Returns the length of the longest directory above a path that may be a package of the repository: no longer one is.
+///
+/// A package above the path is at or before the last package before the path, which then begins with it too. So it isn't
+/// longer than what these two have in common.
+fn longest_above(packages: &[BuildFile], repo: &[u8], path: &[u8]) -> usize
+    requires { IsStrictlySortedBy package_cmp packages.now }
+    ensures bound { result ≤ length path.now }
+    ensures none { HasNoneLonger packages.now repo.now path.now result }
+{
+    let before = packages.partition_point(|package| comes_before(&package.id, repo, path));
+    if before == 0 {
+        return 0;
+    }
+    common_in(&packages[before - 1].id, repo, path)
+}
+
 /// Returns the package whose directory is the nearest above a path of a repository.
 fn nearest_above<'a>(packages: &'a [BuildFile], repo: &[u8], rest: &[u8]) -> Option<&'a BuildFile>
     requires { IsStrictlySortedBy package_cmp packages.now }
@@ -141,6 +174,10 @@ fn nearest_above<'a>(packages: &'a [BuildFile], repo: &[u8], rest: &[u8]) -> Opt
         let package = find_package(packages, repo, &rest[..at]);
         if package.is_some() {
             return package;
+        }
+        let longest = longest_above(packages, repo, &rest[..at]);
+        if longest < at {
+            at = longest + 1;
         }
     }
     find_package(packages, repo, &[])
@@ -228,7 +265,8 @@ impl Packages {
     }
 
     /// Returns the owner of a path: the package whose directory is the nearest above it in its repository. It takes
-    /// time logarithmic in the number of packages for each level of the path.
+    /// time logarithmic in the number of packages, and again for each package that begins as the path does but isn't
+    /// above it.
     #[tactic(auto, unfolding(crate::specs::Packages::owner_of))]
     pub fn owner_of(&self, path: &[u8]) -> Option<&BuildFile>
         ensures { option_copied result ≡ owner_of self.now path.now }

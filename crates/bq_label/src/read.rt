@@ -86,3 +86,32 @@ pub fn read_label(alloc: Global, text: &[u8], package: &PackageId) -> Result<Lab
         name => read_name(alloc, package.share()?, name),
     }
 }
+
+/// Reads a name in a package, and shares it.
+#[tactic(auto, unfolding(crate::specs::Reading::valid_label, crate::specs::Reading::is_label))]
+fn share_name(package: &PackageId, name: &Bytes) -> Result<Label, SourceErr>
+    ensures { Gives (λ label. label) Bad result (or_bad_label (valid_label (label_in «package».now name.now))) }
+{
+    if !is_path(name.as_slice()) {
+        return Err(bad_label());
+    }
+    let name = name.share()?;
+    Ok(Label::new(package.share()?, name))
+}
+
+/// Reads a text as [`read_label`] does. A text that is a name alone is shared and not copied.
+#[tactic(auto, unfolding(crate::specs::Reading::parts_of, crate::specs::Reading::label_of))]
+pub fn read_shared_label(
+    alloc: Global,
+    text: &Bytes,
+    package: &PackageId,
+) -> Result<Label, SourceErr>
+    ensures { Gives (λ label. label) Bad result (or_bad_label (label_of «package».now text.now)) }
+{
+    match text.as_slice() {
+        [b'@', ..] => read_label(alloc, text.as_slice(), package),
+        [b'/', b'/', ..] => read_label(alloc, text.as_slice(), package),
+        [b':', ..] => read_label(alloc, text.as_slice(), package),
+        _ => share_name(package, text),
+    }
+}

@@ -82,7 +82,7 @@ fn find_file<'a>(files: &'a [File], path: &[u8]) -> Option<&'a File>
 
 /// Returns how many bytes two texts have in common at the front.
 #[tactic(auto, unfolding(crate::specs::Paths::common_len))]
-fn common_len(a: &[u8], b: &[u8]) -> usize
+pub(crate) fn common_len(a: &[u8], b: &[u8]) -> usize
     ensures { result ≡ common_len a.now b.now }
 {
     let mut at = 0;

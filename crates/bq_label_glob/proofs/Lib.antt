@@ -6,3 +6,5 @@ pub mod Pieces
 pub mod Beneath
 pub mod Listing
 pub mod GivenNames
+-- sets of patterns, and what is added to them
+pub mod Sets

@@ -2,4 +2,5 @@ pub mod Matching
 pub mod Segment
 pub mod Step
 pub mod Pattern
+pub mod PatternSet
 pub mod Names

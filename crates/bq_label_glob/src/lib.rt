@@ -8,6 +8,7 @@
 //! - `segment`: whether a segment of a path fits a segment of a pattern, and where a segment ends;
 //! - `step`: the state of a path's matching;
 //! - `pattern`: which texts are patterns, and which paths a pattern matches;
+//! - `pattern_set`: patterns that names are matched against together;
 //! - `names`: the names of a package's files that some pattern matches;
 //! - `laws`: what the definitions say together.
 #![tactic(auto)]
@@ -15,6 +16,7 @@
 pub mod laws;
 mod names;
 mod pattern;
+mod pattern_set;
 mod segment;
 mod step;
 

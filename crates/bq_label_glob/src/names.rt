@@ -1,12 +1,13 @@
 //! The files of a package that some pattern matches and no excluded one.
 
-ghost use Rattle.std.specs.Prelude.{◌≡◌, ◌≤◌, true, false, length, None, Some, IfOk, MatchOption};
-ghost use Rattle.std.specs.List.{filter, list_any};
+ghost use Rattle.std.specs.Prelude.{◌≡◌, ◌≤◌, ◌&&◌, not, true, false, length, None, Some, IfOk, MatchOption};
+ghost use Rattle.std.specs.List.{filter};
 ghost use Rattle.std.specs.List.Sorted.{IsPartitionPoint};
-ghost use Rattle.bq_label_glob.specs.Names.{directory, is_before, is_beneath, is_owned, name_in, is_wanted, glob};
-ghost use Rattle.bq_label_glob.specs.Matching.{matches};
+ghost use Rattle.bq_label_glob.specs.Names.{directory, is_before, is_beneath, is_owned, name_in, glob};
+ghost use Rattle.bq_label_glob.specs.PatternSet.{is_match};
 
 use crate::pattern::Pattern;
+use crate::pattern_set::PatternSet;
 use bq_base::Bytes;
 use bq_label::{File, PackageId, Packages, Workspace};
 use std::alloc::{AllocError, Global};
@@ -73,23 +74,16 @@ fn name_in<'a>(
     Some(&path[above.len()..])
 }
 
-fn matches_some(patterns: &[Pattern], name: &[u8]) -> bool
-    ensures { result ≡ list_any (λ p. matches p name.now) patterns.now }
-{
-    patterns.iter().any(|pattern| pattern.matches(name))
-}
-
 /// Returns whether some pattern matches the name, and no excluded one does.
-#[tactic(auto, unfolding(crate::specs::Names::is_wanted))]
-fn is_wanted(include: &[Pattern], exclude: &[Pattern], name: &[u8]) -> bool
-    ensures { result ≡ is_wanted include.now exclude.now name.now }
+fn is_wanted(include: &PatternSet, exclude: &PatternSet, name: &[u8]) -> bool
+    ensures { result ≡ (is_match include.now name.now && not (is_match exclude.now name.now)) }
 {
-    matches_some(include, name) && !matches_some(exclude, name)
+    include.is_match(name) && !exclude.is_match(name)
 }
 
 /// Returns the names in the package of its files that some pattern matches and no excluded one does, ascending by their
 /// bytes. Files of the packages beneath it are theirs. The time is that of matching each file beneath the package
-/// against each pattern.
+/// against each pattern with a star; patterns without one are looked up, and equal ones count once.
 pub fn glob(
     alloc: Global,
     workspace: &Workspace,
@@ -101,13 +95,15 @@ pub fn glob(
     ensures { IfOk result (λ names. names.items ≡ glob workspace.now packages.now id.now include.now exclude.now) }
 {
     let above = directory(alloc, id)?;
+    let included = PatternSet::of(alloc, include)?;
+    let excluded = PatternSet::of(alloc, exclude)?;
     let mut names = Vec::new(alloc);
     let files = files_beneath(workspace, &above);
     for file in files {
         let Some(name) = name_in(packages, id, &above, file.path.as_slice()) else {
             continue;
         };
-        if !is_wanted(include, exclude, name) {
+        if !is_wanted(&included, &excluded, name) {
             continue;
         }
         names.push(Bytes::from_slice(alloc, name)?)?;

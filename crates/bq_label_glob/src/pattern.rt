@@ -1,19 +1,18 @@
 //! Patterns of glob.
 
 ghost use Rattle.std.specs.Prelude.{◌≡◌, IfOk};
-ghost use Rattle.std.specs.List.{list_all, slice_split};
+ghost use Rattle.std.specs.List.{list_any};
 ghost use Rattle.bq_base.specs.Gives.{Gives};
 ghost use Rattle.bq_base.specs.declared.fault.SourceErr.TheVariants.{Bad};
 ghost use Rattle.bq_label.specs.Paths.{is_slash, is_segment};
-ghost use Rattle.bq_label_glob.specs.Matching.{matches, is_any_segments, fits_segment, segments_from};
+ghost use Rattle.bq_label_glob.specs.Matching.{matches, is_star, is_any_segments, fits_segment, segments_from};
 ghost use Rattle.bq_label_glob.specs.Step.{StepIs};
-ghost use Rattle.bq_label_glob.specs.Pattern.{has_two_stars, pattern_of};
+ghost use Rattle.bq_label_glob.specs.Pattern.{has_two_stars, is_pattern, pattern_of};
 
 use crate::segment::{fits_segment, segment_at};
 use crate::step::{Retry, Step};
 use bq_base::{Bytes, Fault, FaultKind, SourceErr};
 use bq_label::is_segment;
-use std::alloc::Global;
 use std::marker::Model;
 
 /// A pattern of glob: segments joined by `/`. Contracts see its bytes.
@@ -48,20 +47,35 @@ fn has_two_stars(segment: &[u8]) -> bool
     false
 }
 
-/// Reads a text as a pattern. A text that isn't one is fault F77, at line 0: it or a segment of it is empty, a segment
-/// is `.` or `..`, or `**` is a part of a longer segment.
-#[tactic(auto, unfolding(crate::specs::Pattern::pattern_of, crate::specs::Pattern::is_pattern, crate::specs::Pattern::is_pattern_segment))]
-pub fn read_pattern(alloc: Global, text: &[u8]) -> Result<Pattern, SourceErr>
+/// Returns whether a text has a star.
+pub(crate) fn has_star(text: &[u8]) -> bool
+    ensures { result ≡ list_any is_star text.now }
+{
+    text.iter().any(|byte| *byte == b'*')
+}
+
+/// Returns whether a text is a pattern.
+#[tactic(auto, unfolding(crate::specs::Pattern::is_pattern, crate::specs::Pattern::is_pattern_segment))]
+fn is_pattern(text: &[u8]) -> bool
+    ensures { result ≡ is_pattern text.now }
+{
+    text.split(|byte| *byte == b'/').all(|segment| {
+        is_segment(segment) && (segment == b"**".as_slice() || !has_two_stars(segment))
+    })
+}
+
+/// Reads a text as a pattern, and shares it. A text that isn't one is fault F77, at line 0: it or a segment of it is
+/// empty, a segment is `.` or `..`, or `**` is a part of a longer segment.
+#[tactic(auto, unfolding(crate::specs::Pattern::pattern_of))]
+pub fn read_pattern(text: &Bytes) -> Result<Pattern, SourceErr>
     ensures { Gives (λ p. p) Bad result (pattern_of text.now) }
 {
-    let is_pattern = text.split(|byte| *byte == b'/').all(|segment| {
-        is_segment(segment) && (segment == b"**".as_slice() || !has_two_stars(segment))
-    });
-    if !is_pattern {
+    if !is_pattern(text.as_slice()) {
         return Err(SourceErr::Bad(Fault::at(FaultKind::GlobPattern, 0)));
     }
-    let text = Bytes::from_slice(alloc, text)?;
-    Ok(Pattern { text })
+    Ok(Pattern {
+        text: text.share()?,
+    })
 }
 
 /// Returns the step at two places: `**` takes any segments, every other segment takes one that fits it.
@@ -86,53 +100,59 @@ fn segment_step(pattern: &[u8], p: usize, path: &[u8], t: usize) -> Step
     Step::One(p + wanted.len() + 1, t + segment.len() + 1)
 }
 
+/// Returns whether a pattern matches a path. Of several `**` only the last is tried anew: what an earlier one would take
+/// more, the last can take. The time is at most the product of the two lengths.
+pub(crate) fn is_match(pattern: &[u8], path: &[u8]) -> bool
+    ensures { result ≡ matches pattern.now path.now }
+{
+    let mut p = 0;
+    let mut t = 0;
+    let mut retry: Option<Retry> = None;
+    'segments: loop {
+        match segment_step(pattern, p, path, t) {
+            Step::Many(next) => {
+                p = next;
+                retry = Some(Retry {
+                    pattern: p,
+                    text: t,
+                });
+                continue;
+            }
+            Step::One(next, after) => {
+                p = next;
+                t = after;
+                continue;
+            }
+            Step::End => return true,
+            Step::Fail => {}
+        }
+        let Some(last) = retry else {
+            return false;
+        };
+        let Some(skipped) = segment_at(path, last.text) else {
+            return false;
+        };
+        p = last.pattern;
+        t = last.text + skipped.len() + 1;
+        retry = Some(Retry {
+            pattern: p,
+            text: t,
+        });
+    }
+}
+
 impl Pattern {
-    /// Returns whether the pattern matches a path. Of several `**` only the last is tried anew: what an earlier one
-    /// would take more, the last can take. The time is at most the product of the two lengths.
+    /// Returns the pattern's text.
+    pub fn text(&self) -> &Bytes
+        ensures { result.now ≡ self.now }
+    {
+        &self.text
+    }
+
+    /// Returns whether the pattern matches a path.
     pub fn matches(&self, path: &[u8]) -> bool
         ensures { result ≡ matches self.now path.now }
     {
-        let pattern = self.text.as_slice();
-        let mut p = 0;
-        let mut t = 0;
-        let mut retry: Option<Retry> = None;
-        'segments: loop {
-            match segment_step(pattern, p, path, t) {
-                Step::Many(next) => {
-                    p = next;
-                    retry = Some(Retry {
-                        pattern: p,
-                        text: t,
-                    });
-                    continue;
-                }
-                Step::One(next, after) => {
-                    p = next;
-                    t = after;
-                    continue;
-                }
-                Step::End => return true,
-                Step::Fail => {}
-            }
-            let Some(last) = retry else {
-                return false;
-            };
-            let Some(skipped) = segment_at(path, last.text) else {
-                return false;
-            };
-            p = last.pattern;
-            t = last.text + skipped.len() + 1;
-            retry = Some(Retry {
-                pattern: p,
-                text: t,
-            });
-        }
-    }
-
-    /// Returns the pattern's text.
-    pub fn text(&self) -> &[u8]
-        ensures { result.now ≡ self.now }
-    {
-        self.text.as_slice()
+        is_match(self.text.as_slice(), path)
     }
 }

@@ -1,6 +1,6 @@
 -- The code of each module of a load graph is what its file resolves to.
 use Rattle.std.proofs.Common.{◌≡◌, ℕ, List, [], ◌∷◌, map, Option, Some, None, Result, Ok, Err, refl, sym, subst}
-use Rattle.bq_source.specs.Tokens.{tokens_of}
+use Rattle.bq_source_lexer.specs.Tokens.{tokens_of}
 use Rattle.bq_base.specs.declared.fault.Fault.{Fault}
 use Rattle.bq_source.specs.declared.token.Token.{Token}
 use Rattle.bq_parse_grammar.specs.Lexeme.{Lexeme, lexemes}

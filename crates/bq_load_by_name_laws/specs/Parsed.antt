@@ -1,6 +1,6 @@
 -- What decides the outcomes of modules by names: what bq_load reads of a load graph, with each file as it is parsed.
 use Rattle.std.specs.Prelude.{ℕ, List, [], map, Option, Some, None, Result, Ok, Err}
-use Rattle.bq_source.specs.Tokens.{tokens_of}
+use Rattle.bq_source_lexer.specs.Tokens.{tokens_of}
 use Rattle.bq_base.specs.declared.fault.Fault.{Fault}
 use Rattle.bq_parse_grammar.specs.Lexeme.{lexemes}
 use Rattle.bq_parse_grammar.specs.Parses.{statements_of}

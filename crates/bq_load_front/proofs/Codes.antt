@@ -2,10 +2,10 @@
 use Rattle.std.proofs.Common.{◌≡◌, ◌∙◌, ℕ, List, Result, Ok, Err, sym, ap, subst}
 use Rattle.bq_base.specs.declared.fault.Fault.{Fault}
 use Rattle.bq_source.specs.declared.token.Token.{Token}
-use Rattle.bq_source.specs.Reading.{Lexes}
-use Rattle.bq_source.specs.Tokens.{tokens_of}
-use Rattle.bq_source.proofs.Reached.{every_text}
-use Rattle.bq_source.proofs.Unique.{one_reading}
+use Rattle.bq_source_lexer.specs.Reading.{Lexes}
+use Rattle.bq_source_lexer.specs.Tokens.{tokens_of}
+use Rattle.bq_source_lexer.proofs.Reached.{every_text}
+use Rattle.bq_source_lexer.proofs.Unique.{one_reading}
 use Rattle.bq_parse_grammar.specs.declared.tree.TopLevel.{TopLevel}
 use Rattle.bq_parse_grammar.specs.Lexeme.{lexemes}
 use Rattle.bq_parse_grammar.specs.Parses.{Parses, statements_of}

@@ -5,10 +5,10 @@ use Rattle.std.specs.Global.{Global}
 use Rattle.bq_source.specs.declared.token.Token.{Token}
 use Rattle.bq_base.specs.declared.fault.Fault.{Fault}
 use Rattle.bq_base.specs.declared.fault.SourceErr.{SourceErr}
-use Rattle.bq_source.specs.Reading.{Lexes}
-use Rattle.bq_source.specs.Lexing.{the_tokens}
-use Rattle.bq_source.specs.Tokens.{tokens_of}
-use Rattle.bq_source.proofs.Reached.{every_text}
+use Rattle.bq_source_lexer.specs.Reading.{Lexes}
+use Rattle.bq_source_lexer.specs.Lexing.{the_tokens}
+use Rattle.bq_source_lexer.specs.Tokens.{tokens_of}
+use Rattle.bq_source_lexer.proofs.Reached.{every_text}
 use Rattle.bq_base.specs.Gives.{Gives, GivesOneOf}
 use Rattle.bq_base.specs.declared.fault.SourceErr.TheVariants.{Bad}
 use Rattle.bq_load_front.specs.Code.{items}

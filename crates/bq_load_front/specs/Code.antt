@@ -2,7 +2,7 @@
 use Rattle.std.specs.Prelude.{ℕ, List, Result, Ok, Err, Vec}
 use Rattle.std.specs.Global.{Global}
 use Rattle.bq_base.specs.declared.fault.Fault.{Fault}
-use Rattle.bq_source.specs.Tokens.{tokens_of}
+use Rattle.bq_source_lexer.specs.Tokens.{tokens_of}
 use Rattle.bq_parse_grammar.specs.Lexeme.{lexemes}
 use Rattle.bq_parse_grammar.specs.Parses.{statements_of}
 use Rattle.bq_resolve_scope.specs.declared.code.Resolved.{Resolved}

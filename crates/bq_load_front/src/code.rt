@@ -8,7 +8,7 @@ use bq_base::SourceErr;
 use bq_parse::parse;
 use bq_resolve::resolve;
 use bq_resolve_scope::{Resolved, Universe};
-use bq_source::lex;
+use bq_source_lexer::lex;
 use std::alloc::Global;
 
 /// Returns what a text resolves to as a file of this kind, or its first fault: of its tokens (F1 to F8), then of its

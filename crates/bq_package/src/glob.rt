@@ -70,7 +70,7 @@ fn patterns(alloc: Global, texts: &[Bytes]) -> Result<Items<Pattern>, EvalErr>
 {
     let mut patterns = Items::new(alloc);
     for text in texts {
-        match read_pattern(alloc, text.as_slice()) {
+        match read_pattern(text) {
             Ok(pattern) => patterns.push(pattern)?,
             Err(SourceErr::Memory) => return Err(EvalErr::Memory),
             Err(SourceErr::Bad(_)) => return Err(EvalErr::Bad(FaultKind::GlobPattern)),

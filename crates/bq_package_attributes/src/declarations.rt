@@ -18,10 +18,10 @@ use std::alloc::{AllocError, Global};
 use std::mem;
 
 /// Returns whether a keyword argument of that name is there, and isn't `None`.
-fn gives(alloc: Global, keywords: &Keywords, name: &[u8]) -> Result<bool, AllocError>
+fn gives(keywords: &Keywords, name: &Bytes) -> Result<bool, AllocError>
     ensures { IfOk result (λ given. given ≡ gives keywords.now name.now) }
 {
-    match keywords.get(alloc, name)? {
+    match keywords.get(name)? {
         None => Ok(false),
         Some(value) => Ok(!is_none(value)),
     }
@@ -29,11 +29,7 @@ fn gives(alloc: Global, keywords: &Keywords, name: &[u8]) -> Result<bool, AllocE
 
 /// Returns whether each attribute that has to be given is.
 #[tactic(auto, unfolding(crate::specs::Declarations::gives_mandatory))]
-fn gives_mandatory(
-    alloc: Global,
-    class: &RuleClass,
-    keywords: &Keywords,
-) -> Result<bool, AllocError>
+fn gives_mandatory(class: &RuleClass, keywords: &Keywords) -> Result<bool, AllocError>
     ensures { IfOk result (λ all. all ≡ gives_mandatory class.now keywords.now) }
 {
     for place in 0..class.len() {
@@ -43,7 +39,7 @@ fn gives_mandatory(
         if !attribute.is_mandatory {
             continue;
         }
-        if !gives(alloc, keywords, name)? {
+        if !gives(keywords, name)? {
             return Ok(false);
         }
     }
@@ -53,9 +49,8 @@ fn gives_mandatory(
 /// Appends the default of an attribute that the keyword arguments don't give. The names of outputs have none.
 #[tactic(auto, unfolding(crate::specs::Declarations::default_for))]
 fn add_default(
-    alloc: Global,
     keywords: &Keywords,
-    name: &[u8],
+    name: &Bytes,
     attribute: &Attribute,
     attributes: &mut Items<GivenAttribute>,
 ) -> Result<(), AllocError>
@@ -67,18 +62,17 @@ fn add_default(
         Some(AttributeValue::OutputList(_)) => return Ok(()),
         Some(value) => value,
     };
-    if gives(alloc, keywords, name)? {
+    if gives(keywords, name)? {
         return Ok(());
     }
-    let name = Bytes::from_slice(alloc, name)?;
-    let value = value.share(alloc)?;
+    let name = name.share()?;
+    let value = value.share()?;
     attributes.push(GivenAttribute { name, value })?;
     Ok(())
 }
 
 /// Appends the defaults of the attributes that the keyword arguments don't give, in the order of the class.
 fn add_defaults(
-    alloc: Global,
     class: &RuleClass,
     keywords: &Keywords,
     attributes: &mut Items<GivenAttribute>,
@@ -89,7 +83,7 @@ fn add_defaults(
         let Some((name, attribute)) = class.entry(place) else {
             return Ok(());
         };
-        add_default(alloc, keywords, name, attribute, attributes)?;
+        add_default(keywords, name, attribute, attributes)?;
     }
     Ok(())
 }
@@ -109,10 +103,10 @@ fn target(
     ensures { Gives (λ t. t) Bad result (target callee.entry.scope.own.now callee.entry.scope.packages.now callee.entry.store.now callee.entry.class.now callee.entry.kind.now line keywords.now) }
 {
     given.take_arguments(alloc, callee, keywords)?;
-    if !gives_mandatory(alloc, callee.class, keywords)? {
+    if !gives_mandatory(callee.class, keywords)? {
         return Err(EvalErr::Bad(FaultKind::MissingAttribute));
     }
-    add_defaults(alloc, callee.class, keywords, &mut given.attributes)?;
+    add_defaults(callee.class, keywords, &mut given.attributes)?;
     let class = callee.class.share()?;
     let kind = callee.kind.share()?;
     let Some(label) = given.name.take() else {

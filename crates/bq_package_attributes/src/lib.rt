@@ -3,8 +3,8 @@
 //! The promise: [`declaration`] returns exactly the target of `specs/Declarations.antt`, unless memory runs out. The
 //! faults come in this order: F52; then the arguments in the order in which they are written, each F71, F73, F78, F75,
 //! F37; then F72. The attributes that a call doesn't give have their defaults, after those that it gives. A rule is its
-//! kind and its class, whether a schema or a .bzl file declares it. Only texts of up to 22 bytes are copied, and names
-//! of attributes with defaults; a call takes time linear in what it passes and in the attributes of its rule.
+//! kind and its class, whether a schema or a .bzl file declares it. Only texts of up to 22 bytes are copied; a call takes
+//! time linear in what it passes and in the attributes of its rule.
 //!
 //! In reading order:
 //!

@@ -110,13 +110,13 @@ impl Keywords {
     }
 
     /// Returns the value of the argument of this name.
-    pub(crate) fn get(&self, alloc: Global, name: &[u8]) -> Result<Option<&Value>, AllocError>
+    pub(crate) fn get(&self, name: &Bytes) -> Result<Option<&Value>, AllocError>
         ensures { IfOk result (λ value. option_copied value ≡ found (string name.now) self.now) }
     {
         match &self.held {
-            Held::Few(named) => Ok(value_of(named, name)),
+            Held::Few(named) => Ok(value_of(named, name.as_slice())),
             Held::Many(dict) => {
-                let key = Key::new(Value::string(Bytes::from_slice(alloc, name)?));
+                let key = Key::new(Value::string(name.share()?));
                 Ok(dict.get(&key))
             }
         }

@@ -25,7 +25,7 @@ use Rattle.bq_builtin_operators.specs.Product.{list_product, times, int_product,
 use Rattle.bq_builtin_operators.specs.Remainder.{remainder}
 use Rattle.bq_builtin_operators.specs.Union.{dict_union, union}
 use Rattle.bq_builtin_operators.specs.Operate.{binary, unary, compare, index, list_slice, slice}
-use Rattle.bq_builtin_operators.specs.InPlace.{list_extended, dict_united, element_set, pair_put, augment_sum, augment_union, augment, set_in, set_item, set_index}
+use Rattle.bq_builtin_in_place.specs.InPlace.{list_extended, dict_united, element_set, pair_put, augment_sum, augment_union, augment, set_in, set_item, set_index}
 use Rattle.bq_package_fault_laws.proofs.Fine.{Fine}
 use Rattle.bq_package_fault_laws.proofs.Machine.{Own, pure_owns, stop_owns, given_owns, bind_owns, then_owns, look_owns, walk_owns, key_owns, new_owns, content_owns, may_owns, changing_owns, elements_owns}
 use Rattle.bq_package_fault_laws.proofs.Sequences.{int_of_fine, list_in_fine, dict_in_fine, as_int_fine, as_string_fine, as_tuple_fine, arithmetic_fine, integers_fine, signed_fine, repeated_fine, sliced_fine, string_sum_fine, tuple_sum_fine, list_sum_fine, list_product_fine, list_slice_fine, dict_union_fine, list_extended_fine, dict_united_fine, element_set_fine, pair_put_fine}

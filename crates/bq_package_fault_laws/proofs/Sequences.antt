@@ -20,7 +20,7 @@ use Rattle.bq_builtin_numbers.specs.Length.{max_len, within}
 use Rattle.bq_builtin_numbers.specs.Place.{indexed}
 use Rattle.bq_builtin_numbers.specs.RangeItem.{element_by}
 use Rattle.bq_builtin_numbers.specs.Shift.{shift_count, scaled, scaled_by, halved_by}
-use Rattle.bq_builtin_operators.specs.InPlace.{list_extended, dict_united, element_set, pair_put}
+use Rattle.bq_builtin_in_place.specs.InPlace.{list_extended, dict_united, element_set, pair_put}
 use Rattle.bq_builtin_operators.specs.Integers.{arithmetic, integers, signed}
 use Rattle.bq_builtin_operators.specs.Operand.{as_int, as_string, as_tuple, int_of, list_of_content, dict_of_content, list_in, dict_in}
 use Rattle.bq_builtin_operators.specs.Operate.{list_slice}

@@ -53,7 +53,7 @@ texts_decide = pointwise_decides bytes_decides
 labels_decide : (xs ys : List LabelParts) → (same_labels xs ys ≡ true → xs ≡ ys) × (xs ≡ ys → same_labels xs ys ≡ true)
 labels_decide = pointwise_decides (λ a b. (label_true a b, λ e. ap (same_label a) (sym e) ∙ label_refl a))
 
-value_true : (a b : AttributeValue) → same_value a b ≡ true → a ≡ b
+pub value_true : (a b : AttributeValue) → same_value a b ≡ true → a ≡ b
 value_true (v.String a) (v.String b) h = ap v.String (text_true a b h)
 value_true (v.Int a) (v.Int b) h = ap v.Int ((signed_Decides a b).0 h)
 value_true (v.Bool a) (v.Bool b) h = ap v.Bool (bool_true a b h)

@@ -4,7 +4,7 @@ ghost use Rattle.std.specs.Prelude.{◌≡◌, IfOk};
 
 use crate::attribute_type::AttributeType;
 use crate::value::AttributeValue;
-use std::alloc::{AllocError, Global};
+use std::alloc::AllocError;
 
 /// What a rule says of one of its attributes.
 #[derive(Drop)]
@@ -17,13 +17,13 @@ pub struct Attribute {
 }
 
 impl Attribute {
-    /// Shares the attribute. Only texts of up to 22 bytes are copied.
-    pub fn share(&self, alloc: Global) -> Result<Attribute, AllocError>
+    /// Shares the attribute. Only texts of up to 22 bytes are copied, and no list.
+    pub fn share(&self) -> Result<Attribute, AllocError>
         ensures { IfOk result (λ a. a ≡ self.now) }
     {
         let default = match &self.default {
             None => None,
-            Some(value) => Some(value.share(alloc)?),
+            Some(value) => Some(value.share()?),
         };
         Ok(Attribute {
             kind: self.kind,

@@ -5,6 +5,7 @@ ghost use Rattle.std.specs.Map.{lookup};
 
 use crate::attribute::Attribute;
 use crate::attributes::Attributes;
+use bq_base::Bytes;
 use sqlite_items::at;
 use std::alloc::{AllocError, Global};
 use std::marker::Model;
@@ -75,12 +76,12 @@ impl RuleClass {
 
     /// Returns the attribute at a place, with its name.
     #[tactic(auto, using(crate::proofs::Paired::no_name_at, crate::proofs::Paired::no_attribute_at, crate::proofs::Paired::both_at))]
-    pub fn entry(&self, place: usize) -> Option<(&[u8], &Attribute)>
+    pub fn entry(&self, place: usize) -> Option<(&Bytes, &Attribute)>
         ensures { option_map (λ e. (e.0.now, e.1.now)) result ≡ slice_get self.now place }
     {
         let own: &Attributes = &self.attributes;
         let name = at(own.names.as_slice(), place)?;
         let attribute = at(&own.attributes, place)?;
-        Some((name.as_slice(), attribute))
+        Some((name, attribute))
     }
 }

@@ -2,13 +2,15 @@
 //! attributes, and rule classes. ("Rule class" is Bazel's word for what all rules of a kind share.)
 //!
 //! The promise: a [`RuleClass`] is a list of attributes with their names, none of them twice ([`Attributes::with`]), each found by
-//! its name in the time of the name's length ([`RuleClass::get`]); a share of it costs the same however long it is. It is one
-//! type for the rules of a schema and for those that .bzl files declare, so that a call of either is one piece of code.
-//! [`Attribute::is_same`] says of two attributes whether they are equal in each part.
+//! its name in the time of the name's length ([`RuleClass::get`]); a share of it costs the same however long it is, and so does a
+//! share of a list that an attribute has as its value ([`SharedList`]). It is one type for the rules of a schema and for those that
+//! .bzl files declare, so that a call of either is one piece of code. [`Attribute::is_same`] says of two attributes whether they are
+//! equal in each part.
 //!
 //! In reading order:
 //!
 //! - `attribute_type`: the types of attributes, and the attributes that all rules have;
+//! - `list`: the lists that attributes have as values;
 //! - `value`: typed values of attributes;
 //! - `same`: when two values, or two attributes, are the same;
 //! - `attribute`: what a rule says of one of its attributes;
@@ -22,6 +24,7 @@ mod attribute_type;
 mod attributes;
 mod class;
 mod laws;
+mod list;
 mod same;
 mod value;
 
@@ -30,4 +33,5 @@ pub use attribute_type::{AttributeType, common_attribute, type_named};
 pub use attributes::Attributes;
 pub use class::RuleClass;
 pub use laws::{each_type_is_named, same_attributes_are_equal};
+pub use list::SharedList;
 pub use value::AttributeValue;

@@ -4,10 +4,10 @@ ghost use Rattle.std.specs.Prelude.{◌≡◌, IfOk};
 ghost use Rattle.bq_package_rule_class.specs.Value.{type_of};
 
 use crate::attribute_type::AttributeType;
+use crate::list::SharedList;
 use bq_base::Bytes;
 use bq_label::Label;
-use sqlite_items::Items;
-use std::alloc::{AllocError, Global};
+use std::alloc::AllocError;
 
 /// What an attribute is given, or has by default.
 #[derive(Drop)]
@@ -15,32 +15,12 @@ pub enum AttributeValue {
     String(Bytes),
     Int(i64),
     Bool(bool),
-    StringList(Items<Bytes>),
+    StringList(SharedList<Bytes>),
     Label(Label),
-    LabelList(Items<Label>),
+    LabelList(SharedList<Label>),
     /// A file that the rule makes.
     Output(Label),
-    OutputList(Items<Label>),
-}
-
-fn texts(alloc: Global, texts: &[Bytes]) -> Result<Items<Bytes>, AllocError>
-    ensures { IfOk result (λ shared. shared ≡ texts.now) }
-{
-    let mut shared = Vec::with_capacity(alloc, texts.len())?;
-    for text in texts {
-        shared.push(text.share()?)?;
-    }
-    Ok(Items::from_vec(shared))
-}
-
-fn labels(alloc: Global, labels: &[Label]) -> Result<Items<Label>, AllocError>
-    ensures { IfOk result (λ shared. shared ≡ labels.now) }
-{
-    let mut shared = Vec::with_capacity(alloc, labels.len())?;
-    for label in labels {
-        shared.push(label.share()?)?;
-    }
-    Ok(Items::from_vec(shared))
+    OutputList(SharedList<Label>),
 }
 
 impl AttributeValue {
@@ -60,25 +40,19 @@ impl AttributeValue {
         }
     }
 
-    /// Shares the value. Only texts of up to 22 bytes are copied.
-    pub fn share(&self, alloc: Global) -> Result<AttributeValue, AllocError>
+    /// Shares the value. Only texts of up to 22 bytes are copied, and no list.
+    pub fn share(&self) -> Result<AttributeValue, AllocError>
         ensures { IfOk result (λ v. v ≡ self.now) }
     {
         Ok(match self {
             AttributeValue::String(text) => AttributeValue::String(text.share()?),
             AttributeValue::Int(n) => AttributeValue::Int(*n),
             AttributeValue::Bool(b) => AttributeValue::Bool(*b),
-            AttributeValue::StringList(all) => {
-                AttributeValue::StringList(texts(alloc, all.as_slice())?)
-            }
+            AttributeValue::StringList(all) => AttributeValue::StringList(all.share()?),
             AttributeValue::Label(label) => AttributeValue::Label(label.share()?),
-            AttributeValue::LabelList(all) => {
-                AttributeValue::LabelList(labels(alloc, all.as_slice())?)
-            }
+            AttributeValue::LabelList(all) => AttributeValue::LabelList(all.share()?),
             AttributeValue::Output(label) => AttributeValue::Output(label.share()?),
-            AttributeValue::OutputList(all) => {
-                AttributeValue::OutputList(labels(alloc, all.as_slice())?)
-            }
+            AttributeValue::OutputList(all) => AttributeValue::OutputList(all.share()?),
         })
     }
 }

@@ -4,3 +4,4 @@ pub mod Finding
 pub mod States
 pub mod Made
 pub mod Accepted
+pub mod PutBack

@@ -5,6 +5,7 @@ ghost use Rattle.bq_package_target.specs.Value.{outputs_of, outputs_in};
 ghost use Rattle.bq_package_target.specs.Target.{names_of, generated, declares};
 ghost use Rattle.bq_package_target.specs.Names.{are_new};
 
+use crate::kept::KeptValues;
 use crate::names::TargetNames;
 use crate::state::{Declared, PackageState};
 use crate::target::Target;
@@ -75,11 +76,17 @@ fn take_names(names: &mut TargetNames, targets: &[Target]) -> Result<bool, Alloc
     Ok(true)
 }
 
-/// Returns the targets that a call declares: its own, and the files that the rule makes.
+/// Returns the targets that a call declares: its own, whose long values are kept, and the files that the rule makes.
 #[tactic(auto, unfolding(crate::specs::Target::declares))]
-fn declares(alloc: Global, target: Target) -> Result<Items<Target>, AllocError>
+fn declares(
+    alloc: Global,
+    kept: &mut KeptValues,
+    target: Target,
+) -> Result<Items<Target>, AllocError>
     ensures { IfOk result (λ ts. ts ≡ declares target) }
 {
+    let mut target = target;
+    kept.share_long(&mut target.attributes)?;
     let made = outputs(alloc, &target);
     let mut declared = Items::new(alloc);
     declared.push(target)?;
@@ -92,13 +99,14 @@ fn add_target(
     alloc: Global,
     targets: &mut Items<Target>,
     names: &mut TargetNames,
+    kept: &mut KeptValues,
     target: Target,
 ) -> Result<bool, AllocError>
     ensures new { IfOk result (λ new. new ≡ are_new names.old (names_of (declares target))) }
     ensures targets { IfOk result (λ new. targets.new ≡ (if new then targets.old ++ declares target else targets.old)) }
     ensures names { IfOk result (λ new. names.new ≡ (if new then names.old ++ names_of (declares target) else names.old)) }
 {
-    let declared = declares(alloc, target)?;
+    let declared = declares(alloc, kept, target)?;
     if !take_names(names, declared.as_slice())? {
         return Ok(false);
     }
@@ -118,7 +126,13 @@ impl PackageState {
         ensures { IfOk result (λ d. d ≡ declared self target) }
     {
         let mut package = self;
-        let is_new = add_target(alloc, &mut package.targets, &mut package.names, target)?;
+        let is_new = add_target(
+            alloc,
+            &mut package.targets,
+            &mut package.names,
+            &mut package.kept,
+            target,
+        )?;
         if !is_new {
             return Ok(Declared::Refused(package));
         }

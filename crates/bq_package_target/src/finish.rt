@@ -89,12 +89,14 @@ impl PackageState {
             build_file,
             mut targets,
             names,
+            kept,
         } = self;
         let names = add_files(alloc, &mut targets, names, labels, line)?;
         Ok(Declared::Accepted(PackageState {
             build_file,
             targets,
             names,
+            kept,
         }))
     }
 
@@ -120,6 +122,7 @@ impl PackageState {
             build_file,
             mut targets,
             names,
+            kept: _,
         } = self;
         let mut files = Files {
             names,

@@ -3,13 +3,15 @@
 //! The promise: a refused call leaves the package as it was ([`PackageState::declare`], [`PackageState::export`]), and
 //! [`PackageState::finish`] returns the targets that the accepted calls declare, in their order, and after them the
 //! BUILD file and each file of the package that one of them names and none declares (`specs/Package.antt`). Every call
-//! takes time linear in what it declares; only texts of up to 22 bytes are copied.
+//! takes time linear in what it declares; only texts of up to 22 bytes are copied, and a long list that targets of the
+//! package have in common is there once.
 //!
 //! In reading order:
 //!
 //! - `value`: attributes with their values, and the types of the attributes of a rule;
 //! - `target`: what a target is, and which targets it names;
 //! - `names`: the names that are taken;
+//! - `kept`: long values that stand once, however many targets have them;
 //! - `package`: a package and its targets;
 //! - `state`: the package of a BUILD file that is being evaluated;
 //! - `declare`: the calls of rules and of `package_group`;
@@ -22,6 +24,7 @@
 mod declare;
 mod files;
 mod finish;
+mod kept;
 mod laws;
 mod names;
 mod package;

@@ -15,7 +15,7 @@ fn attributes(
 {
     let mut shared = Vec::with_capacity(alloc, attributes.len())?;
     for attribute in attributes {
-        shared.push(attribute.share(alloc)?)?;
+        shared.push(attribute.share()?)?;
     }
     Ok(Items::from_vec(shared))
 }
@@ -33,12 +33,12 @@ pub(crate) fn targets(alloc: Global, targets: &[Target]) -> Result<Items<Target>
 
 impl GivenAttribute {
     /// Shares the attribute with its value.
-    pub fn share(&self, alloc: Global) -> Result<GivenAttribute, AllocError>
+    pub fn share(&self) -> Result<GivenAttribute, AllocError>
         ensures { IfOk result (λ a. a ≡ self.now) }
     {
         Ok(GivenAttribute {
             name: self.name.share()?,
-            value: self.value.share(alloc)?,
+            value: self.value.share()?,
         })
     }
 }

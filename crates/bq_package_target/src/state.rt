@@ -2,6 +2,7 @@
 
 ghost use Rattle.std.specs.Prelude.{◌≡◌};
 
+use crate::kept::KeptValues;
 use crate::names::TargetNames;
 use crate::target::Target;
 use bq_label::Label;
@@ -18,6 +19,8 @@ pub struct PackageState {
     pub(crate) targets: Items<Target>,
     /// The names of the targets.
     pub(crate) names: TargetNames,
+    /// Long values of their attributes.
+    pub(crate) kept: KeptValues,
 }
 
 impl Model for PackageState {
@@ -50,6 +53,7 @@ impl PackageState {
             build_file,
             targets: Items::new(alloc),
             names: TargetNames::new(alloc),
+            kept: KeptValues::new(alloc),
         }
     }
 }

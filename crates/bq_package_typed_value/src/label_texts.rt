@@ -7,7 +7,7 @@ ghost use Rattle.bq_package_typed_value.specs.LabelTexts.{named, without_colon, 
 
 use crate::scope::Scope;
 use bq_base::{Bytes, FaultKind, SourceErr};
-use bq_label::{Label, PackageId, is_path, read_label};
+use bq_label::{Label, PackageId, is_path, read_shared_label};
 use bq_value::EvalErr;
 use sqlite_items::Items;
 use std::alloc::{AllocError, Global};
@@ -50,7 +50,7 @@ fn read(alloc: Global, own: &PackageId, kind: TextKind, text: &Bytes) -> Result<
     ensures { Gives (λ l. l) Bad result (read own.now kind text.now) }
 {
     match kind {
-        TextKind::Label => match read_label(alloc, text.as_slice(), own) {
+        TextKind::Label => match read_shared_label(alloc, text, own) {
             Ok(label) => Ok(label),
             Err(SourceErr::Memory) => Err(EvalErr::Memory),
             Err(SourceErr::Bad(_)) => Err(EvalErr::Bad(FaultKind::BadLabel)),

@@ -9,7 +9,7 @@ use crate::label_texts::{TextKind, label, labels};
 use crate::scope::Scope;
 use crate::written::{Written, written_as};
 use bq_base::FaultKind;
-use bq_package_rule_class::{AttributeType, AttributeValue};
+use bq_package_rule_class::{AttributeType, AttributeValue, SharedList};
 use bq_value::{EvalErr, Store, Value};
 use std::alloc::Global;
 
@@ -26,7 +26,7 @@ pub fn typed(alloc: Global, scope: Scope<'_>, written: Written) -> Result<Attrib
         }
         Written::LabelList(texts) => {
             let labels = labels(alloc, scope, TextKind::Label, texts.as_slice())?;
-            Ok(AttributeValue::LabelList(labels))
+            Ok(AttributeValue::LabelList(SharedList::of(alloc, labels)?))
         }
         Written::Output(text) => {
             let label = label(alloc, scope, TextKind::Output, &text)?;
@@ -34,7 +34,7 @@ pub fn typed(alloc: Global, scope: Scope<'_>, written: Written) -> Result<Attrib
         }
         Written::OutputList(texts) => {
             let labels = labels(alloc, scope, TextKind::Output, texts.as_slice())?;
-            Ok(AttributeValue::OutputList(labels))
+            Ok(AttributeValue::OutputList(SharedList::of(alloc, labels)?))
         }
     }
 }

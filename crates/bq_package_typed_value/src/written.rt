@@ -7,7 +7,7 @@ ghost use Rattle.bq_package_typed_value.specs.Written.{int_in, bool_in, written_
 
 use crate::texts::{text_in, texts_in};
 use bq_base::{Bytes, FaultKind};
-use bq_package_rule_class::{AttributeType, AttributeValue};
+use bq_package_rule_class::{AttributeType, AttributeValue, SharedList};
 use bq_value::{EvalErr, Node, Store, Value};
 use sqlite_items::Items;
 use std::alloc::Global;
@@ -64,6 +64,7 @@ pub fn written_as(
         AttributeType::Bool => Ok(Written::Value(AttributeValue::Bool(bool_in(value, why)?))),
         AttributeType::StringList => {
             let texts = texts_in(alloc, store, value, why)?;
+            let texts = SharedList::of(alloc, texts)?;
             Ok(Written::Value(AttributeValue::StringList(texts)))
         }
         AttributeType::Label => Ok(Written::Label(text_in(value, why)?)),

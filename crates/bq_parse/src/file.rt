@@ -5,7 +5,7 @@ ghost use Rattle.bq_parse.specs.Answers.{itself, AreShallow};
 ghost use Rattle.bq_parse_grammar.specs.Lexeme.{lexemes};
 ghost use Rattle.bq_parse_grammar.specs.Parses.{Parses, statements_of};
 ghost use Rattle.bq_base.specs.Gives.{Gives, GivesOneOf};
-ghost use Rattle.bq_source.specs.Reading.{Lexes};
+ghost use Rattle.bq_source_lexer.specs.Reading.{Lexes};
 ghost use Rattle.bq_source.specs.Spelling.{Lies};
 ghost use Rattle.bq_base.specs.declared.fault.SourceErr.TheVariants.{Bad};
 

@@ -9,7 +9,7 @@
 //! In reading order:
 //!
 //! - `tokens`: the place, and the steps;
-//! - `operators`: the operators of augmented assignments.
+//! - `operators`: which operator a token is.
 #![tactic(auto)]
 
 mod operators;

@@ -14,7 +14,7 @@ ghost use Rattle.bq_source.specs.StringLiteral as strings;
 ghost use Rattle.bq_source.specs.declared.token.TokenKind.TheVariants as kind;
 ghost use Rattle.bq_parse_cursor.specs.Tokens as ahead;
 
-use crate::operators::augmented;
+use crate::operators::{augmented, binary_operator};
 use bq_base::Bytes;
 use bq_parse_grammar::{Comparison, Expr, Identifier, Operator, SyntaxErr, UnaryOperator};
 use bq_source::{Token, TokenKind, int_value, string_value};
@@ -256,20 +256,8 @@ impl<'a> Tokens<'a> {
         ensures { result ≡ ahead.known_by operators.binary_operator (ahead.kind_ahead self.now) }
     {
         match self.peek() {
-            Some(TokenKind::Star) => Some((1, Operator::Multiply)),
-            Some(TokenKind::SlashSlash) => Some((1, Operator::FloorDivide)),
-            Some(TokenKind::Percent) => Some((1, Operator::Modulo)),
-            Some(TokenKind::Slash) => Some((1, Operator::Divide)),
-            Some(TokenKind::Plus) => Some((2, Operator::Add)),
-            Some(TokenKind::Minus) => Some((2, Operator::Subtract)),
-            Some(TokenKind::LessLess) => Some((3, Operator::ShiftLeft)),
-            Some(TokenKind::GreaterGreater) => Some((3, Operator::ShiftRight)),
-            Some(TokenKind::Ampersand) => Some((4, Operator::BitAnd)),
-            Some(TokenKind::Caret) => Some((5, Operator::BitXor)),
-            Some(TokenKind::Pipe) => Some((6, Operator::BitOr)),
-            Some(TokenKind::And) => Some((9, Operator::And)),
-            Some(TokenKind::Or) => Some((10, Operator::Or)),
-            _ => None,
+            Some(kind) => binary_operator(kind),
+            None => None,
         }
     }
 
@@ -288,13 +276,14 @@ impl<'a> Tokens<'a> {
     pub fn operator(&mut self, level: usize) -> Result<Operator, SyntaxErr>
         ensures { Reads (reading.looked_up (operators.operator_at level) self.old) result self.new }
     {
-        match self.operator_ahead() {
-            Some((of, found)) if of == level => {
-                self.advance();
-                Ok(found)
-            }
-            _ => Err(SyntaxErr::Syntax),
+        let Some((of, found)) = self.operator_ahead() else {
+            return Err(SyntaxErr::Syntax);
+        };
+        if of != level {
+            return Err(SyntaxErr::Syntax);
         }
+        self.advance();
+        Ok(found)
     }
 
     /// Returns whether the operator of an augmented assignment comes next.

@@ -4,6 +4,7 @@ ghost use Rattle.std.specs.Prelude.{[]};
 ghost use Rattle.bq_resolve_scope.specs.Scope.{FileParts};
 ghost use Rattle.bq_resolve_scope.specs.Visit.{Passed};
 ghost use Rattle.bq_resolve_scope.specs.Visit as visit;
+ghost use Rattle.bq_resolve_scope.specs.declared.code.CodeSmall.TheVariants as small;
 ghost use Rattle.bq_resolve_scope.specs.Statements as spec;
 ghost use Rattle.bq_resolve_expression.specs.Walks.{Walks};
 
@@ -22,13 +23,24 @@ pub fn misplaced<T>(line: u32) -> Result<T, SourceErr>
     Err(SourceErr::Bad(Fault::at(FaultKind::BadFlow, line)))
 }
 
-/// Returns `break` or `continue`, which are allowed in loops alone.
+/// Resolves `break`, which is allowed in loops alone.
 #[tactic(auto, unfolding(bq_resolve_scope::specs::Statements::in_loop))]
-fn in_loop(looping: bool, line: u32, statement: CodeSmall) -> Result<CodeSmall, SourceErr>
-    ensures { (file : FileParts) (s : Passed) → Walks (spec.in_loop file looping line statement s) result s }
+fn break_stmt(looping: bool, line: u32) -> Result<CodeSmall, SourceErr>
+    ensures { (file : FileParts) (s : Passed) → Walks (spec.in_loop file looping line small.Break s) result s }
 {
     if looping {
-        return Ok(statement);
+        return Ok(CodeSmall::Break);
+    }
+    misplaced(line)
+}
+
+/// Resolves `continue`, which is allowed in loops alone.
+#[tactic(auto, unfolding(bq_resolve_scope::specs::Statements::in_loop))]
+fn continue_stmt(looping: bool, line: u32) -> Result<CodeSmall, SourceErr>
+    ensures { (file : FileParts) (s : Passed) → Walks (spec.in_loop file looping line small.Continue s) result s }
+{
+    if looping {
+        return Ok(CodeSmall::Continue);
     }
     misplaced(line)
 }
@@ -103,8 +115,8 @@ pub fn small_stmt(
             augment(scope, walk, left, *operator, value)
         }
         SmallKind::Return(value) => returned(scope, walk, line, value),
-        SmallKind::Break => in_loop(looping, line, CodeSmall::Break),
-        SmallKind::Continue => in_loop(looping, line, CodeSmall::Continue),
+        SmallKind::Break => break_stmt(looping, line),
+        SmallKind::Continue => continue_stmt(looping, line),
         SmallKind::Pass => Ok(CodeSmall::Pass),
         // outside functions alone
         SmallKind::Load(statement) => {

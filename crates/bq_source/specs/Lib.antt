@@ -5,9 +5,4 @@ pub mod Number
 pub mod StringLiteral
 pub mod PlainString
 pub mod Piece
-pub mod Reading
-pub mod Tokens
-pub mod Lexing
 pub mod Spelling
-pub mod Indentation
-pub mod Layout

@@ -8,9 +8,9 @@ use Rattle.bq_source.specs.Lexis.{word_kind}
 use Rattle.bq_source.specs.Operators.{operator}
 use Rattle.bq_source.specs.StringLiteral.{opening}
 use Rattle.bq_source.specs.Piece.{word, mark, next_piece}
-use Rattle.bq_source.specs.Reading.{Lexes, set_width, indent, nest, take_token, step, finish}
-use Rattle.bq_source.specs.Tokens.{pieces, tokens_of}
-use Rattle.bq_source.proofs.Reached.{every_text}
+use Rattle.bq_source_lexer.specs.Reading.{Lexes, set_width, indent, nest, take_token, step, finish}
+use Rattle.bq_source_lexer.specs.Tokens.{pieces, tokens_of}
+use Rattle.bq_source_lexer.proofs.Reached.{every_text}
 use Rattle.bq_source_laws.specs.Tables.{keyword_table, reserved_table, mark_table, alone}
 use Rattle.bq_source_laws.proofs.Rows.{all_of}
 

@@ -3,11 +3,11 @@
 use Rattle.std.proofs.Common.{ℕ, ◌≤◌, inl, inr, List, length, Result, Ok, Err, subst, arith}
 use Rattle.bq_source.specs.declared.token.Token.{Token}
 use Rattle.bq_base.specs.declared.fault.Fault.{Fault}
-use Rattle.bq_source.specs.Reading.{Lexes, too_long as past_limit, cut, max_file_bytes}
-use Rattle.bq_source.specs.Tokens.{tokens_of}
-use Rattle.bq_source.specs.Layout.{Reads, IsFaulty}
-use Rattle.bq_source.proofs.Reached.{every_text}
-use Rattle.bq_source.proofs.LaidOut.{reads, faulty}
+use Rattle.bq_source_lexer.specs.Reading.{Lexes, too_long as past_limit, cut, max_file_bytes}
+use Rattle.bq_source_lexer.specs.Tokens.{tokens_of}
+use Rattle.bq_source_lexer.specs.Layout.{Reads, IsFaulty}
+use Rattle.bq_source_lexer.proofs.Reached.{every_text}
+use Rattle.bq_source_lexer.proofs.LaidOut.{reads, faulty}
 use Rattle.bq_source_laws.specs.InWords.{InWords, tokens, fault, too_long}
 use Rattle.bq_source_laws.proofs.OneWay.{one_cutting, one_fault, apart}
 

@@ -4,7 +4,7 @@ use Rattle.std.proofs.lemmas.List.{take_at, drop_at}
 use Rattle.bq_source.specs.declared.token.TokenKind.{TokenKind}
 use Rattle.bq_source.specs.declared.token.TokenKind.TheVariants as k
 use Rattle.bq_source.specs.declared.token.Token.{Token}
-use Rattle.bq_source.specs.declared.place.OpenBracket.{OpenBracket}
+use Rattle.bq_source_lexer.specs.declared.place.OpenBracket.{OpenBracket}
 use Rattle.bq_source.specs.declared.operators.Lexeme.{Lexeme}
 use Rattle.bq_source.specs.declared.operators.Lexeme.TheVariants.{Closes}
 use Rattle.bq_source.specs.declared.piece.Extent.{Extent}
@@ -16,10 +16,10 @@ use Rattle.bq_base.specs.declared.fault.FaultKind.TheVariants as f
 use Rattle.bq_base.specs.Fault.{fault_at}
 use Rattle.bq_source.specs.Operators.{kind_of}
 use Rattle.bq_source.specs.Spelling.{IsSpelled, IsNoGap, spelled, misspelled}
-use Rattle.bq_source.specs.Layout as layout
-use Rattle.bq_source.specs.Layout.{closed_by, opened_by, Leaves, IsInLine, IsBetween, Before, beginning, past, line_from, token_of, with_tokens, width, has_tab, IsEmptyAt, IsIndented, Takes, Cut, here, on, Finishes, Reads, IsPlaced, FaultAfter, IsFaulty}
-use Rattle.bq_source.proofs.LexemeKinds.{nested, nests}
-use Rattle.bq_source.proofs.LaidOut.{marks_leave}
+use Rattle.bq_source_lexer.specs.Layout as layout
+use Rattle.bq_source_lexer.specs.Layout.{closed_by, opened_by, Leaves, IsInLine, IsBetween, Before, beginning, past, line_from, token_of, with_tokens, width, has_tab, IsEmptyAt, IsIndented, Takes, Cut, here, on, Finishes, Reads, IsPlaced, FaultAfter, IsFaulty}
+use Rattle.bq_source_lexer.proofs.LexemeKinds.{nested, nests}
+use Rattle.bq_source_lexer.proofs.LaidOut.{marks_leave}
 use Rattle.bq_source_laws.proofs.Pieces.{extent_of, Next, gap_next, line_end_next, spelled_next, misspelled_next}
 use Rattle.bq_source_laws.proofs.Places.{one_leaving, LastOf, last_of, before_last, not_both, Indents, in_line, at_start, at_tab, at_uneven, one_indent, one_finish}
 

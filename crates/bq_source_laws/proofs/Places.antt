@@ -4,13 +4,13 @@ use Rattle.std.proofs.Common.{◌≡◌, ℕ, ◌<◌, ◌≤◌, inl, inr, List
 use Rattle.std.specs.Prelude.{replicate}
 use Rattle.bq_source.specs.declared.token.TokenKind.TheVariants as k
 use Rattle.bq_source.specs.declared.token.Token.{Token}
-use Rattle.bq_source.specs.declared.place.OpenBracket.{OpenBracket}
+use Rattle.bq_source_lexer.specs.declared.place.OpenBracket.{OpenBracket}
 use Rattle.bq_base.specs.declared.fault.Fault.{Fault}
 use Rattle.bq_base.specs.declared.fault.FaultKind.TheVariants as f
 use Rattle.bq_base.specs.Fault.{fault_at}
 use Rattle.bq_source.specs.Token.{same_kind}
-use Rattle.bq_source.specs.Indentation.{IsOpen, width_before, IsAmong, IsDescending, AreOpenAbove, AreMarks, wider, open_}
-use Rattle.bq_source.specs.Layout.{opened_by, Leaves, no_token, one_token, IsInLine, IsBetween, first, after, Before, token_of, width, has_tab, IsEmptyAt, IsIndented, Supplies, none, newline, Finishes}
+use Rattle.bq_source_lexer.specs.Indentation.{IsOpen, width_before, IsAmong, IsDescending, AreOpenAbove, AreMarks, wider, open_}
+use Rattle.bq_source_lexer.specs.Layout.{opened_by, Leaves, no_token, one_token, IsInLine, IsBetween, first, after, Before, token_of, width, has_tab, IsEmptyAt, IsIndented, Supplies, none, newline, Finishes}
 use Rattle.bq_source.proofs.Spelled.{false_not_true}
 
 -- ---- the last of a list

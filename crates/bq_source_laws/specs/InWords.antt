@@ -5,8 +5,8 @@ use Rattle.bq_source.specs.declared.token.Token.{Token}
 use Rattle.bq_base.specs.declared.fault.Fault.{Fault}
 use Rattle.bq_base.specs.declared.fault.FaultKind.TheVariants as f
 use Rattle.bq_base.specs.Fault.{fault_at}
-use Rattle.bq_source.specs.Reading.{max_file_bytes, line_behind}
-use Rattle.bq_source.specs.Layout.{Reads, IsFaulty}
+use Rattle.bq_source_lexer.specs.Reading.{max_file_bytes, line_behind}
+use Rattle.bq_source_lexer.specs.Layout.{Reads, IsFaulty}
 
 -- A text is cut into these tokens, or is cut up to this fault. One that is too long has the fault of that, whatever is in it.
 pub data InWords (text : List ℕ) : Result (List Token) Fault → Type 0 where

@@ -1,8 +1,8 @@
 //! The words give the reading of a text, and only one.
 
 ghost use Rattle.std.specs.Prelude.{◌≡◌, List, Ok, Err, ℕ, Result};
-ghost use Rattle.bq_source.specs.Reading.{Lexes};
-ghost use Rattle.bq_source.specs.Layout.{Reads, IsFaulty};
+ghost use Rattle.bq_source_lexer.specs.Reading.{Lexes};
+ghost use Rattle.bq_source_lexer.specs.Layout.{Reads, IsFaulty};
 ghost use Rattle.bq_base.specs.declared.fault.Fault.{Fault};
 ghost use Rattle.bq_source.specs.declared.token.Token.{Token};
 ghost use Rattle.bq_source_laws.specs.InWords.{InWords};

@@ -2,7 +2,7 @@
 
 ghost use Rattle.std.specs.Prelude.{◌≡◌, ◌≢◌, ◌⊎◌, ◌∷◌, [], Bool, true, None, List, Ok, Some, ℕ, length};
 ghost use Rattle.std.specs.List.{AllByRecursion};
-ghost use Rattle.bq_source.specs.Reading.{Lexes, max_file_bytes};
+ghost use Rattle.bq_source_lexer.specs.Reading.{Lexes, max_file_bytes};
 ghost use Rattle.bq_source.specs.Lexis.{is_letter, is_digit, word_kind};
 ghost use Rattle.bq_source.specs.Operators.{operators, kind_of};
 ghost use Rattle.bq_source.specs.Spelling.{IsListed};

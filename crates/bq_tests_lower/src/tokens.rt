@@ -1,7 +1,8 @@
 //! The tokens of texts, and where they lie: which no program shows. What begins no token is in the rows of bq_tests_data.
 
 use crate::rows::{Row, Subject, check_rows};
-use bq_source::{Token, lex};
+use bq_source::Token;
+use bq_source_lexer::lex;
 use std::alloc::{AllocError, Global};
 use std::fmt::Write;
 

@@ -3,8 +3,8 @@ use Rattle.std.proofs.Common.{◌≡◌, ◌≢◌, ◌∙◌, ap, sym, refl, co
 use Rattle.std.proofs.lemmas.Bool.{eqb-true, eqb-false, ne_eqb}
 use Rattle.std.specs.Prelude.{fold, nat_lt}
 use Rattle.std.specs.Option.{option_or}
-use Rattle.bq_value.specs.Datum.{Datum}
-use Rattle.bq_value.specs.Contents.{Contents}
+use Rattle.bq_value_datum.specs.Datum.{Datum}
+use Rattle.bq_value_content.specs.Contents.{Contents}
 use Rattle.bq_value.specs.Lending.{with_cell}
 use Rattle.bq_value.specs.Cells.{FrozenCells, Modules, StoreView, FrozenView, module_at, cell_of, content_at, frozen_at, frozen, placed, added, brought, with_loaded}
 

@@ -1,15 +1,9 @@
--- how the weights of a list change
-pub mod Weights
--- lists of values that are compared as keys
-pub mod Keyed
+-- how many elements a range has
+pub use Rattle.bq_value_datum.proofs.Elements
 -- the words of an `IndexMap` are those of a dict
-pub mod Lookups
+pub use Rattle.bq_value_content.proofs.Lookups
 -- what a dict has after a pair was put or taken out
-pub mod Puts
--- a dict whose first places are empty
-pub mod Gaps
--- a key that gets out of those places
-pub mod Vacated
+pub use Rattle.bq_value_content.proofs.Puts
 -- a list of modules that is split at a number
 pub mod Splits
 -- a trie of modules and the list of them
@@ -18,5 +12,3 @@ pub mod Tries
 pub mod Freezes
 -- which names rules have
 pub mod Naming
--- how many elements a range has
-pub mod Elements

@@ -5,10 +5,10 @@ use Rattle.std.specs.Prelude.{fold}
 use Rattle.std.specs.Map.{lookup}
 use Rattle.std.specs.Option.{option_or}
 use Rattle.bq_package_rule_class.specs.Class.{Class}
-use Rattle.bq_value.specs.Datum.{Datum, none, boolean, int, string, tuple, range, cell, function, built_in, rule_function, attribute}
-use Rattle.bq_value.specs.Contents.{Contents, items, pairs, rule}
-use Rattle.bq_value.specs.Same.{same}
-use Rattle.bq_value.specs.Kinds.{Kinds, kind_at, is_rule, rule_number, with_kind, kinds_from, kinds_of, first_holding}
+use Rattle.bq_value_datum.specs.Datum.{Datum, none, boolean, int, string, tuple, range, cell, function, built_in, rule_function, attribute}
+use Rattle.bq_value_content.specs.Contents.{Contents, items, pairs, rule}
+use Rattle.bq_value_datum.specs.Same.{same}
+use Rattle.bq_value_content.specs.Kinds.{Kinds, kind_at, is_rule, rule_number, with_kind, kinds_from, kinds_of, first_holding}
 use Rattle.bq_value.specs.Cells.{StoreView, FrozenView, module_at, cell_of, content_at, kind_in, kind_of, frozen, added, brought, with_loaded}
 use Rattle.bq_value.proofs.Freezes.{at_loaded}
 

@@ -2,10 +2,10 @@
 use Rattle.std.specs.Prelude.{◌≡◌, ℕ, cond, fold, List, [], ◌∷◌, slice_get, Option, Some, None, ◌==◌, nat_lt, refl, is_some}
 use Rattle.std.specs.Coded.{Coded, code_by, coded×, coded_ℕ, coded_list}
 use Rattle.bq_package_rule_class.specs.Class.{Class}
-use Rattle.bq_value.specs.Datum.{Datum, cell}
-use Rattle.bq_value.specs.Codes.{coded_datum}
-use Rattle.bq_value.specs.Contents.{Contents, items, pairs, rule, coded_contents}
-use Rattle.bq_value.specs.Kinds.{Kinds, coded_kinds, kind_at, kinds_of, first_holding}
+use Rattle.bq_value_datum.specs.Datum.{Datum, cell}
+use Rattle.bq_value_datum.specs.Codes.{coded_datum}
+use Rattle.bq_value_content.specs.Contents.{Contents, items, pairs, rule, coded_contents}
+use Rattle.bq_value_content.specs.Kinds.{Kinds, coded_kinds, kind_at, kinds_of, first_holding}
 
 -- the cells of a frozen module, by number, the values of its globals, and the kinds of its rules
 pub record FrozenCells : Type 0 where

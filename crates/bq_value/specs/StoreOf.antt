@@ -4,7 +4,7 @@ use Rattle.bq_value.specs.declared.frozen.Frozen.TheInside.{Inside as FrozenInsi
 use Rattle.bq_value.specs.declared.store.Store.TheInside.{Inside}
 
 abbrev pub store_of : Inside → StoreView
-store_of s = record { own = s.own; cells = s.cells.items; loaded = s.loaded }
+store_of s = record { own = s.made.own; cells = s.made.cells; loaded = s.loaded }
 
 abbrev pub frozen_of : FrozenInside → FrozenView
 frozen_of f = record { own = f.own; cells = f.cells; reached = f.reached }

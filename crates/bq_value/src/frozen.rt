@@ -3,13 +3,12 @@
 ghost use Rattle.std.specs.Prelude.{◌≡◌, None, Some, MatchOption, IfOk};
 ghost use Rattle.bq_value.specs.Cells.{frozen_at, globals_at, frozen};
 
-use crate::content::Content;
-use crate::kinds::kinds_of;
 use crate::modules::Modules;
 use crate::shared::{Cells, Shared};
 use crate::store::Store;
-use crate::value::{Cell, Value};
 use bq_base::Bytes;
+use bq_value_content::{Content, kinds_of};
+use bq_value_datum::{Cell, Value};
 use std::alloc::{AllocError, Global};
 use std::marker::Model;
 use std::sync::Arc;
@@ -83,15 +82,12 @@ pub fn freeze(
 ) -> Result<Frozen, AllocError>
     ensures { IfOk result (λ f. f ≡ frozen store names.now globals.items) }
 {
-    let Store {
-        own,
-        cells,
-        loaded,
-        ..
-    } = store;
-    let kinds = kinds_of(alloc, own, &cells, names, &globals)?;
+    let Store { made, loaded, .. } = store;
+    let own = made.module();
+    let contents = made.into_contents();
+    let kinds = kinds_of(alloc, own, &contents, names, &globals)?;
     let cells = Cells {
-        contents: cells,
+        contents,
         globals,
         kinds,
     };

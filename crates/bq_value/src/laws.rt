@@ -1,53 +1,16 @@
 //! Laws of the definitions. The gate proves what a contract names, so each law is the contract of a function that does
 //! nothing.
 
-ghost use Rattle.std.specs.Prelude.{◌≡◌, ◌≢◌, ◌↔◌, ◌<◌, ◌++◌, ◌∷◌, [], List, ℕ, ℤ, pos, Some, None, cond, fold, is_some, true, false, ◌==◌};
+ghost use Rattle.std.specs.Prelude.{◌≡◌, ◌≢◌, List, ℕ, None, fold};
 ghost use Rattle.std.specs.Option.{option_or};
-ghost use Rattle.bq_value.specs.Datum.{Datum};
-ghost use Rattle.bq_value.specs.Same.{same};
-ghost use Rattle.bq_value.specs.Range.{IsBefore, range_element, range_count};
-ghost use Rattle.bq_value.specs.Pairs.{found, put, without, keys, TakenOut, HasNoKeyTwice};
-ghost use Rattle.bq_value.specs.Contents.{Contents, KeysDiffer};
-ghost use Rattle.bq_value.specs.Kinds.{kind_at};
+ghost use Rattle.bq_value_datum.specs.Datum.{Datum};
+ghost use Rattle.bq_value_content.specs.Contents.{Contents, KeysDiffer};
+ghost use Rattle.bq_value_content.specs.Kinds.{kind_at};
 ghost use Rattle.bq_value.specs.Cells.{StoreView, FrozenView, Modules, module_at, content_at, kind_of, frozen_at, frozen, added, loading, KindsAreNames};
 ghost use Rattle.bq_value.specs.Lending.{with_cell};
 
 use crate::store::Store;
-use crate::value::Cell;
-
-/// Keys are equal exactly where they are one value.
-pub fn equality_of_keys()
-    ensures { (j k : Datum) → (same j k ≡ true) ↔ (j ≡ k) }
-{}
-
-/// A range has exactly the elements that lie before its end.
-pub fn elements_of_a_range()
-    ensures { (start stop step : ℤ) (k : ℕ) → step ≢ pos 0 → (k < range_count start stop step) ↔ IsBefore (range_element start step k) stop step }
-{}
-
-/// A key that was inserted has the new value; every other key has the value that it had.
-pub fn a_pair_that_is_put()
-    ensures value { (k v : Datum) (pairs : List (Datum × Datum)) → found k (put k v pairs) ≡ Some v }
-    ensures others { (j k v : Datum) (pairs : List (Datum × Datum)) → j ≢ k → found j (put k v pairs) ≡ found j pairs }
-{}
-
-/// A key that was there keeps its place, and a new one goes last.
-pub fn places_of_keys()
-    ensures { (k v : Datum) (pairs : List (Datum × Datum)) → keys (put k v pairs) ≡ cond (is_some (found k pairs)) (keys pairs) (keys pairs ++ k ∷ []) }
-{}
-
-/// Removing a key removes its pair alone, and keeps the order of the rest.
-pub fn a_key_that_is_taken_out()
-    ensures there { (k v : Datum) (pairs : List (Datum × Datum)) → found k pairs ≡ Some v → TakenOut k v pairs (without k pairs) }
-    ensures absent { (k : Datum) (pairs : List (Datum × Datum)) → found k pairs ≡ None → without k pairs ≡ pairs }
-{}
-
-/// No key is twice in `{}`, and inserting or removing a pair keeps it so.
-pub fn keys_stay_distinct()
-    ensures empty { HasNoKeyTwice [] }
-    ensures put { (k v : Datum) (pairs : List (Datum × Datum)) → HasNoKeyTwice pairs → HasNoKeyTwice (put k v pairs) }
-    ensures without { (k : Datum) (pairs : List (Datum × Datum)) → HasNoKeyTwice pairs → HasNoKeyTwice (without k pairs) }
-{}
+use bq_value_datum::Cell;
 
 /// No dict of a store has a key twice, whatever was done to the store.
 pub fn dicts_of_stores_have_distinct_keys(store: &Store, cell: Cell)

@@ -1,12 +1,11 @@
 //! The cells of a frozen module, shared.
 
 ghost use Rattle.std.specs.Prelude.{◌≡◌, IfOk, option_copied};
-ghost use Rattle.bq_value.specs.Kinds.{kind_at};
+ghost use Rattle.bq_value_content.specs.Kinds.{kind_at};
 
-use crate::content::Content;
-use crate::kinds::Kinds;
-use crate::value::Value;
 use bq_base::Bytes;
+use bq_value_content::{Content, Kinds};
+use bq_value_datum::Value;
 use std::alloc::AllocError;
 use std::marker::Model;
 use std::sync::Arc;

@@ -1,5 +1,5 @@
 -- What is written in parts.
-use Rattle.std.proofs.Common.{◌≡◌, ◌∙◌, ℕ, ◌+◌, ◌<◌, ◌++◌, Bool, true, false, List, [], ◌∷◌, Some, None, nat_le, cond, length, drop, get_or, refl, sym, ap, arith, append_assoc, length-append, add-one}
+use Rattle.std.proofs.Common.{◌≡◌, ◌∙◌, ℕ, ◌+◌, ◌<◌, ◌++◌, Bool, true, false, List, [], ◌∷◌, Some, None, nat_le, cond, length, drop, get_or, refl, sym, ap, subst, arith, append_assoc, length-append, add-one}
 use Rattle.std.proofs.lemmas.Bool.Decides.{nat_tests}
 use Rattle.std.proofs.Math.Seq.{drop-cons}
 use Rattle.bq_source.specs.StringLiteral.{quoted, quoted_body, quoted_byte}
@@ -21,6 +21,11 @@ pub written_more : (page : PageView) (a b : List ℕ) → written (written page 
 unfolding written
 written_more None a b = refl
 written_more (Some t) a b = written_by t a b (nat_le (length t + length a) max_text) refl
+
+-- a page that is over takes nothing more
+pub over_stays : (page : PageView) (bytes : List ℕ) → page ≡ None → page ≡ written page bytes
+unfolding written
+over_stays page bytes over = subst (λ (p : PageView). p ≡ written p bytes) (sym over) refl
 
 -- the opening quote
 pub first_quoted : (page next : PageView) (bytes : List ℕ) → next ≡ written page (34 ∷ []) → written page (34 ∷ quoted_body bytes) ≡ written next (quoted_body bytes)

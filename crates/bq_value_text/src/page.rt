@@ -1,6 +1,6 @@
 //! What is written of a text.
 
-ghost use Rattle.std.specs.Prelude.{◌≡◌, [], Some, OnOk};
+ghost use Rattle.std.specs.Prelude.{◌≡◌, [], Some, None, OnOk, IsTrue};
 ghost use Rattle.bq_base.specs.Gives.{Gives};
 ghost use Rattle.bq_value.specs.declared.error.EvalErr.TheVariants.{Bad};
 ghost use Rattle.bq_value_text.specs.Page.{written, finished};
@@ -38,6 +38,13 @@ impl Page {
             bytes: Vec::new(alloc),
             is_over: false,
         }
+    }
+
+    /// Returns whether too much was written, so that nothing more is taken.
+    pub(crate) fn is_over(&self) -> bool
+        ensures { IsTrue result → self.now ≡ None }
+    {
+        self.is_over
     }
 
     /// Appends `bytes`.

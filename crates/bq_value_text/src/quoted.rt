@@ -11,6 +11,9 @@ use std::alloc::AllocError;
 pub(crate) fn write_quoted(bytes: &[u8], page: &mut Page) -> Result<(), AllocError>
     ensures { OnOk result (page.new ≡ written page.old (quoted bytes.now)) }
 {
+    if page.is_over() {
+        return Ok(());
+    }
     page.write(b"\"")?;
     for byte in bytes {
         write_quoted_byte(*byte, page)?;

@@ -12,7 +12,7 @@ use Rattle.bq_builtin_machine.specs.Cells.{Change, changing, content, may_change
 use Rattle.bq_builtin_machine.specs.Iteration.{elements_in, elements}
 use Rattle.bq_builtin_machine.specs.Machine.{with_steps, after_walk, key}
 use Rattle.bq_builtin_machine.specs.State.{State}
-use Rattle.bq_builtin_operators.specs.InPlace.{dict_united, pair_put, set_item, set_index}
+use Rattle.bq_builtin_in_place.specs.InPlace.{dict_united, pair_put, set_item, set_index}
 use Rattle.bq_builtin_collections.specs.Arguments.{no_argument, one_or_two, or_none}
 use Rattle.bq_builtin_collections.specs.Dict as dict
 use Rattle.bq_builtin_collections.specs.Dict.{DictChange, on_pairs, as_pairs, emptied, taken_out, first_out, with_default, key_to_change, pairs_in}

@@ -10,7 +10,7 @@ use Rattle.bq_builtin_machine.specs.Cells.{changing, content}
 use Rattle.bq_builtin_machine.specs.Iteration.{elements_in, elements}
 use Rattle.bq_builtin_machine.specs.State.{State}
 use Rattle.bq_builtin_numbers.specs.Length.{within, max_len}
-use Rattle.bq_builtin_operators.specs.InPlace.{element_set, set_item, set_index}
+use Rattle.bq_builtin_in_place.specs.InPlace.{element_set, set_item, set_index}
 use Rattle.bq_builtin_collections.specs.Arguments.{no_argument, one_argument, two_arguments, optional_argument, integer, index_or_last}
 use Rattle.bq_builtin_collections.specs.List as list
 use Rattle.bq_builtin_collections.specs.List.{on_items, as_items, and_then, appended, extended, inserted, popped, cleared, find, drop_at, list_in}

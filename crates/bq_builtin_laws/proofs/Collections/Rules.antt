@@ -9,7 +9,7 @@ use Rattle.bq_builtin_machine.specs.Action.{Run, stopped, following, ◌>>=◌, 
 use Rattle.bq_builtin_machine.specs.Cells.{content, or_wrong, changing}
 use Rattle.bq_builtin_machine.specs.Iteration.{elements}
 use Rattle.bq_builtin_machine.specs.State.{State, stop_at}
-use Rattle.bq_builtin_operators.specs.InPlace.{set_in, set_item, set_index, augment_sum, augment_union, augment, list_extended, dict_united}
+use Rattle.bq_builtin_in_place.specs.InPlace.{set_in, set_item, set_index, augment_sum, augment_union, augment, list_extended, dict_united}
 use Rattle.bq_builtin_operators.specs.Operand.{list_of_content, dict_of_content, dict_in}
 use Rattle.bq_builtin_laws.specs.Collections.Laws.{IsRule}
 

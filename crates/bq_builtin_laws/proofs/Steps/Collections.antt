@@ -15,7 +15,7 @@ use Rattle.bq_builtin_machine.specs.Cells.{content, may_change, changing, new_li
 use Rattle.bq_builtin_machine.specs.Iteration.{elements}
 use Rattle.bq_builtin_machine.specs.Machine.{walk, key}
 use Rattle.bq_builtin_machine.specs.State.{State}
-use Rattle.bq_builtin_operators.specs.InPlace.{dict_united}
+use Rattle.bq_builtin_in_place.specs.InPlace.{dict_united}
 use Rattle.bq_builtin_operators.specs.Sequence.{limited}
 use Rattle.bq_builtin_operators.specs.Union.{put_all}
 use Rattle.bq_builtin_collections.specs.Arguments as arguments

@@ -29,7 +29,7 @@ use Rattle.bq_builtin_operators.specs.Product.{list_product, times, int_product,
 use Rattle.bq_builtin_operators.specs.Remainder.{remainder}
 use Rattle.bq_builtin_operators.specs.Union.{dict_union, union}
 use Rattle.bq_builtin_operators.specs.Operate.{binary, unary, compare, index, list_slice, slice}
-use Rattle.bq_builtin_operators.specs.InPlace.{list_extended, dict_united, element_set, pair_put, augment_sum, augment_union, augment, set_in, set_item, set_index}
+use Rattle.bq_builtin_in_place.specs.InPlace.{list_extended, dict_united, element_set, pair_put, augment_sum, augment_union, augment, set_in, set_item, set_index}
 use Rattle.bq_builtin_laws.specs.Steps.Laws.{Own}
 use Rattle.bq_builtin_laws.proofs.Steps.Machine.{pure_owns, stop_owns, given_owns, bind_owns, then_owns, look_owns, walk_owns, new_owns, content_owns, may_owns, SparesRules, changing_owns, elements_owns}
 use Rattle.bq_builtin_laws.proofs.Steps.Walks.{key_looked, compared_takes, item_takes, percent_takes}

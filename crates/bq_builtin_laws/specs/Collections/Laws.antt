@@ -8,7 +8,7 @@ use Rattle.bq_value.specs.Datum.{Datum, cell}
 use Rattle.bq_builtin_machine.specs.Action.{done}
 use Rattle.bq_builtin_machine.specs.Iteration.{elements_in}
 use Rattle.bq_builtin_machine.specs.State.{State}
-use Rattle.bq_builtin_operators.specs.InPlace.{augment}
+use Rattle.bq_builtin_in_place.specs.InPlace.{augment}
 
 -- the cell of that number holds a list of these values
 abbrev pub IsList : State → ℕ → ℕ → List Datum → Type 0

@@ -11,7 +11,7 @@ use Rattle.bq_builtin_machine.specs.Iteration.{elements_in}
 use Rattle.bq_builtin_machine.specs.Machine.{key}
 use Rattle.bq_builtin_machine.specs.State.{State}
 use Rattle.bq_builtin_numbers.specs.Length.{max_len}
-use Rattle.bq_builtin_operators.specs.InPlace.{element_set, pair_put, dict_united}
+use Rattle.bq_builtin_in_place.specs.InPlace.{element_set, pair_put, dict_united}
 use Rattle.bq_builtin_operators.specs.Operand.{int_of}
 use Rattle.bq_builtin_collections.specs.Arguments.{one_or_two, or_none}
 use Rattle.bq_builtin_collections.specs.Dict.{setdefault, first_out, taken_out, with_default}

@@ -9,7 +9,7 @@ use Rattle.bq_builtin_machine.specs.Action.{Action}
 use Rattle.bq_builtin_machine.specs.Args.{Passed}
 use Rattle.bq_builtin_machine.specs.State.{State}
 use Rattle.bq_builtin_operators.specs.Operate as operate
-use Rattle.bq_builtin_operators.specs.InPlace as in_place
+use Rattle.bq_builtin_in_place.specs.InPlace as in_place
 use Rattle.bq_builtin_methods.specs.Call as methods
 use Rattle.bq_builtin.specs.Call as functions
 use Rattle.bq_builtin_laws.specs.Steps.Steps.{machine, TakesInLine}

@@ -5,12 +5,12 @@ use Rattle.bq_base.specs.declared.fault.FaultKind.{FaultKind}
 use Rattle.bq_base.specs.declared.fault.FaultKind.TheVariants as f
 use Rattle.bq_base.specs.Fault.{fault_at}
 use Rattle.bq_base.proofs.Choices.{by_bool}
-use Rattle.bq_source.specs.Layout as layout
-use Rattle.bq_source.specs.Layout.{Before, FaultAfter}
-use Rattle.bq_source.specs.Reading.{Lexes}
+use Rattle.bq_source_lexer.specs.Layout as layout
+use Rattle.bq_source_lexer.specs.Layout.{Before, FaultAfter}
+use Rattle.bq_source_lexer.specs.Reading.{Lexes}
 use Rattle.bq_source.specs.Spelling as spelling
 use Rattle.bq_source.specs.Spelling.{IsMisspelled}
-use Rattle.bq_source.proofs.LaidOut.{faulty}
+use Rattle.bq_source_lexer.proofs.LaidOut.{faulty}
 use Rattle.bq_parse_grammar.specs.Lexeme.{Lexeme, lexemes}
 use Rattle.bq_parse_grammar.specs.Parses as P
 use Rattle.bq_parse_grammar.specs.Parses.{ReadsAll}

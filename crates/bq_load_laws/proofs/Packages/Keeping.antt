@@ -19,7 +19,7 @@ use Rattle.bq_builtin_machine.specs.Cells as cells
 use Rattle.bq_builtin_machine.specs.Iteration as iteration
 use Rattle.bq_builtin_machine.specs.Calls as calls
 use Rattle.bq_builtin_operators.specs.Operate as operate
-use Rattle.bq_builtin_operators.specs.InPlace as in_place
+use Rattle.bq_builtin_in_place.specs.InPlace as in_place
 use Rattle.bq_builtin_methods.specs.Call as methods
 use Rattle.bq_builtin.specs.Call.{call_function}
 use Rattle.bq_eval_rule_functions.specs.Call.{class_in, declare, type_of, call_rule_function, call_kind, call_class, call_cell}

@@ -1,7 +1,7 @@
 use Rattle.std.proofs.Common.{Ok, Err, refl}
 use Rattle.std.proofs.lemmas.List.Elements.{All-from_recursion}
 use Rattle.bq_source.specs.Spelling.{Lies}
-use Rattle.bq_source.proofs.Lying.{all_lie}
+use Rattle.bq_source_lexer.proofs.Lying.{all_lie}
 use Rattle.bq_parse_grammar.specs.Lexeme.{lexemes}
 use Rattle.bq_parse_grammar.specs.Pieces.{pieces}
 use Rattle.bq_parse_statement_laws.proofs.Verdicts.{file_reads, file_only}

@@ -1,5 +1,5 @@
 use Rattle.std.proofs.Common.{◌≡◌, ◌+◌, ◌*◌, drop}
-use Rattle.bq_resolve_scope.specs.Names.{with_each, with_small, with_stmt_to, with_branch}
+use Rattle.bq_resolve_scope.specs.Names.{with_each, with_stmt_to, with_branch}
 use Rattle.bq_resolve_scope.proofs.binding.+statements.Given as goal
 
 abbrev pub invariant-add_block_to-loop-statement : goal.invariant-add_block_to-loop-statement
@@ -7,9 +7,6 @@ invariant-add_block_to-loop-statement l = with_each (with_stmt_to l.depth) l.nam
 
 abbrev pub invariant-add_branches_to-loop-branch : goal.invariant-add_branches_to-loop-branch
 invariant-add_branches_to-loop-branch l = with_each (with_branch (with_stmt_to l.depth)) l.names (drop l.branch-index l.branches) ≡ with_each (with_branch (with_stmt_to l.depth)) l.fn.names l.branches
-
-abbrev pub invariant-add_stmt_to-loop-small : goal.invariant-add_stmt_to-loop-small
-invariant-add_stmt_to-loop-small l = with_each with_small l.names (drop l.small-index l.small-items) ≡ with_each with_small l.fn.names l.small-items
 
 abbrev pub decreases-add_block_to : goal.decreases-add_block_to
 decreases-add_block_to l = 4 * l.depth + 1

@@ -1,10 +1,13 @@
 use Rattle.std.proofs.Common.{◌≡◌, ◌∙◌, [], ap, subst, arith, drop}
 use Rattle.std.proofs.Math.ListN.{drop_of_length-le}
 use Rattle.std.specs.Prelude.{OnOk}
-use Rattle.bq_source.specs.StringLiteral.{quoted_body}
+use Rattle.bq_source.specs.StringLiteral.{quoted, quoted_body}
 use Rattle.bq_value_text.specs.Page.{PageView, written}
-use Rattle.bq_value_text.proofs.Pages.{first_quoted, next_quoted, last_quoted}
+use Rattle.bq_value_text.proofs.Pages.{over_stays, first_quoted, next_quoted, last_quoted}
 use Rattle.bq_value_text.proofs.quoted.write_quoted.Goals as goal
+
+pub returns-then-is_over : goal.returns-then-is_over
+returns-then-is_over c = over_stays c.args.page.now (quoted c.args.bytes.now) (c.is_over.ensures c.if-is_over.true)
 
 pub loop-byte-init : goal.loop-byte-init
 loop-byte-init c = first_quoted c.args.page.now c.write.new.self c.args.bytes.now c.in_ok-write.ensures

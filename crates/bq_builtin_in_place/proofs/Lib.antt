@@ -1,0 +1,2 @@
+-- a content that is changed as a definition says
+pub mod Changes

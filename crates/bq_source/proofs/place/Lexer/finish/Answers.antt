@@ -1,8 +1,0 @@
-use Rattle.std.proofs.Common.{arith}
-use Rattle.std.proofs.lemmas.Grind.{common_steps}
-use Rattle.bq_source.specs.Reading.{finish}
-use Rattle.bq_source.proofs.place.Lexer.finish.Goals as goal
-
-pub returns-in-Some : goal.returns-in-Some
-unfolding finish
-returns-in-Some c = grind (arith, common_steps)

@@ -1,5 +1,0 @@
-use Rattle.bq_value.proofs.Elements.{elements_counted}
-use Rattle.bq_value.proofs.laws.elements_of_a_range.Goals as goal
-
-pub returns : goal.returns
-returns c = elements_counted

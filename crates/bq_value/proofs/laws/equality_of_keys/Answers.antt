@@ -1,5 +1,0 @@
-use Rattle.bq_value.specs.SameLaws.{same_decides}
-use Rattle.bq_value.proofs.laws.equality_of_keys.Goals as goal
-
-pub returns : goal.returns
-returns c j k = same_decides j k

@@ -1,0 +1,7 @@
+pub mod Pairs
+pub mod Contents
+pub mod ContentOf
+pub mod Kinds
+pub mod Made
+pub mod MadeOf
+pub mod Lending

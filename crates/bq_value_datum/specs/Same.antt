@@ -1,0 +1,53 @@
+-- When two values are the same value in each part, and what a key feeds to a hash. Of two keys this is the equality of the
+-- language (Starlark, "Comparisons", "Hashing"): `1`, `"1"` and `True` are three keys.
+use Rattle.std.specs.Prelude.{Bool, true, false, ◌&&◌, [], ◌∷◌, ◌++◌, ◌==◌}
+use Rattle.std.specs.Ordering.{int_eq}
+use Rattle.std.specs.Cmp.Lexicographic.{pointwise}
+use Rattle.std.specs.Hash as fed
+use Rattle.bq_package_rule_class.specs.Same.{same_attribute}
+use Rattle.bq_value_datum.specs.Codes.{number_of, predeclared_number, place_of}
+use Rattle.bq_value_datum.specs.Datum.{BuiltIn, predeclared, schema_rule, Datum, none, boolean, int, string, tuple, range, cell, function, built_in, rule_function, attribute, Data, end, datum}
+
+abbrev pub bool_same : Bool → Bool → Bool
+bool_same true b = b
+bool_same false true = false
+bool_same false false = true
+
+abbrev pub same_built_in : BuiltIn → BuiltIn → Bool
+same_built_in (predeclared x) (predeclared y) = (predeclared_number x == predeclared_number y) && (place_of x == place_of y)
+same_built_in (schema_rule m s) (schema_rule n t) = (m == n) && pointwise ◌==◌ s t
+same_built_in _ _ = false
+
+abbrev mutual
+  pub same : Datum → Datum → Bool
+  same none none = true
+  same (boolean a) (boolean b) = bool_same a b
+  same (int a) (int b) = int_eq a b
+  same (string a) (string b) = pointwise ◌==◌ a b
+  same (tuple a) (tuple b) = same_all a b
+  same (range a b c) (range d e f) = int_eq a d && int_eq b e && int_eq c f
+  same (cell a i) (cell b j) = (a == b) && (i == j)
+  same (function a i s vs) (function b j t ws) = (a == b) && (i == j) && pointwise ◌==◌ s t && same_all vs ws
+  same (built_in a) (built_in b) = same_built_in a b
+  same (rule_function f) (rule_function g) = number_of f == number_of g
+  same (attribute a) (attribute b) = same_attribute a b
+  same _ _ = false
+
+  pub same_all : Data → Data → Bool
+  same_all end end = true
+  same_all (datum v vs) (datum w ws) = same v w && same_all vs ws
+  same_all _ _ = false
+
+-- integers and strings, the common keys, feed nothing but themselves
+abbrev mutual
+  pub feed : Datum → fed.HashWrites
+  feed none = fed.u8 0
+  feed (boolean b) = fed.bool b
+  feed (int n) = fed.i64 n
+  feed (string s) = s ∷ []
+  feed (tuple vs) = fed.u8 2 ++ feed_all vs
+  feed _ = fed.u8 3
+
+  pub feed_all : Data → fed.HashWrites
+  feed_all end = []
+  feed_all (datum v vs) = feed v ++ feed_all vs
