@@ -328,6 +328,7 @@ LOSSY = {
                'x_test(name = "twelve", copts = OPTS)\nx_test(name = "thirteen", size = "small")\n',
     "opts.bzl": 'OPTS = select({"//f:c": ["-b"], "//conditions:default": []})\nSIZE = "small"\n',
     "g/BUILD": 'load("@r//:r.bzl", "x_test")\nload("//:opts.bzl", "OPTS")\nx_test(name = "fourteen", copts = OPTS)\nx_test(name = "fifteen")\n',
+    "pack.bzl": 'def pack(features):\n    native.package(features = [features])\n', "h/BUILD": 'load("//:pack.bzl", "pack")\npack("a")\nfilegroup(name = "sixteen")\n',
 }
 # what changes what an overlay leaves out: the file, the texts, and what is listed
 HIDDEN = (
@@ -345,6 +346,9 @@ HIDDEN = (
     ("e/BUILD", 'flags("a")', 'flags("b")', "//e:nine"),
     ("e/BUILD", '"ten", "small"', '"ten", "large"', "//e:ten"),
     ("e/BUILD", "n = 1", "n = 2", "//e:eleven"),
+    ("h/BUILD", 'pack("a")', 'pack("b")', "//h:sixteen"),
+    ("pack.bzl", "[features]", '[features, "c"]', "//h:sixteen"),
+    ("pack.bzl", "def pack", "# a comment\ndef pack", ""),
     ("f/BUILD", '"1"', '"2"', "//f:c //f:twelve //g:fourteen"),
     ("f/BUILD", 'name = "c"', 'name = "d"', "//f:d //f:twelve //g:fourteen"),
 )
@@ -364,7 +368,7 @@ def overlays(bench):
     found = project.affected("--base", "HEAD", "--kind", "rule", "--all-on-fault")
     bench.compare("all, for a macro without targets", (found[0].split(), found[2]),
                   ("//a:four //a:one //a:three //a:two //b:five //b:six //c:seven //d:eight //e:eleven //e:nine //e:ten "
-                   "//f:c //f:thirteen //f:twelve //g:fifteen //g:fourteen".split(), 0))
+                   "//f:c //f:thirteen //f:twelve //g:fifteen //g:fourteen //h:sixteen".split(), 0))
 
 
 def modules(bench):

@@ -92,8 +92,11 @@ def parts(path):
 
 @functools.lru_cache(maxsize=4)
 def parts_then(path, *_):
-    with open(path, "rb") as file:
-        found = re.split(rb"^=== ([^\n]*)\n", file.read(), flags=re.M)
+    try:
+        with open(path, "rb") as file:
+            found = re.split(rb"^=== ([^\n]*)\n", file.read(), flags=re.M)
+    except OSError as error:
+        raise Unreadable(f"{path}: {error.strerror}") from error
     return {name.decode("utf-8", "replace"): text for name, text in zip(found[1::2], found[2::2])}
 
 

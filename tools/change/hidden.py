@@ -101,6 +101,13 @@ class Texts:
                 found |= {name: symbol in dropping for name, symbol in load.symbols.items()}
         return found
 
+    def callers_of_package(self, path):
+        """The functions of a .bzl file that call `native.package`, with what they say."""
+        if b"native.package(" not in self.side.texts.get(path, b""):
+            return {}
+        return {it.node.name: it.said for it in self.statements(path) or () if isinstance(it.node, ast.FunctionDef)
+                and any(isinstance(part, ast.Attribute) and part.attr == "package" for part in ast.walk(it.node))}
+
     def is_lossy(self, path):
         """Whether the overlay has something else in the place of a part of this .bzl file."""
         statements = self.statements(path)
@@ -167,7 +174,7 @@ class Package:
         earlier, statements = self.before.statements(self.path), self.after.statements(self.path)
         if statements is None:
             return f"{self.path}, whose text can't be compared", {}
-        if self.is_changed and of_package(earlier) != of_package(statements):
+        if of_package(self.before, self.path) != of_package(self.after, self.path):
             return "package(..)", {}
         is_lossy = self.is_lossy()
         if self.changed_loaded and is_lossy:
@@ -192,9 +199,12 @@ class Package:
         return found
 
 
-def of_package(statements):
-    """What calls of `package` say."""
-    return [it.said for it in statements or () if function_of(it.node) == "package"]
+def of_package(texts, path):
+    """What calls of `package` say, and of macros that call it, with what these macros say."""
+    macros = {name: found[symbol] for load in texts.loads.get(path, ()) for found in [texts.callers_of_package(load.file)]
+              for name, symbol in load.symbols.items() if symbol in found}
+    called = [it for it in texts.statements(path) or () if function_of(it.node) in {"package", *macros}]
+    return [(it.said, macros.get(function_of(it.node))) for it in called]
 
 
 def made_by(statement):

@@ -13,6 +13,12 @@ use Rattle.bq_board.proofs.Sums.{times_same, Has_more, Has_snoc}
 use Rattle.bq_board.proofs.Edges.{into_once}
 use Rattle.bq_board.proofs.Settling.{times_take_more, times_take-le}
 
+-- a claim finishes nothing
+pub finished_kept : {B : Type 0} (v w : View B) (m : ℕ) (r : Claim) → Answered v m r w → w.finished ≡ v.finished
+finished_kept v w m Won t = ap (λ u. u.finished) t.2.0 ∙ ap (λ u. u.finished) t.1.1
+finished_kept v w m Taken t = ap (λ u. u.finished) t.2 ∙ ap (λ u. u.finished) t.1.1
+finished_kept v w m (Waiting e) t = ap (λ u. u.finished) t.2.0 ∙ ap (λ u. u.finished) t.1.1
+
 module _ {B : Type 0} (p : Loads) where
   -- a view that noted only more of what it found
   keeps_noted : (v : View B) (seen missed taken : List ℕ) → KeepsAll p v (record v { seen = seen; missed = missed; taken = taken })

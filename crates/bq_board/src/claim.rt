@@ -2,6 +2,7 @@
 ghost use Rattle.std.specs.Prelude.{◌≡◌, ◌+◌, ◌<◌, length, IsTrue, ◌↔◌};
 ghost use Rattle.bq_board.specs.Board.{Posted};
 ghost use Rattle.bq_board.specs.Claims.{Answered};
+ghost use Rattle.bq_board.specs.Conditions.{Holds};
 ghost use Rattle.bq_board.specs.Seats.{IsSeatOf, view_of};
 
 use crate::board::{Board, Seat};
@@ -47,6 +48,22 @@ impl<V: Parcel> Board<V> {
         let shared = &self.table.shared;
         let found = shared.compare_exchange::<TryClaim>(&mut seat.place, 1 + m, 0, 1);
         if found == 0 { Claim::Won } else { Claim::Taken }
+    }
+
+    /// Claims module `m`, and returns whether this seat won it. If so, the seat may fetch the edges into it, and must post
+    /// the edges out of it and finish it.
+    pub fn wins(&self, seat: &mut Seat<V>, m: usize) -> bool
+        requires seat { IsSeatOf self.now seat.old }
+        requires module { m < length self.now.plan }
+        ensures seat { IsSeatOf self.now seat.new }
+        ensures holds { IsTrue result → Holds self.now.plan (view_of seat.new) m }
+        ensures finished { (view_of seat.new).finished ≡ (view_of seat.old).finished }
+    {
+        match self.claim(seat, m) {
+            Claim::Won => true,
+            Claim::Taken => false,
+            Claim::Waiting(_) => false,
+        }
     }
 }
 

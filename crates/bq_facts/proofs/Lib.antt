@@ -4,3 +4,5 @@ pub mod Direct
 pub mod Objects
 pub mod Loads
 pub mod Paths
+-- lines, as the texts of objects
+pub mod Lines

@@ -1,11 +1,18 @@
--- What `deps` has, in the words of queries, and where files are.
-use Rattle.std.specs.Prelude.{◌≡◌, ◌≢◌, ◌↔◌, ℕ, List}
+-- What `deps` has, in the words of queries; where files are; and the objects that lines are of.
+use Rattle.std.specs.Prelude.{◌≡◌, ◌≢◌, ◌↔◌, ℕ, List, [], ◌∷◌, ◌++◌}
 use Rattle.std.specs.List.{Contains}
 use Rattle.bq_query_graph.specs.Paths.{row, DepsWithin}
 use Rattle.bq_label.specs.Label.{IsLabel, LabelParts, full_form}
 use Rattle.bq_label.specs.Packages.{label_path}
+use Rattle.bq_load_fault_line.specs.declared.fault_line.FaultLine.{FaultLine}
+use Rattle.bq_facts_json.specs.Json.{value_text}
+use Rattle.bq_package_target.specs.declared.target.Target.{Target}
+use Rattle.bq_resolve_scope.specs.declared.code.LoadStmt.{LoadStmt}
 use Rattle.bq_facts.specs.Deps.{AreDirect}
-use Rattle.bq_facts.specs.FaultObject.{file_labelled}
+use Rattle.bq_facts.specs.FaultObject.{fault_object, file_labelled}
+use Rattle.bq_facts.specs.ModuleLine.{module_line}
+use Rattle.bq_facts.specs.Objects.{fault_value, module_value, target_value}
+use Rattle.bq_facts.specs.TargetLine.{target_line}
 
 -- the direct dependencies of x are deps(x, 1) - x
 abbrev pub DirectAreDeps : List (List ℕ) → ℕ → List ℕ → Type 0
@@ -14,3 +21,13 @@ DirectAreDeps g x ds = AreDirect (row g x) x ds → (y : ℕ) → Contains ds y 
 -- a label in full says where its file is
 abbrev pub PathsOfLabels : Type 0
 PathsOfLabels = (l : LabelParts) → IsLabel l → file_labelled (full_form l) ≡ label_path l
+
+-- each line is the text of its object and a newline, and the text of a value reads as that value alone (bq_facts_json)
+abbrev pub TargetLinesAreObjects : Type 0
+TargetLinesAreObjects = (t : Target) (file : List ℕ) (deps : List LabelParts) → target_line t file deps ≡ value_text (target_value t file deps) ++ 10 ∷ []
+
+abbrev pub ModuleLinesAreObjects : Type 0
+ModuleLinesAreObjects = (l : LabelParts) (loads : List LoadStmt) (files : List LabelParts) → module_line l loads files ≡ value_text (module_value l loads files) ++ 10 ∷ []
+
+abbrev pub FaultLinesAreObjects : Type 0
+FaultLinesAreObjects = (l : FaultLine) → fault_object l ≡ value_text (fault_value l) ++ 10 ∷ []

@@ -5,4 +5,5 @@ pub mod Deps
 pub mod TargetLine
 pub mod ModuleLine
 pub mod FaultObject
+pub mod Objects
 pub mod Laws

@@ -29,6 +29,6 @@ mod target_line;
 pub use deps::direct_deps;
 pub use fault_object::push_fault;
 pub use labels::labels_at;
-pub use laws::{direct_deps_are_deps, paths_of_labels};
+pub use laws::{direct_deps_are_deps, lines_are_of_objects, paths_of_labels};
 pub use module_line::push_module;
 pub use target_line::{file_of, push_target};

@@ -5,3 +5,6 @@ pub mod Points
 pub mod Units
 pub mod ReadsBack
 pub mod AsPython
+pub mod OneReading
+pub mod ValuesReadBack
+pub mod Texts

@@ -5,21 +5,12 @@ use Rattle.std.proofs.lemmas.List.{map_push, append-nil, append_assoc}
 use Rattle.std.proofs.lemmas.List.Elements.{All-push}
 use Rattle.bq_board.specs.Counts.{Has}
 use Rattle.bq_board.specs.Steps.{with_count}
-use Rattle.bq_board.specs.Claims.{Answered}
 use Rattle.bq_board.specs.declared.view.View.{View}
-use Rattle.bq_board.specs.declared.claim.Claim.{Claim}
-use Rattle.bq_board.specs.declared.claim.Claim.TheVariants.{Won, Taken, Waiting}
 use Rattle.bq_board.proofs.Lemmas.{times_same}
 use Rattle.bq_load_outcome_spec.specs.declared.outcome.Outcome.{Outcome}
 use Rattle.bq_load_order.specs.Shown.{shown}
 use Rattle.bq_load_workers.specs.Brought.{AreRight, Brought}
 use Rattle.bq_load_workers.specs.declared.pool.FinishedModule.{FinishedModule}
-
--- a claim finishes nothing
-pub finished_kept : {B : Type 0} (v w : View B) (m : ℕ) (r : Claim) → Answered v m r w → w.finished ≡ v.finished
-finished_kept v w m Won t = ap (λ u. u.finished) t.2.0 ∙ ap (λ u. u.finished) t.1.1
-finished_kept v w m Taken t = ap (λ u. u.finished) t.2 ∙ ap (λ u. u.finished) t.1.1
-finished_kept v w m (Waiting e) t = ap (λ u. u.finished) t.2.0 ∙ ap (λ u. u.finished) t.1.1
 
 module _ {M N V F : Type 0} (see : M → V) (see_fault : N → F) (out : ℕ → Outcome V F) (n : ℕ) where
   pub brought_none : (fs : List ℕ) → Brought see see_fault out n fs fs []

@@ -10,7 +10,7 @@ ghost use Rattle.bq_load_workers.specs.Work.{IsImport};
 
 use crate::import::Import;
 use crate::pool::{FinishedModule, WorkerPool};
-use bq_board::{Claim, Seat};
+use bq_board::Seat;
 use bq_load_order::{Evaluate, SharedOutcome, Watch, share_value};
 use std::alloc::{AllocError, Global};
 
@@ -30,10 +30,8 @@ impl<E: Evaluate> WorkerPool<E> {
         ensures brought { BringsMore E.see E.see_fault (E.means self.now.evaluator) self.now.graph result (view_of seat.old).finished modules.old.items (view_of seat.new).finished modules.new.items }
     {
         let _ = self.graph.len(); // PROOF: the graph is valid
-        match self.board.claim(seat, m) {
-            Claim::Won => {}
-            Claim::Taken => return Ok(()),
-            Claim::Waiting(_) => return Ok(()),
+        if !self.board.wins(seat, m) {
+            return Ok(());
         }
         let outcome = self.find(alloc, seat, m, watch)?;
         let out = self.board.plan().edges_out(m);

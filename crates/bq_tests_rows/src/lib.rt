@@ -1,4 +1,5 @@
-//! A line of a table of tests comes in; the cells of its row and the answer that it wants go out.
+//! A line of a table of tests comes in, and the cells of its row and the answer that it wants go out; or a whole table with what gives
+//! answers, and the rows whose answers differ go out.
 //!
 //! A row is a line, its cells stand between bars, and the answer that is wanted in the last cell.
 //!

@@ -4,6 +4,10 @@ pub use Rattle.bq_value_datum.proofs.Elements
 pub use Rattle.bq_value_content.proofs.Lookups
 -- what a dict has after a pair was put or taken out
 pub use Rattle.bq_value_content.proofs.Puts
+-- a list of modules that is split at a number
+pub mod Splits
+-- a trie of modules and the list of them
+pub mod Tries
 -- what cells hold after a module was frozen or loaded, or a cell was changed
 pub mod Freezes
 -- which names rules have

@@ -1,7 +1,7 @@
 -- A cell that is lent to be changed.
 use Rattle.std.specs.Prelude.{ℕ, set, Result}
-use Rattle.std.specs.Borrow.{Lends, LendsIfOk, MutBor, Fml}
-use Rattle.bq_value_modules.specs.Cells.{StoreView, with_cells}
+use Rattle.std.specs.Borrow.{LendsIfOk, MutBor, Fml}
+use Rattle.bq_value.specs.Cells.{StoreView, with_cells}
 use Rattle.bq_value_content.specs.Contents.{Contents}
 use Rattle.bq_value.specs.declared.error.EvalErr.{EvalErr}
 use Rattle.bq_value.specs.contracts.store.Store.{the_row}
@@ -10,10 +10,6 @@ use Rattle.bq_value_content.specs.contracts.content.Content.{the_row as content_
 -- the store in which the running module's cell of that number holds this
 abbrev pub with_cell : StoreView → ℕ → Contents → StoreView
 with_cell s number c = with_cells (set s.cells number c) s
-
--- the store ends with what is left in the cell
-abbrev pub LendsCell : MutBor StoreView → ℕ → MutBor Contents → Fml
-LendsCell s number r = Lends the_row content_row s r (with_cell s.now number)
 
 -- the store ends with the cell as the borrower leaves it, if it is lent; else as it was
 abbrev pub LendsCellIfOk : MutBor StoreView → ℕ → Result (MutBor Contents) EvalErr → Fml

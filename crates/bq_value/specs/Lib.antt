@@ -8,6 +8,10 @@ pub use Rattle.bq_value_datum.specs.declared.value.Cell
 pub use Rattle.bq_value_content.specs.Pairs
 pub use Rattle.bq_value_content.specs.Contents
 pub use Rattle.bq_value_content.specs.Kinds
-pub use Rattle.bq_value_modules.specs.Cells
+pub mod Cells
+pub mod CellsOf
+pub mod Tries
+pub mod TrieOf
+pub mod Smaller
 pub mod StoreOf
 pub mod Lending

@@ -1,13 +1,14 @@
 //! Modules whose evaluation has ended (Starlark, "Freezing a value").
 
 ghost use Rattle.std.specs.Prelude.{◌≡◌, None, Some, MatchOption, IfOk};
-ghost use Rattle.bq_value_modules.specs.Cells.{frozen_at, globals_at, frozen};
+ghost use Rattle.bq_value.specs.Cells.{frozen_at, globals_at, frozen};
 
+use crate::modules::Modules;
+use crate::shared::{Cells, Shared};
 use crate::store::Store;
 use bq_base::Bytes;
 use bq_value_content::{Content, kinds_of};
 use bq_value_datum::{Cell, Value};
-use bq_value_modules::{Cells, Modules, Shared};
 use std::alloc::{AllocError, Global};
 use std::marker::Model;
 use std::sync::Arc;
@@ -21,7 +22,7 @@ pub struct Frozen {
 }
 
 impl Model for Frozen {
-    ghost use Rattle.bq_value_modules.specs.Cells.{FrozenView, coded_frozen};
+    ghost use Rattle.bq_value.specs.Cells.{FrozenView, coded_frozen};
 
     ghost Value = { FrozenView };
 
@@ -48,7 +49,7 @@ impl Frozen {
     }
 
     /// Returns the values of the globals of module `home`, if it is this one or one that it reaches.
-    #[tactic(auto, unfolding(bq_value_modules::specs::Cells::globals_at))]
+    #[tactic(auto, unfolding(crate::specs::Cells::globals_at))]
     pub fn globals_of(&self, home: u32) -> Option<&[Value]>
         ensures { MatchOption result (globals_at self.now home ≡ None) (λ g. globals_at self.now home ≡ Some g.now) }
     {
@@ -59,7 +60,7 @@ impl Frozen {
     }
 
     /// Returns what `cell` holds.
-    #[tactic(auto, unfolding(bq_value_modules::specs::Cells::frozen_at))]
+    #[tactic(auto, unfolding(crate::specs::Cells::frozen_at))]
     pub fn content(&self, cell: Cell) -> Option<&Content>
         ensures { MatchOption result (frozen_at self.now cell.module cell.number ≡ None) (λ c. frozen_at self.now cell.module cell.number ≡ Some c.now) }
     {
@@ -81,15 +82,12 @@ pub fn freeze(
 ) -> Result<Frozen, AllocError>
     ensures { IfOk result (λ f. f ≡ frozen store names.now globals.items) }
 {
-    let Store {
-        own,
-        cells,
-        loaded,
-        ..
-    } = store;
-    let kinds = kinds_of(alloc, own, &cells, names, &globals)?;
+    let Store { made, loaded, .. } = store;
+    let own = made.module();
+    let contents = made.into_contents();
+    let kinds = kinds_of(alloc, own, &contents, names, &globals)?;
     let cells = Cells {
-        contents: cells,
+        contents,
         globals,
         kinds,
     };

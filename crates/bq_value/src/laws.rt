@@ -6,7 +6,7 @@ ghost use Rattle.std.specs.Option.{option_or};
 ghost use Rattle.bq_value_datum.specs.Datum.{Datum};
 ghost use Rattle.bq_value_content.specs.Contents.{Contents, KeysDiffer};
 ghost use Rattle.bq_value_content.specs.Kinds.{kind_at};
-ghost use Rattle.bq_value_modules.specs.Cells.{StoreView, FrozenView, Modules, module_at, content_at, kind_of, frozen_at, frozen, added, loading, KindsAreNames};
+ghost use Rattle.bq_value.specs.Cells.{StoreView, FrozenView, Modules, module_at, content_at, kind_of, frozen_at, frozen, added, loading, KindsAreNames};
 ghost use Rattle.bq_value.specs.Lending.{with_cell};
 
 use crate::store::Store;

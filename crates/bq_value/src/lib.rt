@@ -3,7 +3,7 @@
 //! below is here too.
 //!
 //! The promise: a store and a frozen module are finite maps from cells to lists, dicts and rules (`content_at`, `frozen_at`,
-//! `specs/Cells.antt` of bq_value_modules); nothing changes a cell of another module, and freezing keeps every cell and names
+//! `specs/Cells.antt`); nothing changes a cell of another module, and freezing keeps every cell and names
 //! the rules.
 //!
 //! A list that holds itself is a cell whose list has that cell. So freezing a module is no walk over its values: the store of the
@@ -11,7 +11,7 @@
 //!
 //! In reading order:
 //!
-//! - `frozen`: modules whose evaluation has ended;
+//! - `shared`, `tree`, `modules`, `frozen`: modules whose evaluation has ended, each shared by all that reach it;
 //! - `store`: the cells of the running module;
 //! - `error`: why an evaluation has no answer;
 //! - `laws`: what the definitions say together.
@@ -20,10 +20,14 @@
 mod error;
 mod frozen;
 pub mod laws;
+mod modules;
+mod shared;
 mod store;
+mod tree;
 
 pub use bq_value_content::{Body, Content, Dict};
 pub use bq_value_datum::{Cell, Function, Key, Node, Range, Value};
 pub use error::EvalErr;
 pub use frozen::{Frozen, freeze};
+pub use shared::Cells;
 pub use store::Store;

@@ -3,15 +3,15 @@
 ghost use Rattle.std.specs.Prelude.{◌≡◌, [], ◌∷◌, ◌++◌, None, Some, MatchOption, IfOk, OnOk, OnErr, length};
 ghost use Rattle.std.specs.Prelude.{◌<◌, ◌≢◌, slice_get, option_copied, IsOkAnd, IsErrOf};
 ghost use Rattle.std.specs.Borrow.{sem};
-ghost use Rattle.bq_value.specs.Lending.{LendsCell, LendsCellIfOk};
-ghost use Rattle.bq_value_modules.specs.Cells.{content_at, kind_of, with_cells, loading};
+ghost use Rattle.bq_value.specs.Lending.{LendsCellIfOk};
+ghost use Rattle.bq_value.specs.Cells.{content_at, kind_of, with_cells, loading};
 
 use crate::error::EvalErr;
 use crate::frozen::Frozen;
+use crate::modules::Modules;
 use bq_base::{Bytes, FaultKind};
-use bq_value_content::Content;
+use bq_value_content::{Content, Made};
 use bq_value_datum::Cell;
-use bq_value_modules::Modules;
 use bq_value_seed::Seed;
 use std::alloc::{AllocError, Global};
 use std::marker::Model;
@@ -19,15 +19,14 @@ use std::marker::Model;
 /// The cells of the running module, and the frozen modules that it reaches. Contracts see its `StoreView`.
 #[derive(Drop)]
 pub struct Store {
-    pub(crate) own: u32,
-    pub(crate) cells: Vec<Content>,
+    pub(crate) made: Made,
     pub(crate) loaded: Modules,
     /// What the keys of its dicts are hashed by.
     seed: Seed,
 }
 
 impl Model for Store {
-    ghost use Rattle.bq_value_modules.specs.Cells.{StoreView, coded_store};
+    ghost use Rattle.bq_value.specs.Cells.{StoreView, coded_store};
 
     ghost Value = { StoreView };
 
@@ -44,8 +43,7 @@ impl Store {
         ensures { result ≡ record { own = own; cells = []; loaded = [] } }
     {
         Store {
-            own,
-            cells: Vec::new(alloc),
+            made: Made::new(alloc, own),
             loaded: Modules::new(alloc),
             seed,
         }
@@ -60,7 +58,7 @@ impl Store {
     pub fn module(&self) -> u32
         ensures { result ≡ self.now.own }
     {
-        self.own
+        self.made.module()
     }
 
     /// Makes the cells of a frozen module, and of those that it reaches, readable here: shares each that isn't there
@@ -78,44 +76,30 @@ impl Store {
         ensures ok { OnOk result (self.new ≡ with_cells (self.old.cells ++ content ∷ []) self.old) }
         ensures err { OnErr result (self.new ≡ self.old) }
     {
-        let number = self.cells.len();
-        self.cells.push(content)?;
-        Ok(Cell {
-            module: self.own,
-            number,
-        })
+        self.made.make(content)
     }
 
     /// Returns what `cell` holds.
-    #[tactic(auto, unfolding(bq_value_modules::specs::Cells::content_at))]
+    #[tactic(auto, unfolding(crate::specs::Cells::content_at))]
     pub fn content(&self, cell: Cell) -> Option<&Content>
         ensures { MatchOption result (content_at self.now cell.module cell.number ≡ None) (λ c. content_at self.now cell.module cell.number ≡ Some c.now) }
     {
-        if cell.module == self.own {
-            return self.cells.get(cell.number);
+        if cell.module == self.module() {
+            return self.made.get(cell.number);
         }
         let module = self.loaded.get(cell.module)?;
         module.cells.contents.get(cell.number)
     }
 
     /// Returns the kind of the rule in a cell of a frozen module. A rule of the running module has none yet.
-    #[tactic(auto, unfolding(bq_value_modules::specs::Cells::kind_of))]
+    #[tactic(auto, unfolding(crate::specs::Cells::kind_of))]
     pub fn kind(&self, cell: Cell) -> Option<&Bytes>
         ensures { option_copied result ≡ kind_of self.now cell.module cell.number }
     {
-        if self.own == cell.module {
+        if self.module() == cell.module {
             return None;
         }
         self.loaded.get(cell.module)?.kind(cell.number)
-    }
-
-    /// Returns what a cell of the running module holds, to be changed.
-    fn own_cell(&mut self, number: usize) -> &mut Content
-        requires { number < length self.old.cells }
-        ensures* lends { sem 𝓛 (LendsCell self.entry number result) }
-        ensures now { slice_get self.old.cells number ≡ Some result.now }
-    {
-        &mut self.cells[number]
     }
 
     /// Returns what `cell` holds, to be changed. Cells of other modules can't be changed (F47).
@@ -125,9 +109,7 @@ impl Store {
         ensures own { cell.module ≡ self.old.own → IsOkAnd result (λ c. slice_get self.old.cells cell.number ≡ Some c.now) }
         ensures frozen { cell.module ≢ self.old.own → IsErrOf result (EvalErr.Bad FaultKind.Frozen) }
     {
-        if cell.module != self.own {
-            return Err(EvalErr::Bad(FaultKind::Frozen));
-        }
-        Ok(self.own_cell(cell.number))
+        let content = self.made.change(cell)?;
+        Ok(content)
     }
 }

@@ -8,14 +8,14 @@ use Rattle.bq_value_seed.proofs.seed.Seed.TheSendSync as Seed
 use Rattle.bq_value_seed.proofs.hasher.KeyHasher.TheSendSync as KeyHasher
 use Rattle.bq_base.proofs.bytes.Bytes.TheSendSync as Bytes
 use Rattle.bq_value_datum.proofs.value.Value.TheLaws.TheKnot as Knot
-use Rattle.bq_value_modules.proofs.tree.Tree.TheLaws.TheKnot as Trees
+use Rattle.bq_value.proofs.tree.Tree.TheLaws.TheKnot as Trees
 use Rattle.bq_value_datum.specs.contracts.value.Value as Value
 use Rattle.bq_value_datum.specs.contracts.key.Key as Key
 use Rattle.bq_value_content.specs.contracts.dict.Dict as Dict
 use Rattle.bq_value_content.specs.contracts.content.Content as Content
 use Rattle.bq_value_content.specs.contracts.kinds.Kinds as Kinds
-use Rattle.bq_value_modules.specs.contracts.shared.Shared as Shared
-use Rattle.bq_value_modules.specs.contracts.tree.Tree as Tree
+use Rattle.bq_value.specs.contracts.shared.Shared as Shared
+use Rattle.bq_value.specs.contracts.tree.Tree as Tree
 use Rattle.bq_value.specs.contracts.frozen.Frozen as Frozen
 use Rattle.bq_load.proofs.Crossing.Classes.{attribute_send, attribute_sync, class_send, class_sync}
 use Rattle.bq_load.proofs.Crossing.Trees.{rule_function_send, rule_function_sync, predeclared_send, predeclared_sync}

@@ -1,29 +1,24 @@
 use Rattle.std.proofs.Common.{ℕ, List, [], ◌∷◌, ◌++◌, length, sym, subst, ap, ◌∙◌, arith}
-use Rattle.bq_board.specs.declared.claim.Claim.TheVariants.{Won, Taken, Waiting}
 use Rattle.bq_board.specs.Graph.{Loads}
 use Rattle.bq_board.specs.Plan.{IsOut}
-use Rattle.bq_board.proofs.Conditions.{claims}
 use Rattle.bq_load_outcome_spec.specs.Outcome.{outcome}
 use Rattle.bq_load_order.specs.Shown.{value_in}
 use Rattle.bq_load_workers.specs.Brought.{Brought}
 use Rattle.bq_load_workers.specs.declared.pool.FinishedModule.{FinishedModule}
-use Rattle.bq_load_workers.proofs.Bringing.{brought_more, finished_kept}
+use Rattle.bq_load_workers.proofs.Bringing.{brought_more}
 use Rattle.bq_load_workers.proofs.pool.WorkerPool.bring.Goals as goal
 
-pub returns-in-Taken-clause-brought : goal.returns-in-Taken-clause-brought
-returns-in-Taken-clause-brought g c before h = subst (λ (f : List ℕ). Brought g.E.Evaluate.see g.E.Evaluate.see_fault (outcome (g.E.Evaluate.means c.args.self.now.evaluator) c.args.self.now.graph) (length c.args.self.now.graph) before f c.args.modules.now.items) (sym (finished_kept _ _ c.args.m Taken c.in-Taken.ensures.answer)) h
-
-pub returns-in-Waiting-clause-brought : goal.returns-in-Waiting-clause-brought
-returns-in-Waiting-clause-brought g c before h = subst (λ (f : List ℕ). Brought g.E.Evaluate.see g.E.Evaluate.see_fault (outcome (g.E.Evaluate.means c.args.self.now.evaluator) c.args.self.now.graph) (length c.args.self.now.graph) before f c.args.modules.now.items) (sym (finished_kept _ _ c.args.m (Waiting _) c.in-Waiting.ensures.answer)) h
+pub returns-then-not-wins-clause-brought : goal.returns-then-not-wins-clause-brought
+returns-then-not-wins-clause-brought g c before h = subst (λ (f : List ℕ). Brought g.E.Evaluate.see g.E.Evaluate.see_fault (outcome (g.E.Evaluate.means c.args.self.now.evaluator) c.args.self.now.graph) (length c.args.self.now.graph) before f c.args.modules.now.items) (sym c.wins.ensures.finished) h
 
 pub find-requires-clause-seat : goal.find-requires-clause-seat
-find-requires-clause-seat g c _ _ = c.in-Won.ensures.seat
+find-requires-clause-seat g c _ _ = c.wins.ensures.seat
 
 pub find-requires-clause-known : goal.find-requires-clause-known
 find-requires-clause-known g c _ _ = c.requires.known
 
 pub find-requires-clause-holds : goal.find-requires-clause-holds
-find-requires-clause-holds g c _ _ = (claims c.args.self.now.board.plan _ _ c.args.m Won c.requires.seat.plan c.in-Won.ensures.answer).0
+find-requires-clause-holds g c _ _ = c.wins.ensures.holds c.if-not-wins.false
 
 pub deliver-requires-clause-seat : goal.deliver-requires-clause-seat
 deliver-requires-clause-seat g c _ _ = c.find.ensures.seat
@@ -48,6 +43,6 @@ returns-clause-seat g c = c.deliver.ensures.seat
 
 pub returns-clause-brought : goal.returns-clause-brought
 returns-clause-brought g c before h =
-    let finished = c.deliver.ensures.finished ∙ ap (λ (f : List ℕ). f ++ c.args.m ∷ []) (c.find.ensures.finished ∙ finished_kept _ _ c.args.m Won c.in-Won.ensures.answer) in
+    let finished = c.deliver.ensures.finished ∙ ap (λ (f : List ℕ). f ++ c.args.m ∷ []) (c.find.ensures.finished ∙ c.wins.ensures.finished) in
     subst (λ (es : List (FinishedModule _ _)). Brought g.E.Evaluate.see g.E.Evaluate.see_fault (outcome (g.E.Evaluate.means c.args.self.now.evaluator) c.args.self.now.graph) (length c.args.self.now.graph) before c.deliver.new.seat.place.me.0.finished es) (sym c.in_ok-push.ensures.items)
     (brought_more g.E.Evaluate.see g.E.Evaluate.see_fault (outcome (g.E.Evaluate.means c.args.self.now.evaluator) c.args.self.now.graph) (length c.args.self.now.graph) before _ _ c.args.modules.now.items _ h finished (omega (arith, c.requires.known, c.args.self.now.plan.wide)) c.in_ok-outcome.ensures.outcome)

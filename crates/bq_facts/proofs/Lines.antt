@@ -1,0 +1,93 @@
+-- Each line is the text of its object.
+use Rattle.std.proofs.Common.{◌≡◌, ◌∙◌, ℕ, List, [], ◌∷◌, ◌++◌, map, refl, ap}
+use Rattle.std.specs.Prelude.{codes}
+use Rattle.std.specs.List.{zip}
+use Rattle.std.specs.Fmt.{decimal}
+use Rattle.bq_label.specs.Label.{LabelParts}
+use Rattle.bq_facts_json.specs.Json.{Json, Named, member_of, value_text, string}
+use Rattle.bq_facts_json.specs.Values.{Member, json_object}
+use Rattle.bq_facts_json.proofs.Texts.{array_text, object_text}
+use Rattle.bq_package_rule_class.specs.declared.value.AttributeValue.{AttributeValue}
+use Rattle.bq_package_rule_class.specs.declared.value.AttributeValue.TheVariants as v
+use Rattle.bq_package_target.specs.declared.target.Target.{Target}
+use Rattle.bq_package_target.specs.declared.target.TargetKind.{TargetKind}
+use Rattle.bq_package_target.specs.declared.target.TargetKind.TheVariants as k
+use Rattle.bq_package_target.specs.declared.value.GivenAttribute.{GivenAttribute}
+use Rattle.bq_resolve_scope.specs.declared.code.LoadStmt.{LoadStmt}
+use Rattle.bq_resolve_scope.specs.declared.code.LoadedSymbol.{LoadedSymbol}
+use Rattle.bq_facts.specs.Attributes.{attribute_member, json_attributes, json_value}
+use Rattle.bq_facts.specs.FaultObject.{fault_object}
+use Rattle.bq_facts.specs.Labels.{json_label, json_labels}
+use Rattle.bq_facts.specs.Laws.{FaultLinesAreObjects, ModuleLinesAreObjects, TargetLinesAreObjects}
+use Rattle.bq_facts.specs.ModuleLine.{json_loads, json_symbols, load_object, module_line, symbol_member}
+use Rattle.bq_facts.specs.Objects.{attribute_named, attribute_value, attributes_value, declaration_of, label_value, labels_value, load_value, symbol_named}
+use Rattle.bq_facts.specs.TargetLine.{declared_by, declared_members, target_line}
+
+abbrev newline : List ℕ → List ℕ
+newline t = t ++ 10 ∷ []
+
+-- ---- targets
+
+labels_text : (ls : List LabelParts) → json_labels ls ≡ value_text (labels_value ls)
+labels_text ls = array_text json_label label_value (λ l. refl) ls
+
+value_is : (a : AttributeValue) → json_value a ≡ value_text (attribute_value a)
+unfolding json_value
+value_is (v.String s) = refl
+value_is (v.Int n) = refl
+value_is (v.Bool b) = refl
+value_is (v.StringList ss) = array_text _ string (λ s. refl) ss
+value_is (v.Label l) = refl
+value_is (v.LabelList ls) = labels_text ls
+value_is (v.Output l) = refl
+value_is (v.OutputList ls) = labels_text ls
+
+members_are : (given : List GivenAttribute) → map attribute_member given ≡ map member_of (map attribute_named given)
+members_are [] = refl
+members_are (a ∷ rest) =
+    ap (λ t. record { key = a.name; value = t } ∷ map attribute_member rest) (value_is a.value)
+    ∙ ap (λ (ms : List Member). member_of (attribute_named a) ∷ ms) (members_are rest)
+
+attributes_text : (given : List GivenAttribute) → json_attributes given ≡ value_text (attributes_value given)
+attributes_text given = ap json_object (members_are given) ∙ object_text (map attribute_named given)
+
+abbrev members_with : Target → List ℕ → List ℕ → List Member
+members_with t attributes deps =
+    record { key = codes "line"; value = decimal t.line } ∷ record { key = codes "attributes"; value = attributes } ∷ record { key = codes "deps"; value = deps } ∷ []
+
+declared_are : (t : Target) (deps : List LabelParts) → declared_members t deps ≡ members_with t (value_text (attributes_value t.attributes)) (value_text (labels_value deps))
+declared_are t deps =
+    ap (λ a. members_with t a (json_labels deps)) (attributes_text t.attributes) ∙ ap (members_with t (value_text (attributes_value t.attributes))) (labels_text deps)
+
+declaration_is : (kind : TargetKind) (t : Target) (deps : List LabelParts) → declared_by kind t deps ≡ map member_of (declaration_of kind t deps)
+declaration_is k.Source t deps = refl
+declaration_is (k.Rule name class) t deps = declared_are t deps
+declaration_is (k.Generated rule) t deps = declared_are t deps
+declaration_is k.Group t deps = declared_are t deps
+
+pub target_lines : TargetLinesAreObjects
+unfolding target_line
+target_lines t file deps = ap (λ ms. newline (json_object (_ ∷ _ ∷ _ ∷ ms))) (declaration_is t.kind t deps) ∙ ap newline (object_text _)
+
+-- ---- modules
+
+symbols_are : (cs : List LoadedSymbol) → map symbol_member cs ≡ map member_of (map symbol_named cs)
+symbols_are [] = refl
+symbols_are (c ∷ cs) = ap (λ (ms : List Member). symbol_member c ∷ ms) (symbols_are cs)
+
+load_is : (p : LoadStmt × LabelParts) → load_object p ≡ value_text (load_value p)
+unfolding load_object
+load_is p =
+    ap (λ t. json_object (_ ∷ _ ∷ _ ∷ record { key = codes "symbols"; value = t } ∷ [])) (ap json_object (symbols_are p.0.clauses) ∙ object_text (map symbol_named p.0.clauses))
+    ∙ object_text _
+
+pub module_lines : ModuleLinesAreObjects
+unfolding module_line
+module_lines l loads files =
+    ap (λ t. newline (json_object (_ ∷ _ ∷ record { key = codes "loads"; value = t } ∷ []))) (array_text load_object load_value load_is (zip loads files)) ∙ ap newline (object_text _)
+
+-- ---- faults
+
+pub fault_lines : FaultLinesAreObjects
+unfolding fault_object
+fault_lines l = ap newline (object_text _)

@@ -1,0 +1,90 @@
+-- The objects that the lines are of, as values: what a reader of a line finds (`lines_are_of_objects`).
+use Rattle.std.specs.Prelude.{ℕ, pos, List, [], ◌∷◌, ◌++◌, map, codes}
+use Rattle.std.specs.List.{zip}
+use Rattle.bq_base.specs.Fault.{fault_name}
+use Rattle.bq_label.specs.Label.{LabelParts, full_form}
+use Rattle.bq_label.specs.Packages.{label_path}
+use Rattle.bq_load_fault_line.specs.declared.fault_line.FaultLine.{FaultLine}
+use Rattle.bq_facts_json.specs.Json.{Json, string, number, truth, array, object, items_of, Named, fields_of}
+use Rattle.bq_package_rule_class.specs.declared.value.AttributeValue.{AttributeValue}
+use Rattle.bq_package_rule_class.specs.declared.value.AttributeValue.TheVariants as v
+use Rattle.bq_package_target.specs.declared.target.Target.{Target}
+use Rattle.bq_package_target.specs.declared.target.TargetKind.{TargetKind}
+use Rattle.bq_package_target.specs.declared.target.TargetKind.TheVariants as k
+use Rattle.bq_package_target.specs.declared.value.GivenAttribute.{GivenAttribute}
+use Rattle.bq_query_target_sets.specs.Texts.{kind_text}
+use Rattle.bq_resolve_scope.specs.declared.code.LoadStmt.{LoadStmt}
+use Rattle.bq_resolve_scope.specs.declared.code.LoadedSymbol.{LoadedSymbol}
+use Rattle.bq_facts.specs.FaultObject.{fault_code, file_labelled}
+
+abbrev pub labelled : List ℕ → LabelParts → Named
+labelled key l = record { key = key; value = string (full_form l) }
+
+abbrev pub numbered : List ℕ → ℕ → Named
+numbered key n = record { key = key; value = number (pos n) }
+
+abbrev pub written : List ℕ → List ℕ → Named
+written key text = record { key = key; value = string text }
+
+-- ---- targets
+
+abbrev pub label_value : LabelParts → Json
+label_value l = string (full_form l)
+
+abbrev pub labels_value : List LabelParts → Json
+labels_value ls = array (items_of label_value ls)
+
+-- labels in full
+abbrev pub attribute_value : AttributeValue → Json
+attribute_value (v.String s) = string s
+attribute_value (v.Int n) = number n
+attribute_value (v.Bool b) = truth b
+attribute_value (v.StringList ss) = array (items_of string ss)
+attribute_value (v.Label l) = label_value l
+attribute_value (v.LabelList ls) = labels_value ls
+attribute_value (v.Output l) = label_value l
+attribute_value (v.OutputList ls) = labels_value ls
+
+abbrev pub attribute_named : GivenAttribute → Named
+attribute_named a = record { key = a.name; value = attribute_value a.value }
+
+abbrev pub attributes_value : List GivenAttribute → Json
+attributes_value given = object (fields_of (map attribute_named given))
+
+-- the line of the statement that declares the target, its attributes, and what it depends on
+abbrev pub declaration : Target → List LabelParts → List Named
+declaration t deps =
+    numbered (codes "line") t.line ∷ record { key = codes "attributes"; value = attributes_value t.attributes } ∷ record { key = codes "deps"; value = labels_value deps } ∷ []
+
+-- a source file is declared nowhere
+abbrev pub declaration_of : TargetKind → Target → List LabelParts → List Named
+declaration_of k.Source t deps = []
+declaration_of (k.Rule name class) t deps = declaration t deps
+declaration_of (k.Generated rule) t deps = declaration t deps
+declaration_of k.Group t deps = declaration t deps
+
+abbrev pub target_value : Target → List ℕ → List LabelParts → Json
+target_value t file deps =
+    object (fields_of (labelled (codes "target") t.label ∷ written (codes "kind") (kind_text t.kind) ∷ written (codes "file") file ∷ declaration_of t.kind t deps))
+
+-- ---- modules
+
+-- the name that is bound stands before that of the symbol in the other file
+abbrev pub symbol_named : LoadedSymbol → Named
+symbol_named c = written c.local c.symbol
+
+abbrev pub load_value : LoadStmt × LabelParts → Json
+load_value p =
+    object (fields_of (labelled (codes "label") p.1 ∷ written (codes "file") (label_path p.1) ∷ numbered (codes "line") p.0.line
+    ∷ record { key = codes "symbols"; value = object (fields_of (map symbol_named p.0.clauses)) } ∷ []))
+
+abbrev pub module_value : LabelParts → List LoadStmt → List LabelParts → Json
+module_value l loads files =
+    object (fields_of (labelled (codes "module") l ∷ written (codes "file") (label_path l) ∷ record { key = codes "loads"; value = array (items_of load_value (zip loads files)) } ∷ []))
+
+-- ---- faults
+
+abbrev pub fault_value : FaultLine → Json
+fault_value l =
+    object (fields_of (written (codes "fault") (fault_code l) ∷ written (codes "name") (fault_name l.kind) ∷ written (codes "label") l.label
+    ∷ written (codes "file") (file_labelled l.label) ∷ numbered (codes "line") l.line ∷ written (codes "detail") l.detail ∷ []))

@@ -1,0 +1,248 @@
+//! Frozen modules by their numbers, in a tree whose parts are shared: adding a module, or joining two trees, makes anew
+//! only the nodes on the way.
+//!
+//! A tree is for a range of 2^height numbers that begins with `base`: a leaf has the only module of one number, and a
+//! fork has the modules of the lower half and those of the upper half (a binary trie; Okasaki and Gill, "Fast Mergeable
+//! Integer Maps"). So of modules that load one another in a chain each makes `height` nodes, and shares the others.
+//! Where two modules reach nearly the same ones, their trees are joined block by block: the keys of 64 numbers are one
+//! word of 64 bits.
+
+ghost use Rattle.std.specs.Prelude.{◌≡◌, ◌+◌, ◌-◌, ◌*◌, ◌^◌, ◌<◌, ◌≤◌, ◌∷◌, [], None, IfOk, MatchOption};
+ghost use Rattle.std.specs.Option.{option_copied, unwrap_or};
+ghost use Rattle.bq_value.specs.Cells.{module_at};
+ghost use Rattle.bq_value.specs.Tries.{bare, IsShaped, IsFork, Joins, entries, keys};
+
+use crate::shared::Shared;
+use std::alloc::{AllocError, Global};
+use std::marker::Model;
+use std::sync::Arc;
+
+/// The height of a block of 64 numbers.
+const BLOCK: u32 = 6;
+
+/// A tree of modules. Contracts see its `Trie`.
+#[cycle(tree)]
+#[derive(Drop)]
+pub(crate) struct Tree {
+    node: Node,
+}
+
+#[cycle(tree)]
+#[derive(Drop)]
+enum Node {
+    Bare,
+    Leaf(Shared),
+    /// In a block, a bit for each number that has a module; and the halves.
+    Fork(u64, Arc<Halves>),
+}
+
+#[cycle(tree)]
+#[derive(Drop)]
+struct Halves {
+    left: Tree,
+    right: Tree,
+}
+
+impl Model for Tree {
+    ghost use Rattle.bq_value.specs.Tries.{Trie, coded_trie, nodes};
+
+    ghost Value = { Trie };
+
+    ghost coded = { coded_trie };
+
+    ghost use Rattle.bq_value.specs.TrieOf.{trie_of};
+
+    ghost view = { λ t. trie_of t.node };
+
+    ghost size = { nodes };
+
+    ghost use Rattle.std.proofs.Common.{arith};
+    ghost use Rattle.bq_value.specs.Smaller.{deep_le-nodes};
+
+    ghost size_decreases = { λ t h. Prim.omega (arith, deep_le-nodes t.node) };
+}
+
+impl Tree {
+    pub(crate) fn bare() -> Tree
+        ensures { result ≡ bare }
+    {
+        Tree { node: Node::Bare }
+    }
+
+    /// Makes a tree of this height of two halves.
+    pub(crate) fn fork(
+        alloc: Global,
+        height: u32,
+        left: Tree,
+        right: Tree,
+    ) -> Result<Tree, AllocError>
+        requires above { 0 < height }
+        requires left { IsShaped left (height - 1) }
+        requires right { IsShaped right (height - 1) }
+        ensures { IfOk result (λ t. IsFork t height left right) }
+    {
+        let keys = keys_of(height, &left, &right);
+        let halves = Arc::new(alloc, Halves { left, right })?;
+        Ok(Tree {
+            node: Node::Fork(keys, halves),
+        })
+    }
+
+    fn keys(&self) -> u64
+        ensures { result ≡ keys self.now }
+    {
+        match &self.node {
+            Node::Bare => 0,
+            Node::Leaf(_) => 1,
+            Node::Fork(keys, _) => *keys,
+        }
+    }
+
+    /// Returns another owner of the tree; no node is copied.
+    pub(crate) fn share(&self) -> Result<Tree, AllocError>
+        ensures { IfOk result (λ t. t ≡ self.now) }
+    {
+        let node = match &self.node {
+            Node::Bare => Node::Bare,
+            Node::Leaf(shared) => Node::Leaf(shared.share()?),
+            Node::Fork(keys, halves) => Node::Fork(*keys, halves.clone()?),
+        };
+        Ok(Tree { node })
+    }
+
+    /// Returns the module of number `home`.
+    pub(crate) fn get(&self, height: u32, base: u32, home: u32) -> Option<&Shared>
+        requires shaped { IsShaped self.now height }
+        requires fits { base + 2 ^ height ≤ 2 ^ 32 }
+        ensures { option_copied result ≡ module_at home (entries self.now height base) }
+    {
+        match &self.node {
+            Node::Bare => None,
+            Node::Leaf(shared) => {
+                if home == base {
+                    return Some(shared);
+                }
+                None
+            }
+            Node::Fork(_, halves) => {
+                let middle = middle(height, base);
+                if home < middle {
+                    return halves.left.get(height - 1, base, home);
+                }
+                halves.right.get(height - 1, middle, home)
+            }
+        }
+    }
+
+    /// Makes a tree of one module.
+    pub(crate) fn lone(
+        alloc: Global,
+        height: u32,
+        base: u32,
+        home: u32,
+        shared: &Shared,
+    ) -> Result<Tree, AllocError>
+        requires fits { base + 2 ^ height ≤ 2 ^ 32 }
+        requires from { base ≤ home }
+        requires to { home < base + 2 ^ height }
+        ensures shaped { IfOk result (λ t. IsShaped t height) }
+        ensures module { IfOk result (λ t. entries t height base ≡ (home, shared.now) ∷ []) }
+    {
+        if height == 0 {
+            return Ok(Tree {
+                node: Node::Leaf(shared.share()?),
+            });
+        }
+        let middle = middle(height, base);
+        if home < middle {
+            let left = Tree::lone(alloc, height - 1, base, home, shared)?;
+            return Tree::fork(alloc, height, left, Tree::bare());
+        }
+        let right = Tree::lone(alloc, height - 1, middle, home, shared)?;
+        Tree::fork(alloc, height, Tree::bare(), right)
+    }
+
+    /// Returns the tree with those modules of `other` too whose numbers aren't here, or `None` if there are none.
+    pub(crate) fn joined(
+        &self,
+        alloc: Global,
+        height: u32,
+        other: &Tree,
+    ) -> Result<Option<Tree>, AllocError>
+        requires shaped { IsShaped self.now height }
+        requires other { IsShaped other.now height }
+        ensures { IfOk result (λ t. Joins self.now other.now height (unwrap_or t self.now)) }
+    {
+        match &self.node {
+            Node::Bare => match &other.node {
+                Node::Bare => Ok(None),
+                _ => Ok(Some(other.share()?)),
+            },
+            Node::Leaf(_) => Ok(None),
+            Node::Fork(keys, halves) => match &other.node {
+                Node::Bare => Ok(None),
+                Node::Leaf(_) => Ok(None),
+                Node::Fork(more, others) => {
+                    if height <= BLOCK && *more & *keys == *more {
+                        return Ok(None);
+                    }
+                    let left = halves.left.joined(alloc, height - 1, &others.left)?;
+                    let right = halves.right.joined(alloc, height - 1, &others.right)?;
+                    halves.changed(alloc, height, left, right)
+                }
+            },
+        }
+    }
+}
+
+impl Halves {
+    /// Returns a tree of this height in which the halves that are given replace these, or `None` if neither is given.
+    fn changed(
+        &self,
+        alloc: Global,
+        height: u32,
+        left: Option<Tree>,
+        right: Option<Tree>,
+    ) -> Result<Option<Tree>, AllocError>
+        requires above { 0 < height }
+        requires left { IsShaped (unwrap_or left self.now.left) (height - 1) }
+        requires right { IsShaped (unwrap_or right self.now.right) (height - 1) }
+        ensures { IfOk result (λ t. MatchOption t ((left ≡ None) × (right ≡ None)) (λ f. IsFork f height (unwrap_or left self.now.left) (unwrap_or right self.now.right))) }
+    {
+        if left.is_none() && right.is_none() {
+            return Ok(None);
+        }
+        let left = match left {
+            None => self.left.share()?,
+            Some(left) => left,
+        };
+        let right = match right {
+            None => self.right.share()?,
+            Some(right) => right,
+        };
+        Ok(Some(Tree::fork(alloc, height, left, right)?))
+    }
+}
+
+/// Returns the first number of the upper half.
+fn middle(height: u32, base: u32) -> u32
+    requires above { 0 < height }
+    requires fits { base + 2 ^ height ≤ 2 ^ 32 }
+    ensures { result ≡ base + 2 ^ (height - 1) }
+{
+    base + (1 << (height - 1))
+}
+
+/// Returns the keys of a tree of this height with these halves, if it is within a block.
+fn keys_of(height: u32, left: &Tree, right: &Tree) -> u64
+    requires above { 0 < height }
+    requires left { IsShaped left.now (height - 1) }
+    requires right { IsShaped right.now (height - 1) }
+    ensures { height ≤ 6 → result ≡ keys right.now * 2 ^ (2 ^ (height - 1)) + keys left.now }
+{
+    if height > BLOCK {
+        return 0;
+    }
+    let width: u32 = 1 << (height - 1);
+    (right.keys() << width) | left.keys()
+}

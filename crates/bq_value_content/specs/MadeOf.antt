@@ -1,0 +1,6 @@
+-- What the fields of the cells of a running module stand for.
+use Rattle.bq_value_content.specs.Made.{MadeView}
+use Rattle.bq_value_content.specs.declared.made.Made.TheInside.{Inside}
+
+abbrev pub made_of : Inside → MadeView
+made_of m = record { own = m.own; cells = m.cells.items }

@@ -1,6 +1,0 @@
--- What the fields of a module's cells stand for.
-use Rattle.bq_value_modules.specs.Cells.{FrozenCells}
-use Rattle.bq_value_modules.specs.declared.shared.Cells.{Cells}
-
-abbrev pub cells_of : Cells → FrozenCells
-cells_of c = record { cells = c.contents.items; globals = c.globals.items; kinds = c.kinds }

@@ -1,5 +1,0 @@
-pub mod Cells
-pub mod CellsOf
-pub mod Tries
-pub mod TrieOf
-pub mod Smaller
