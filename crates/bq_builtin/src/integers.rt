@@ -97,7 +97,7 @@ fn content_length(content: &Content) -> Result<usize, FaultKind>
 }
 
 /// Returns how many bytes or elements there are (F40).
-#[tactic(auto, using(bq_value::specs::Datum::list_of_data_of), unfolding(crate::specs::Integers::length_in))]
+#[tactic(auto, using(bq_value_datum::specs::Datum::list_of_data_of), unfolding(crate::specs::Integers::length_in))]
 fn length_in(store: &Store, value: &Value) -> Result<u64, FaultKind>
     ensures { result ≡ length_in store.now value.now }
 {

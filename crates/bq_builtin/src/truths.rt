@@ -34,7 +34,7 @@ pub(crate) fn any(machine: &Machine, args: &Args) -> Result<Value, EvalErr>
 }
 
 /// Returns whether each element of an iterable counts as true (F40). The elements are looked at where they are.
-#[tactic(auto, unfolding(crate::specs::Truths::all_true), using(bq_value::specs::Datum::list_of_data_of, crate::proofs::Counts::all_by_one))]
+#[tactic(auto, unfolding(crate::specs::Truths::all_true), using(bq_value_datum::specs::Datum::list_of_data_of, crate::proofs::Counts::all_by_one))]
 fn all_in(store: &Store, value: &Value) -> Result<bool, EvalErr>
     ensures { Gives (λ b. b) Bad result (and_then (elements_in store.now value.now) (λ xs. Ok (all_true store.now xs))) }
 {
@@ -47,7 +47,7 @@ fn all_in(store: &Store, value: &Value) -> Result<bool, EvalErr>
 }
 
 /// Returns whether some element of an iterable counts as true (F40).
-#[tactic(auto, unfolding(crate::specs::Truths::any_true), using(bq_value::specs::Datum::list_of_data_of, crate::proofs::Counts::any_by_one))]
+#[tactic(auto, unfolding(crate::specs::Truths::any_true), using(bq_value_datum::specs::Datum::list_of_data_of, crate::proofs::Counts::any_by_one))]
 fn any_in(store: &Store, value: &Value) -> Result<bool, EvalErr>
     ensures { Gives (λ b. b) Bad result (and_then (elements_in store.now value.now) (λ xs. Ok (any_true store.now xs))) }
 {

@@ -159,7 +159,7 @@ fn dict_of<'s>(store: &'s Store, value: &Value) -> Option<&'s Dict>
 }
 
 /// Returns the two parts of a list or tuple, if it has two (F40).
-#[tactic(auto, using(bq_value::specs::Datum::list_of_data_of), unfolding(crate::specs::PairsGiven::pair_in))]
+#[tactic(auto, using(bq_value_datum::specs::Datum::list_of_data_of), unfolding(crate::specs::PairsGiven::pair_in))]
 fn pair_in(store: &Store, element: &Value) -> Result<Option<(Value, Value)>, EvalErr>
     ensures { Gives (λ o. o) Bad result (pair_in store.now element.now) }
 {

@@ -124,7 +124,7 @@ fn fill(
 
 /// Returns the text `format % right`, and how many of the steps are left. The right side is a tuple of the values, or
 /// the one value.
-#[tactic(auto, using(bq_value::specs::Datum::list_of_data_of))]
+#[tactic(auto, using(bq_value_datum::specs::Datum::list_of_data_of))]
 pub fn percent(
     alloc: Global,
     store: &Store,

@@ -92,7 +92,7 @@ impl Elements {
 
 impl Machine {
     /// Returns the elements that an iterable has now.
-    #[tactic(auto, using(bq_value::specs::Datum::list_of_data_of), unfolding(crate::specs::Iteration::elements))]
+    #[tactic(auto, using(bq_value_datum::specs::Datum::list_of_data_of), unfolding(crate::specs::Iteration::elements))]
     pub fn elements(&self, alloc: Global, value: &Value) -> Result<Elements, EvalErr>
         ensures { Does (λ xs. xs) result self.now (elements value.now self.now) }
     {

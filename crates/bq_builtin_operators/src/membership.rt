@@ -14,7 +14,7 @@ use bq_value_compare::key_of;
 
 /// Returns whether a value is in a container, and how many of the steps are left: F40 if nothing can be in it, or no
 /// such value.
-#[tactic(auto, using(bq_value::specs::Datum::list_of_data_of))]
+#[tactic(auto, using(bq_value_datum::specs::Datum::list_of_data_of))]
 pub(crate) fn contained(
     store: &Store,
     steps: u64,

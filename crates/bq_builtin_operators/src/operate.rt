@@ -111,7 +111,7 @@ pub fn index(
 }
 
 /// Returns `a[start:stop:step]`, where each that is left out is `None`.
-#[tactic(auto, unfolding(crate::specs::Operate::slice), using(bq_value::specs::Datum::list_of_data_of))]
+#[tactic(auto, unfolding(crate::specs::Operate::slice), using(bq_value_datum::specs::Datum::list_of_data_of))]
 pub fn slice(
     alloc: Global,
     machine: &mut Machine,

@@ -46,7 +46,7 @@ fn int_product(alloc: Global, machine: &mut Machine, n: i64, b: &Value) -> Resul
 }
 
 /// Returns a string, a tuple or a list `n` times.
-#[tactic(auto, unfolding(crate::specs::Product::times), using(bq_value::specs::Datum::list_of_data_of))]
+#[tactic(auto, unfolding(crate::specs::Product::times), using(bq_value_datum::specs::Datum::list_of_data_of))]
 fn times(alloc: Global, machine: &mut Machine, a: &Value, n: i64) -> Result<Value, EvalErr>
     ensures { Does (λ value. value) result machine.new (times a.now n machine.old) }
 {

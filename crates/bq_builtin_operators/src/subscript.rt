@@ -13,7 +13,7 @@ use bq_value_compare::key_of;
 use std::alloc::Global;
 
 /// Returns the item of a container at an index or a key, and how many of the steps are left.
-#[tactic(auto, using(bq_value::specs::Datum::list_of_data_of))]
+#[tactic(auto, using(bq_value_datum::specs::Datum::list_of_data_of))]
 pub(crate) fn item_of(
     alloc: Global,
     store: &Store,

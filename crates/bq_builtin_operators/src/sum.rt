@@ -15,7 +15,7 @@ use bq_value::{Content, EvalErr, Node, Value};
 use std::alloc::Global;
 
 /// Returns `a + b`, of integers, strings, tuples or lists; F40, F41, F54.
-#[tactic(auto, unfolding(crate::specs::Sum::sum, crate::specs::Sum::string_sum, crate::specs::Sum::tuple_sum, crate::specs::Sum::list_sum, crate::specs::Sequence::joined), using(bq_value::specs::Datum::list_of_data_of))]
+#[tactic(auto, unfolding(crate::specs::Sum::sum, crate::specs::Sum::string_sum, crate::specs::Sum::tuple_sum, crate::specs::Sum::list_sum, crate::specs::Sequence::joined), using(bq_value_datum::specs::Datum::list_of_data_of))]
 pub(crate) fn sum(
     alloc: Global,
     machine: &mut Machine,

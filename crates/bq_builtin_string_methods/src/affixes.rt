@@ -39,7 +39,7 @@ fn has_one(method: EndMethod, part: &[u8], values: &[Value]) -> Result<bool, Fau
 }
 
 /// Returns `s.method(x, start, end)`, where x is a string, or a tuple of strings of which one has to be there.
-#[tactic(auto, using(bq_value::specs::Datum::list_of_data_of), unfolding(crate::specs::Affixes::ends))]
+#[tactic(auto, using(bq_value_datum::specs::Datum::list_of_data_of), unfolding(crate::specs::Affixes::ends))]
 pub fn ends(method: EndMethod, text: &[u8], values: &[Value]) -> Result<Value, FaultKind>
     ensures { result ≡ ends method text.now values.now }
 {

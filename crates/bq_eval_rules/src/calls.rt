@@ -151,7 +151,7 @@ pub fn call_at<R: Runtime>(
 
 /// Calls a value.
 #[cycle(calls)]
-#[tactic(auto, using(crate::proofs::CallSteps::calls_step, bq_value::specs::Datum::list_of_data_of), unfolding(crate::specs::Round::inside, bq_eval_meaning_spec::specs::Calls::apply))]
+#[tactic(auto, using(crate::proofs::CallSteps::calls_step, bq_value_datum::specs::Datum::list_of_data_of), unfolding(crate::specs::Round::inside, bq_eval_meaning_spec::specs::Calls::apply))]
 pub fn call<R: Runtime>(
     context: &Context<'_>,
     runtime: &mut R,

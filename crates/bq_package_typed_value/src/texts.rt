@@ -34,7 +34,7 @@ fn all_texts(alloc: Global, values: &[Value], why: FaultKind) -> Result<Items<By
 }
 
 /// Returns the strings of a list or a tuple; `why` is the fault of another value.
-#[tactic(auto, using(bq_value::specs::Datum::list_of_data_of), unfolding(crate::specs::Texts::texts_in))]
+#[tactic(auto, using(bq_value_datum::specs::Datum::list_of_data_of), unfolding(crate::specs::Texts::texts_in))]
 pub fn texts_in(
     alloc: Global,
     store: &Store,

@@ -6,7 +6,7 @@ ghost use Rattle.bq_value_compare.specs.Truth.{truth_of, content_truth};
 use bq_value::{Body, Content, Node, Store, Value};
 
 /// Returns whether a value counts as true. It takes neither steps nor memory.
-#[tactic(auto, using(bq_value::specs::Datum::list_of_data_of))]
+#[tactic(auto, using(bq_value_datum::specs::Datum::list_of_data_of))]
 pub fn truth(store: &Store, value: &Value) -> bool
     ensures { result ≡ truth_of store.now value.now }
 {

@@ -31,7 +31,7 @@ pub fn less(store: &Store, steps: u64, a: &Value, b: &Value) -> Result<(bool, u6
 
 /// Compares two values, of which `levels` levels may be looked at.
 #[cycle(order)]
-#[tactic(auto, using(bq_value::specs::Datum::list_of_data_of))]
+#[tactic(auto, using(bq_value_datum::specs::Datum::list_of_data_of))]
 fn values_ordered(
     store: &Store,
     levels: u32,
@@ -93,7 +93,7 @@ fn strings(steps: u64, a: &Bytes, b: &Value) -> Result<(Ordering, u64), FaultKin
 }
 
 #[cycle(order)]
-#[tactic(auto, using(bq_value::specs::Datum::list_of_data_of), unfolding(crate::specs::Order::tuple_ordered))]
+#[tactic(auto, using(bq_value_datum::specs::Datum::list_of_data_of), unfolding(crate::specs::Order::tuple_ordered))]
 fn tuples(
     store: &Store,
     levels: u32,

@@ -17,7 +17,7 @@ pub fn equal(store: &Store, steps: u64, a: &Value, b: &Value) -> Result<(bool, u
 
 /// Returns whether two values are equal, where `levels` levels of them may be looked at.
 #[cycle(equal)]
-#[tactic(auto, using(bq_value::specs::Datum::list_of_data_of))]
+#[tactic(auto, using(bq_value_datum::specs::Datum::list_of_data_of))]
 pub(crate) fn values_equal(
     store: &Store,
     levels: u32,
@@ -70,7 +70,7 @@ fn function_equal(f: &Function, b: &Value) -> bool
 }
 
 #[cycle(equal)]
-#[tactic(auto, using(bq_value::specs::Datum::list_of_data_of))]
+#[tactic(auto, using(bq_value_datum::specs::Datum::list_of_data_of))]
 fn tuple_equal(
     store: &Store,
     levels: u32,

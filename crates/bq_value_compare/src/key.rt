@@ -22,7 +22,7 @@ pub fn key_of(steps: u64, value: &Value) -> Result<(Key, u64), EvalErr>
 
 /// Visits a value, of which `levels` levels may be looked at. Returns how many of the steps are left.
 #[cycle(walk)]
-#[tactic(auto, using(bq_value::specs::Datum::list_of_data_of))]
+#[tactic(auto, using(bq_value_datum::specs::Datum::list_of_data_of))]
 fn walk(levels: u32, steps: u64, value: &Value) -> Result<u64, FaultKind>
     ensures { result ≡ walked_at levels steps value.now }
 {

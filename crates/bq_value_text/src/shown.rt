@@ -86,7 +86,7 @@ fn string_in(value: &Value) -> Option<&Bytes>
 
 /// Visits a value, of which `levels` levels may be written. Returns how many of the steps are left.
 #[cycle(show)]
-#[tactic(auto, using(bq_value::specs::Datum::list_of_data_of))]
+#[tactic(auto, using(bq_value_datum::specs::Datum::list_of_data_of))]
 fn show(
     store: &Store,
     levels: u32,
