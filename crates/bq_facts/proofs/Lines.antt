@@ -19,9 +19,9 @@ use Rattle.bq_facts.specs.Attributes.{attribute_member, json_attributes, json_va
 use Rattle.bq_facts.specs.FaultObject.{fault_object}
 use Rattle.bq_facts.specs.Labels.{json_label, json_labels}
 use Rattle.bq_facts.specs.Laws.{FaultLinesAreObjects, ModuleLinesAreObjects, TargetLinesAreObjects}
-use Rattle.bq_facts.specs.ModuleLine.{json_loads, json_symbols, load_object, module_line, symbol_member}
-use Rattle.bq_facts.specs.Objects.{attribute_named, attribute_value, attributes_value, declaration_of, label_value, labels_value, load_value, symbol_named}
-use Rattle.bq_facts.specs.TargetLine.{declared_by, declared_members, target_line}
+use Rattle.bq_facts.specs.ModuleLine.{file_members, load_object, module_line, symbol_member}
+use Rattle.bq_facts.specs.Objects.{attribute_named, attribute_value, attributes_value, declaration_of, fault_named, label_value, labels_value, load_named, load_value, module_named, symbol_named, target_named}
+use Rattle.bq_facts.specs.TargetLine.{declared_by, declared_members, named, target_line}
 
 abbrev newline : List ℕ → List ℕ
 newline t = t ++ 10 ∷ []
@@ -67,7 +67,8 @@ declaration_is k.Group t deps = declared_are t deps
 
 pub target_lines : TargetLinesAreObjects
 unfolding target_line
-target_lines t file deps = ap (λ ms. newline (json_object (_ ∷ _ ∷ _ ∷ ms))) (declaration_is t.kind t deps) ∙ ap newline (object_text _)
+target_lines t file deps =
+    ap (λ (ms : List Member). newline (json_object (named t file ++ ms))) (declaration_is t.kind t deps) ∙ ap newline (object_text (target_named t file deps))
 
 -- ---- modules
 
@@ -75,19 +76,25 @@ symbols_are : (cs : List LoadedSymbol) → map symbol_member cs ≡ map member_o
 symbols_are [] = refl
 symbols_are (c ∷ cs) = ap (λ (ms : List Member). symbol_member c ∷ ms) (symbols_are cs)
 
+abbrev load_with : LoadStmt × LabelParts → List ℕ → List Member
+load_with p symbols = file_members (codes "label") p.1 ++ (record { key = codes "line"; value = decimal p.0.line } ∷ record { key = codes "symbols"; value = symbols } ∷ [])
+
 load_is : (p : LoadStmt × LabelParts) → load_object p ≡ value_text (load_value p)
 unfolding load_object
 load_is p =
-    ap (λ t. json_object (_ ∷ _ ∷ _ ∷ record { key = codes "symbols"; value = t } ∷ [])) (ap json_object (symbols_are p.0.clauses) ∙ object_text (map symbol_named p.0.clauses))
-    ∙ object_text _
+    ap (λ (t : List ℕ). json_object (load_with p t)) (ap json_object (symbols_are p.0.clauses) ∙ object_text (map symbol_named p.0.clauses))
+    ∙ object_text (load_named p)
+
+abbrev module_with : LabelParts → List ℕ → List Member
+module_with l loads = file_members (codes "module") l ++ (record { key = codes "loads"; value = loads } ∷ [])
 
 pub module_lines : ModuleLinesAreObjects
 unfolding module_line
 module_lines l loads files =
-    ap (λ t. newline (json_object (_ ∷ _ ∷ record { key = codes "loads"; value = t } ∷ []))) (array_text load_object load_value load_is (zip loads files)) ∙ ap newline (object_text _)
+    ap (λ (t : List ℕ). newline (json_object (module_with l t))) (array_text load_object load_value load_is (zip loads files)) ∙ ap newline (object_text (module_named l loads files))
 
 -- ---- faults
 
 pub fault_lines : FaultLinesAreObjects
 unfolding fault_object
-fault_lines l = ap newline (object_text _)
+fault_lines l = ap newline (object_text (fault_named l))

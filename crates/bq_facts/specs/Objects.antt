@@ -63,9 +63,11 @@ declaration_of (k.Rule name class) t deps = declaration t deps
 declaration_of (k.Generated rule) t deps = declaration t deps
 declaration_of k.Group t deps = declaration t deps
 
+abbrev pub target_named : Target → List ℕ → List LabelParts → List Named
+target_named t file deps = labelled (codes "target") t.label ∷ written (codes "kind") (kind_text t.kind) ∷ written (codes "file") file ∷ declaration_of t.kind t deps
+
 abbrev pub target_value : Target → List ℕ → List LabelParts → Json
-target_value t file deps =
-    object (fields_of (labelled (codes "target") t.label ∷ written (codes "kind") (kind_text t.kind) ∷ written (codes "file") file ∷ declaration_of t.kind t deps))
+target_value t file deps = object (fields_of (target_named t file deps))
 
 -- ---- modules
 
@@ -73,18 +75,26 @@ target_value t file deps =
 abbrev pub symbol_named : LoadedSymbol → Named
 symbol_named c = written c.local c.symbol
 
+abbrev pub load_named : LoadStmt × LabelParts → List Named
+load_named p =
+    labelled (codes "label") p.1 ∷ written (codes "file") (label_path p.1) ∷ numbered (codes "line") p.0.line
+    ∷ record { key = codes "symbols"; value = object (fields_of (map symbol_named p.0.clauses)) } ∷ []
+
 abbrev pub load_value : LoadStmt × LabelParts → Json
-load_value p =
-    object (fields_of (labelled (codes "label") p.1 ∷ written (codes "file") (label_path p.1) ∷ numbered (codes "line") p.0.line
-    ∷ record { key = codes "symbols"; value = object (fields_of (map symbol_named p.0.clauses)) } ∷ []))
+load_value p = object (fields_of (load_named p))
+
+abbrev pub module_named : LabelParts → List LoadStmt → List LabelParts → List Named
+module_named l loads files = labelled (codes "module") l ∷ written (codes "file") (label_path l) ∷ record { key = codes "loads"; value = array (items_of load_value (zip loads files)) } ∷ []
 
 abbrev pub module_value : LabelParts → List LoadStmt → List LabelParts → Json
-module_value l loads files =
-    object (fields_of (labelled (codes "module") l ∷ written (codes "file") (label_path l) ∷ record { key = codes "loads"; value = array (items_of load_value (zip loads files)) } ∷ []))
+module_value l loads files = object (fields_of (module_named l loads files))
 
 -- ---- faults
 
+abbrev pub fault_named : FaultLine → List Named
+fault_named l =
+    written (codes "fault") (fault_code l) ∷ written (codes "name") (fault_name l.kind) ∷ written (codes "label") l.label
+    ∷ written (codes "file") (file_labelled l.label) ∷ numbered (codes "line") l.line ∷ written (codes "detail") l.detail ∷ []
+
 abbrev pub fault_value : FaultLine → Json
-fault_value l =
-    object (fields_of (written (codes "fault") (fault_code l) ∷ written (codes "name") (fault_name l.kind) ∷ written (codes "label") l.label
-    ∷ written (codes "file") (file_labelled l.label) ∷ numbered (codes "line") l.line ∷ written (codes "detail") l.detail ∷ []))
+fault_value l = object (fields_of (fault_named l))
