@@ -12,7 +12,7 @@ import subprocess
 
 from over_facts import called
 
-GIT = ("git", "-c", "user.name=x", "-c", "user.email=x", "-c", "init.defaultBranch=main", "-c", "core.hooksPath=/dev/null", "-c", "commit.gpgsign=false",
+GIT = ("git", "-c", "user.name=x", "-c", "user.email=x", "-c", "init.defaultBranch=main", "-c", "core.hooksPath=/dev/null", "-c", "commit.gpgsign=false", "-c", "gc.auto=0",
        "-c", "protocol.file.allow=always")
 SCHEMA = ("rule lib\nattr srcs label_list\nattr hdrs label_list\nattr deps label_list\nattr size string\n\nrule lib_test\nattr srcs label_list\nattr deps label_list\n"
           "attr size string\n\nrule genrule\nattr srcs label_list\nattr outs output_list mandatory\nattr cmd string\n")
