@@ -23,6 +23,11 @@ RT = os.environ.get("RT", "rt")
 PARTS = ("src", "specs", "proofs")
 
 
+def program():
+    """The program that the gate has built here, else the one of dist/ as ./bq has unpacked it, else ./bq."""
+    return next(it for it in (f"{ROOT}/crates/bq/out/bq", f"{ROOT}/crates/bq/out/dist/bq", f"{ROOT}/bq") if os.path.exists(it))
+
+
 def crates():
     """The crates of crates.txt in their order, each with the names after its colon."""
     found = {}

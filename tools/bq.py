@@ -25,7 +25,7 @@ from dataclasses import dataclass, field
 
 HERE = os.path.dirname(os.path.realpath(__file__))
 # where the program is: built in the repository, unpacked there from dist/, beside the tools in a tarball, or installed with them
-PROGRAMS = (f"{HERE}/../crates/bq/out/bq", f"{HERE}/../crates/bq/out/dist/bq", f"{HERE}/../bq", f"{HERE}/../../../bin/bq", "/usr/bin/bq")
+PROGRAMS = (f"{HERE}/../crates/bq/out/bq", f"{HERE}/../crates/bq/out/dist/bq", f"{HERE}/../bq", f"{HERE}/../../../lib/bq/bq", f"{HERE}/../../../bin/bq", "/usr/bin/bq")
 # lines that bq writes to standard error
 FAULT = re.compile(r"(?P<label>(?:@[^/]*)?//[^:]*:[^:]*):(?P<line>\d+): (?P<number>F\d+) (?P<name>\w+) ?(?P<detail>.*)")
 ERROR = re.compile(r"bq: (?P<number>[QE]\d) (?P<name>\w+) ?(?P<detail>.*)")

@@ -59,10 +59,22 @@ License: Apache-2.0
 
 LINKS = {"usr/bin/bzlq": "../share/bq/tools/bzlq"}
 
+# the command bq is another program's on some machines (BigQuery's): theirs stays, and ours is there where it has no other
+AFTER = """\
+#!/bin/sh
+set -e
+[ "$1" != configure ] || update-alternatives --install /usr/bin/bq bq /usr/lib/bq/bq 10
+"""
+BEFORE = """\
+#!/bin/sh
+set -e
+[ "$1" != remove ] || update-alternatives --remove bq /usr/lib/bq/bq
+"""
+
 # what lintian takes for a mistake, and why it isn't one
 OVERRIDES = """\
 # The program is the one that the proofs are about, byte for byte (tools/release --check), so nothing strips it.
-bq: unstripped-binary-or-object [usr/bin/bq]
+bq: unstripped-binary-or-object [usr/lib/bq/bq]
 """
 
 
@@ -106,7 +118,7 @@ def tools():
 
 
 def is_run(path, content):
-    return content.startswith(b"#!") or path in ("bq", "usr/bin/bq")
+    return content.startswith(b"#!") or path in ("bq", "usr/lib/bq/bq")
 
 
 def make_tarball(program, version, day, to):
@@ -149,7 +161,7 @@ def debian_files(program, version, day):
     share, doc = "usr/share", "usr/share/doc/bq"
     pages = {**tree("docs"), **tree("examples"), "README.md": bytes_of(f"{ROOT}/README.md")}
     files = {
-        "usr/bin/bq": program,
+        "usr/lib/bq/bq": program,
         **{f"{share}/man/man1/{name}.gz": packed(page) for name, page in manuals(version, day).items()},
         f"{share}/bash-completion/completions/bq": pages.pop("docs/completions/bq.bash"),
         f"{share}/zsh/vendor-completions/_bq": pages.pop("docs/completions/_bq"),
@@ -178,6 +190,7 @@ def make_package(program, version, day, to):
     files = debian_files(program, version, day)
     sums = "".join(f"{hashlib.md5(content).hexdigest()}  {path}\n" for path, content in sorted(files.items()))
     whole = {**files, "DEBIAN/control": control(program, version, files), "DEBIAN/md5sums": sums.encode()}
+    whole |= {"DEBIAN/postinst": AFTER.encode(), "DEBIAN/prerm": BEFORE.encode()}
     with tempfile.TemporaryDirectory(prefix="release-") as root:
         os.chmod(root, 0o755)
         for path, content in whole.items():
@@ -186,6 +199,7 @@ def make_package(program, version, day, to):
                 file.write(content)
             os.chmod(f"{root}/{path}", 0o755 if is_run(path, content) else 0o644)
         for path, target in LINKS.items():
+            os.makedirs(os.path.dirname(f"{root}/{path}"), mode=0o755, exist_ok=True)
             os.symlink(target, f"{root}/{path}")
         moment = int(moment_of(day).timestamp())
         # dpkg-deb moves back only what is later, and on the day itself noon may be to come

@@ -56,7 +56,7 @@ impl FaultLines {
         ensures { OnOk result (self.new ≡ put_lines self.old more) }
     {
         for line in more.lines {
-            self.lines.insert(line)?;
+            self.add(line)?;
         }
         Ok(())
     }

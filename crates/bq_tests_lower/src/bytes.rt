@@ -149,9 +149,13 @@ fn add_title(out: &mut String, error: &QueryErr) -> Result<(), AllocError> {
     Ok(())
 }
 
+fn add_title_of(out: &mut String, number: u64) -> Result<(), AllocError> {
+    add_title(out, &error_of(number))
+}
+
 fn add_titles(out: &mut String, numbers: &[u64]) -> Result<(), AllocError> {
     for number in numbers {
-        add_title(out, &error_of(*number))?;
+        add_title_of(out, *number)?;
     }
     Ok(())
 }

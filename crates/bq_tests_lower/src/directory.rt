@@ -10,6 +10,7 @@ use std::alloc::{AllocError, Global};
 use std::fs::Files;
 use std::os::fd::AsRawFd;
 use std::os::unix::fs::symlink;
+use std::process::Abort;
 use std::{fs, io};
 
 /// Adds a file a line: its path, ` = ` and its bytes.
@@ -93,51 +94,56 @@ impl<R: Files + Alloc<A = Global> + Clone + Drop> Subject for Disk<'_, R> {
     }
 }
 
+/// Goes through a table of calls on a disk.
+fn check_disk<R: Files + Alloc<A = Global> + Clone + Drop + Abort>(
+    rt: &R,
+    table: &str,
+) -> Result<(), AllocError> {
+    check_rows(rt, rt.alloc(), table, &Disk(rt))
+}
+
 #[test]
 fn reads_what_lies_below(rt: HostRuntime) -> Result<(), AllocError> {
-    check_rows(&rt, rt.alloc(), BELOW, &Disk(&rt))
+    check_disk(&rt, BELOW)
 }
 
 #[test]
 fn reads_only_the_bytes_that_count(rt: HostRuntime) -> Result<(), AllocError> {
-    check_rows(&rt, rt.alloc(), BYTES, &Disk(&rt))
+    check_disk(&rt, BYTES)
 }
 
 #[test]
 fn follows_links(rt: HostRuntime) -> Result<(), AllocError> {
-    check_rows(&rt, rt.alloc(), LINKS, &Disk(&rt))
+    check_disk(&rt, LINKS)
 }
 
 #[test]
 fn enters_no_directory_from_within(rt: HostRuntime) -> Result<(), AllocError> {
-    check_rows(&rt, rt.alloc(), CIRCLES, &Disk(&rt))
+    check_disk(&rt, CIRCLES)
 }
 
 #[test]
 fn leaves_out_what_is_not_of_the_workspace(rt: HostRuntime) -> Result<(), AllocError> {
-    check_rows(&rt, rt.alloc(), OTHERS, &Disk(&rt))
+    check_disk(&rt, OTHERS)
 }
 
 #[test]
 fn stops_at_what_is_not_there(rt: HostRuntime) -> Result<(), AllocError> {
-    check_rows(&rt, rt.alloc(), LOST, &Disk(&rt))
+    check_disk(&rt, LOST)
 }
 
-/// A directory with a file, and with links to a device and to the pipe of this number.
-fn make_special<R: Files + Alloc<A = Global>>(rt: &R, pipe: i32) -> io::Result<()> {
-    fresh(rt, "out/special")?;
-    fs::write(rt, "out/special/x", b"")?;
-    symlink(rt, "/dev/null", "out/special/null.bzl")?;
+/// Makes a link to the pipe of this number.
+fn link_to_pipe<R: Files + Alloc<A = Global>>(rt: &R, pipe: i32) -> io::Result<()> {
     let pipe = format!(in rt.alloc(); "/proc/self/fd/{pipe}")?;
     symlink(rt, pipe.as_str(), "out/special/BUILD")
 }
 
-/// What is read of it.
+/// What is read of a directory with a file and links to a device and to the pipe of this number.
 fn read_special<R: Files + Alloc<A = Global> + Clone + Drop>(
     rt: &R,
     pipe: i32,
 ) -> Result<Vec<u8>, AllocError> {
-    match make_special(rt, pipe) {
+    match link_to_pipe(rt, pipe) {
         Ok(()) => read(rt, "out/special"),
         Err(_) => b"failed".to_vec(rt.alloc()),
     }
@@ -145,6 +151,7 @@ fn read_special<R: Files + Alloc<A = Global> + Clone + Drop>(
 
 #[test]
 fn leaves_out_what_is_no_file(rt: HostRuntime) -> io::Result<()> {
+    check_disk(&rt, SPECIAL)?;
     let (reader, writer) = io::pipe(&rt)?;
     let found = read_special(&rt, reader.as_raw_fd());
     drop(reader);
@@ -239,6 +246,12 @@ link | out/others/a/bazel-out | ../build/out |
 read | out/others | | a/bazel-out/BUILD = 3\na/node_modules/x/BUILD = 1\nbazel-tools/BUILD = 4\nbuild/out/BUILD = 3\nbuild/outer = \nnode_modules/BUILD = 2\n
 file | out/others/.bazelignore | \x23 of other tools\n\nnode_modules/\n./build/out\nbuild/outer\r\n |
 read | out/others | | .bazelignore = \na/bazel-out/BUILD = 3\na/node_modules/x/BUILD = 1\nbazel-tools/BUILD = 4\nbuild/outer = \n
+"#;
+
+const SPECIAL: &str = r#"
+new | out/special | |
+file | out/special/x | |
+link | out/special/null.bzl | /dev/null |
 "#;
 
 const LOST: &str = r#"
