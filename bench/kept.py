@@ -35,6 +35,13 @@ def rt_module():
     return module
 
 
+def walked_once(crate):
+    """The libraries below a crate, each after those that it uses. rt's own walk goes along every path of crates.txt again."""
+    if not hasattr(crate, "_walked"):
+        crate._walked = list(dict.fromkeys(it for dep in crate.deps for it in [*walked_once(dep), dep]))
+    return crate._walked
+
+
 class Kept:
     """The crates of a clone, each with its place in the store."""
 
@@ -42,6 +49,7 @@ class Kept:
         rt = rt_module()
         self.lib, self.root, self.sums = rt.rtlib, root, {}
         self.lib.Crate = rt.Crate
+        rt.Crate.below = walked_once
         # as in the gate, the crates above a library load its statements and not its proofs
         rt.Crate.cuts_libraries = True
         # (the gate's keys have what HANDLES allows)
