@@ -132,7 +132,11 @@ pub fn wanted_of(alloc: Global, line: &[u8]) -> Result<Vec<u8>, AllocError> {
 }
 
 /// The answer of a subject to the row of a line.
-fn answer_of(alloc: Global, line: &[u8], subject: &impl Subject) -> Result<Vec<u8>, AllocError> {
+pub fn answer_of(
+    alloc: Global,
+    line: &[u8],
+    subject: &impl Subject,
+) -> Result<Vec<u8>, AllocError> {
     let row = row_of(line);
     let text = row.bytes(alloc, 0)?;
     subject.answer(alloc, &text, row)

@@ -2,8 +2,7 @@
 
 use crate::options::options;
 use crate::rows::Row;
-use crate::runs::{UNFAILING, written};
-use crate::tables::{Table, check_table};
+use crate::runs::{Table, UNFAILING, check_runs, written};
 use std::alloc::{AllocError, Global};
 use std::random::RandomSource;
 use std::sync::Wait;
@@ -37,7 +36,7 @@ pub fn over_edges<R: Threads + Wait + RandomSource + Sync>(
 
 #[test]
 fn are_counted(rt: HostRuntime) -> Result<(), AllocError> {
-    check_table(&rt, &rt, Table::Edges, EDGES)
+    check_runs(&rt, rt.alloc(), Table::Edges, EDGES)
 }
 
 /// 262,144 edges, and 512 more.

@@ -4,18 +4,18 @@ ghost use Rattle.std.specs.Prelude.{◌≡◌};
 
 use crate::devices::{make_drip, make_sip};
 use crate::options::options;
-use crate::rows::Row;
-use crate::tables::{Table, check_table};
+use crate::rows::{Row, check_answer, is_row, row_of};
 use bq_run::{Counted, read_bundle, status_code};
 use bq_run_facts::run_facts;
 use std::alloc::{AllocError, Global};
+use std::process::Abort;
 use std::random::RandomSource;
 use std::sync::Wait;
 use std::thread::Threads;
 
 /// Returns what a run that is asked for the facts of a bundle writes, its status and how many calls failed, as
 /// `FAULTS>FACTS>STATUS FAILURES`. An empty query is none. The writer of facts fails at this call.
-pub fn facts_of<R: Threads + Wait + RandomSource + Sync>(
+fn written<R: Threads + Wait + RandomSource + Sync>(
     rt: &R,
     alloc: Global,
     row: Row,
@@ -52,9 +52,23 @@ pub fn facts_of<R: Threads + Wait + RandomSource + Sync>(
     Ok(whole)
 }
 
+fn check_facts<R: Threads + Wait + RandomSource + Sync + Abort>(
+    rt: &R,
+    alloc: Global,
+    rows: &str,
+) -> Result<(), AllocError> {
+    for line in rows.as_bytes().split(|byte| *byte == b'\n') {
+        if is_row(line) {
+            let found = written(rt, alloc, row_of(line))?;
+            check_answer(rt, alloc, line, &found)?;
+        }
+    }
+    Ok(())
+}
+
 #[test]
 fn write_facts(rt: HostRuntime) -> Result<(), AllocError> {
-    check_table(&rt, &rt, Table::Facts, FACTS)
+    check_facts(&rt, rt.alloc(), FACTS)
 }
 
 /// A bundle, a query, the call at which the writer fails, and what is written.

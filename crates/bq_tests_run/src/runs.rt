@@ -3,11 +3,12 @@
 ghost use Rattle.bq_run.specs.Run.{IsInRange};
 
 use crate::devices::{make_drip, make_sip};
+use crate::edges::over_edges;
 use crate::options::options;
-use crate::rows::Row;
-use crate::tables::{Table, check_table};
+use crate::rows::{Row, check_answer, is_row, row_of};
 use bq_run::{Counted, Options, RunErr, Status, read_bundle, run, run_files, status_of};
 use std::alloc::{AllocError, Global};
+use std::process::Abort;
 use std::random::RandomSource;
 use std::sync::Wait;
 use std::thread::Threads;
@@ -101,8 +102,49 @@ pub fn written_of_files<R: Threads + Wait + RandomSource + Sync>(
     shown(alloc, &faults.device.held, &writer.device.held, &ended, 0)
 }
 
+/// What the rows of a table of runs are about. A function that starts threads is no method of a trait, so this stands for subjects.
+#[derive(Clone, Copy)]
+pub enum Table {
+    Files,
+    FailingWriters,
+    FailingReader,
+    FailingAtEach,
+    Edges,
+}
+
+fn answer<R: Threads + Wait + RandomSource + Sync>(
+    rt: &R,
+    alloc: Global,
+    table: Table,
+    row: Row,
+) -> Result<Vec<u8>, AllocError> {
+    match table {
+        Table::Files => over_files(rt, alloc, row),
+        Table::FailingWriters => with_failing_writers(rt, alloc, row),
+        Table::FailingReader => with_failing_reader(rt, alloc, row),
+        Table::FailingAtEach => failing_at_each(rt, alloc, row),
+        Table::Edges => over_edges(rt, alloc, row),
+    }
+}
+
+/// Goes through a table of runs: each row has what is wanted written.
+pub fn check_runs<R: Threads + Wait + RandomSource + Sync + Abort>(
+    rt: &R,
+    alloc: Global,
+    table: Table,
+    rows: &str,
+) -> Result<(), AllocError> {
+    for line in rows.as_bytes().split(|byte| *byte == b'\n') {
+        if is_row(line) {
+            let found = answer(rt, alloc, table, row_of(line))?;
+            check_answer(rt, alloc, line, &found)?;
+        }
+    }
+    Ok(())
+}
+
 /// What a run over a bundle writes of a query, where a run over its files writes the same.
-pub fn over_files<R: Threads + Wait + RandomSource + Sync>(
+fn over_files<R: Threads + Wait + RandomSource + Sync>(
     rt: &R,
     alloc: Global,
     row: Row,
@@ -121,7 +163,7 @@ pub fn over_files<R: Threads + Wait + RandomSource + Sync>(
 /// A run over the files of a bundle, as of a directory, writes what one over the bundle does.
 #[test]
 fn runs_over_files(rt: HostRuntime) -> Result<(), AllocError> {
-    check_table(&rt, &rt, Table::Files, FILES)
+    check_runs(&rt, rt.alloc(), Table::Files, FILES)
 }
 
 /// Two packages, of which one is faulty.
@@ -148,7 +190,7 @@ fn failing_writers(row: Row) -> Failing {
 }
 
 /// What a run over that bundle writes of a query, where one writer fails at this call, quietly or not.
-pub fn with_failing_writers<R: Threads + Wait + RandomSource + Sync>(
+fn with_failing_writers<R: Threads + Wait + RandomSource + Sync>(
     rt: &R,
     alloc: Global,
     row: Row,
@@ -162,7 +204,7 @@ pub fn with_failing_writers<R: Threads + Wait + RandomSource + Sync>(
 /// Where the query names no target, the faults are written and the writer gets nothing.
 #[test]
 fn fails_with_its_writer(rt: HostRuntime) -> Result<(), AllocError> {
-    check_table(&rt, &rt, Table::FailingWriters, FAILING_WRITERS)
+    check_runs(&rt, rt.alloc(), Table::FailingWriters, FAILING_WRITERS)
 }
 
 fn failing_reader<R: Threads + Wait + RandomSource + Sync>(
@@ -181,7 +223,7 @@ fn failing_reader<R: Threads + Wait + RandomSource + Sync>(
 }
 
 /// What a run writes whose reader fails at the calls from one number to another, where all of them write the same.
-pub fn with_failing_reader<R: Threads + Wait + RandomSource + Sync>(
+fn with_failing_reader<R: Threads + Wait + RandomSource + Sync>(
     rt: &R,
     alloc: Global,
     row: Row,
@@ -199,7 +241,7 @@ pub fn with_failing_reader<R: Threads + Wait + RandomSource + Sync>(
 /// A failed read ends the run, and nothing is written; the read at the end of the bundle is one too.
 #[test]
 fn fails_with_its_reader(rt: HostRuntime) -> Result<(), AllocError> {
-    check_table(&rt, &rt, Table::FailingReader, FAILING_READER)
+    check_runs(&rt, rt.alloc(), Table::FailingReader, FAILING_READER)
 }
 
 /// The two texts of a run.
@@ -319,7 +361,7 @@ fn first_wrong<R: Threads + Wait + RandomSource + Sync>(
 }
 
 /// `each of N` where the writer may fail at each of N calls, and there is no call after them.
-pub fn failing_at_each<R: Threads + Wait + RandomSource + Sync>(
+fn failing_at_each<R: Threads + Wait + RandomSource + Sync>(
     rt: &R,
     alloc: Global,
     row: Row,
@@ -342,7 +384,7 @@ pub fn failing_at_each<R: Threads + Wait + RandomSource + Sync>(
 /// nothing before the faults are whole.
 #[test]
 fn fails_at_each_write(rt: HostRuntime) -> Result<(), AllocError> {
-    check_table(&rt, &rt, Table::FailingAtEach, FAILING_AT_EACH)
+    check_runs(&rt, rt.alloc(), Table::FailingAtEach, FAILING_AT_EACH)
 }
 
 /// A bundle, a query, and what is written: a run for each ending.

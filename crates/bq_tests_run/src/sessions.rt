@@ -4,14 +4,14 @@ ghost use Rattle.std.specs.Prelude.{◌≡◌};
 
 use crate::devices::{make_drip, make_sip};
 use crate::options::options;
-use crate::rows::Row;
-use crate::tables::{Table, check_table};
+use crate::rows::{Row, check_answer, is_row, row_of};
 use bq_run::{Counted, Metered, RunErr, read_bundle, status_code};
 use bq_run_session::{SessionStatus, run_queries, session_code};
 use std::alloc::{AllocError, Global};
 use std::cell::Cell;
 use std::io;
 use std::io::{Read, Write};
+use std::process::Abort;
 use std::random::RandomSource;
 use std::sync::Wait;
 use std::thread::Threads;
@@ -25,7 +25,7 @@ fn code_of(ended: Result<SessionStatus, RunErr>) -> u8 {
 
 /// Returns what a session over a bundle writes, its status and how many calls failed, as `FAULTS>BLOCKS>STATUS FAILURES`. The
 /// reader of queries and the writer of blocks fail at these calls.
-pub fn session_of<R: Threads + Wait + RandomSource + Sync>(
+fn written<R: Threads + Wait + RandomSource + Sync>(
     rt: &R,
     alloc: Global,
     row: Row,
@@ -58,9 +58,23 @@ pub fn session_of<R: Threads + Wait + RandomSource + Sync>(
     Ok(whole)
 }
 
+fn check_sessions<R: Threads + Wait + RandomSource + Sync + Abort>(
+    rt: &R,
+    alloc: Global,
+    rows: &str,
+) -> Result<(), AllocError> {
+    for line in rows.as_bytes().split(|byte| *byte == b'\n') {
+        if is_row(line) {
+            let found = written(rt, alloc, row_of(line))?;
+            check_answer(rt, alloc, line, &found)?;
+        }
+    }
+    Ok(())
+}
+
 #[test]
 fn answer_each_query(rt: HostRuntime) -> Result<(), AllocError> {
-    check_table(&rt, &rt, Table::Sessions, SESSIONS)
+    check_sessions(&rt, rt.alloc(), SESSIONS)
 }
 
 /// A reader of lines, one byte a call. Where a line begins it notes how much was written by then.

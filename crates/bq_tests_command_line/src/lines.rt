@@ -1,9 +1,10 @@
 //! What command lines ask for, and the texts that refuse others.
 
-use crate::tables::{Table, check_table};
 use bq_command_line::{Asked, Place, VERSION, Wanted, Words, show, words_of};
 use bq_run::OutputForm;
+use bq_tests_rows::{is_row, row_of, wanted_of};
 use std::alloc::{AllocError, Global};
+use std::process::Abort;
 
 /// Returns the words of a line, which are between blanks, after the program's name.
 pub fn words_in(alloc: Global, line: &[u8]) -> Result<Vec<String>, AllocError> {
@@ -44,7 +45,7 @@ fn shown(alloc: Global, words: &Words) -> Result<Vec<u8>, AllocError> {
 }
 
 /// Returns what a line asks for, or the text that refuses it.
-pub fn asked_by(alloc: Global, line: &[u8]) -> Result<Vec<u8>, AllocError> {
+fn answer(alloc: Global, line: &[u8]) -> Result<Vec<u8>, AllocError> {
     let words = words_in(alloc, line)?;
     match words_of(alloc, &words) {
         Ok(Asked::Answer(words)) => shown(alloc, &words),
@@ -53,60 +54,69 @@ pub fn asked_by(alloc: Global, line: &[u8]) -> Result<Vec<u8>, AllocError> {
     }
 }
 
+fn check_lines(rt: &impl Abort, alloc: Global, rows: &str) -> Result<(), AllocError> {
+    for row in rows.as_bytes().split(|byte| *byte == b'\n') {
+        if is_row(row) {
+            let found = answer(alloc, row_of(row).word(0))?;
+            let wanted = wanted_of(alloc, row)?;
+            assert!(rt;
+                found == wanted,
+                "{}: {}",
+                row.escape_ascii(),
+                found.escape_ascii()
+            );
+        }
+    }
+    Ok(())
+}
+
 #[test]
 fn are_read(rt: HostRuntime) -> Result<(), AllocError> {
-    check_table(&rt, &rt, Table::Lines, TAKEN)
+    check_lines(&rt, rt.alloc(), TAKEN)
 }
 
 #[test]
 fn are_refused(rt: HostRuntime) -> Result<(), AllocError> {
-    check_table(&rt, &rt, Table::Lines, REFUSED)
+    check_lines(&rt, rt.alloc(), REFUSED)
 }
 
 #[test]
 fn are_answered_with_help(rt: HostRuntime) -> Result<(), AllocError> {
-    check_table(&rt, &rt, Table::Lines, HELP)
+    check_lines(&rt, rt.alloc(), HELP)
 }
 
 #[test]
 fn are_answered_with_the_version(rt: HostRuntime) -> Result<(), AllocError> {
     let wanted = format!(in rt.alloc(); "bq {VERSION}\n")?;
     for line in ["--version", "-V"] {
-        let found = asked_by(rt.alloc(), line.as_bytes())?;
+        let found = answer(rt.alloc(), line.as_bytes())?;
         assert!(rt; found.as_slice() == wanted.as_bytes(), "{line}");
     }
     Ok(())
 }
 
 /// Returns the exit status of a line that is answered by a text of clap's, which it prints.
-pub fn status_of_line(rt: &HostRuntime, line: &[u8]) -> Result<Vec<u8>, AllocError> {
+fn status(rt: &HostRuntime, line: &[u8]) -> Result<u8, AllocError> {
     let words = words_in(rt.alloc(), line)?;
     match words_of(rt.alloc(), &words) {
-        Ok(_) => b"asked".to_vec(rt.alloc()),
-        Err(error) => {
-            let status = show(rt, &error);
-            Ok(format!(in rt.alloc(); "{status}")?.into_bytes())
-        }
+        Ok(_) => Ok(255),
+        Err(error) => Ok(show(rt, &error)),
     }
 }
 
 #[test]
 fn end_with_a_text_or_a_refusal(rt: HostRuntime) -> Result<(), AllocError> {
-    check_table(&rt, &rt, Table::Statuses, STATUSES)
+    assert!(rt; status(&rt, b"--help")? == 0);
+    assert!(rt; status(&rt, b"--version")? == 0);
+    assert!(rt; status(&rt, b"--jobs 0 //a:x")? == 2);
+    assert!(rt; status(&rt, b"")? == 2);
+    assert!(rt; status(&rt, b"--queries q.txt //a:x")? == 2);
+    assert!(rt; status(&rt, b"--facts --queries q.txt")? == 2);
+    assert!(rt; status(&rt, b"--facts //a:x --output label")? == 2);
+    assert!(rt; status(&rt, b"--bundle b.txt --dir d //a:x")? == 2);
+    assert!(rt; status(&rt, b"--bundle b.txt")? == 2);
+    Ok(())
 }
-
-/// A line but for the program's name, and the exit status.
-const STATUSES: &str = r#"
---help | 0
---version | 0
---jobs 0 //a:x | 2
- | 2
---queries q.txt //a:x | 2
---facts --queries q.txt | 2
---facts //a:x --output label | 2
---bundle b.txt --dir d //a:x | 2
---bundle b.txt | 2
-"#;
 
 /// A line but for the program's name, and what it asks for.
 const TAKEN: &str = r#"
