@@ -1,0 +1,37 @@
+-- Lines are counted from 1: so no fault names line 0.
+use Rattle.std.specs.Prelude.{◌≡◌, ◌≤◌, ℕ, List, Ok, Err}
+use Rattle.std.specs.List.{AllByRecursion}
+use Rattle.bq_base.specs.declared.fault.Fault.{Fault}
+use Rattle.bq_source.specs.declared.token.Token.{Token}
+use Rattle.bq_source_lexer.specs.Reading.{Lexes}
+use Rattle.bq_parse_grammar.specs.Lexeme.{lexemes}
+use Rattle.bq_parse_grammar.specs.Parses.{Parses}
+use Rattle.bq_parse_grammar.specs.declared.tree.FileKind.{FileKind}
+use Rattle.bq_parse_grammar.specs.declared.tree.TopLevel.{TopLevel}
+use Rattle.bq_resolve_scope.specs.Files.{resolved}
+use Rattle.bq_resolve_scope.specs.Universe.{UniverseParts}
+use Rattle.bq_resolve_scope.specs.declared.code.Resolved.{Resolved}
+
+-- the statements of a text; and its fault, where its tokens are no statements
+abbrev pub StatementsStand : Type 0
+StatementsStand =
+    (kind : FileKind) (text : List ℕ) (ts : List Token) (xs : List TopLevel) → Lexes text (Ok ts) → Parses kind (lexemes text ts) (Ok xs) → AllByRecursion (λ x. 1 ≤ x.line) xs
+
+abbrev pub StatementFaultsStand : Type 0
+StatementFaultsStand = (kind : FileKind) (text : List ℕ) (ts : List Token) (why : Fault) → Lexes text (Ok ts) → Parses kind (lexemes text ts) (Err why) → 1 ≤ why.line
+
+-- the fault of a text whose names stand for nothing; and what it resolves to: its loads, and its statements
+abbrev pub NameFaultsStand : Type 0
+NameFaultsStand =
+    (universe : UniverseParts) (kind : FileKind) (text : List ℕ) (ts : List Token) (xs : List TopLevel) (why : Fault)
+    → Lexes text (Ok ts) → Parses kind (lexemes text ts) (Ok xs) → resolved universe xs ≡ Err why → 1 ≤ why.line
+
+abbrev pub LoadsStand : Type 0
+LoadsStand =
+    (universe : UniverseParts) (kind : FileKind) (text : List ℕ) (ts : List Token) (xs : List TopLevel) (code : Resolved)
+    → Lexes text (Ok ts) → Parses kind (lexemes text ts) (Ok xs) → resolved universe xs ≡ Ok code → AllByRecursion (λ l. 1 ≤ l.line) code.loads
+
+abbrev pub CodeStands : Type 0
+CodeStands =
+    (universe : UniverseParts) (kind : FileKind) (text : List ℕ) (ts : List Token) (xs : List TopLevel) (code : Resolved)
+    → Lexes text (Ok ts) → Parses kind (lexemes text ts) (Ok xs) → resolved universe xs ≡ Ok code → AllByRecursion (λ x. 1 ≤ x.line) code.statements
