@@ -7,6 +7,7 @@ import functools
 import importlib.machinery
 import importlib.util
 import io
+import lzma
 import os
 import re
 import resource
@@ -24,8 +25,18 @@ PARTS = ("src", "specs", "proofs")
 
 
 def program():
-    """The program that the gate has built here, else the one of dist/ as ./bq has unpacked it, else ./bq."""
-    return next(it for it in (f"{ROOT}/crates/bq/out/bq", f"{ROOT}/crates/bq/out/dist/bq", f"{ROOT}/bq") if os.path.exists(it))
+    """The program that was built here, else the one of dist/, unpacked, though it may be of older files than the clone's."""
+    built, released = f"{ROOT}/crates/bq/out/bq", f"{ROOT}/crates/bq/out/dist/bq"
+    if os.path.exists(built):
+        return built
+    if not os.path.exists(released):
+        os.makedirs(os.path.dirname(released), exist_ok=True)
+        unpacked = f"{released}.{os.getpid()}"
+        with lzma.open(f"{ROOT}/dist/bq-x86_64-linux.xz") as packed, open(unpacked, "wb") as file:
+            shutil.copyfileobj(packed, file)
+        os.chmod(unpacked, 0o755)
+        os.replace(unpacked, released)
+    return released
 
 
 def crates():
