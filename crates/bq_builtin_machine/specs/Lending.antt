@@ -3,7 +3,7 @@ use Rattle.std.specs.Prelude.{ℕ, Result}
 use Rattle.std.specs.Borrow.{LendsIfOk, MutBor, Fml}
 use Rattle.bq_value.specs.Contents.{Contents}
 use Rattle.bq_value.specs.declared.error.EvalErr.{EvalErr}
-use Rattle.bq_value_content.specs.contracts.content.Content.{the_row as content_row}
+use Rattle.bq_value.specs.Content.{the_row as content_row}
 use Rattle.bq_builtin_machine.specs.State.{State}
 use Rattle.bq_builtin_machine.specs.Cells.{with_content}
 use Rattle.bq_builtin_machine.specs.contracts.machine.Machine.{the_row}

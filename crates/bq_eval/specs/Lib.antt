@@ -1,2 +1,3 @@
+pub use Rattle.bq_eval_rules.specs.Round
 pub mod Module
 pub mod Outcomes

@@ -125,7 +125,7 @@ impl<
 }
 
 /// A comprehension, whose clauses bind their variables in a frame of their own. The rules hold the frame around it.
-#[derive(Clone, Copy)]
+#[derive(Drop)]
 struct Comprehension<'a, R, C, F> {
     rules: &'a Evaluator<'a, R, C, F>,
     code: &'a Code,

@@ -1,23 +1,21 @@
 //! The rules at one depth. Each rule takes what evaluates the expressions inside, so that it is proved by itself.
 
 ghost use Rattle.std.specs.Prelude.{◌≡◌};
-ghost use Rattle.bq_value.specs.Datum.{int};
 ghost use Rattle.bq_builtin_machine.specs.Action.{done, ◌>>=◌ as and_then};
-ghost use Rattle.bq_eval_meaning_spec.specs.Expressions as meaning;
 ghost use Rattle.bq_eval_rules.specs.Acts.{Acts};
 ghost use Rattle.bq_eval_rules.specs.Operands.{read_of};
 ghost use Rattle.bq_eval_rules.specs.Effects.{Returns};
 ghost use Rattle.bq_eval_rules.specs.Evaluators.{EvaluatesInside, value_inside};
 
 use crate::context::Context;
-use crate::operand::{Operand, use_of};
+use crate::operand::{Operand, int_operand, use_of};
 use crate::runtime::Runtime;
 use bq_eval_frame::Frame;
 use bq_resolve_scope::Code;
 use bq_value::{EvalErr, Value};
 use std::marker::PhantomData;
 
-#[derive(Clone, Copy)]
+#[derive(Drop)]
 pub struct Evaluator<'a, R, C, F> {
     pub context: &'a Context<'a>,
     /// The values of local names, which expressions only read.
@@ -51,24 +49,6 @@ impl<
         )
     }
 
-    /// Evaluates a literal.
-    #[tactic(auto, unfolding(bq_eval_meaning_spec::specs::Expressions::literal))]
-    #[inline(always)]
-    pub fn literal(&self, runtime: &mut R, value: Value) -> Result<Value, EvalErr>
-        ensures { Returns R.means R.seen (meaning.literal R.means value) runtime.old result runtime.new }
-    {
-        runtime.step(1)?;
-        Ok(value)
-    }
-
-    /// Evaluates an integer literal, as an operand.
-    #[inline(always)]
-    fn int_operand<'f>(&self, runtime: &mut R, n: i64) -> Result<Operand<'f>, EvalErr>
-        ensures { Acts R.means read_of result (R.seen runtime.new) (meaning.literal R.means (int n) (R.seen runtime.old)) }
-    {
-        Ok(Operand::Own(self.literal(runtime, Value::int(n))?))
-    }
-
     /// Evaluates an expression inside whose value is only read: its frame lends the value of a name, and an integer is
     /// made here.
     #[inline(always)]
@@ -81,7 +61,7 @@ impl<
                 return use_of(self.context, self.frame, runtime, *binding);
             }
             if let Code::Int(n) = code {
-                return self.int_operand(runtime, *n);
+                return int_operand(runtime, *n);
             }
         }
         Ok(Operand::Own(self.value(runtime, code)?))

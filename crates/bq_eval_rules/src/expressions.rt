@@ -9,7 +9,7 @@ ghost use Rattle.bq_eval_rules.specs.Evaluators.{EvaluatesInside, evals_in, call
 
 use crate::context::Context;
 use crate::evaluator::Evaluator;
-use crate::operand::use_of;
+use crate::operand::{literal, use_of};
 use crate::runtime::Runtime;
 use bq_base::FaultKind;
 use bq_builtin_machine::Args;
@@ -65,8 +65,8 @@ impl<
         match code {
             Code::Use(binding) => Ok(use_of(self.context, self.frame, runtime, *binding)?.own()?),
             Code::Member(function) => Ok(runtime.predeclared(*function)?),
-            Code::Int(n) => self.literal(runtime, Value::int(*n)),
-            Code::String(text) => self.literal(runtime, Value::string(text.share()?)),
+            Code::Int(n) => literal(runtime, Value::int(*n)),
+            Code::String(text) => literal(runtime, Value::string(text.share()?)),
             Code::List(codes) => self.list_display(runtime, codes.as_slice()),
             Code::Tuple(codes) => self.tuple_display(runtime, codes.as_slice()),
             Code::Dict(pairs) => self.dict_display(runtime, pairs.as_slice()),

@@ -1,9 +1,11 @@
 //! Values that are only read.
 
 ghost use Rattle.std.specs.Prelude.{◌≡◌, IfOk};
+ghost use Rattle.bq_value.specs.Datum.{int};
 ghost use Rattle.bq_eval_meaning_spec.specs.Expressions as meaning;
 ghost use Rattle.bq_eval_frame.specs.Slots.{slots_of};
 ghost use Rattle.bq_eval_rules.specs.Acts.{Acts};
+ghost use Rattle.bq_eval_rules.specs.Effects.{Returns};
 ghost use Rattle.bq_eval_rules.specs.Round.{round_of};
 ghost use Rattle.bq_eval_rules.specs.Operands.{read_of};
 
@@ -66,4 +68,22 @@ pub fn use_of<'f, R: Runtime>(
         None => Err(EvalErr::Bad(FaultKind::Unbound)),
         Some(value) => Ok(Operand::Lent(value)),
     }
+}
+
+/// Evaluates a literal.
+#[tactic(auto, unfolding(bq_eval_meaning_spec::specs::Expressions::literal))]
+#[inline(always)]
+pub fn literal<R: Runtime>(runtime: &mut R, value: Value) -> Result<Value, EvalErr>
+    ensures { Returns R.means R.seen (meaning.literal R.means value) runtime.old result runtime.new }
+{
+    runtime.step(1)?;
+    Ok(value)
+}
+
+/// Evaluates an integer literal, as an operand.
+#[inline(always)]
+pub fn int_operand<'f, R: Runtime>(runtime: &mut R, n: i64) -> Result<Operand<'f>, EvalErr>
+    ensures { Acts R.means read_of result (R.seen runtime.new) (meaning.literal R.means (int n) (R.seen runtime.old)) }
+{
+    Ok(Operand::Own(literal(runtime, Value::int(n))?))
 }

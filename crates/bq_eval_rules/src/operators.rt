@@ -10,6 +10,7 @@ ghost use Rattle.bq_eval_rules.specs.Evaluators.{EvaluatesInside, evals_in, fram
 use crate::context::Context;
 use crate::evaluator::Evaluator;
 use crate::names::local_use;
+use crate::operand::literal;
 use crate::runtime::Runtime;
 use bq_eval_frame::Frame;
 use bq_parse_grammar::{Comparison, Operator, UnaryOperator};
@@ -32,6 +33,20 @@ fn unary_each<R: Runtime>(
         rest = before;
     }
     Ok(value)
+}
+
+/// Applies `left op n`, for an integer literal.
+#[inline(always)]
+fn apply_int<R: Runtime>(
+    runtime: &mut R,
+    operator: Operator,
+    left: &Value,
+    n: i64,
+) -> Result<Value, EvalErr>
+    ensures { Returns R.means R.seen (and_then (meaning.literal R.means (int n)) (R.means.binary operator left.now)) runtime.old result runtime.new }
+{
+    let right = literal(runtime, Value::int(n))?;
+    runtime.binary(operator, left, &right)
 }
 
 impl<
@@ -86,21 +101,6 @@ impl<
         }
     }
 
-    /// Applies `left op n`, for an integer literal.
-    #[inline(always)]
-    fn apply_int(
-        &self,
-        runtime: &mut R,
-        operator: Operator,
-        left: &Value,
-        n: i64,
-    ) -> Result<Value, EvalErr>
-        ensures { Returns R.means R.seen (and_then (meaning.literal R.means (int n)) (R.means.binary operator left.now)) runtime.old result runtime.new }
-    {
-        let right = self.literal(runtime, Value::int(n))?;
-        runtime.binary(operator, left, &right)
-    }
-
     /// Applies `left op operand`, for all operators but `and` and `or`. Most operands are local names or integers.
     #[inline(always)]
     fn apply(
@@ -121,7 +121,7 @@ impl<
                 }
             }
             if let Code::Int(n) = operand {
-                return self.apply_int(runtime, operator, left, *n);
+                return apply_int(runtime, operator, left, *n);
             }
         }
         let right = self.value(runtime, operand)?;

@@ -31,7 +31,7 @@ struct Augmentation<'c> {
 }
 
 /// Evaluates the expressions of statements.
-#[derive(Clone, Copy)]
+#[derive(Drop)]
 pub struct Reader<'a, R, C> {
     pub context: &'a Context<'a>,
     pub call: C,

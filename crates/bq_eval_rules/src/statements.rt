@@ -19,7 +19,7 @@ use bq_resolve_scope::{Code, CodeBranch, CodeStmt, CodeTarget};
 use bq_value::{EvalErr, Value};
 use std::marker::PhantomData;
 
-#[derive(Clone, Copy)]
+#[derive(Drop)]
 pub struct Runner<'a, R, C, G> {
     /// How many layers further inside are still looked at.
     pub depth: usize,

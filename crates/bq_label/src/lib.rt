@@ -27,6 +27,7 @@ mod repository;
 mod split;
 mod workspace;
 
+pub use bq_base::Bytes;
 pub use label::Label;
 pub use package_id::PackageId;
 pub use packages::{BuildFile, Packages};

@@ -4,7 +4,7 @@ ghost use Rattle.std.specs.Prelude.{◌≡◌, [], map, option_map, Some, IfOk};
 ghost use Rattle.bq_eval.specs.Outcomes.{ended_of};
 ghost use Rattle.bq_package.specs.Calls.{held_by, package_in};
 ghost use Rattle.bq_package_target.specs.Package.{finished};
-ghost use Rattle.bq_eval_rules.specs.Round.{views_of};
+ghost use Rattle.bq_eval.specs.Round.{views_of};
 ghost use Rattle.bq_base.specs.Gives.{Gives};
 ghost use Rattle.bq_base.specs.declared.fault.SourceErr.TheVariants.{Bad};
 ghost use Rattle.bq_load_front.specs.Code.{items};

@@ -4,8 +4,8 @@ ghost use Rattle.std.specs.Prelude.{◌≡◌, [], IfOk};
 ghost use Rattle.bq_package_rule_class.specs.Class.{extended};
 
 use crate::attribute::Attribute;
-use bq_base::Bytes;
 use bq_base_names::NameSet;
+use bq_label::Bytes;
 use std::alloc::{AllocError, Global};
 use std::marker::Model;
 

@@ -5,7 +5,7 @@ ghost use Rattle.std.specs.Map.{lookup};
 
 use crate::attribute::Attribute;
 use crate::attributes::Attributes;
-use bq_base::Bytes;
+use bq_label::Bytes;
 use sqlite_items::at;
 use std::alloc::{AllocError, Global};
 use std::marker::Model;

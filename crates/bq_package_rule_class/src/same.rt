@@ -6,8 +6,7 @@ ghost use Rattle.bq_package_rule_class.specs.declared.value.AttributeValue.TheVa
 
 use crate::attribute::Attribute;
 use crate::value::AttributeValue;
-use bq_base::Bytes;
-use bq_label::Label;
+use bq_label::{Bytes, Label};
 
 fn are_same_texts(a: &[Bytes], b: &[Bytes]) -> bool
     ensures { result ≡ same_texts a.now b.now }

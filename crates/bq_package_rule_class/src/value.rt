@@ -5,8 +5,7 @@ ghost use Rattle.bq_package_rule_class.specs.Value.{type_of};
 
 use crate::attribute_type::AttributeType;
 use crate::list::SharedList;
-use bq_base::Bytes;
-use bq_label::Label;
+use bq_label::{Bytes, Label};
 use std::alloc::AllocError;
 
 /// What an attribute is given, or has by default.

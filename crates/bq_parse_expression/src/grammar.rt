@@ -14,7 +14,7 @@ use bq_source::TokenKind;
 use sqlite_items::Items;
 use std::alloc::Global;
 
-#[derive(Clone, Copy)]
+#[derive(Drop)]
 pub struct Grammar<F> {
     pub alloc: Global,
     /// How many brackets may still be opened.

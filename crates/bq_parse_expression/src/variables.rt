@@ -15,7 +15,7 @@ use sqlite_items::Items;
 use std::alloc::Global;
 
 /// The rules of variables take the reader of those in brackets as a parameter, so that each is proved by itself.
-#[derive(Clone, Copy)]
+#[derive(Drop)]
 pub struct Variables<F> {
     pub alloc: Global,
     /// How many brackets may still be opened inside.

@@ -17,7 +17,7 @@ use sqlite_items::Items;
 use std::alloc::Global;
 
 /// The rules of blocks take the reader of the statements in them as a parameter, so that each rule is proved by itself.
-#[derive(Clone, Copy)]
+#[derive(Drop)]
 pub struct BlockRules<F> {
     pub alloc: Global,
     /// One more than how many brackets and indents may still be opened.

@@ -87,7 +87,7 @@ fn some<T: Drop>(items: Items<T>) -> Result<Items<T>, SyntaxErr>
 }
 
 /// The rules of targets take the maker of those in lists and tuples as a parameter, so that each is proved by itself.
-#[derive(Clone, Copy)]
+#[derive(Drop)]
 pub struct Targets<F> {
     alloc: Global,
     /// One more than how many lists and tuples may be in one another inside.

@@ -13,7 +13,7 @@ use bq_query_tree::{Query, QuerySyntaxErr, SetOperation};
 use sqlite_items::{Boxed, Items};
 use std::alloc::Global;
 
-#[derive(Clone, Copy)]
+#[derive(Drop)]
 pub struct QueryGrammar<F> {
     pub alloc: Global,
     /// How many parentheses and lets may still be opened.

@@ -16,7 +16,7 @@ use bq_resolve_scope::{Code, CodeBranch, CodeStmt, CodeTarget};
 use sqlite_items::{Boxed, Items};
 
 /// The rules of blocks take the resolver of the statements in them as a parameter, so that each rule is proved by itself.
-#[derive(Clone, Copy)]
+#[derive(Drop)]
 pub struct BlockResolver<'a, F> {
     pub scope: Scope<'a>,
     /// How many layers of the statements inside are still looked at.

@@ -12,7 +12,7 @@ use bq_parse_grammar::{Choice, Expr, Pair};
 use bq_resolve_scope::{Code, CodeChoice, CodePair};
 use sqlite_items::{Boxed, Items};
 
-#[derive(Clone, Copy)]
+#[derive(Drop)]
 pub struct Rules<'a, F> {
     pub scope: Scope<'a>,
     /// How many layers inside are still looked at.

@@ -26,6 +26,7 @@ mod runs;
 mod status;
 mod transfer;
 
+pub use bq_load::{Loaded, OpenGate, Pool, load_with};
 pub use bq_query::OutputForm;
 pub use bq_query_lex::QueryErr;
 pub use bq_run_report::Status;

@@ -9,13 +9,12 @@ ghost use Rattle.bq_run_session.specs.Session.{IsAnswerIn, Opens};
 
 use crate::queries::MAX_QUERY_BYTES;
 use bq_label::Workspace;
-use bq_load::{OpenGate, load_with};
 use bq_load_discover::{LoadErr, schema_of};
 use bq_package_schema::Schema;
 use bq_query::OutputForm;
 use bq_query_check::parse_query;
 use bq_query_lex::QueryErr;
-use bq_run::{Options, RunErr};
+use bq_run::{OpenGate, Options, RunErr, load_with};
 use bq_run_report::{NoAnswer, Question, Reply, Session, refusal_of, reply_to, session_over};
 use bq_value_seed::Seed;
 use std::alloc::{AllocError, Global};

@@ -4,7 +4,7 @@ use Rattle.std.proofs.lemmas.Bool.{eqb-true, ne_eqb, eq-eqb}
 use Rattle.std.specs.Prelude.{fold}
 use Rattle.std.specs.Map.{lookup}
 use Rattle.std.specs.Option.{option_or}
-use Rattle.bq_package_rule_class.specs.Class.{Class}
+use Rattle.bq_value_datum.specs.Class.{Class}
 use Rattle.bq_value_datum.specs.Datum.{Datum, none, boolean, int, string, tuple, range, cell, function, built_in, rule_function, attribute}
 use Rattle.bq_value_content.specs.Contents.{Contents, items, pairs, rule}
 use Rattle.bq_value_datum.specs.Same.{same}

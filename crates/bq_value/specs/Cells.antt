@@ -1,7 +1,7 @@
 -- Stores and frozen modules as finite maps from cells to contents (Starlark, "Freezing a value").
 use Rattle.std.specs.Prelude.{◌≡◌, ℕ, cond, fold, List, [], ◌∷◌, slice_get, Option, Some, None, ◌==◌, nat_lt, refl, is_some}
 use Rattle.std.specs.Coded.{Coded, code_by, coded×, coded_ℕ, coded_list}
-use Rattle.bq_package_rule_class.specs.Class.{Class}
+use Rattle.bq_value_datum.specs.Class.{Class}
 use Rattle.bq_value_datum.specs.Datum.{Datum, cell}
 use Rattle.bq_value_datum.specs.Codes.{coded_datum}
 use Rattle.bq_value_content.specs.Contents.{Contents, items, pairs, rule, coded_contents}

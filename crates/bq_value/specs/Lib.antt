@@ -8,6 +8,7 @@ pub use Rattle.bq_value_datum.specs.declared.value.Cell
 pub use Rattle.bq_value_content.specs.Pairs
 pub use Rattle.bq_value_content.specs.Contents
 pub use Rattle.bq_value_content.specs.Kinds
+pub use Rattle.bq_value_content.specs.contracts.content.Content
 pub mod Cells
 pub mod CellsOf
 pub mod Tries

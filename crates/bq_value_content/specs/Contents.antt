@@ -2,10 +2,9 @@
 use Rattle.std.specs.Prelude.{◌≡◌, List, Option, Some, refl}
 use Rattle.std.specs.Coded.{Coded, code_by, coded×, coded⊎, coded_list}
 use Rattle.std.proofs.Common.{◌⊎◌, inl, inr}
-use Rattle.bq_package_rule_class.specs.Class.{Class}
-use Rattle.bq_package_rule_class.specs.Codes.{coded_class}
+use Rattle.bq_value_datum.specs.Class.{Class}
 use Rattle.bq_value_datum.specs.Datum.{Datum}
-use Rattle.bq_value_datum.specs.Codes.{coded_datum}
+use Rattle.bq_value_datum.specs.Codes.{coded_class, coded_datum}
 use Rattle.bq_value_content.specs.Pairs.{HasNoKeyTwice}
 
 pub data Contents : Type 0 where
