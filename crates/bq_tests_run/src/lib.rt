@@ -1,11 +1,17 @@
-//! What neither a clause of bq_run says nor the rows of bq_tests_data show: devices that give little or fail, the status and error line of
-//! each ending, runs over files, sessions of many queries, facts, and workspaces with as many edges of loads as there may be.
+//! What neither a clause of the program says nor the rows of bq_tests_data show: devices that give little or fail, the status and error
+//! line of each ending, runs over files and directories, sessions of many queries, facts, workspaces with as many edges of loads as there
+//! may be, the options of a command line, and clap's texts.
 //!
-//! They stand in a crate of their own, since they are proved after all crates below, and the tests of those need not wait.
+//! They stand in a crate of their own, since they are proved after all crates below, and the tests of those need not wait. They are in one
+//! crate, since each crate whose tests run the program proves its link once more.
 #![tactic(auto)]
 
 #[cfg(test)]
+mod command_lines;
+#[cfg(test)]
 mod devices;
+#[cfg(test)]
+mod directories;
 #[cfg(test)]
 mod edges;
 #[cfg(test)]

@@ -1,6 +1,6 @@
 //! How runs over directories end.
 
-use super::lines::words_in;
+use crate::command_lines::words_in;
 use bq_command_line::{Asked, Place, run_on_directory, words_of};
 use bq_run::{RunErr, Status, status_of};
 use bq_tests_rows::{is_row, row_of, wanted_of};
