@@ -81,7 +81,7 @@ def answers(bench):
     """The answers of one process are those of runs with one query."""
     bundle = f"{ROOT}/examples/macros.bundle"
     for place, words in ((f"{ROOT}/examples/macros", f"--dir {ROOT}/examples/macros"), (bundle, f"< {bundle}")):
-        with Workspace(place, program=bench.asked) as workspace:
+        with Workspace(place, program=bench.program) as workspace:
             for query in QUERIES:
                 bench.compare(f"bq.py, {query}", outcome(lambda it=query: workspace.query(it)), alone(bench, words, query))
             for query in NO_QUERIES:
@@ -89,14 +89,14 @@ def answers(bench):
             bench.compare("bq.py, a long query", outcome(lambda: workspace.query("x" * (2**20 + 1))), "QueryError: Q1 Syntax")
             bench.compare("bq.py, after all these", workspace.query("//log:log.c"), ["//log:log.c"])
             bench.compare("bq.py, no faults", (workspace.printed, workspace.faults), ([], []))
-    with Workspace(f"{ROOT}/examples/macros", program=bench.asked, output="label_kind", jobs=1, max_steps=1000) as workspace:
+    with Workspace(f"{ROOT}/examples/macros", program=bench.program, output="label_kind", jobs=1, max_steps=1000) as workspace:
         bench.compare("bq.py, kinds", workspace.query("//log:log.c"), ["source file //log:log.c"])
 
 
 def faults(bench):
     """What files print, fault lines, and the parts of an error."""
     bench.lay_out("f", FAULTY)
-    with Workspace(f"{bench.room}/f", program=bench.asked) as workspace:
+    with Workspace(f"{bench.room}/f", program=bench.program) as workspace:
         bench.compare("bq.py, faults", (workspace.printed, workspace.faults), (
             ["//a:BUILD: //a:BUILD:1: F71 NoAttribute"], ["//a:BUILD:2: F79 DanglingLabel //b:b", "//b:BUILD:1: F42 DivZero"]))
         bench.compare("bq.py, an answer beside faults", workspace.query("deps(//c:y)"), ["//c:a b.c", "//c:y"])
@@ -124,8 +124,8 @@ def odd_programs(bench):
     bench.compare("bq.py, a query that isn't read", asked(bench, LOADED + "exec sleep 60", "x" * 200000, timeout=0.5)[0].partition(":")[0], "QueryTimeout")
     bench.compare("bq.py, a query longer than a pipe", asked(bench, LOADED + LOADED + "cat", "x" * 200000), [[]])
     bench.compare("bq.py, no workspace", asked(bench, LOADED, place="none"), "ProcessError: there is no directory or bundle none")
-    bench.compare("bq.py, a bundle that is none", outcome(lambda: Workspace(f"{ROOT}/README.md", program=bench.asked)), "RunError: E4 Bundle")
-    bench.compare("bq.py, a wrong option", outcome(lambda: Workspace(ROOT, program=bench.asked, jobs=0)).partition(" for")[0],
+    bench.compare("bq.py, a bundle that is none", outcome(lambda: Workspace(f"{ROOT}/README.md", program=bench.program)), "RunError: E4 Bundle")
+    bench.compare("bq.py, a wrong option", outcome(lambda: Workspace(ROOT, program=bench.program, jobs=0)).partition(" for")[0],
                   "ProcessError: bq has ended with status 2: error: invalid value '0'")
     bench.compare("bq.py, no program", outcome(lambda: Workspace(ROOT, program="none")), "NoProgram: no program none")
     program = script(bench, "")
@@ -136,7 +136,7 @@ def odd_programs(bench):
 
 def ends(bench):
     """Threads, interruptions, and the end of a workspace."""
-    with Workspace(f"{ROOT}/examples/macros", program=bench.asked) as workspace:
+    with Workspace(f"{ROOT}/examples/macros", program=bench.program) as workspace:
         wanted = [alone(bench, f"--dir {ROOT}/examples/macros", query) for query in QUERIES]
         with ThreadPoolExecutor(4) as pool:
             found = list(pool.map(lambda query: outcome(lambda: workspace.query(query)), QUERIES))
