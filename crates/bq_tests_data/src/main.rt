@@ -1,6 +1,11 @@
-//! The program of the rows: the files that `data/FILES` names come in; which rows differ from what is wanted, how many rows each file
-//! has, and how many passed, go out. README.md says how rows are written.
+//! The program of the rows, and of single calls: `bq_tests_data [[--rows] --call CALL QUERY]`.
 //!
+//! Without words, or with `--rows`: the files that `data/FILES` names come in; which rows differ from what is wanted, how many rows each
+//! file has, and how many passed, go out. README.md says how rows are written. With `--call`: one call of the pipeline, over the bundle on
+//! standard input, whose allocations `bench/refused_memory --calls` has refused in turn. They are one program, since each program that
+//! runs the pipeline proves its link once more. It promises nothing but that it does nothing undefined.
+//!
+//! - `words`: what words ask for
 //! - `rows`: the lines of a file to its rows, each in its head
 //! - `tags`: what stands for repeated texts, and for bytes
 //! - `mark`: what a line wants
@@ -8,75 +13,52 @@
 //! - `wanted`: what a row wants
 //! - `ran`: what a run writes
 //! - `check`: the runs of a row, against what it wants
+//! - `row_files`: the rows of all files
+//! - `calls`: single calls
 #![tactic(auto)]
 
 mod asked;
+mod calls;
 mod check;
 mod mark;
 mod ran;
+mod row_files;
 mod rows;
 mod tags;
 mod wanted;
+mod words;
 
-use check::problem_of;
-use rows::rows_of;
+use anyhow::{Result, anyhow};
+use std::env;
 use std::process::ExitCode;
 use std::random::RandomSource;
 use std::sync::Wait;
 use std::thread::Threads;
-use std::{fs, io};
+use words::{Work, work_of};
 
-/// How many rows passed, and how many didn't.
-#[derive(Clone, Copy)]
-struct Tally {
-    passed: u64,
-    failed: u64,
-}
-
-/// Runs the rows of a file with threads of this handle, and prints those that differ and how many there are. A file without rows counts as one that failed.
-fn check_file<T: Threads + Wait + RandomSource + Sync>(
+/// Makes the call that is asked for, and then runs the rows if they are.
+fn carry_out<T: Threads + Wait + RandomSource + Sync>(
     rt: &HostRuntime,
     threads: &T,
-    name: &str,
-    tally: Tally,
-) -> io::Result<Tally> {
-    let alloc = rt.alloc();
-    let content = fs::read(rt, name)?;
-    let rows = rows_of(alloc, &content)?;
-    let mut tally = tally;
-    for row in &rows {
-        match problem_of(threads, alloc, &row.text)? {
-            None => tally.passed = tally.passed.saturating_add(1),
-            Some(problem) => {
-                tally.failed = tally.failed.saturating_add(1);
-                println!(rt;
-                    "{name}:{}: {}",
-                    row.line,
-                    String::from_utf8_lossy(alloc, &problem)?
-                )?;
-            }
-        }
+    work: Work<'_>,
+) -> Result<ExitCode> {
+    if let Some(call) = work.call {
+        calls::make_named(rt, threads, call.word, call.query)?;
     }
-    if rows.is_empty() {
-        tally.failed = tally.failed.saturating_add(1);
+    if work.rows {
+        return Ok(row_files::check_all(rt, threads)?);
     }
-    println!(rt; "{name}: {} rows", rows.len())?;
-    Ok(tally)
+    Ok(ExitCode::SUCCESS)
 }
 
-fn main(rt: HostRuntime) -> io::Result<ExitCode> {
-    let mut tally = Tally {
-        passed: 0,
-        failed: 0,
+fn main(rt: HostRuntime) -> Result<ExitCode> {
+    let words = env::args(&rt)?.collect::<Vec<String>>(rt.alloc())?;
+    let given = match words.as_slice() {
+        [_program, given @ ..] => given,
+        [] => &[],
     };
-    let names = fs::read_to_string(&rt, "FILES")?;
-    for name in names.as_str().lines() {
-        tally = check_file(&rt, &rt, name, tally)?;
+    match work_of(given) {
+        Some(work) => carry_out(&rt, &rt, work),
+        None => Err(anyhow!("usage: bq_tests_data [[--rows] --call CALL QUERY]")),
     }
-    println!(&rt; "{} rows passed, {} failed", tally.passed, tally.failed)?;
-    Ok(if tally.failed == 0 && tally.passed > 0 {
-        ExitCode::SUCCESS
-    } else {
-        ExitCode::FAILURE
-    })
 }

@@ -1,7 +1,7 @@
 //! [`lex`], [`parse`] and [`resolve`] of each file.
 
-use crate::shown::{show_count, show_error};
-use crate::window;
+use crate::calls::shown::{show_count, show_error};
+use crate::calls::window;
 use anyhow::Result;
 use bq_base::Bytes;
 use bq_label::Workspace;

@@ -2,7 +2,7 @@
 
 ghost use Rattle.std.specs.Prelude.{◌≡◌, IfOk};
 
-use crate::shown::show_bytes;
+use crate::calls::shown::show_bytes;
 use anyhow::{Result, anyhow};
 use bq_run::{Metered, write_all};
 

@@ -1,8 +1,8 @@
 //! [`answer`] over the targets of a workspace, and [`run`] with three jobs.
 
-use crate::loads::LIMIT;
-use crate::shown::{show_bytes, show_error};
-use crate::window;
+use crate::calls::loads::LIMIT;
+use crate::calls::shown::{show_bytes, show_error};
+use crate::calls::window;
 use anyhow::Result;
 use bq_label::Workspace;
 use bq_load::{Loaded, load_one_thread};

@@ -1,7 +1,7 @@
 //! [`load_one_thread`], and [`load_with`] by three workers.
 
-use crate::shown::{show_bytes, show_count, show_error};
-use crate::window;
+use crate::calls::shown::{show_bytes, show_count, show_error};
+use crate::calls::window;
 use anyhow::Result;
 use bq_label::Workspace;
 use bq_load::{Loaded, OpenGate, load_one_thread, load_with};

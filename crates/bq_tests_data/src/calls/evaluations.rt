@@ -1,9 +1,9 @@
 //! [`eval_module`] of each module, with what it loads.
 
-use crate::loads::LIMIT;
-use crate::modules::{Files, Modules, imports_of};
-use crate::shown::{show_count, show_error, show_lines, show_refused};
-use crate::window;
+use crate::calls::loads::LIMIT;
+use crate::calls::modules::{Files, Modules, imports_of};
+use crate::calls::shown::{show_count, show_error, show_lines, show_refused};
+use crate::calls::window;
 use anyhow::Result;
 use bq_eval::{FileOutcome, ResolvedModule, eval_module};
 use bq_eval_host::BuiltIns;

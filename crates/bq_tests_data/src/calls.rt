@@ -1,9 +1,7 @@
-//! Makes one call of the pipeline over a bundle: `bench_calls CALL QUERY < BUNDLE`. `bench/refused_memory --calls` has each of the call's
-//! allocations refused in turn.
+//! Single calls of the pipeline over a bundle. `bench/refused_memory --calls` has each of a call's allocations refused in turn.
 //!
-//! What the call needs is made first. A line `call` on standard error says that the call begins, and a line `done` that it has ended; a
+//! What a call needs is made first. A line `call` on standard error says that the call begins, and a line `done` that it has ended; a
 //! call that takes one file or package is made for each, one after another. Standard output says what each returns, after a line `call`.
-//! It promises nothing but that each call does nothing undefined.
 //!
 //! - `call`: the calls, by their words
 //! - `window`: when a call begins and ends
@@ -13,7 +11,6 @@
 //! - `globs`: the files of packages
 //! - `loads`: loading
 //! - `queries`: answers, and runs
-#![tactic(auto)]
 
 mod call;
 mod evaluations;
@@ -28,7 +25,6 @@ mod window;
 use anyhow::{Result, anyhow};
 use bq_run::{Metered, read_all, read_bundle};
 use call::Call;
-use std::env;
 use std::random::RandomSource;
 use std::sync::Wait;
 use std::thread::Threads;
@@ -67,7 +63,7 @@ fn make<T: Threads + Wait + RandomSource + Sync>(
 }
 
 /// Makes the call that a word names, over the bundle on standard input.
-fn make_named<T: Threads + Wait + RandomSource + Sync>(
+pub fn make_named<T: Threads + Wait + RandomSource + Sync>(
     rt: &HostRuntime,
     threads: &T,
     word: &str,
@@ -76,13 +72,5 @@ fn make_named<T: Threads + Wait + RandomSource + Sync>(
     match Call::named(word) {
         Some(call) => make(rt, threads, call, query, &input(rt)?),
         None => Err(anyhow!("unknown call {word}")),
-    }
-}
-
-fn main(rt: HostRuntime) -> Result<()> {
-    let words = env::args(&rt)?.collect::<Vec<String>>(rt.alloc())?;
-    match words.as_slice() {
-        [_, call, query] => make_named(&rt, &rt, call.as_str(), query.as_str()),
-        _ => Err(anyhow!("usage: bench_calls CALL QUERY < BUNDLE")),
     }
 }

@@ -1,7 +1,7 @@
 //! [`glob`] of all files of each package.
 
-use crate::shown::{show_lines, show_refused};
-use crate::window;
+use crate::calls::shown::{show_lines, show_refused};
+use crate::calls::window;
 use anyhow::Result;
 use bq_base::Bytes;
 use bq_label::{Label, Packages, Workspace};
