@@ -1,30 +1,45 @@
 -- A report on what was loaded is a report on the workspace.
-use Rattle.std.proofs.Common.{◌≡◌, ◌∙◌, ℕ, List, Ok, ap, subst}
+use Rattle.std.proofs.Common.{◌≡◌, ◌∙◌, ℕ, List, Ok, ap, subst, sym}
 use Rattle.bq_load_fault_line.specs.declared.fault_line.FaultLine.{FaultLine}
+use Rattle.bq_label.specs.declared.packages.BuildFile.{BuildFile}
 use Rattle.bq_label.specs.declared.workspace.File.{File}
+use Rattle.bq_label.specs.Packages.{packages_of}
 use Rattle.bq_package_schema.specs.Schema.{Rules}
 use Rattle.bq_package_target.specs.Package.{PackageTargets}
 use Rattle.bq_board.specs.Graph.{Loads}
+use Rattle.bq_load_discover.specs.LoadGraph.{GraphParts, IsLoadGraph, inputs_of}
 use Rattle.bq_load_discover.specs.Schema.{schema_in}
 use Rattle.bq_load.specs.declared.loaded.Loaded.{Loaded}
-use Rattle.bq_load.specs.Sources.{LoadingParts}
-use Rattle.bq_load.specs.Loaded.{IsLoaded, LoadsWorkspace}
+use Rattle.bq_load.specs.Sources.{LoadingParts, loading_in}
+use Rattle.bq_load.specs.Loaded.{IsGathered, IsLoaded}
+use Rattle.bq_load.specs.Results as slots
+use Rattle.bq_load.specs.Views.{OutcomeView}
+use Rattle.bq_load_by_name.specs.Results.{LoadsByNames}
+use Rattle.bq_load_by_name.proofs.Outcomes.{outcomes_agree}
 use Rattle.bq_query_check.specs.Checked.{IsChecked}
 use Rattle.bq_query_check.specs.declared.checked.CheckedQuery.{CheckedQuery}
-use Rattle.bq_run_report.specs.Report.{Inside, ReportView, Reports}
-use Rattle.bq_run.specs.WorkspaceRun.{IsReportOn, inside_by}
+use Rattle.bq_run_report.specs.Report.{Inside, ReportView, Reports, inside}
+use Rattle.bq_run.specs.WorkspaceRun.{IsReportOn, inside_by, loaded_in}
 use Rattle.bq_run.specs.declared.options.Options.{Options}
 
 abbrev inside_of : List ℕ → List FaultLine → List PackageTargets → Inside
 inside_of a b c = record { prints = a; faults = b; packages = c }
 
-pub loaded_inside : (x : LoadingParts) (p : Loads) (l : Loaded) → IsLoaded x p l → record { prints = l.prints; faults = l.faults; packages = l.packages } ≡ inside_by x p
-loaded_inside x p l is =
+loaded_inside : (bs : List BuildFile) (os : List OutcomeView) (l : Loaded) → IsGathered bs os l → inside l ≡ inside_by bs os
+loaded_inside bs os l is =
     ap (λ (a : List ℕ). inside_of a l.faults l.packages) is.prints
-    ∙ ap (λ (b : List FaultLine). inside_of (inside_by x p).prints b l.packages) is.faults
-    ∙ ap (λ (c : List PackageTargets). inside_of (inside_by x p).prints (inside_by x p).faults c) is.packages
+    ∙ ap (λ (b : List FaultLine). inside_of (inside_by bs os).prints b l.packages) is.faults
+    ∙ ap (λ (c : List PackageTargets). inside_of (inside_by bs os).prints (inside_by bs os).faults c) is.packages
 
 pub loaded_report : (o : Options) (files : List File) (query : CheckedQuery) (rules : Rules) (l : Loaded) (r : ReportView) → IsChecked o.query.items query → schema_in files ≡ Ok rules
-    → LoadsWorkspace files rules o.max_steps (Ok l) → Reports (record { prints = l.prints; faults = l.faults; packages = l.packages }) query o.output r → IsReportOn o files r
+    → LoadsByNames files rules o.max_steps (Ok l) → Reports (inside l) query o.output r → IsReportOn o files r
 loaded_report o files query rules l r checked schema loads reports =
     IsReportOn.loaded query rules loads.0 checked schema loads.1 (subst (λ (i : Inside). Reports i query o.output r) (loaded_inside _ _ l loads.2) reports)
+
+-- what is inside a workspace whose modules gave this by slots is what they give by names
+module _ (files : List File) (rules : Rules) (limit : ℕ) (g : GraphParts) (is : IsLoadGraph (inputs_of files rules) g) where
+  pub inside_by_names : (x : LoadingParts) (p : Loads) (l : Loaded) → x ≡ loading_in files rules limit g → p ≡ g.edges → IsLoaded x p l → inside l ≡ loaded_in files rules limit g
+  inside_by_names x p l e d loaded =
+      let by_slots : IsLoaded (loading_in files rules limit g) g.edges l = subst (λ (q : Loads). IsLoaded (loading_in files rules limit g) q l) d (subst (λ (y : LoadingParts). IsLoaded y p l) e loaded) in
+      loaded_inside (packages_of files) (slots.outcomes (loading_in files rules limit g) g.edges) l by_slots
+      ∙ sym (ap (inside_by (packages_of files)) (outcomes_agree files rules limit g is))

@@ -1,16 +1,18 @@
 -- The report on a workspace in hand: its texts, and how a run over it ends. The query is read first, then the schema, and then the modules
--- are loaded.
+-- are loaded; what each of them gives is said by names.
 use Rattle.std.specs.Prelude.{◌≡◌, ℕ, List, [], Ok, Err}
 use Rattle.bq_load_fault_line.specs.FaultLine.{sorted_lines}
+use Rattle.bq_label.specs.declared.packages.BuildFile.{BuildFile}
 use Rattle.bq_label.specs.declared.workspace.File.{File}
+use Rattle.bq_label.specs.Packages.{packages_of}
 use Rattle.bq_package_schema.specs.Schema.{Rules}
-use Rattle.bq_board.specs.Graph.{Loads}
 use Rattle.bq_load_discover.specs.LoadGraph.{GraphParts, IsLoadGraph, inputs_of}
 use Rattle.bq_load_discover.specs.Modules.{AreTooMany}
 use Rattle.bq_load_discover.specs.Schema.{schema_in}
 use Rattle.bq_load.specs.Loaded.{fault_lines, packages_in, print_lines}
-use Rattle.bq_load.specs.Results.{outcomes}
-use Rattle.bq_load.specs.Sources.{LoadingParts, loading_in}
+use Rattle.bq_load.specs.Views.{OutcomeView}
+use Rattle.bq_load_by_name.specs.Parsed.{parsed_in}
+use Rattle.bq_load_by_name.specs.Results.{outcomes}
 use Rattle.bq_query_lex.specs.declared.query_error.QueryErr.{QueryErr}
 use Rattle.bq_query_check.specs.Checked.{IsChecked, IsWrong}
 use Rattle.bq_query_check.specs.declared.checked.CheckedQuery.{CheckedQuery}
@@ -23,13 +25,13 @@ use Rattle.bq_run.specs.declared.options.Options.{Options}
 abbrev pub refused : NoAnswer → ReportView
 refused why = record { faults = []; answer = []; end = Err why }
 
--- what the outcomes of the modules along loads give
-abbrev pub inside_by : LoadingParts → Loads → Inside
-inside_by x p = record { prints = print_lines (outcomes x p); faults = sorted_lines (fault_lines (outcomes x p)); packages = packages_in x.packages (outcomes x p) }
+-- what the outcomes of modules give, in a workspace with these packages
+abbrev pub inside_by : List BuildFile → List OutcomeView → Inside
+inside_by bs os = record { prints = print_lines os; faults = sorted_lines (fault_lines os); packages = packages_in bs os }
 
--- what is in the workspace once the modules of its load graph are loaded, each with `limit` steps
+-- what is in the workspace once the modules of its load graph are evaluated by names, each with `limit` steps
 abbrev pub loaded_in : List File → Rules → ℕ → GraphParts → Inside
-loaded_in files rules limit g = inside_by (loading_in files rules limit g) g.edges
+loaded_in files rules limit g = inside_by (packages_of files) (outcomes (parsed_in files rules limit g) g.edges)
 
 pub data IsReportOn (o : Options) (files : List File) (r : ReportView) : Type 0 where
   -- Q1 to Q4, Q7, Q8

@@ -7,15 +7,14 @@ ghost use Rattle.bq_run_report.specs.Report.{report_view};
 ghost use Rattle.bq_run.specs.Run.{IsInRange};
 ghost use Rattle.bq_run.specs.WorkspaceRun.{IsReportOn, refused};
 
+use crate::loading::load_workspace;
 use crate::options::Options;
 use bq_base_rope::Rope;
 use bq_label::Workspace;
-use bq_load::{OpenGate, load_with};
 use bq_load_discover::{LoadErr, schema_of};
 use bq_package_schema::Schema;
 use bq_query_check::{CheckedQuery, parse_query};
 use bq_run_report::{NoAnswer, Question, Report, refusal_of, report_on};
-use bq_value_seed::Seed;
 use std::alloc::{AllocError, Global};
 use std::random::RandomSource;
 use std::sync::Wait;
@@ -47,17 +46,7 @@ fn report_by<T: Threads + Wait + RandomSource + Sync>(
     requires form { question.form ≡ options.now.output }
     ensures { IfOk result (λ r. IsReportOn options.now workspace.now (report_view r)) }
 {
-    let jobs = options.jobs as usize;
-    match load_with(
-        rt,
-        alloc,
-        workspace,
-        schema,
-        options.max_steps,
-        Seed::draw(rt),
-        jobs,
-        &OpenGate,
-    ) {
+    match load_workspace(rt, alloc, workspace, schema, options) {
         Ok(loaded) => report_on(alloc, loaded, question),
         Err(LoadErr::TooManyModules) => Ok(refused_report(alloc, NoAnswer::TooManyModules)),
         Err(_) => Err(AllocError),

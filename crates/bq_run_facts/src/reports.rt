@@ -24,9 +24,8 @@ use bq_load_fault_line::FaultLines;
 use bq_package_schema::Schema;
 use bq_query_check::{CheckedQuery, parse_query};
 use bq_query_target_graph::{TargetGraph, build_graph};
-use bq_run::{Loaded, OpenGate, Options, Pool, refused_report};
+use bq_run::{Loaded, Options, load_graph, refused_report};
 use bq_run_report::{NoAnswer, Report, refusal_of, status_by};
-use bq_value_seed::Seed;
 use std::alloc::{AllocError, Global};
 use std::random::RandomSource;
 use std::sync::Wait;
@@ -144,17 +143,7 @@ fn report_graph<T: Threads + Wait + RandomSource + Sync>(
         drop(graph); // PROOF: one call lets the graph go
         return Err(AllocError);
     };
-    let jobs = options.jobs as usize;
-    let (pool, seats) = Pool::open(
-        alloc,
-        workspace,
-        schema,
-        options.max_steps,
-        Seed::draw(rt),
-        graph,
-        jobs,
-    )?;
-    let loaded = pool.load(rt, alloc, seats, &OpenGate)?;
+    let loaded = load_graph(rt, alloc, workspace, schema, graph, options)?;
     report_loaded(alloc, before, loaded, asked)
 }
 

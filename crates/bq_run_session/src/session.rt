@@ -14,9 +14,8 @@ use bq_package_schema::Schema;
 use bq_query::OutputForm;
 use bq_query_check::parse_query;
 use bq_query_lex::QueryErr;
-use bq_run::{OpenGate, Options, RunErr, load_with};
+use bq_run::{Options, RunErr, load_workspace};
 use bq_run_report::{NoAnswer, Question, Reply, Session, refusal_of, reply_to, session_over};
-use bq_value_seed::Seed;
 use std::alloc::{AllocError, Global};
 use std::random::RandomSource;
 use std::sync::Wait;
@@ -34,17 +33,7 @@ fn open_with<T: Threads + Wait + RandomSource + Sync>(
     requires schema { schema_in workspace.now ≡ Ok schema.now }
     ensures { Opens workspace.now options.now.max_steps result }
 {
-    let jobs = options.jobs as usize;
-    match load_with(
-        rt,
-        alloc,
-        workspace,
-        schema,
-        options.max_steps,
-        Seed::draw(rt),
-        jobs,
-        &OpenGate,
-    ) {
+    match load_workspace(rt, alloc, workspace, schema, options) {
         Ok(loaded) => Ok(session_over(alloc, loaded)?),
         Err(LoadErr::TooManyModules) => Err(RunErr::TooManyModules),
         Err(_) => Err(RunErr::Memory),

@@ -1,0 +1,68 @@
+-- The law of names for evaluations: on the machine and the host of a program a file ends by names in what it ends in by slots.
+use Rattle.std.specs.Prelude.{◌≡◌, ℕ, true, List, length, drop, map, Option, Ok}
+use Rattle.bq_parse_grammar.specs.Lexeme.{Lexeme}
+use Rattle.bq_parse_grammar.specs.Parses.{Parses}
+use Rattle.bq_resolve_scope.specs.declared.code.Resolved.{Resolved}
+use Rattle.bq_resolve_scope.specs.Files.{resolved}
+use Rattle.bq_resolve_scope.specs.Names.{Name, has, global_names}
+use Rattle.bq_resolve_scope_laws.specs.Resolution.{InOrder, Maybe}
+use Rattle.bq_value.specs.Cells.{FrozenView}
+use Rattle.bq_value.specs.Datum.{Datum}
+use Rattle.bq_eval_meaning_spec.specs.Module as slots
+use Rattle.bq_eval_by_name_spec.specs.Names.{Env}
+use Rattle.bq_eval_by_name_module_laws.specs.Ends.{Gives, AllBound, PartsAreCounted}
+use Rattle.bq_eval_by_name_module_laws.specs.Units.{UnitsAgree}
+use Rattle.bq_eval_operations.specs.Calling.{HostCalls}
+use Rattle.bq_eval_operations.specs.Runtime.{primitives}
+use Rattle.bq_eval.specs.Module as by_slots
+use Rattle.bq_eval_by_name.specs.Evaluation.{ParsedFile, values_named, frozen_units, frozen_values, ended, kept_after, module_run}
+use Rattle.bq_eval_by_name.specs.Loads.{load_line, file_loads}
+
+-- the code is what the file resolves to, which some tokens read as
+pub record IsCodeOf (file : ParsedFile) (code : Resolved) : Type 0 where
+  pub lexemes : List Lexeme
+  pub parses : Parses file.universe.kind lexemes (Ok file.statements)
+  pub names : resolved file.universe file.statements ≡ Ok code
+
+-- of each module the code is that of its file, or it has neither
+abbrev pub AreCodesOf : List (Option ParsedFile) → List (Option Resolved) → Type 0
+AreCodesOf files codes = InOrder (Maybe IsCodeOf) files codes
+
+-- what is known of a module's code without its slots: its loads and its globals are those of its file
+abbrev pub LoadsAreKept : Type 0
+LoadsAreKept = (file : ParsedFile) (code : Resolved) → IsCodeOf file code → map load_line code.loads ≡ file_loads file.statements
+
+abbrev pub GlobalsAreKept : Type 0
+GlobalsAreKept = (file : ParsedFile) (code : Resolved) → IsCodeOf file code → code.globals ≡ global_names file.statements
+
+-- A frozen module is read as it ended: each global that was bound has its value, and what its loads bind has the values that they gave.
+abbrev pub FrozenModulesKeepTheirGlobals : Type 0
+FrozenModulesKeepTheirGlobals =
+    (file : ParsedFile) (imports : List Datum) (globals : Env) → AllBound (global_names file.statements) globals
+    → ((name : Name) → has (global_names file.statements) name ≡ true → values_named (global_names file.statements) (frozen_values file imports globals) name ≡ globals name)
+    × (drop (length (global_names file.statements)) (frozen_values file imports globals) ≡ imports)
+
+-- the frozen modules that are reached from these are the same ones by names and by slots, whatever they are
+abbrev pub FrozenUnitsAgree : Type 0
+FrozenUnitsAgree = (files : List (Option ParsedFile)) (codes : List (Option Resolved)) → AreCodesOf files codes → (loaded : List FrozenView) → UnitsAgree (frozen_units files loaded) (slots.frozen_units codes loaded)
+
+module _ {W : Type 0} (rules : List Name) (host : HostCalls W) where
+  -- A file ends by names in what its code ends in by slots: the same frozen module, with the same cells, values of its globals and kinds of
+  -- its rules, or the same fault; the same prints; and the host keeps the same.
+  abbrev pub EvaluationsAgree : Type 0
+  EvaluationsAgree =
+      (files : List (Option ParsedFile)) (codes : List (Option Resolved)) → AreCodesOf files codes → (number : ℕ) (file : ParsedFile) (code : Resolved) → IsCodeOf file code
+      → (loaded : List FrozenView) (imports : List Datum) (limit : ℕ) (kept : W)
+      → (ended file imports (module_run rules host files number file loaded imports limit kept) ≡ by_slots.ended code imports (by_slots.module_run rules host codes number code loaded imports limit kept))
+      × (kept_after (module_run rules host files number file loaded imports limit kept) ≡ by_slots.kept_after (by_slots.module_run rules host codes number code loaded imports limit kept))
+
+  -- Where a file ends, each of its globals is bound.
+  abbrev pub GlobalsAreBound : Type 0
+  GlobalsAreBound =
+      (files : List (Option ParsedFile)) (number : ℕ) (file : ParsedFile) (code : Resolved) → resolved file.universe file.statements ≡ Ok code
+      → (loaded : List FrozenView) (imports : List Datum) (limit : ℕ) (kept : W)
+      → Gives (AllBound (global_names file.statements)) (module_run rules host files number file loaded imports limit kept)
+
+  -- the program's unpacking gives as many elements as there are targets
+  abbrev pub UnpackingCounts : Type 0
+  UnpackingCounts = PartsAreCounted (primitives rules host)

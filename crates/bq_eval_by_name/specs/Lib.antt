@@ -1,0 +1,4 @@
+pub use Rattle.bq_eval.specs.Module
+pub mod Evaluation
+pub mod Loads
+pub mod Agreement

@@ -1,5 +1,0 @@
-use Rattle.bq_eval_by_name_laws.proofs.Units.{units_agree}
-use Rattle.bq_eval_by_name_laws.proofs.laws.frozen_units_agree.Goals as goal
-
-pub returns : goal.returns
-returns c files codes are loaded n = units_agree files codes are loaded n

@@ -1,3 +1,0 @@
-pub mod Evaluation
-pub mod Loads
-pub mod Agreement

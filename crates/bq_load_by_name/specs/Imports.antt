@@ -1,0 +1,55 @@
+-- What a file gets of the modules that it loads, by names: what bq_load says, over files as they are parsed (Bazel, "BUILD files" on load
+-- statements): the global of the symbol's name that the other file itself binds, unless its name begins with `_`.
+use Rattle.std.specs.Prelude.{ℕ, List, [], ◌∷◌, ◌++◌, Option, Some, None, Result, Ok, Err, slice_get, option_and_then, if◌then◌else◌}
+use Rattle.bq_base.specs.declared.fault.Fault.{Fault}
+use Rattle.bq_base.specs.declared.fault.FaultKind.{FaultKind}
+use Rattle.bq_base.specs.declared.fault.FaultKind.TheVariants as f
+use Rattle.bq_label.specs.Label.{LabelParts}
+use Rattle.bq_resolve_scope.specs.Names.{Name, global_names}
+use Rattle.bq_value.specs.Datum.{Datum}
+use Rattle.bq_load_front.specs.Code.{◌>>=◌}
+use Rattle.bq_load_discover.specs.Edges.{number_in}
+use Rattle.bq_load.specs.Imports.{value_named, is_private, or_no_symbol, at_symbol}
+use Rattle.bq_load.specs.Views.{ModuleView}
+use Rattle.bq_eval_by_name.specs.Evaluation.{ParsedFile}
+use Rattle.bq_eval_by_name.specs.Loads.{LoadLine}
+
+-- what a file loads: the files that its loads name, each once, in the order in which they are first named; a module for each of them; and
+-- the files of all modules by their numbers, as they are parsed
+pub record LoadedParts : Type 0 where
+  pub files : List LabelParts
+  pub modules : List ModuleView
+  pub parsed : List (Option ParsedFile)
+
+-- the module of a file that a load names
+unfoldable pub module_named : LoadedParts → LabelParts → Option ModuleView
+module_named x l = option_and_then (slice_get x.modules) (number_in x.files l)
+
+-- ---- a symbol
+
+abbrev pub globals_by : Option (Option ParsedFile) → List Name
+globals_by None = []
+globals_by (Some None) = []
+globals_by (Some (Some file)) = global_names file.statements
+
+-- the value of a module's global
+abbrev pub global_by : List (Option ParsedFile) → Option ModuleView → Name → Option Datum
+global_by parsed None name = None
+global_by parsed (Some m) name = value_named name (globals_by (slice_get parsed m.frozen.own)) m.frozen.cells.globals
+
+-- what a module exports by this name: F34 where it is private, else F33 where the module has no such global
+unfoldable pub exported : List (Option ParsedFile) → Option ModuleView → Name → Result Datum FaultKind
+exported parsed m name = if is_private name then Err f.PrivateSymbol else or_no_symbol (global_by parsed m name)
+
+-- ---- loads
+
+-- the values so far, and one for each of these symbols; or the fault of the first bad one
+unfoldable pub symbol_values : List (Option ParsedFile) → Option ModuleView → ℕ → List Datum → List Name → Result (List Datum) Fault
+symbol_values parsed m line done [] = Ok done
+symbol_values parsed m line done (n ∷ ns) = at_symbol line n (exported parsed m n) >>= λ v. symbol_values parsed m line (done ++ v ∷ []) ns
+
+-- the values so far, and those of the symbols of these loads, which name these files
+unfoldable pub imports : LoadedParts → List Datum → List LoadLine → List LabelParts → Result (List Datum) Fault
+imports x done [] ls = Ok done
+imports x done (s ∷ ss) [] = Ok done
+imports x done (s ∷ ss) (l ∷ ls) = symbol_values x.parsed (module_named x l) s.line done s.symbols >>= λ vs. imports x vs ss ls

@@ -1,0 +1,69 @@
+-- The outcome of each module by names, with its fault if it has no value. A module whose loads lead to a cycle is F35
+-- and names its first load that is cyclic; one that is too deep is F38 and names its first load at which a path of as
+-- many edges starts as there may be; one with a load that has no value is F36 and names the first of them.
+use Rattle.std.specs.Prelude.{ℕ, ◌+◌, List, [], ◌∷◌, Option, Some, None, Result, Ok, Err, slice_get, bytes_eq, if◌then◌else◌}
+use Rattle.bq_base.specs.declared.fault.Fault.{Fault}
+use Rattle.bq_base.specs.declared.fault.FaultKind.{FaultKind}
+use Rattle.bq_base.specs.declared.fault.FaultKind.TheVariants as f
+use Rattle.bq_base.specs.Fault.{fault_at}
+use Rattle.bq_label.specs.declared.workspace.File.{File}
+use Rattle.bq_label.specs.Label.{LabelParts, full_form}
+use Rattle.bq_label.specs.Packages.{packages_of}
+use Rattle.bq_package_schema.specs.Schema.{Rules}
+use Rattle.bq_board.specs.Graph.{Loads}
+use Rattle.bq_load_discover.specs.LoadGraph.{GraphParts, IsLoadGraph, inputs_of}
+use Rattle.bq_load_discover.specs.declared.load_err.LoadErr.{LoadErr}
+use Rattle.bq_load_outcome_spec.specs.Outcome.{outcome}
+use Rattle.bq_load_outcome_spec.specs.declared.outcome.Outcome.{Outcome}
+use Rattle.bq_load_outcome_spec.specs.declared.outcome.Outcome.TheVariants as o
+use Rattle.bq_load.specs.declared.loaded.Loaded.{Loaded}
+use Rattle.bq_load.specs.declared.source.Source.{Source}
+use Rattle.bq_load.specs.Loaded.{IsGathered, HasNoGraph}
+use Rattle.bq_load.specs.Views.{ModuleView, FailedView, OutcomeView, not_evaluated}
+use Rattle.bq_eval_by_name.specs.Evaluation.{ParsedFile}
+use Rattle.bq_eval_by_name.specs.Loads.{LoadLine, file_loads}
+use Rattle.bq_load_by_name.specs.Evaluation.{means, file_in}
+use Rattle.bq_load_by_name.specs.Parsed.{ParsedParts, parsed_in}
+
+-- the line of the first of these loads, which name these files, that names this one
+unfoldable pub line_of_load : LabelParts → List LoadLine → List LabelParts → ℕ
+line_of_load l [] ls = 0
+line_of_load l (s ∷ ss) [] = 0
+line_of_load l (s ∷ ss) (k ∷ ks) = if bytes_eq (full_form l) (full_form k) then s.line else line_of_load l ss ks
+
+abbrev pub line_by : LabelParts → Source → Option ParsedFile → ℕ
+line_by l s None = 0
+line_by l s (Some file) = line_of_load l (file_loads file.statements) s.loads
+
+abbrev pub load_fault_by : FaultKind → Source → Option ParsedFile → Option Source → Fault
+load_fault_by kind s file None = fault_at kind 0
+load_fault_by kind s file (Some loaded) = record { kind = kind; line = line_by loaded.label s file; detail = full_form loaded.label }
+
+-- the fault of module m, which is read from this source, for its load of module k
+unfoldable pub load_fault : ParsedParts → ℕ → Source → FaultKind → ℕ → Fault
+load_fault x m s kind k = load_fault_by kind s (file_in (slice_get x.parsed m)) (slice_get x.sources k)
+
+abbrev pub result_of : ParsedParts → ℕ → Source → Outcome ModuleView FailedView → Result ModuleView FailedView
+result_of x m s (o.Loaded v) = Ok v
+result_of x m s (o.Faulty e) = Err e
+result_of x m s (o.Cyclic k) = Err (not_evaluated (load_fault x m s f.CycleReached k))
+result_of x m s (o.TooDeep k) = Err (not_evaluated (load_fault x m s f.LoadDepth k))
+result_of x m s (o.LoadFailed k) = Err (not_evaluated (load_fault x m s f.LoadFailed k))
+
+-- a module's outcome by the recursion along loads
+abbrev pub outcome_of : ParsedParts → Loads → ℕ → Source → OutcomeView
+outcome_of x p m s = record { label = s.label; result = result_of x m s (outcome (means x) p m) }
+
+-- those of these modules, the first of which has this number
+abbrev pub outcomes_from : ParsedParts → Loads → ℕ → List Source → List OutcomeView
+outcomes_from x p m [] = []
+outcomes_from x p m (s ∷ ss) = outcome_of x p m s ∷ outcomes_from x p (m + 1) ss
+
+-- each module with its outcome
+unfoldable pub outcomes : ParsedParts → Loads → List OutcomeView
+outcomes x p = outcomes_from x p 0 x.sources
+
+-- what loading the workspace returns by names, with `limit` steps for each module
+abbrev pub LoadsByNames : List File → Rules → ℕ → Result Loaded LoadErr → Type 0
+LoadsByNames files rules limit (Ok l) = (g : GraphParts) × IsLoadGraph (inputs_of files rules) g × IsGathered (packages_of files) (outcomes (parsed_in files rules limit g) g.edges) l
+LoadsByNames files rules limit (Err why) = HasNoGraph files rules why

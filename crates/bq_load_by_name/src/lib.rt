@@ -1,0 +1,17 @@
+//! What a workspace loads to by names, which is what a run is defined by; the laws that it is what the code gives, by slots.
+//!
+//! In: nothing; the functions do nothing, and their contracts are the laws. The promise: for every workspace, schema,
+//! limit and load graph each module has by names the outcome that it has in bq_load: the same globals and cells,
+//! prints, fault and package.
+//!
+//! The definitions are those of bq_load, over files as they are parsed: `specs/Parsed.antt` (what is read of a load
+//! graph), `Imports` (what a file gets of what it loads), `Evaluation` (what a module evaluates to) and `Results` (the
+//! recursion along loads). The proofs: the code of each module is what its file resolves to (`proofs/Codes.antt`), so a
+//! file gets the same values by its loads (`proofs/Imports.antt`) and each module evaluates to the same, whatever it
+//! loads (`proofs/Modules.antt`). The recursion along loads is one definition over what modules evaluate to, so the
+//! outcomes are the same (`proofs/Outcomes.antt`).
+#![tactic(auto)]
+
+mod laws;
+
+pub use laws::{code_is_resolved, evaluated_modules_agree, outcomes_agree};

@@ -1,0 +1,71 @@
+//! What a workspace loads to, said by names.
+
+ghost use Rattle.std.specs.Prelude.{◌≡◌, IfOk};
+ghost use Rattle.bq_load_discover.specs.LoadGraph.{IsLoadGraph, inputs_of};
+ghost use Rattle.bq_load_by_name.specs.Results.{LoadsByNames};
+ghost use Rattle.bq_run_report.specs.Report.{inside};
+ghost use Rattle.bq_run.specs.Run.{IsInRange};
+ghost use Rattle.bq_run.specs.WorkspaceRun.{loaded_in};
+
+use crate::options::Options;
+use bq_label::Workspace;
+use bq_load::{Loaded, OpenGate, Pool, load_with};
+use bq_load_discover::{LoadErr, LoadGraph};
+use bq_package_schema::Schema;
+use bq_value_seed::Seed;
+use std::alloc::{AllocError, Global};
+use std::random::RandomSource;
+use std::sync::Wait;
+use std::thread::Threads;
+
+/// Loads a workspace by as many workers as there are jobs. It returns what its files evaluate to by names, E7's refusal, or that memory
+/// was refused.
+pub fn load_workspace<T: Threads + Wait + RandomSource + Sync>(
+    rt: &T,
+    alloc: Global,
+    workspace: &Workspace,
+    schema: &Schema,
+    options: &Options,
+) -> Result<Loaded, LoadErr>
+    requires { IsInRange options.now }
+    ensures { LoadsByNames workspace.now schema.now options.now.max_steps result }
+{
+    load_with(
+        rt,
+        alloc,
+        workspace,
+        schema,
+        options.max_steps,
+        Seed::draw(rt),
+        options.jobs as usize,
+        &OpenGate,
+    )
+}
+
+/// Loads the modules of a load graph by as many workers as there are jobs. What is inside the workspace then is what its files evaluate
+/// to by names.
+#[tactic(auto, using(crate::proofs::Loads::inside_by_names))]
+pub fn load_graph<T: Threads + Wait + RandomSource + Sync>(
+    rt: &T,
+    alloc: Global,
+    workspace: &Workspace,
+    schema: &Schema,
+    graph: LoadGraph,
+    options: &Options,
+) -> Result<Loaded, AllocError>
+    requires in_range { IsInRange options.now }
+    requires graph { IsLoadGraph (inputs_of workspace.now schema.now) graph }
+    ensures { IfOk result (λ l. inside l ≡ loaded_in workspace.now schema.now options.now.max_steps graph) }
+{
+    let (pool, seats) = Pool::open(
+        alloc,
+        workspace,
+        schema,
+        options.max_steps,
+        Seed::draw(rt),
+        graph,
+        options.jobs as usize,
+    )?;
+    // PROOF: the pool is of this load graph
+    Ok(pool.load(rt, alloc, seats, &OpenGate)?)
+}

@@ -1,3 +1,0 @@
-pub mod WorkspaceRun
-pub mod Run
-pub mod Agreement
