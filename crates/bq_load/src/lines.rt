@@ -73,7 +73,7 @@ fn push_prints(
     Ok(())
 }
 
-/// Appends what a module printed.
+/// Appends what a module printed. Most print nothing, and then no label is written out.
 fn push_module(alloc: Global, text: &mut Rope, module: &ModuleOutcome) -> Result<(), AllocError>
     ensures { OnOk result (text.new ≡ text.old ++ prints_of (outcome_view «module».now)) }
 {
@@ -81,6 +81,9 @@ fn push_module(alloc: Global, text: &mut Rope, module: &ModuleOutcome) -> Result
         Ok(loaded) => loaded.prints.as_slice(),
         Err(failed) => failed.prints.as_slice(),
     };
+    if prints.is_empty() {
+        return Ok(());
+    }
     let form = shown(alloc, &module.label)?;
     push_prints(alloc, text, form.as_slice(), prints)
 }
