@@ -55,11 +55,11 @@ owned_by : (packages : List BuildFile) (p : PackageParts) (path : List ℕ) (v :
 owned_by packages p path None e h = absurd (false≢true h)
 owned_by packages p path (Some b) e h = record { owner = b; owns = e; id = same_package p b h }
 
-owned_words : (packages : List BuildFile) (p : PackageParts) (path : List ℕ) → is_owned packages p path ≡ true → IsOwned packages p path
+pub owned_words : (packages : List BuildFile) (p : PackageParts) (path : List ℕ) → is_owned packages p path ≡ true → IsOwned packages p path
 unfolding is_owned
 owned_words packages p path h = owned_by packages p path (owner_of packages path) refl h
 
-words_owned : (packages : List BuildFile) (p : PackageParts) (path : List ℕ) → IsOwned packages p path → is_owned packages p path ≡ true
+pub words_owned : (packages : List BuildFile) (p : PackageParts) (path : List ℕ) → IsOwned packages p path → is_owned packages p path ≡ true
 unfolding is_owned
 words_owned packages p path o = ap (is_package p) o.owns ∙ package_same p o.owner o.id
 

@@ -8,3 +8,4 @@ pub mod Listing
 pub mod GivenNames
 -- sets of patterns, and what is added to them
 pub mod Sets
+pub mod Others

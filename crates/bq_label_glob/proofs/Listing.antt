@@ -6,7 +6,7 @@ use Rattle.std.specs.List.{filter, cons_option}
 use Rattle.bq_label.specs.declared.workspace.File.{File}
 use Rattle.bq_label.specs.declared.packages.BuildFile.{BuildFile}
 use Rattle.bq_label.specs.Label.{PackageParts}
-use Rattle.bq_label_glob.specs.Names.{directory, is_beneath, name_in, names_in, is_wanted, glob}
+use Rattle.bq_label_glob.specs.Names.{directory, is_beneath, is_owned, name_in, names_in, is_wanted, glob}
 
 next_file : (files : List File) (i : ℕ) (f : File) → i < length files → f ≡ get_or files i f → drop i files ≡ f ∷ drop (i + 1) files
 next_file files i f l e = drop_more files i f l ∙ ap (λ (g : File). g ∷ drop (i + 1) files) (sym e)
@@ -15,6 +15,14 @@ module _ (packages : List BuildFile) (p : PackageParts) where
   not_beneath : (path : List ℕ) → is_beneath (directory p) path ≡ false → name_in packages p path ≡ None
   unfolding name_in
   not_beneath path n = rw n refl
+
+  not_owned : (path : List ℕ) → is_beneath (directory p) path ≡ true → is_owned packages p path ≡ false → name_in packages p path ≡ None
+  unfolding name_in
+  not_owned path b n = rw (b, n) refl
+
+  owned : (path : List ℕ) → is_beneath (directory p) path ≡ true → is_owned packages p path ≡ true → name_in packages p path ≡ Some (drop (length (directory p)) path)
+  unfolding name_in
+  owned path b o = rw (b, o) refl
 
   -- only files beneath the package's directory have names in it
   pub beneath_alone : (files : List File) → names_in packages p (filter (λ f. is_beneath (directory p) f.path) files) ≡ names_in packages p files
@@ -45,6 +53,37 @@ module _ (packages : List BuildFile) (p : PackageParts) where
     pub wanted : (f : File) (fs : List File) (n : List ℕ) → name_in packages p f.path ≡ Some n → is_wanted include exclude n ≡ true → glob (f ∷ fs) packages p include exclude ≡ n ∷ glob fs packages p include exclude
     unfolding glob names_in
     wanted f fs n e w = rw (e, w) refl
+
+    -- the package doesn't own the file
+    pub of_another : (f : File) (fs : List File) → is_owned packages p f.path ≡ false → glob (f ∷ fs) packages p include exclude ≡ glob fs packages p include exclude
+    of_another f fs o = elim (cases_Bool (is_beneath (directory p) f.path)) [
+      | inl b ↦ unnamed f fs (not_owned f.path b o)
+      | inr n ↦ unnamed f fs (not_beneath f.path n)
+    ]
+
+    -- a file that this follows the package's directory in
+    module _ (d : List ℕ) (is : d ≡ directory p) (f : File) (fs : List File) where
+      pub elsewhere : is_beneath d f.path ≡ false → glob (f ∷ fs) packages p include exclude ≡ glob fs packages p include exclude
+      elsewhere n = unnamed f fs (not_beneath f.path (ap (λ (e : List ℕ). is_beneath e f.path) (sym is) ∙ n))
+
+      module _ (n : List ℕ) (beneath : is_beneath d f.path ≡ true) (after : n ≡ drop (length d) f.path) where
+        here : is_beneath (directory p) f.path ≡ true
+        here = ap (λ (e : List ℕ). is_beneath e f.path) (sym is) ∙ beneath
+
+        whole : n ≡ drop (length (directory p)) f.path
+        whole = after ∙ ap (λ (e : List ℕ). drop (length e) f.path) is
+
+        named : is_owned packages p f.path ≡ true → name_in packages p f.path ≡ Some n
+        named o = owned f.path here o ∙ ap (λ (m : List ℕ). Some m) (sym whole)
+
+        pub of_no_pattern : is_wanted include exclude n ≡ false → glob (f ∷ fs) packages p include exclude ≡ glob fs packages p include exclude
+        of_no_pattern w = elim (cases_Bool (is_owned packages p f.path)) [
+          | inl o ↦ unwanted f fs n (named o) w
+          | inr o ↦ unnamed f fs (not_owned f.path here o)
+        ]
+
+        pub of_the_package : is_wanted include exclude n ≡ true → is_owned packages p f.path ≡ true → glob (f ∷ fs) packages p include exclude ≡ n ∷ glob fs packages p include exclude
+        of_the_package w o = wanted f fs n (named o) w
 
     -- the next file has no name in the package, or one that is not wanted
     pub passes_over : (files : List File) (i : ℕ) (f : File) (given : List (List ℕ)) (total : List (List ℕ)) → i < length files → f ≡ get_or files i f → glob (f ∷ drop (i + 1) files) packages p include exclude ≡ glob (drop (i + 1) files) packages p include exclude

@@ -1,6 +1,6 @@
 -- Which files glob gives (Bazel, "Functions", the entry of glob): the package's files, by their names in it, that match some
 -- pattern and no excluded one. A file belongs to the package that owns its path.
-use Rattle.std.specs.Prelude.{◌≡◌, ◌↔◌, ℕ, ◌&&◌, Bool, false, not, nat_eq, List, [], Option, Some, None, length, drop, if◌then◌else◌}
+use Rattle.std.specs.Prelude.{◌≡◌, ◌↔◌, ℕ, ◌&&◌, Bool, true, false, not, nat_eq, List, [], Option, Some, None, length, drop, if◌then◌else◌}
 use Rattle.std.specs.List.{list_any, filter, filter_map, starts_with, Contains}
 use Rattle.std.specs.List.Sorted.{IsStrictlySortedBy}
 use Rattle.std.specs.Ordering.{nat_cmp, is_lt}
@@ -32,6 +32,10 @@ is_package p (Some b) = is_package_id p.repo p.package b
 -- the package owns the path
 unfoldable pub is_owned : List BuildFile → PackageParts → List ℕ → Bool
 is_owned packages p path = is_package p (owner_of packages path)
+
+-- the package owns none of the paths that go on after this directory
+abbrev pub OwnsNothingBeneath : List BuildFile → PackageParts → List ℕ → Type 0
+OwnsNothingBeneath packages p dir = (path : List ℕ) → is_beneath dir path ≡ true → is_owned packages p path ≡ false
 
 -- the name of a path in the package that owns it: what follows the package's directory
 unfoldable pub name_in : List BuildFile → PackageParts → List ℕ → Option (List ℕ)

@@ -1,9 +1,9 @@
 //! The files of a package that some pattern matches and no excluded one.
 
-ghost use Rattle.std.specs.Prelude.{◌≡◌, ◌≤◌, ◌&&◌, not, true, false, length, None, Some, IfOk, MatchOption};
+ghost use Rattle.std.specs.Prelude.{◌≡◌, ◌≤◌, ◌&&◌, not, true, false, length, drop, IfOk, IfSome, IsSomeAnd, MatchOption};
 ghost use Rattle.std.specs.List.{filter};
 ghost use Rattle.std.specs.List.Sorted.{IsPartitionPoint};
-ghost use Rattle.bq_label_glob.specs.Names.{directory, is_before, is_beneath, is_owned, name_in, glob};
+ghost use Rattle.bq_label_glob.specs.Names.{directory, is_before, is_beneath, is_owned, OwnsNothingBeneath, glob};
 ghost use Rattle.bq_label_glob.specs.PatternSet.{is_match};
 
 use crate::pattern::Pattern;
@@ -51,27 +51,54 @@ fn files_beneath<'a>(workspace: &'a Workspace, above: &[u8]) -> &'a [File]
     &rest[..len]
 }
 
-/// Returns the name of a path in the package that owns it.
-#[tactic(auto, unfolding(crate::specs::Names::name_in, crate::specs::Names::is_owned))]
-fn name_in<'a>(
-    packages: &Packages,
-    id: &PackageId,
-    above: &[u8],
-    path: &'a [u8],
-) -> Option<&'a [u8]>
-    requires { above.now ≡ directory id.now }
-    ensures { MatchOption result (name_in packages.now id.now path.now ≡ None) (λ name. name_in packages.now id.now path.now ≡ Some name.now) }
+/// Returns what follows the directory in a path, if the path goes on after it.
+fn name_after<'a>(above: &[u8], path: &'a [u8]) -> Option<&'a [u8]>
+    ensures { MatchOption result (is_beneath above.now path.now ≡ false) (λ name. (is_beneath above.now path.now ≡ true) × (name.now ≡ drop (length above.now) path.now)) }
 {
     if !path.starts_with(above) {
         return None;
     }
-    let owner = &packages.owner_of(path)?.id;
-    if owner.repo().as_slice() != id.repo().as_slice()
-        || owner.package().as_slice() != id.package().as_slice()
-    {
-        return None;
-    }
     Some(&path[above.len()..])
+}
+
+/// Returns whether the package owns the path.
+#[tactic(auto, unfolding(crate::specs::Names::is_owned))]
+fn is_owned(packages: &Packages, id: &PackageId, path: &[u8]) -> bool
+    ensures { result ≡ is_owned packages.now id.now path.now }
+{
+    let Some(owner) = packages.owner_of(path) else {
+        return false;
+    };
+    owner.id.repo().as_slice() == id.repo().as_slice()
+        && owner.id.package().as_slice() == id.package().as_slice()
+}
+
+/// Returns the directory of the package that owns the path, if one does. This package owns nothing beneath it.
+#[tactic(auto, using(crate::proofs::Others::owns_nothing_beneath))]
+fn other_directory(
+    alloc: Global,
+    packages: &Packages,
+    id: &PackageId,
+    path: &[u8],
+) -> Result<Option<Vec<u8>>, AllocError>
+    requires beneath { is_beneath (directory id.now) path.now ≡ true }
+    requires another { is_owned packages.now id.now path.now ≡ false }
+    ensures { IfOk result (λ other. IfSome other (λ dir. OwnsNothingBeneath packages.now id.now dir.items)) }
+{
+    match packages.owner_of(path) {
+        Some(owner) => Ok(Some(directory(alloc, &owner.id)?)),
+        None => Ok(None),
+    }
+}
+
+/// Returns whether the path goes on after the directory, if there is one.
+fn is_in_other(other: &Option<Vec<u8>>, path: &[u8]) -> bool
+    ensures { result ≡ true → IsSomeAnd other.now (λ dir. is_beneath dir.items path.now ≡ true) }
+{
+    match other {
+        Some(dir) => path.starts_with(dir),
+        None => false,
+    }
 }
 
 /// Returns whether some pattern matches the name, and no excluded one does.
@@ -83,7 +110,8 @@ fn is_wanted(include: &PatternSet, exclude: &PatternSet, name: &[u8]) -> bool
 
 /// Returns the names in the package of its files that some pattern matches and no excluded one does, ascending by their
 /// bytes. Files of the packages beneath it are theirs. The time is that of matching each file beneath the package
-/// against each pattern with a star; patterns without one are looked up, and equal ones count once.
+/// against each pattern with a star, and of finding the owners of those that match; patterns without a star are looked
+/// up, and equal ones count once.
 pub fn glob(
     alloc: Global,
     workspace: &Workspace,
@@ -98,12 +126,22 @@ pub fn glob(
     let included = PatternSet::of(alloc, include)?;
     let excluded = PatternSet::of(alloc, exclude)?;
     let mut names = Vec::new(alloc);
+    let mut other = None; // a directory beneath which the package owns nothing
     let files = files_beneath(workspace, &above);
     for file in files {
-        let Some(name) = name_in(packages, id, &above, file.path.as_slice()) else {
+        let path = file.path.as_slice();
+        if is_in_other(&other, path) {
+            continue;
+        }
+        let Some(name) = name_after(&above, path) else {
             continue;
         };
+        // most files match no pattern, and it takes longer to find an owner
         if !is_wanted(&included, &excluded, name) {
+            continue;
+        }
+        if !is_owned(packages, id, path) {
+            other = other_directory(alloc, packages, id, path)?;
             continue;
         }
         names.push(Bytes::from_slice(alloc, name)?)?;

@@ -1,7 +1,10 @@
 use Rattle.std.proofs.Common.{◌≡◌, ◌++◌, drop}
-use Rattle.bq_label_glob.specs.Names.{glob}
+use Rattle.std.specs.Prelude.{IfSome}
+use Rattle.bq_label_glob.specs.Names.{OwnsNothingBeneath, glob}
 use Rattle.bq_label_glob.proofs.names.glob.Given as goal
 
--- what the files that are left give, after what is given, is what all give
+-- what the files that are left give, after what is given, is what all give; and the package owns nothing in the other's directory
 abbrev pub invariant-loop-file : goal.invariant-loop-file
-invariant-loop-file l = l.names.items ++ glob (drop l.file-index l.files) l.packages l.id l.include l.exclude ≡ glob l.workspace l.packages l.id l.include l.exclude
+invariant-loop-file l =
+    (l.names.items ++ glob (drop l.file-index l.files) l.packages l.id l.include l.exclude ≡ glob l.workspace l.packages l.id l.include l.exclude)
+    × IfSome l.other (λ d. OwnsNothingBeneath l.packages l.id d.items)
