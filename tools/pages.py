@@ -6,7 +6,7 @@ import os
 import re
 
 ROOT = os.path.dirname(os.path.dirname(os.path.realpath(__file__)))
-USE = re.compile(r"^(?:pub )?use Rattle\.(\w+)\.specs\.([\w.\-«»]+?)(?:\.\{([^}]*)\}|\s+as\s+(\S+))\s*$")
+USE = re.compile(r"^(?:(?:unfoldable )?pub )?use Rattle\.(\w+)\.specs\.([\w.\-«»]+?)(?:\.\{([^}]*)\}|\s+as\s+(\S+))\s*$")
 PASSED_ON = re.compile(r"^pub use Rattle\.(\w+)\.specs\.((?:[\w\-]+\.)*([\w\-]+))\s*$")
 DECLARED = re.compile(r"^\s*(?:abbrev|unfoldable|opaque)(?: mutual)?(?: pub)? ([^\s:({]+)\s*[:({]")
 TYPE = re.compile(r"^\s*(?:pub )?(?:data|record) (?:pub )?(?!where\b|in\b|\{)([^\s:({]+)")
@@ -128,13 +128,16 @@ def uses_of(definition, known):
 
 
 def holder_of(key, known):
-    """The definition that a key names: itself, or the type that has it as a case or a field. None for what no page of the repository says."""
+    """The definition that a key names: itself, one of another page that the key's page passes on, or the type that has it as a case or a
+    field. None for what no page of the repository says."""
     crate, page, name = key
     if (crate, page) not in known:
         return None
-    definitions = known[crate, page].definitions
+    definitions, passed = known[crate, page].definitions, known[crate, page].names
     if name in definitions:
         return definitions[name]
+    if name in passed:
+        return holder_of(passed[name], known)
     part = re.compile(rf"(^|\s){re.escape(name)}\s*:")
     return next((it for it in definitions.values() if TYPE.match(it.text[0]) and part.search("\n".join(it.text))), None)
 

@@ -6,8 +6,6 @@ mod ByName
 pub mod Coding
 -- what may cross threads
 pub mod Crossing
--- what an evaluation ends in, where its run is known
-pub mod Endings
 -- what is found for elements, one after another
 pub mod Found
 -- what a file gets of the modules that it loads, one load after another

@@ -8,8 +8,8 @@ use Rattle.bq_load_outcome_spec.specs.Outcome.{outcome}
 use Rattle.bq_load_outcome_spec.specs.declared.outcome.Outcome.{Outcome}
 use Rattle.bq_load_order.specs.Shown.{shown}
 use Rattle.bq_load_order.specs.Slots.{Tabulates}
-use Rattle.bq_load.specs.declared.outcome.LoadedModule.{LoadedModule}
-use Rattle.bq_load.specs.declared.outcome.FailedModule.{FailedModule}
+use Rattle.bq_load_module.specs.declared.outcome.LoadedModule.{LoadedModule}
+use Rattle.bq_load_module.specs.declared.outcome.FailedModule.{FailedModule}
 use Rattle.bq_load.specs.declared.outcome.ModuleOutcome.{ModuleOutcome}
 use Rattle.bq_load.specs.declared.source.Source.{Source}
 use Rattle.bq_load.specs.Views.{OutcomeView, ModuleView, FailedView, module_view, failed_view, outcome_view}

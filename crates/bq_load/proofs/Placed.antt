@@ -5,7 +5,7 @@ use Rattle.std.specs.declared.alloc.Global.{Global}
 use Rattle.std.specs.declared.sync.Arc.{Arc}
 use Rattle.bq_resolve_scope.specs.Names.{Name}
 use Rattle.bq_resolve_scope.specs.declared.code.Resolved.{Resolved}
-use Rattle.bq_load.specs.declared.outcome.LoadedModule.{LoadedModule}
+use Rattle.bq_load_module.specs.declared.outcome.LoadedModule.{LoadedModule}
 use Rattle.bq_load.specs.Views.{module_view, module_views}
 use Rattle.bq_load.specs.Places.{Places, HasPlaces, AllPlaced}
 use Rattle.bq_load.specs.Imports.{names_in, names_by, names_of}

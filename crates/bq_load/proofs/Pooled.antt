@@ -7,8 +7,8 @@ use Rattle.bq_board.specs.Graph.{Loads}
 use Rattle.bq_load_outcome_spec.specs.Outcome.{outcome}
 use Rattle.bq_load_outcome_spec.specs.declared.outcome.Outcome.{Outcome}
 use Rattle.bq_load_workers.specs.declared.pool.FinishedModule.{FinishedModule as Brought}
-use Rattle.bq_load.specs.declared.outcome.LoadedModule.{LoadedModule}
-use Rattle.bq_load.specs.declared.outcome.FailedModule.{FailedModule}
+use Rattle.bq_load_module.specs.declared.outcome.LoadedModule.{LoadedModule}
+use Rattle.bq_load_module.specs.declared.outcome.FailedModule.{FailedModule}
 use Rattle.bq_load.specs.declared.pool.Evaluated.{Evaluated}
 use Rattle.bq_load.specs.declared.source.Source.{Source}
 use Rattle.bq_load.specs.Views.{ModuleView, FailedView, outcome_view}

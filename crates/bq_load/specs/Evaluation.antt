@@ -1,6 +1,6 @@
 -- What a module evaluates to, by the modules that it loads: its own fault; else the first symbol that they lack; else what its statements
--- give, run on a fresh machine with all its steps. The host has the package of the file. What a BUILD file made is given up once its package is finished: nobody loads one.
-use Rattle.std.specs.Prelude.{ℕ, List, [], map, Option, Some, None, Result, Ok, Err, slice_get, option_map}
+-- give, run on a fresh machine with all its steps. The host has the package of the file.
+use Rattle.std.specs.Prelude.{ℕ, List, [], map, Option, Some, None, Result, Ok, Err, slice_get}
 use Rattle.bq_base.specs.declared.fault.Fault.{Fault}
 use Rattle.bq_base.specs.declared.fault.FaultKind.TheVariants as f
 use Rattle.bq_base.specs.Fault.{fault_at}
@@ -9,17 +9,18 @@ use Rattle.bq_parse_grammar.specs.declared.tree.FileKind.TheVariants as kinds
 use Rattle.bq_label.specs.Label.{LabelParts, package_of}
 use Rattle.bq_label_set.specs.Labels.{with_labels}
 use Rattle.bq_resolve_scope.specs.declared.code.Resolved.{Resolved}
-use Rattle.bq_value.specs.Cells.{FrozenView, frozen}
 use Rattle.bq_value.specs.Datum.{Datum}
 use Rattle.bq_builtin_machine.specs.Action.{Run}
 use Rattle.bq_builtin_machine.specs.State.{State}
 use Rattle.bq_eval_meaning_spec.specs.Frame.{Frame}
-use Rattle.bq_eval.specs.declared.module.ResolvedModule.{ResolvedModule}
-use Rattle.bq_eval.specs.Outcomes.{run_of}
-use Rattle.bq_eval.specs.Module.{Ended, evaluated, failed, ended, kept_after, module_run}
-use Rattle.bq_package_target.specs.Package.{PackageTargets, no_targets, finished}
-use Rattle.bq_package.specs.Calls.{HeldPackage, outside, declaring, package_in, meaning}
+use Rattle.bq_load_module.specs.ResolvedModule.{ResolvedModule}
+use Rattle.bq_load_module.specs.Outcomes.{run_of}
+use Rattle.bq_load_module.specs.Module.{module_run}
+use Rattle.bq_package_target.specs.Package.{no_targets}
+use Rattle.bq_load_module.specs.Calls.{HeldPackage, outside, declaring, meaning}
 use Rattle.bq_load_front.specs.Front.{kind_of}
+pub use Rattle.bq_load_module.specs.Run.{package_left, module_with, module_by}
+unfoldable pub use Rattle.bq_load_module.specs.Run.{module_after}
 use Rattle.bq_load.specs.declared.loading.Loading.{Loading}
 use Rattle.bq_load.specs.declared.source.Source.{Source}
 use Rattle.bq_load.specs.Views.{ModuleView, FailedView, not_evaluated}
@@ -43,31 +44,6 @@ evaluation x m l file modules values = module_run x.names meaning x.code m file 
 -- the statements of this module's file run, where the host begins as for the file of this label
 abbrev pub hosted_run : Loading → LabelParts → ResolvedModule → Run (State × HeldPackage) Frame
 hosted_run l label m = run_of l.built_ins meaning m l.limit (kept_first (loading_of l) label)
-
--- the frozen module of this number with no cell and no global
-abbrev pub without_cells : ℕ → FrozenView
-without_cells own = frozen (record { own = own; cells = []; loaded = [] }) [] []
-
--- what stays of a frozen module: all of it, for those who load it; nothing where there is a package
-abbrev pub stays : FrozenView → Option PackageTargets → FrozenView
-stays made None = made
-stays made (Some p) = without_cells made.own
-
-abbrev pub module_with : FrozenView → List (List ℕ) → Option PackageTargets → ModuleView
-module_with made prints p = record { frozen = stays made p; prints = prints; «package» = p }
-
--- what an evaluation ends in, with the package that is declared then
-abbrev pub module_by : Ended → Option PackageTargets → Result ModuleView FailedView
-module_by (evaluated made prints) p = Ok (module_with made prints (option_map finished p))
-module_by (failed why prints) p = Err (record { fault = why; prints = prints })
-
--- the package that an evaluation declares
-abbrev pub package_left : Option HeldPackage → Option PackageTargets
-package_left None = None
-package_left (Some kept) = package_in kept
-
-unfoldable pub module_after : Resolved → List Datum → Run (State × HeldPackage) Frame → Result ModuleView FailedView
-module_after file values run = module_by (ended file values run) (package_left (kept_after run))
 
 -- what a file evaluates to as the module of this number, with these modules loaded and a value for each clause of its loads
 abbrev pub file_after : LoadingParts → ℕ → LabelParts → Resolved → List ModuleView → List Datum → Result ModuleView FailedView

@@ -17,7 +17,7 @@ use Rattle.bq_value.specs.Datum.{Datum}
 use Rattle.bq_load_front.specs.Code.{◌>>=◌}
 use Rattle.bq_load_discover.specs.Edges.{number_in}
 use Rattle.bq_load.specs.declared.imports.LoadedFiles.{LoadedFiles}
-use Rattle.bq_load.specs.declared.outcome.LoadedModule.{LoadedModule}
+use Rattle.bq_load_module.specs.declared.outcome.LoadedModule.{LoadedModule}
 use Rattle.bq_load.specs.Views.{ModuleView, module_view, module_views}
 
 -- what a file loads: the files that its loads name, each once, in the order in which they are first named; a module for each of them; and

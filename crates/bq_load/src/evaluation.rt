@@ -1,10 +1,8 @@
 //! The evaluation of the statements of a file.
 
-ghost use Rattle.std.specs.Prelude.{◌≡◌, [], map, option_map, Some, IfOk};
-ghost use Rattle.bq_eval.specs.Outcomes.{ended_of};
-ghost use Rattle.bq_package.specs.Calls.{held_by, package_in};
-ghost use Rattle.bq_package_target.specs.Package.{finished};
-ghost use Rattle.bq_eval.specs.Round.{views_of};
+ghost use Rattle.std.specs.Prelude.{◌≡◌, [], map, IfOk};
+ghost use Rattle.bq_load_module.specs.Calls.{held_by};
+ghost use Rattle.bq_load_module.specs.Round.{views_of};
 ghost use Rattle.bq_base.specs.Gives.{Gives};
 ghost use Rattle.bq_base.specs.declared.fault.SourceErr.TheVariants.{Bad};
 ghost use Rattle.bq_load_front.specs.Code.{items};
@@ -12,22 +10,18 @@ ghost use Rattle.bq_load_order.specs.Shown.{told};
 ghost use Rattle.bq_load.specs.Views.{module_view, failed_view, module_views};
 ghost use Rattle.bq_load.specs.Sources.{loading_of};
 ghost use Rattle.bq_load.specs.Imports.{imports};
-ghost use Rattle.bq_load.specs.Evaluation.{kept_first, hosted_run, file_after, without_cells, module_with, module_by, module_after, loaded_parts};
+ghost use Rattle.bq_load.specs.Evaluation.{kept_first, hosted_run, file_after, module_after, loaded_parts};
 
 use crate::imports::LoadedFiles;
 use crate::loading::Loading;
-use crate::outcome::{FailedModule, LoadedModule};
 use crate::source::Source;
-use bq_base::{Bytes, SourceErr};
-use bq_eval::{EvaluatedFile, FileOutcome, ResolvedModule, eval_module};
+use bq_base::SourceErr;
 use bq_label::Label;
 use bq_load_front::kind_of;
-use bq_package::BuildHost;
-use bq_package_target::PackageState;
+use bq_load_module::{BuildHost, FailedModule, LoadedModule, ResolvedModule, load_module};
 use bq_parse_grammar::FileKind;
 use bq_resolve_scope::Resolved;
-use bq_value::{Frozen, Store, Value, freeze};
-use bq_value_seed::Seed;
+use bq_value::{Frozen, Value};
 use std::alloc::{AllocError, Global};
 use std::sync::Arc;
 
@@ -43,69 +37,6 @@ fn frozen_of(
         all.push(Arc::try_clone(&loaded.frozen)?)?;
     }
     Ok(all)
-}
-
-/// Returns a frozen module of this number with no cell and no global.
-fn without_cells(alloc: Global, number: u32) -> Result<Arc<Frozen>, AllocError>
-    ensures { IfOk result (λ f. f.value ≡ without_cells number) }
-{
-    let store = Store::new(alloc, number, Seed::fixed());
-    let frozen = freeze(alloc, store, &[], Vec::new(alloc))?;
-    Ok(Arc::new(alloc, frozen)?)
-}
-
-/// Returns the module of a BUILD file, with its package. Nobody loads it, so it keeps no cell.
-fn build_module(
-    alloc: Global,
-    number: u32,
-    prints: Vec<Bytes>,
-    kept: PackageState,
-) -> Result<LoadedModule, AllocError>
-    ensures { IfOk result (λ m. module_view m ≡ record { frozen = without_cells number; prints = prints.items; «package» = Some (finished kept) }) }
-{
-    let package = kept.finish(alloc)?;
-    let frozen = without_cells(alloc, number)?;
-    Ok(LoadedModule {
-        frozen,
-        prints,
-        package: Some(package),
-    })
-}
-
-/// Returns a module that ran to its end, with the package that its host keeps.
-fn loaded_module(
-    alloc: Global,
-    frozen: Frozen,
-    prints: Vec<Bytes>,
-    kept: Option<PackageState>,
-) -> Result<LoadedModule, AllocError>
-    ensures { IfOk result (λ m. module_view m ≡ module_with frozen prints.items (option_map finished kept)) }
-{
-    let Some(kept) = kept else {
-        return Ok(LoadedModule {
-            frozen: Arc::new(alloc, frozen)?,
-            prints,
-            package: None,
-        });
-    };
-    let number = frozen.module();
-    drop(frozen);
-    build_module(alloc, number, prints, kept)
-}
-
-/// Returns the module of an ended evaluation.
-fn module_by(
-    alloc: Global,
-    evaluated: EvaluatedFile<BuildHost<'_>>,
-) -> Result<Result<LoadedModule, FailedModule>, AllocError>
-    ensures { IfOk result (λ r. told module_view failed_view r ≡ module_by (ended_of evaluated.entry.outcome) (package_in (held_by evaluated.entry.host))) }
-{
-    let EvaluatedFile { outcome, host } = evaluated;
-    let kept = host.into_package();
-    match outcome {
-        FileOutcome::Module(frozen, prints) => Ok(Ok(loaded_module(alloc, frozen, prints, kept)?)),
-        FileOutcome::Failed(fault, prints) => Ok(Err(FailedModule { fault, prints })),
-    }
 }
 
 /// A module that has code.
@@ -149,8 +80,7 @@ impl<'a> Loading<'a> {
         ensures { IfOk result (λ r. told module_view failed_view r ≡ module_after «module».now.file.now «module».now.imports.now (hosted_run self.now label.now «module».now)) }
     {
         let host = self.host(alloc, label)?;
-        let evaluated = eval_module(alloc, &self.built_ins, module, host, self.limit, self.seed)?;
-        module_by(alloc, evaluated)
+        load_module(alloc, &self.built_ins, module, host, self.limit, self.seed)
     }
 
     /// Evaluates a file, with a value for each clause of its loads.

@@ -8,9 +8,9 @@ ghost use Rattle.bq_load.specs.Evaluation.{file_means, by_code, means};
 
 use crate::evaluation::FileModule;
 use crate::loading::Loading;
-use crate::outcome::{FailedModule, LoadedModule};
 use crate::source::share_fault;
 use bq_base::{Fault, FaultKind, SourceErr};
+use bq_load_module::{FailedModule, LoadedModule};
 use bq_load_order::{Evaluate, Watch};
 use std::alloc::{AllocError, Global};
 use std::sync::Arc;

@@ -9,9 +9,9 @@ ghost use Rattle.bq_load.specs.Views.{module_view};
 ghost use Rattle.bq_load.specs.Places.{HasPlaces};
 ghost use Rattle.bq_load.specs.Imports.{value_named, globals_by, names_by, global_of, global_by, is_private, exported, at_symbol, clause_values};
 
-use crate::outcome::LoadedModule;
 use crate::places::{NamePlaces, place_of};
 use bq_base::{Bytes, Fault, FaultKind, SourceErr};
+use bq_load_module::LoadedModule;
 use bq_resolve_scope::{LoadedSymbol, Resolved};
 use bq_value::{EvalErr, Value};
 

@@ -10,10 +10,10 @@ ghost use Rattle.bq_load.specs.Places.{HasPlaces, AllPlaced};
 ghost use Rattle.bq_load.specs.Imports.{loaded_of, names_in, names_of, clause_values, imports};
 
 use crate::exports::{Exports, globals_of};
-use crate::outcome::LoadedModule;
 use crate::places::{NamePlaces, places_at, places_by_name};
 use bq_base::SourceErr;
 use bq_load_front::NamedFiles;
+use bq_load_module::LoadedModule;
 use bq_resolve_scope::{LoadStmt, Resolved};
 use bq_value::Value;
 use std::alloc::{AllocError, Global};

@@ -10,7 +10,7 @@
 //!
 //! In reading order:
 //!
-//! - `outcome`: a module that was evaluated, and one that failed;
+//! - `outcome`: a module with its outcome;
 //! - `source`: what is read of a module before it is evaluated;
 //! - `loading`: what decides the outcomes of all modules;
 //! - `places`: the places of names, where many are looked for;
@@ -45,8 +45,9 @@ mod results;
 mod source;
 mod work;
 
+pub use bq_load_module::{FailedModule, LoadedModule};
 pub use gate::{Gate, OpenGate};
 pub use load::{load_one_thread, load_with};
 pub use loaded::Loaded;
-pub use outcome::{FailedModule, LoadedModule, ModuleOutcome};
+pub use outcome::ModuleOutcome;
 pub use pool::{Evaluated, Pool, PoolSeat, Worked};

@@ -6,12 +6,13 @@ ghost use Rattle.bq_load_fault_line.specs.FaultLine.{put_lines, sorted_lines};
 ghost use Rattle.bq_load.specs.Views.{failed_view, outcome_view};
 ghost use Rattle.bq_load.specs.Loaded.{line_of, lines_of, fault_lines, print_line, prints_by, prints_of, print_lines};
 
-use crate::outcome::{FailedModule, ModuleOutcome};
+use crate::outcome::ModuleOutcome;
 use crate::results::shown;
 use bq_base::Bytes;
 use bq_base_rope::Rope;
 use bq_label::Label;
 use bq_load_fault_line::{FaultLine, FaultLines};
+use bq_load_module::FailedModule;
 use std::alloc::{AllocError, Global};
 
 /// Returns the line of a module that failed.

@@ -1,49 +1,13 @@
-//! A module that was evaluated, and one that failed.
+//! A module with its outcome.
 
-use bq_base::{Bytes, Fault};
 use bq_label::Label;
-use bq_package_target::Package;
-use bq_value::Frozen;
+use bq_load_module::{FailedModule, LoadedModule};
 use std::alloc::Global;
 use std::sync::Arc;
-
-/// A module that was evaluated.
-#[derive(Drop)]
-pub struct LoadedModule {
-    /// Its globals, and what they hold, for the modules that load it. Nobody loads a BUILD file: for one it is empty.
-    pub frozen: Arc<Frozen>,
-    /// What it printed, in order.
-    pub prints: Vec<Bytes>,
-    /// For a BUILD file, the package with its targets.
-    pub package: Option<Package>,
-}
-
-/// A module that failed.
-#[derive(Drop)]
-pub struct FailedModule {
-    pub fault: Fault,
-    /// What it had printed by then.
-    pub prints: Vec<Bytes>,
-}
 
 /// A module with its outcome.
 #[derive(Drop)]
 pub struct ModuleOutcome {
     pub label: Label,
     pub result: Result<Arc<LoadedModule, Global>, FailedModule>,
-}
-
-impl FailedModule {
-    ghost use Rattle.std.specs.Prelude.{◌≡◌};
-    ghost use Rattle.bq_load.specs.Views.{failed_view, not_evaluated};
-
-    /// Makes one that failed before it was evaluated.
-    pub(crate) fn not_evaluated(alloc: Global, fault: Fault) -> FailedModule
-        ensures { failed_view result ≡ not_evaluated fault }
-    {
-        FailedModule {
-            fault,
-            prints: Vec::new(alloc),
-        }
-    }
 }

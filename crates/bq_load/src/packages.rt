@@ -9,9 +9,10 @@ ghost use Rattle.bq_package_target.specs.Package.{no_targets};
 ghost use Rattle.bq_load.specs.Views.{result_view, outcome_view};
 ghost use Rattle.bq_load.specs.Loaded.{labels_of, package_by, package_at, package_in, packages_in};
 
-use crate::outcome::{FailedModule, LoadedModule, ModuleOutcome};
+use crate::outcome::ModuleOutcome;
 use bq_label::{BuildFile, Label, Packages};
 use bq_label_set::LabelSet;
+use bq_load_module::{FailedModule, LoadedModule};
 use bq_package_target::{Package, is_of};
 use std::alloc::{AllocError, Global};
 use std::sync::Arc;

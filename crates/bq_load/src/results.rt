@@ -12,12 +12,13 @@ ghost use Rattle.bq_load.specs.Evaluation.{means, code_in};
 ghost use Rattle.bq_load.specs.Results.{line_of_load, line_by, load_fault, result_of, outcome_by, outcome_of, outcomes};
 
 use crate::loading::Loading;
-use crate::outcome::{FailedModule, LoadedModule, ModuleOutcome};
+use crate::outcome::ModuleOutcome;
 use crate::source::{Source, share_fault};
 use bq_base::{Bytes, Fault, FaultKind};
 use bq_board::Graph;
 use bq_label::{Label, print_label};
 use bq_load_front::NamedFiles;
+use bq_load_module::{FailedModule, LoadedModule};
 use bq_load_order::SharedOutcome;
 use bq_load_outcome_spec::Outcome;
 use bq_resolve_scope::{LoadStmt, Resolved};

@@ -14,10 +14,11 @@ ghost use Rattle.bq_load.specs.Pool.{parts_of, loads_of, package_of_file, IsEval
 
 use crate::gate::{Gate, GateWatch};
 use crate::loaded::Loaded;
-use crate::outcome::{FailedModule, LoadedModule, ModuleOutcome};
+use crate::outcome::ModuleOutcome;
 use crate::packages::package_by;
 use crate::pool::{Evaluated, Pool, PoolSeat, Worked};
 use bq_load_front::kind_of;
+use bq_load_module::{FailedModule, LoadedModule};
 use bq_load_workers::outcomes_by_workers;
 use bq_package_target::Package;
 use bq_parse_grammar::FileKind;

@@ -1,3 +1,6 @@
+pub use Rattle.bq_load.specs.Loaded
+pub use Rattle.bq_load.specs.Sources
+pub use Rattle.bq_load.specs.Views
 pub mod Parsed
 pub mod Imports
 pub mod Evaluation

@@ -16,7 +16,7 @@ use Rattle.bq_load_discover.specs.declared.load_err.LoadErr.{LoadErr}
 use Rattle.bq_load_outcome_spec.specs.Outcome.{outcome}
 use Rattle.bq_load_outcome_spec.specs.declared.outcome.Outcome.{Outcome}
 use Rattle.bq_load_outcome_spec.specs.declared.outcome.Outcome.TheVariants as o
-use Rattle.bq_load.specs.declared.loaded.Loaded.{Loaded}
+pub use Rattle.bq_load.specs.declared.loaded.Loaded.{Loaded}
 use Rattle.bq_load.specs.declared.source.Source.{Source}
 use Rattle.bq_load.specs.Loaded.{IsGathered, HasNoGraph}
 use Rattle.bq_load.specs.Views.{ModuleView, FailedView, OutcomeView, not_evaluated}

@@ -14,4 +14,5 @@
 
 mod laws;
 
+pub use bq_load::{Loaded, OpenGate, Pool, load_with};
 pub use laws::{code_is_resolved, evaluated_modules_agree, outcomes_agree};

@@ -9,12 +9,10 @@ use Rattle.bq_package_target.specs.Package.{PackageTargets}
 use Rattle.bq_board.specs.Graph.{Loads}
 use Rattle.bq_load_discover.specs.LoadGraph.{GraphParts, IsLoadGraph, inputs_of}
 use Rattle.bq_load_discover.specs.Schema.{schema_in}
-use Rattle.bq_load.specs.declared.loaded.Loaded.{Loaded}
-use Rattle.bq_load.specs.Sources.{LoadingParts, loading_in}
-use Rattle.bq_load.specs.Loaded.{IsGathered, IsLoaded}
-use Rattle.bq_load.specs.Results as slots
-use Rattle.bq_load.specs.Views.{OutcomeView}
-use Rattle.bq_load_by_name.specs.Results.{LoadsByNames}
+use Rattle.bq_load_by_name.specs.Sources.{LoadingParts, loading_in}
+use Rattle.bq_load_by_name.specs.Loaded.{IsGathered, IsLoaded}
+use Rattle.bq_load_by_name.specs.Views.{OutcomeView}
+use Rattle.bq_load_by_name.specs.Results.{Loaded, LoadsByNames}
 use Rattle.bq_load_by_name.proofs.Outcomes.{outcomes_agree}
 use Rattle.bq_query_check.specs.Checked.{IsChecked}
 use Rattle.bq_query_check.specs.declared.checked.CheckedQuery.{CheckedQuery}
@@ -41,5 +39,5 @@ module _ (files : List File) (rules : Rules) (limit : ℕ) (g : GraphParts) (is 
   pub inside_by_names : (x : LoadingParts) (p : Loads) (l : Loaded) → x ≡ loading_in files rules limit g → p ≡ g.edges → IsLoaded x p l → inside l ≡ loaded_in files rules limit g
   inside_by_names x p l e d loaded =
       let by_slots : IsLoaded (loading_in files rules limit g) g.edges l = subst (λ (q : Loads). IsLoaded (loading_in files rules limit g) q l) d (subst (λ (y : LoadingParts). IsLoaded y p l) e loaded) in
-      loaded_inside (packages_of files) (slots.outcomes (loading_in files rules limit g) g.edges) l by_slots
+      loaded_inside (packages_of files) _ l by_slots
       ∙ sym (ap (inside_by (packages_of files)) (outcomes_agree files rules limit g is))

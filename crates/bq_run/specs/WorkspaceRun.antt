@@ -9,8 +9,8 @@ use Rattle.bq_package_schema.specs.Schema.{Rules}
 use Rattle.bq_load_discover.specs.LoadGraph.{GraphParts, IsLoadGraph, inputs_of}
 use Rattle.bq_load_discover.specs.Modules.{AreTooMany}
 use Rattle.bq_load_discover.specs.Schema.{schema_in}
-use Rattle.bq_load.specs.Loaded.{fault_lines, packages_in, print_lines}
-use Rattle.bq_load.specs.Views.{OutcomeView}
+use Rattle.bq_load_by_name.specs.Loaded.{fault_lines, packages_in, print_lines}
+use Rattle.bq_load_by_name.specs.Views.{OutcomeView}
 use Rattle.bq_load_by_name.specs.Parsed.{parsed_in}
 use Rattle.bq_load_by_name.specs.Results.{outcomes}
 use Rattle.bq_query_lex.specs.declared.query_error.QueryErr.{QueryErr}

@@ -28,7 +28,7 @@ mod runs;
 mod status;
 mod transfer;
 
-pub use bq_load::Loaded;
+pub use bq_load_by_name::Loaded;
 pub use bq_query::OutputForm;
 pub use bq_query_lex::QueryErr;
 pub use bq_run_report::Status;

@@ -9,7 +9,7 @@ ghost use Rattle.bq_run.specs.WorkspaceRun.{loaded_in};
 
 use crate::options::Options;
 use bq_label::Workspace;
-use bq_load::{Loaded, OpenGate, Pool, load_with};
+use bq_load_by_name::{Loaded, OpenGate, Pool, load_with};
 use bq_load_discover::{LoadErr, LoadGraph};
 use bq_package_schema::Schema;
 use bq_value_seed::Seed;

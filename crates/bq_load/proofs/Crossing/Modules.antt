@@ -9,7 +9,7 @@ use Rattle.bq_base.proofs.fault.Fault.TheSendSync as Fault
 use Rattle.bq_base_names.proofs.name_set.NameSet.TheSendSync as Names
 use Rattle.bq_eval_host.specs.contracts.built_ins.BuiltIns as BuiltIns
 use Rattle.bq_load_front.specs.contracts.named_files.NamedFiles as NamedFiles
-use Rattle.bq_load.specs.contracts.outcome.LoadedModule as LoadedModule
+use Rattle.bq_load_module.specs.contracts.outcome.LoadedModule as LoadedModule
 use Rattle.bq_load.specs.contracts.source.Source as Source
 use Rattle.bq_load.specs.contracts.loading.Loading as Loading
 use Rattle.bq_load.specs.contracts.gate.GateWatch as GateWatch

@@ -1,5 +1,5 @@
 use Rattle.std.proofs.Common.{◌≡◌, ◌++◌, map, drop}
-use Rattle.bq_eval.specs.Round.{views_of}
+use Rattle.bq_load_module.specs.Round.{views_of}
 use Rattle.bq_load.specs.Views.{module_views}
 use Rattle.bq_load.proofs.evaluation.frozen_of.Given as goal
 

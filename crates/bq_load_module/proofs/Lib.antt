@@ -1,0 +1,2 @@
+-- what an evaluation ends in, where its run is known
+mod Endings
