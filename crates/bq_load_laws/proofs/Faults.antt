@@ -4,3 +4,5 @@ pub mod Texts
 pub mod Outcomes
 -- and each line of a workspace that is loaded
 pub mod Lines
+-- none of which is line 0
+pub mod Numbered

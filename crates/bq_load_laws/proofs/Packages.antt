@@ -1,10 +1,16 @@
--- what leaves the package that a host keeps
+-- what a statement makes of what a host keeps, and one after another
 pub mod Keeping
--- the calls of BUILD files leave its label
+-- in which line a call declares
+pub mod Lines
+-- the calls of BUILD files leave the label, and add targets in the line that is running
 pub mod Calls
--- so the package that a file makes is its own
+-- so do the statements of a file, one after another
+pub mod Running
+-- and the package that a file makes is its own, and has the targets that the file declares
 pub mod Made
 -- and that of each outcome
 pub mod Outcomes
+-- so have the packages of a workspace
+pub mod Declared
 -- nobody sees what BUILD files keep
 pub mod Kept

@@ -1,5 +1,6 @@
 //! What holds of loaded packages. The functions do nothing: their contracts are the laws.
 
+ghost use Rattle.bq_load_laws.specs.Packages.Declared.{OutcomesDeclareTheirTargets, PackagesDeclareTheirTargets};
 ghost use Rattle.bq_load_laws.specs.Packages.Kept.{OutcomesStay, ResultsTellTheSame};
 ghost use Rattle.bq_load_laws.specs.Packages.Packages.{FilesMakeTheirPackages, OutcomesHaveTheirPackages, PackagesCount};
 
@@ -12,6 +13,14 @@ pub fn files_make_their_packages()
 /// So have the modules of a load graph with their outcomes.
 pub fn outcomes_have_their_packages()
     ensures { OutcomesHaveTheirPackages }
+{}
+
+/// The targets of a module's package are those that the top-level statements of the module's own file declare, one statement after
+/// another, and then source files. Each that isn't a source file is in the line of its statement, whichever module's function made the
+/// call. So it is in a workspace that is loaded, in each package that has targets.
+pub fn packages_declare_their_targets()
+    ensures outcomes { OutcomesDeclareTheirTargets }
+    ensures loaded { PackagesDeclareTheirTargets }
 {}
 
 /// A BUILD file that ran to its end is in the workspace with the package that it made; none is left out as another's.

@@ -2,3 +2,5 @@
 pub mod Order
 -- what a run writes, by how it ends
 pub mod Written
+-- in which lines the faults are
+pub mod Lines

@@ -13,6 +13,7 @@ ghost use Rattle.bq_run.specs.declared.options.Options.{Options};
 ghost use Rattle.bq_run.specs.declared.error.RunErr.TheVariants as run;
 ghost use Rattle.bq_run.specs.Bundle.{bundle_of};
 ghost use Rattle.bq_run.specs.Run.{Run, IsRunOver, IsRunOf, IsSilent};
+ghost use Rattle.bq_run_laws.specs.Lines.{FaultLinesStandOnLines, DanglingLinesAreOfStatements};
 ghost use Rattle.bq_run_laws.specs.Order.{EndsWithWrongQuery, WritesFaultsAlone};
 
 /// A bundle that makes no workspace is E4, whatever the query and the schema are, and nothing is written.
@@ -42,4 +43,11 @@ pub fn prints_come_first()
 pub fn errors_write_no_answer()
     ensures unanswered { (o : Options) (files : List File) (what : Run) (why : QueryErr) → IsRunOver o files what → what.end ≡ Err (run.Query why) → names_nothing why ≡ true → WritesFaultsAlone o files what }
     ensures silent { (o : Options) (files : List File) (what : Run) → IsRunOver o files what → IsSilent what.end → (what.faults ≡ []) × (what.answer ≡ []) }
+{}
+
+/// No fault line of a run names line 0. That of a label that names no target (F79) names a BUILD file, and the line of one of its
+/// top-level statements.
+pub fn fault_lines_stand_on_lines()
+    ensures lines { FaultLinesStandOnLines }
+    ensures dangling { DanglingLinesAreOfStatements }
 {}

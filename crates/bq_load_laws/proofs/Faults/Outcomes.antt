@@ -1,5 +1,5 @@
--- The outcome of each module is a value, or a fault of one of its parts.
-use Rattle.std.proofs.Common.{◌≡◌, ◌∙◌, ℕ, suc, ◌+◌, ◌++◌, ◌&&◌, not, length, Bool, true, false, cond, List, [], ◌∷◌, map, Option, Some, None, Result, Ok, Err, slice_get, option_map, is_some, Contains, refl, sym, ap, subst, arith, IfErr}
+-- The outcome of each module is a value, whose package its own file declares, or a fault of one of its parts.
+use Rattle.std.proofs.Common.{◌≡◌, ◌∙◌, ℕ, suc, ◌+◌, ◌++◌, ◌&&◌, not, length, Bool, true, false, cond, List, [], ◌∷◌, map, Option, Some, None, Result, Ok, Err, slice_get, is_some, Contains, refl, sym, ap, subst, arith, IfErr, IfOk}
 use Rattle.std.specs.Prelude.{if◌then◌else◌}
 use Rattle.std.specs.List.{AllByRecursion, list_any}
 use Rattle.std.proofs.lemmas.Option.{get_or_from_slice_get}
@@ -11,14 +11,16 @@ use Rattle.bq_board.specs.Depth.{max_load_depth, is_too_deep}
 use Rattle.bq_board.specs.Counts.{Has}
 use Rattle.bq_board.specs.Graph.{Loads, row, Known}
 use Rattle.bq_eval.specs.Module.{Ended, evaluated as ran, failed, ended, kept_after, module_run}
+use Rattle.bq_label.specs.declared.workspace.File.{File}
 use Rattle.bq_label.specs.Label.{LabelParts}
+use Rattle.bq_label.specs.Workspace.{IsWorkspace}
 use Rattle.bq_load.specs.declared.source.Source.{Source}
 use Rattle.bq_load.specs.Evaluation.{kept_first, evaluation, package_left, module_by, module_after, loaded_parts, by_imports, file_means, code_in, by_code, by_source, means}
 use Rattle.bq_load.specs.Imports.{is_private, global_by, or_no_symbol, exported, at_symbol, clause_values, module_named, imports, LoadedParts}
 use Rattle.bq_load.specs.Results.{load_fault, result_of, outcomes_from, outcomes}
 use Rattle.bq_load.specs.Sources.{LoadingParts, source_by, source_of, code_by, code_of, loading_in}
-use Rattle.bq_load.specs.Views.{ModuleView, FailedView}
-use Rattle.bq_load_discover.specs.LoadGraph.{inputs_of}
+use Rattle.bq_load.specs.Views.{ModuleView, FailedView, OutcomeView}
+use Rattle.bq_load_discover.specs.LoadGraph.{GraphParts, IsLoadGraph, inputs_of}
 use Rattle.bq_load_discover.specs.Module.{module_of}
 use Rattle.bq_load_front.specs.Code.{◌>>=◌}
 use Rattle.bq_load_front.specs.Front.{kind_of, front_of}
@@ -33,7 +35,10 @@ use Rattle.bq_load_discover.proofs.Files.{modules_have_files}
 use Rattle.bq_load_label.proofs.Tests.{there_is_file}
 use Rattle.bq_load_laws.proofs.Graphs.Nothing.{loads_nothing}
 use Rattle.bq_load_outcome_spec.proofs.Solution.{outcome_is, evaluated_is}
+use Rattle.bq_package_schema.specs.Schema.{Rules}
 use Rattle.bq_parse_grammar.specs.Lexeme.{lexemes}
+use Rattle.bq_parse_grammar.specs.declared.tree.FileKind.{FileKind}
+use Rattle.bq_parse_grammar.specs.declared.tree.FileKind.TheVariants as kinds
 use Rattle.bq_eval_laws.specs.Evaluations.Files.{FailsAtAStatement}
 use Rattle.bq_eval_laws.proofs.Evaluations.Lines.{files_fail_at}
 use Rattle.bq_package.specs.Calls.{meaning}
@@ -49,9 +54,12 @@ use Rattle.bq_resolve_scope.specs.declared.code.Resolved.{Resolved}
 use Rattle.bq_value.specs.Datum.{Datum}
 use Rattle.bq_load_laws.specs.Faults.Parts.{is_of_loads, universe_at, IsAtLoad, FailsIn, FailsInItsPart, OutcomesFailInTheirParts, LoadedModulesFailInTheirParts}
 use Rattle.bq_load_laws.specs.Outcomes.FirstLoad.{IsAtItsLoad, fault_at_load}
+use Rattle.bq_load_laws.specs.Packages.Declared.{DeclaresAllIn, DeclaresItsTargets, OutcomesDeclareTheirTargets}
+use Rattle.bq_load_laws.specs.Packages.Packages.{IsOwnOf}
 use Rattle.bq_load_laws.proofs.Faults.Texts.{among_all, IsFront, fronts_fail}
 use Rattle.bq_load_laws.proofs.Outcomes.Loads.{on_cycle, too_far, values_have, at_load}
 use Rattle.bq_load_laws.proofs.Outcomes.Sources.{source_at, code_at}
+use Rattle.bq_load_laws.proofs.Packages.Made.{Declares, IsMade, file_made}
 
 -- ---- symbols
 
@@ -95,6 +103,9 @@ imports_fail all x done (s ∷ ss) (l ∷ ls) inside =
     then_only all (clause_values x.code (module_named x l) s.line done s.clauses) (λ vs. imports x vs ss ls) (clauses_fail all s (inside s (at_head s ss)) x.code (module_named x l) done s.clauses)
     (λ vs. imports_fail all x vs ss ls (λ r c. inside r (in_tail s ss r c)))
 
+has_package : (p : PackageTargets) → Some p ≡ None → ⊥
+has_package p e = cc
+
 and_false : (b : Bool) → (b && false) ≡ false
 and_false true = refl
 and_false false = refl
@@ -106,6 +117,14 @@ LoadsAreTold inputs x p m l = (front : Front) → front_of inputs l ≡ Ok front
 -- ---- a file of a load graph
 
 module _ (inputs : InputParts) where
+  -- a package that the file declares, or a fault of one of its parts
+  abbrev ComesTo : LabelParts → Result ModuleView FailedView → Type 0
+  ComesTo l (Ok v) = DeclaresAllIn inputs l v.package
+  ComesTo l (Err v) = FailsIn inputs l v.fault
+
+  abbrev pub IsComeTo : OutcomeView → Type 0
+  IsComeTo o = ComesTo o.label o.result
+
   resolved_by : (l : LabelParts) (r : Result Front Fault) → IsFront inputs l r → IfAny (code_by r)
   resolved_by l (Err why) h = tt
   resolved_by l (Ok front) h =
@@ -122,8 +141,8 @@ module _ (inputs : InputParts) where
       (resolved_by l (front_of inputs l) (fronts_fail inputs l (there l (at_head l ls))), all_resolved ls (λ k c. there k (in_tail l ls k c)))
 
 module _ (inputs : InputParts) (x : LoadingParts) (all : AllByRecursion IfAny x.code) where
-  abbrev Fails : LabelParts → Result ModuleView FailedView → Type 0
-  Fails l r = IfErr r (λ m. FailsIn inputs l m.fault)
+  abbrev Comes : LabelParts → Result ModuleView FailedView → Type 0
+  Comes l r = ComesTo inputs l r
 
   -- ---- evaluation
 
@@ -131,31 +150,43 @@ module _ (inputs : InputParts) (x : LoadingParts) (all : AllByRecursion IfAny x.
     is_resolved : IsResolvedFile front.code
     is_resolved = resolved_by inputs l (Ok front) is
 
-    by_end : (e : Ended) (p : Option PackageTargets) → FailsAsEvaluated e → FailsAtAStatement front.code e → Fails l (module_by e p)
+    by_end : (e : Ended) (p : Option PackageTargets) → FailsAsEvaluated e → FailsAtAStatement front.code e → IfErr (module_by e p) (λ v. FailsIn inputs l v.fault)
     by_end (ran made prints) p h at = tt
     by_end (failed why prints) p h at = FailsIn.of_evaluation is.0 front.code is.1 is.2 h at
 
-    by_run : (values : List Datum) → Fails l (module_after front.code values (evaluation x m l front.code modules values))
+    run_fails : (values : List Datum) → IfErr (module_after front.code values (evaluation x m l front.code modules values)) (λ v. FailsIn inputs l v.fault)
     unfolding module_after evaluation
-    by_run values =
+    run_fails values =
         by_end (ended front.code values (module_run x.names meaning x.code m front.code (map (λ v. v.frozen) modules) values x.limit (kept_first x l)))
         (package_left (kept_after (module_run x.names meaning x.code m front.code (map (λ v. v.frozen) modules) values x.limit (kept_first x l))))
         (files_fail x.names meaning calls_refuse x.code all m front.code is_resolved (map (λ v. v.frozen) modules) values x.limit (kept_first x l))
         (files_fail_at x.names meaning calls_own x.code m front.code (map (λ v. v.frozen) modules) values (kept_first x l) x.limit)
 
-    by_values : (r : Result (List Datum) Fault) → ByLoads front.code.loads r → Fails l (by_imports x m l front.code modules r)
+    by_package : (k : FileKind) (p : Option PackageTargets) → IsOwnOf k l p → Declares front.code.statements p → DeclaresAllIn inputs l p
+    by_package k None own h = tt
+    by_package kinds.Bzl (Some p) own h = absurd (has_package p own)
+    by_package kinds.Build (Some p) own h = (own, record { file = is.0; there = is.1; code = front.code; has = is.2; declared = h })
+
+    by_both : (r : Result ModuleView FailedView) → IfErr r (λ v. FailsIn inputs l v.fault) → IfOk r (IsMade (kind_of l) l front.code.statements) → Comes l r
+    by_both (Ok v) h made = by_package (kind_of l) v.package made.0 made.1
+    by_both (Err v) h made = h
+
+    by_run : (values : List Datum) → Comes l (module_after front.code values (evaluation x m l front.code modules values))
+    by_run values = by_both (module_after front.code values (evaluation x m l front.code modules values)) (run_fails values) (file_made x m l front.code modules values)
+
+    by_values : (r : Result (List Datum) Fault) → ByLoads front.code.loads r → Comes l (by_imports x m l front.code modules r)
     by_values (Err why) h = FailsIn.of_loads is.0 front.code is.1 is.2 h.0 h.1
     by_values (Ok values) h = by_run values
 
-  file_fails : (l : LabelParts) (front : Front) → IsFront inputs l (Ok front) → (m : ℕ) (modules : List ModuleView)
-      → Fails l (file_means x m (record { label = l; loads = front.loads; fault = None }) front.code modules)
+  file_comes : (l : LabelParts) (front : Front) → IsFront inputs l (Ok front) → (m : ℕ) (modules : List ModuleView)
+      → Comes l (file_means x m (record { label = l; loads = front.loads; fault = None }) front.code modules)
   unfolding file_means
-  file_fails l front is m modules =
+  file_comes l front is m modules =
       let s : Source = record { label = l; loads = front.loads; fault = None } in
       by_values l front is m modules (imports (loaded_parts x s modules) [] front.code.loads front.loads) (imports_fail front.code.loads (loaded_parts x s modules) [] front.code.loads front.loads (λ r c. c))
 
-  by_front : (l : LabelParts) (r : Result Front Fault) → IsFront inputs l r → (m : ℕ) (modules : List ModuleView) → Fails l (by_code x m (source_by l r) modules (code_by r))
-  by_front l (Ok front) is m modules = file_fails l front is m modules
+  by_front : (l : LabelParts) (r : Result Front Fault) → IsFront inputs l r → (m : ℕ) (modules : List ModuleView) → Comes l (by_code x m (source_by l r) modules (code_by r))
+  by_front l (Ok front) is m modules = file_comes l front is m modules
   by_front l (Err why) is m modules = is
 
   -- ---- a module in its place
@@ -166,16 +197,16 @@ module _ (inputs : InputParts) (x : LoadingParts) (all : AllByRecursion IfAny x.
     s = source_by l (front_of inputs l)
 
     abbrev Holds : Outcome ModuleView FailedView → Type 0
-    Holds one = Fails l (result_of x m s one)
+    Holds one = Comes l (result_of x m s one)
 
-    means_fails : (modules : List ModuleView) → Fails l (means x m modules)
+    means_comes : (modules : List ModuleView) → Comes l (means x m modules)
     unfolding means
-    means_fails modules =
-        subst (λ z. Fails l (by_source x m modules z)) (sym at)
-        (subst (λ z. Fails l (by_code x m s modules (code_in z))) (sym there) (by_front l (front_of inputs l) (fronts_fail inputs l is_file) m modules))
+    means_comes modules =
+        subst (λ z. Comes l (by_source x m modules z)) (sym at)
+        (subst (λ z. Comes l (by_code x m s modules (code_in z))) (sym there) (by_front l (front_of inputs l) (fronts_fail inputs l is_file) m modules))
 
-    by_result : (r : Result ModuleView FailedView) → Fails l r → Holds (own r)
-    by_result (Ok v) h = tt
+    by_result : (r : Result ModuleView FailedView) → Comes l r → Holds (own r)
+    by_result (Ok v) h = h
     by_result (Err why) h = h
 
     -- a file that has a code may load modules that are cyclic, too deep or failed
@@ -198,7 +229,7 @@ module _ (inputs : InputParts) (x : LoadingParts) (all : AllByRecursion IfAny x.
           subst (FailsIn inputs l) (sym i.fault) (FailsIn.of_loads is.0 front.code is.1 is.2 h (told_there kind k i))
 
       by_loaded_values : (vs : Result (List ModuleView) ℕ) → ((k : ℕ) → vs ≡ Err k → Has (row p m) k) → Holds (evaluated (means x m) vs)
-      by_loaded_values (Ok vs) unread = by_result (means x m vs) (means_fails vs)
+      by_loaded_values (Ok vs) unread = by_result (means x m vs) (means_comes vs)
       by_loaded_values (Err k) unread = of_kind f.LoadFailed k refl (unread k refl)
 
       by_cases : (cyclic deep : Bool) (k d : ℕ) (vs : Result (List ModuleView) ℕ) → (cyclic ≡ true → Has (row p m) k) → (deep ≡ true → Has (row p m) d) → ((j : ℕ) → vs ≡ Err j → Has (row p m) j)
@@ -228,14 +259,14 @@ module _ (inputs : InputParts) (x : LoadingParts) (all : AllByRecursion IfAny x.
       without_code =
           subst Holds (sym (outcome_is (means x) p m ∙ evaluated_is (means x) p (outcome (means x) p) m (no_path (length p)) not_deep
           ∙ ap (λ (z : List ℕ). evaluated (means x m) (values (outcome (means x) p) z)) empty))
-          (by_result (means x m []) (means_fails []))
+          (by_result (means x m []) (means_comes []))
 
     by_what_is_read : (r : Result Front Fault) → front_of inputs l ≡ r → IsFront inputs l r → Holds (outcome (means x) p m)
     by_what_is_read (Ok front) e is = with_code front e is
     by_what_is_read (Err why) e is = without_code (none why e)
 
-    module_fails : Holds (outcome (means x) p m)
-    module_fails = by_what_is_read (front_of inputs l) refl (fronts_fail inputs l is_file)
+    module_comes : Holds (outcome (means x) p m)
+    module_comes = by_what_is_read (front_of inputs l) refl (fronts_fail inputs l is_file)
 
 -- ---- all modules
 
@@ -245,36 +276,62 @@ module _ (inputs : InputParts) (x : LoadingParts) (labels : List LabelParts) (so
   all_code : AllByRecursion IfAny x.code
   all_code = subst (AllByRecursion IfAny) (sym codes) (all_resolved inputs labels all_there)
 
-  from : (m : ℕ) (ls : List LabelParts) → ((i : ℕ) → slice_get labels (m + i) ≡ slice_get ls i) → AreThere inputs ls → AllByRecursion (FailsInItsPart inputs) (outcomes_from x p m (map source_of (map (module_of inputs) ls)))
+  from : (m : ℕ) (ls : List LabelParts) → ((i : ℕ) → slice_get labels (m + i) ≡ slice_get ls i) → AreThere inputs ls → AllByRecursion (IsComeTo inputs) (outcomes_from x p m (map source_of (map (module_of inputs) ls)))
   from m [] same there = tt
   from m (l ∷ ls) same there =
       let zero_more : m + 0 ≡ m = omega arith in
       let at : slice_get labels m ≡ Some l = ap (slice_get labels) (sym zero_more) ∙ same 0 in
-      (one l (front_of inputs l) refl (module_fails inputs x all_code p m l (source_at inputs x labels sources codes m l at) (code_at inputs x labels sources codes m l at) (λ why. none m l why at) known (told m l at) (there l (at_head l ls))), from (m + 1) ls next (λ k c. there k (in_tail l ls k c)))
+      (one l (front_of inputs l) refl (module_comes inputs x all_code p m l (source_at inputs x labels sources codes m l at) (code_at inputs x labels sources codes m l at) (λ why. none m l why at) known (told m l at) (there l (at_head l ls))), from (m + 1) ls next (λ k c. there k (in_tail l ls k c)))
     where
       next : (i : ℕ) → slice_get labels (m + 1 + i) ≡ slice_get ls i
       next i = let more : m + 1 + i ≡ m + suc i = omega arith in ap (slice_get labels) more ∙ same (suc i)
 
       -- whatever is read of the file, the source has its label
-      one : (l : LabelParts) (r : Result Front Fault) → front_of inputs l ≡ r → IfErr (result_of x m (source_by l r) (outcome (means x) p m)) (λ v. FailsIn inputs l v.fault)
-          → IfErr (result_of x m (source_by l r) (outcome (means x) p m)) (λ v. FailsIn inputs (source_by l r).label v.fault)
+      one : (l : LabelParts) (r : Result Front Fault) → front_of inputs l ≡ r → ComesTo inputs l (result_of x m (source_by l r) (outcome (means x) p m))
+          → ComesTo inputs (source_by l r).label (result_of x m (source_by l r) (outcome (means x) p m))
       one l (Ok front) e h = h
       one l (Err why) e h = h
 
 from_zero : (i : ℕ) → 0 + i ≡ i
 from_zero i = omega arith
 
-pub outcomes_fail : OutcomesFailInTheirParts
+pub outcomes_come : (files : List File) (rules : Rules) (limit : ℕ) (g : GraphParts) → IsWorkspace files → IsLoadGraph (inputs_of files rules) g
+    → AllByRecursion (IsComeTo (inputs_of files rules)) (outcomes (loading_in files rules limit g) g.edges)
 unfolding outcomes
-outcomes_fail files rules limit g w is =
+outcomes_come files rules limit g w is =
     let inputs = inputs_of files rules in
     let x = loading_in files rules limit g in
     let read : g.modules ≡ map (module_of inputs) g.labels = is.read in
     let sources : x.sources ≡ map source_of (map (module_of inputs) g.labels) = ap (map source_of) read in
     let codes : x.code ≡ map code_of (map (module_of inputs) g.labels) = ap (map code_of) read in
     let there : AreThere inputs g.labels = λ l c. let h = modules_have_files files rules l w (is.modules.only l c) in there_is_file files l h.0 h.1 in
-    subst (λ ss. AllByRecursion (FailsInItsPart inputs) (outcomes_from x g.edges 0 ss)) (sym sources)
+    subst (λ ss. AllByRecursion (IsComeTo inputs) (outcomes_from x g.edges 0 ss)) (sym sources)
     (from inputs x g.labels sources codes g.edges (λ m l why at bad. get_or_from_slice_get g.edges m [] [] (loads_nothing inputs g m l why is at bad)) is.valid.1 (λ m l at front read. at_load files rules limit g is m l front at read) there 0 g.labels (λ i. ap (slice_get g.labels) (from_zero i)) there)
+
+-- ---- so it fails in a part of its file, or its file declares what is in its package
+
+pub weaker : {A : Type 0} (P Q : A → Type 0) → ((x : A) → P x → Q x) → (xs : List A) → AllByRecursion P xs → AllByRecursion Q xs
+weaker P Q f [] h = tt
+weaker P Q f (x ∷ xs) h = (f x h.0, weaker P Q f xs h.1)
+
+module _ (inputs : InputParts) (l : LabelParts) where
+  fault_of : (r : Result ModuleView FailedView) → ComesTo inputs l r → IfErr r (λ v. FailsIn inputs l v.fault)
+  fault_of (Ok v) h = tt
+  fault_of (Err v) h = h
+
+  package_of : (r : Result ModuleView FailedView) → ComesTo inputs l r → IfOk r (λ v. DeclaresAllIn inputs l v.package)
+  package_of (Ok v) h = h
+  package_of (Err v) h = tt
+
+pub outcomes_fail : OutcomesFailInTheirParts
+outcomes_fail files rules limit g w is =
+    let inputs = inputs_of files rules in
+    weaker (IsComeTo inputs) (FailsInItsPart inputs) (λ o h. fault_of inputs o.label o.result h) (outcomes (loading_in files rules limit g) g.edges) (outcomes_come files rules limit g w is)
+
+pub outcomes_declare : OutcomesDeclareTheirTargets
+outcomes_declare files rules limit g w is =
+    let inputs = inputs_of files rules in
+    weaker (IsComeTo inputs) (DeclaresItsTargets inputs) (λ o h. package_of inputs o.label o.result h) (outcomes (loading_in files rules limit g) g.edges) (outcomes_come files rules limit g w is)
 
 pub loaded_fail : LoadedModulesFailInTheirParts
 loaded_fail files rules limit l w h =

@@ -1,10 +1,8 @@
--- Each call of a build function or of a rule leaves the label of the package.
-use Rattle.std.proofs.Common.{◌≡◌, ◌∙◌, ℕ, Bool, true, false, List, Result, Ok, Err, refl}
+-- Each call of a build function or of a rule leaves the label of the package, and adds source files, or targets in the line that is running.
+use Rattle.std.proofs.Common.{◌≡◌, ◌∙◌, ◌++◌, ℕ, Bool, true, false, List, [], Result, Ok, Err, refl, sym, ap, append_assoc, append-nil}
 use Rattle.std.specs.Prelude.{if◌then◌else◌}
 use Rattle.std.specs.List.{list_any}
 use Rattle.bq_base.specs.declared.fault.FaultKind.{FaultKind}
-use Rattle.bq_parse_grammar.specs.declared.tree.FileKind.{FileKind}
-use Rattle.bq_parse_grammar.specs.declared.tree.FileKind.TheVariants as kinds
 use Rattle.bq_label.specs.Label.{LabelParts}
 use Rattle.bq_package_rule_class.specs.Class.{Class}
 use Rattle.bq_builtin_machine.specs.Action.{given, ◌>>=◌}
@@ -15,7 +13,7 @@ use Rattle.bq_package_target.specs.declared.state.Declared.TheVariants.{Accepted
 use Rattle.bq_package_target.specs.declared.target.Target.{Target}
 use Rattle.bq_package_target.specs.Target.{names_of, declares as declared_by}
 use Rattle.bq_package_target.specs.Names.{are_new}
-use Rattle.bq_package_target.specs.Package.{PackageTargets, is_taken}
+use Rattle.bq_package_target.specs.Package.{PackageTargets, is_taken, files}
 use Rattle.bq_package_target.specs.Calls.{declared, exported}
 use Rattle.bq_resolve_predeclared.specs.declared.host_function.HostFunction.{HostFunction}
 use Rattle.bq_resolve_predeclared.specs.declared.host_function.HostFunction.TheVariants as b
@@ -24,69 +22,99 @@ use Rattle.bq_package.specs.Files.{files_named}
 use Rattle.bq_package.specs.Groups.{group_named}
 use Rattle.bq_package.specs.Rules.{declared_target, rule_target}
 use Rattle.bq_package.specs.Calls.{Declaring, HeldPackage, outside, declaring, new_strings, package_name, ignored, settled, declares, call_in, call_by, call_of, rule_by, rule_call}
+use Rattle.bq_load_line_laws.proofs.Tokens.{all_append}
+use Rattle.bq_load_laws.specs.Packages.Declared.{IsFileOrIn}
 use Rattle.bq_load_laws.proofs.Packages.Keeping.{Left, beside_left}
+use Rattle.bq_load_laws.proofs.Packages.Lines.{AllIn, call_declares, all_in, files_are_files, IsAt, declared_at, rule_at, group_at}
 
--- while a BUILD file is evaluated a package of its label is kept, else none
-abbrev pub Held : FileKind → LabelParts → HeldPackage → Type 0
-Held kinds.Bzl l (outside own packages) = Unit {0}
-Held kinds.Bzl l (declaring d) = ⊥
-Held kinds.Build l (outside own packages) = ⊥
-Held kinds.Build l (declaring d) = d.package.build_file ≡ l
+-- a package gains source files, and what is declared in this line
+pub record Grows (line : ℕ) (before after : PackageTargets) : Type 0 where
+  pub build_file : after.build_file ≡ before.build_file
+  pub new : List Target
+  pub targets : after.targets ≡ before.targets ++ new
+  pub in_line : AllIn line new
 
--- what is declared leaves the label
-abbrev Same : PackageTargets → Declared → Type 0
-Same p (Accepted after) = after.build_file ≡ p.build_file
-Same p (Refused after) = Unit {0}
+-- so does the package of a BUILD file while a statement in this line is running; else none is kept
+abbrev pub Held : ℕ → HeldPackage → HeldPackage → Type 0
+Held line (outside own packages) (outside others more) = Unit {0}
+Held line (outside own packages) (declaring e) = ⊥
+Held line (declaring d) (outside own packages) = ⊥
+Held line (declaring d) (declaring e) = Grows line d.package e.package
 
-same_if : (p : PackageTargets) (ts : List Target) (b : Bool) → Same p (if b then Accepted (record p { targets = ts }) else Refused p)
-same_if p ts true = refl
-same_if p ts false = tt
+pub held_still : (line : ℕ) (k : HeldPackage) → Held line k k
+held_still line (outside own packages) = tt
+held_still line (declaring d) = record { build_file = refl; new = []; targets = sym (append-nil d.package.targets); in_line = tt }
 
-same_unless : (p : PackageTargets) (ts : List Target) (b : Bool) → Same p (if b then Refused p else Accepted (record p { targets = ts }))
-same_unless p ts true = tt
-same_unless p ts false = refl
+module _ (line : ℕ) (first : Declaring) where
+  -- what a call declares
+  abbrev Declares : Declared → Type 0
+  Declares (Accepted after) = Grows line first.package after
+  Declares (Refused after) = Unit {0}
 
-declared_same : (p : PackageTargets) (t : Target) → Same p (declared p t)
-unfolding declared
-declared_same p t = same_if p _ (are_new (names_of p.targets) (names_of (declared_by t)))
+  module _ (s : State) (d : Declaring) (at : s.line ≡ line) (h : Grows line first.package d.package) where
+    grown : (more : List Target) → AllIn line more → Grows line first.package (record d.package { targets = d.package.targets ++ more })
+    grown more all = record {
+      build_file = h.build_file;
+      new = h.new ++ more;
+      targets = ap (λ (ts : List Target). ts ++ more) h.targets ∙ append_assoc first.package.targets h.new more;
+      in_line = all_append (IsFileOrIn line) h.new more h.in_line all;
+    }
 
-exported_same : (p : PackageTargets) (ls : List LabelParts) (line : ℕ) → Same p (exported p ls line)
-unfolding exported
-exported_same p ls line = same_unless p _ (list_any (is_taken p.targets) ls)
+    grown_if : (more : List Target) → AllIn line more → (b : Bool) → Declares (if b then Accepted (record d.package { targets = d.package.targets ++ more }) else Refused d.package)
+    grown_if more all true = grown more all
+    grown_if more all false = tt
 
-module _ (l : LabelParts) (s : State) (d : Declaring) (h : d.package.build_file ≡ l) where
-  settled_left : (x : Declared) → Same d.package x → Left (Held kinds.Build l) (settled s d x)
-  settled_left (Accepted after) same = same ∙ h
-  settled_left (Refused after) same = tt
+    grown_unless : (more : List Target) → AllIn line more → (b : Bool) → Declares (if b then Refused d.package else Accepted (record d.package { targets = d.package.targets ++ more }))
+    grown_unless more all true = tt
+    grown_unless more all false = grown more all
 
-  declares_left : {A : Type 0} (r : Result A FaultKind) (declare : A → Declared) → ((a : A) → Same d.package (declare a)) → Left (Held kinds.Build l) (declares s d r declare)
-  declares_left (Ok a) declare same = settled_left (declare a) (same a)
-  declares_left (Err why) declare same = tt
+    declared_grows : (t : Target) → t.line ≡ s.line → Declares (declared d.package t)
+    unfolding declared
+    declared_grows t e = grown_if (declared_by t) (call_declares line t (e ∙ at)) (are_new (names_of d.package.targets) (names_of (declared_by t)))
 
-  in_package : (f : HostFunction) (passed : Passed) → Left (Held kinds.Build l) (call_in d s f passed)
-  unfolding call_in
-  in_package b.Glob passed = beside_left (Held kinds.Build l) (declaring d) h ((given (globbed d.place s.store passed) >>= new_strings) s)
-  in_package b.PackageName passed = beside_left (Held kinds.Build l) (declaring d) h (given (package_name d.place passed) s)
-  in_package b.Package passed = beside_left (Held kinds.Build l) (declaring d) h (given (ignored passed) s)
-  in_package b.Licenses passed = beside_left (Held kinds.Build l) (declaring d) h (given (ignored passed) s)
-  in_package b.ExportsFiles passed = declares_left (files_named d.place s.store passed) (λ ls. exported d.package ls s.line) (λ ls. exported_same d.package ls s.line)
-  in_package b.PackageGroup passed = declares_left (group_named d.place s.store s.line passed) (declared d.package) (declared_same d.package)
-  in_package (b.Rule rule) passed = declares_left (rule_target d.place s.store s.line rule passed) (declared d.package) (declared_same d.package)
+    exported_grows : (ls : List LabelParts) → Declares (exported d.package ls s.line)
+    unfolding exported
+    exported_grows ls =
+        let more = files s.line d.package.targets ls in
+        grown_unless more (all_in line more (files_are_files s.line d.package.targets ls)) (list_any (is_taken d.package.targets) ls)
 
-by_kept : (k : FileKind) (l : LabelParts) (s : State) (kept : HeldPackage) (f : HostFunction) (passed : Passed) → Held k l kept → Left (Held k l) (call_by s kept f passed)
-by_kept k l s (outside own packages) f passed h = tt
-by_kept kinds.Build l s (declaring d) f passed h = in_package l s d h f passed
-by_kept kinds.Bzl l s (declaring d) f passed h = absurd h
+    settled_left : (x : Declared) → Declares x → Left (Held line (declaring first)) (settled s d x)
+    settled_left (Accepted after) grows = grows
+    settled_left (Refused after) grows = tt
 
-by_rule : (k : FileKind) (l : LabelParts) (s : State) (kept : HeldPackage) (rule : List ℕ) (class : Class) (passed : Passed) → Held k l kept → Left (Held k l) (rule_by s kept rule class passed)
-by_rule k l s (outside own packages) rule class passed h = tt
-by_rule kinds.Build l s (declaring d) rule class passed h = declares_left l s d h (declared_target d.place s.store s.line rule class passed) (declared d.package) (declared_same d.package)
-by_rule kinds.Bzl l s (declaring d) rule class passed h = absurd h
+    target_left : (r : Result Target FaultKind) → IsAt s.line r → Left (Held line (declaring first)) (declares s d r (declared d.package))
+    target_left (Ok t) e = settled_left (declared d.package t) (declared_grows t e)
+    target_left (Err why) e = tt
 
-pub rules_keep : (k : FileKind) (l : LabelParts) (rule : List ℕ) (class : Class) (passed : Passed) (q : State × HeldPackage) → Held k l q.1 → Left (Held k l) (rule_call rule class passed q)
-unfolding rule_call
-rules_keep k l rule class passed q h = by_rule k l q.0 q.1 rule class passed h
+    files_left : (r : Result (List LabelParts) FaultKind) → Left (Held line (declaring first)) (declares s d r (λ ls. exported d.package ls s.line))
+    files_left (Ok ls) = settled_left (exported d.package ls s.line) (exported_grows ls)
+    files_left (Err why) = tt
 
-pub calls_keep : (k : FileKind) (l : LabelParts) (f : HostFunction) (passed : Passed) (q : State × HeldPackage) → Held k l q.1 → Left (Held k l) (call_of f passed q)
-unfolding call_of
-calls_keep k l f passed q h = by_kept k l q.0 q.1 f passed h
+    in_package : (f : HostFunction) (passed : Passed) → Left (Held line (declaring first)) (call_in d s f passed)
+    unfolding call_in
+    in_package b.Glob passed = beside_left (Held line (declaring first)) (declaring d) h ((given (globbed d.place s.store passed) >>= new_strings) s)
+    in_package b.PackageName passed = beside_left (Held line (declaring first)) (declaring d) h (given (package_name d.place passed) s)
+    in_package b.Package passed = beside_left (Held line (declaring first)) (declaring d) h (given (ignored passed) s)
+    in_package b.Licenses passed = beside_left (Held line (declaring first)) (declaring d) h (given (ignored passed) s)
+    in_package b.ExportsFiles passed = files_left (files_named d.place s.store passed)
+    in_package b.PackageGroup passed = target_left (group_named d.place s.store s.line passed) (group_at s.line d.place s.store passed)
+    in_package (b.Rule rule) passed = target_left (rule_target d.place s.store s.line rule passed) (rule_at s.line d.place s.store rule passed)
+
+module _ (line : ℕ) where
+  by_kept : (k : HeldPackage) (s : State) (kept : HeldPackage) (f : HostFunction) (passed : Passed) → s.line ≡ line → Held line k kept → Left (Held line k) (call_by s kept f passed)
+  by_kept k s (outside own packages) f passed at h = tt
+  by_kept (declaring first) s (declaring d) f passed at h = in_package line first s d at h f passed
+  by_kept (outside own packages) s (declaring d) f passed at h = absurd h
+
+  by_rule : (k : HeldPackage) (s : State) (kept : HeldPackage) (rule : List ℕ) (class : Class) (passed : Passed) → s.line ≡ line → Held line k kept → Left (Held line k) (rule_by s kept rule class passed)
+  by_rule k s (outside own packages) rule class passed at h = tt
+  by_rule (declaring first) s (declaring d) rule class passed at h = target_left line first s d at h (declared_target d.place s.store s.line rule class passed) (declared_at s.line d.place s.store rule class passed)
+  by_rule (outside own packages) s (declaring d) rule class passed at h = absurd h
+
+  pub rules_keep : (k : HeldPackage) (rule : List ℕ) (class : Class) (passed : Passed) (q : State × HeldPackage) → q.0.line ≡ line → Held line k q.1 → Left (Held line k) (rule_call rule class passed q)
+  unfolding rule_call
+  rules_keep k rule class passed q at h = by_rule k q.0 q.1 rule class passed at h
+
+  pub calls_keep : (k : HeldPackage) (f : HostFunction) (passed : Passed) (q : State × HeldPackage) → q.0.line ≡ line → Held line k q.1 → Left (Held line k) (call_of f passed q)
+  unfolding call_of
+  calls_keep k f passed q at h = by_kept k q.0 q.1 f passed at h

@@ -1,65 +1,97 @@
--- The package that a file makes is its own.
-use Rattle.std.proofs.Common.{◌≡◌, ℕ, Bool, true, false, List, [], map, Option, Some, None, Result, Ok, Err, slice_get, refl, sym, subst}
+-- The package that a file makes is its own, and its statements declare its targets.
+use Rattle.std.proofs.Common.{◌≡◌, ◌++◌, ◌∷◌, ℕ, Bool, true, false, List, [], Option, Some, None, Result, Ok, Err, slice_get, refl, sym, ap, subst}
+use Rattle.std.proofs.lemmas.Option.{none-some}
 use Rattle.std.specs.Prelude.{IfOk, bytes_eq, option_map, ◌&&◌, if◌then◌else◌}
 use Rattle.std.specs.Cmp.Lexicographic.{bytes_decides}
 use Rattle.bq_base.specs.declared.fault.Fault.{Fault}
 use Rattle.bq_parse_grammar.specs.declared.tree.FileKind.{FileKind}
 use Rattle.bq_parse_grammar.specs.declared.tree.FileKind.TheVariants as kinds
 use Rattle.bq_label.specs.Label.{LabelParts, package_of}
+use Rattle.bq_resolve_scope.specs.declared.code.CodeTopLevel.{CodeTopLevel}
 use Rattle.bq_resolve_scope.specs.declared.code.Resolved.{Resolved}
 use Rattle.bq_value.specs.Datum.{Datum}
 use Rattle.bq_builtin_machine.specs.Action.{Run, done, stopped}
-use Rattle.bq_builtin_machine.specs.State.{State, started}
+use Rattle.bq_builtin_machine.specs.State.{State}
 use Rattle.bq_eval_meaning_spec.specs.Frame.{Frame}
-use Rattle.bq_eval_meaning_spec.specs.Module.{frozen_units}
-use Rattle.bq_eval_operations.specs.Runtime.{primitives}
-use Rattle.bq_eval.specs.Module.{first_store, module_run}
-use Rattle.bq_eval_meaning_laws.proofs.ModuleRules.{module_rule}
 use Rattle.bq_package_target.specs.Target.{is_of}
-use Rattle.bq_package_target.specs.Package.{PackageTargets, no_targets, finished}
-use Rattle.bq_package.specs.Calls.{HeldPackage, outside, declaring, package_in, meaning}
+use Rattle.bq_package_target.specs.declared.target.Target.{Target}
+use Rattle.bq_package_target.specs.Package.{PackageTargets, no_targets, files, own_labels, finished}
+use Rattle.bq_package.specs.Calls.{Declaring, HeldPackage, outside, declaring, package_in}
 use Rattle.bq_load_front.specs.Front.{kind_of}
 use Rattle.bq_load.specs.declared.source.Source.{Source}
-use Rattle.bq_load.specs.Views.{ModuleView}
+use Rattle.bq_load.specs.Views.{ModuleView, FailedView}
 use Rattle.bq_load.specs.Sources.{LoadingParts}
 use Rattle.bq_load.specs.Imports.{imports}
-use Rattle.bq_load.specs.Evaluation.{kept_by, kept_first, evaluation, module_after, loaded_parts, by_imports, file_means, code_in, by_code, by_source, means}
+use Rattle.bq_load.specs.Evaluation.{kept_by, evaluation, module_after, loaded_parts, by_imports, file_means, code_in, by_code, by_source, means}
 use Rattle.bq_load.specs.Loaded.{own_package}
+use Rattle.bq_load_laws.specs.Packages.Declared.{HasDeclared}
 use Rattle.bq_load_laws.specs.Packages.Packages.{IsOwnOf, FilesMakeTheirPackages, PackagesCount}
-use Rattle.bq_load_laws.proofs.Packages.Keeping.{Left, Keeps, all_keep, lines_keep}
-use Rattle.bq_load_laws.proofs.Packages.Calls.{Held, calls_keep, rules_keep}
+use Rattle.bq_load_laws.proofs.Packages.Keeping.{Left, Goes}
+use Rattle.bq_load_laws.proofs.Packages.Lines.{files_are_files}
+use Rattle.bq_load_laws.proofs.Packages.Calls.{Held}
+use Rattle.bq_load_laws.proofs.Packages.Running.{Ends, build_ends, bzl_ends, left_by}
 
-begun : (x : LoadingParts) (l : LabelParts) (k : FileKind) → Held k l (kept_by x l k)
-begun x l kinds.Bzl = tt
-begun x l kinds.Build = refl
+-- these statements declare the targets of a package
+abbrev pub Declares : List CodeTopLevel → Option PackageTargets → Type 0
+Declares ss None = Unit {0}
+Declares ss (Some p) = HasDeclared ss p
 
--- what is kept once the statements of a file have run
-left_by : (x : LoadingParts) (m : ℕ) (l : LabelParts) (file : Resolved) (modules : List ModuleView) (values : List Datum) → Left (Held (kind_of l) l) (evaluation x m l file modules values)
-unfolding evaluation module_run
-left_by x m l file modules values =
-    let loaded = map (λ v. v.frozen) modules in
-    let kept = Held (kind_of l) l in
-    module_rule (primitives x.names meaning) (Keeps kept) (all_keep kept x.names meaning (calls_keep (kind_of l) l) (rules_keep (kind_of l) l)) (lines_keep kept x.names meaning (calls_keep (kind_of l) l) (rules_keep (kind_of l) l)) (frozen_units x.code loaded) m file values (started (first_store m loaded) x.limit, kept_first x l) (begun x l (kind_of l))
+-- a package of this label's own, whose targets these statements declare
+abbrev pub IsMade : FileKind → LabelParts → List CodeTopLevel → ModuleView → Type 0
+IsMade k l ss v = IsOwnOf k l v.package × Declares ss v.package
 
-packed : (k : FileKind) (l : LabelParts) (kept : HeldPackage) → Held k l kept → IsOwnOf k l (option_map finished (package_in kept))
+-- the package that a BUILD file begins with
+abbrev begun : LoadingParts → LabelParts → Declaring
+begun x l = record { place = record { own = package_of l; files = x.files; packages = x.packages; rules = x.rules }; «package» = no_targets l }
+
+without_package : (l : LabelParts) (ss : List CodeTopLevel) (p : Option PackageTargets) → p ≡ None → IsOwnOf kinds.Bzl l (option_map finished p) × Declares ss (option_map finished p)
+without_package l ss None e = (refl, tt)
+without_package l ss (Some p) e = absurd (none-some p (sym e))
+
+with_package : (x : LoadingParts) (l : LabelParts) (ss : List CodeTopLevel) (kept : HeldPackage) → Ends ss (begun x l) kept
+    → IsOwnOf kinds.Build l (option_map finished (package_in kept)) × Declares ss (option_map finished (package_in kept))
 unfolding finished
-packed kinds.Bzl l (outside own packages) h = refl
-packed kinds.Bzl l (declaring d) h = absurd h
-packed kinds.Build l (outside own packages) h = absurd h
-packed kinds.Build l (declaring d) h = h
+with_package x l ss (outside own packages) h = absurd h
+with_package x l ss (declaring d) h =
+    let named = d.package.build_file ∷ own_labels (package_of d.package.build_file) d.package.targets in
+    let own_files = files 0 d.package.targets named in (
+      h.build_file,
+      record {
+        called = h.new;
+        others = own_files;
+        targets = ap (λ (ts : List Target). ts ++ own_files) h.targets;
+        by_calls = h.by_calls;
+        are_files = files_are_files 0 d.package.targets named;
+      },
+    )
+
+packed : (x : LoadingParts) (l : LabelParts) (ss : List CodeTopLevel) (k : FileKind) (kept : HeldPackage) → Goes Held ss (kept_by x l k) kept
+    → IsOwnOf k l (option_map finished (package_in kept)) × Declares ss (option_map finished (package_in kept))
+packed x l ss kinds.Bzl kept h = without_package l ss (package_in kept) (bzl_ends ss (kept_by x l kinds.Bzl) kept refl h)
+packed x l ss kinds.Build kept h = with_package x l ss kept (build_ends ss (begun x l) kept h)
+
+ended_made : (x : LoadingParts) (k : FileKind) (l : LabelParts) (file : Resolved) (values : List Datum) (run : Run (State × HeldPackage) Frame) → Left (Goes Held file.statements (kept_by x l k)) run
+    → IfOk (module_after file values run) (IsMade k l file.statements)
+unfolding module_after
+ended_made x k l file values (done globals s) h = packed x l file.statements k s.1 h
+ended_made x k l file values (stopped why) h = tt
+
+pub file_made : (x : LoadingParts) (m : ℕ) (l : LabelParts) (file : Resolved) (modules : List ModuleView) (values : List Datum)
+    → IfOk (module_after file values (evaluation x m l file modules values)) (IsMade (kind_of l) l file.statements)
+file_made x m l file modules values = ended_made x (kind_of l) l file values (evaluation x m l file modules values) (left_by x m l file modules values)
 
 module _ (k : FileKind) (l : LabelParts) where
   abbrev pub Own : ModuleView → Type 0
   Own v = IsOwnOf k l v.package
 
-  ended_own : (file : Resolved) (values : List Datum) (run : Run (State × HeldPackage) Frame) → Left (Held k l) run → IfOk (module_after file values run) Own
-  unfolding module_after
-  ended_own file values (done globals s) h = packed k l s.1 h
-  ended_own file values (stopped why) h = tt
+  its_own_alone : (ts : List CodeTopLevel) (r : Result ModuleView FailedView) → IfOk r (IsMade k l ts) → IfOk r Own
+  its_own_alone ts (Ok v) h = h.0
+  its_own_alone ts (Err why) h = tt
 
 imported_own : (x : LoadingParts) (m : ℕ) (l : LabelParts) (file : Resolved) (modules : List ModuleView) (values : Result (List Datum) Fault) → IfOk (by_imports x m l file modules values) (Own (kind_of l) l)
 imported_own x m l file modules (Err why) = tt
-imported_own x m l file modules (Ok values) = ended_own (kind_of l) l file values (evaluation x m l file modules values) (left_by x m l file modules values)
+imported_own x m l file modules (Ok values) =
+    its_own_alone (kind_of l) l file.statements (module_after file values (evaluation x m l file modules values)) (file_made x m l file modules values)
 
 file_own : (x : LoadingParts) (m : ℕ) (s : Source) (file : Resolved) (modules : List ModuleView) → IfOk (file_means x m s file modules) (Own (kind_of s.label) s.label)
 unfolding file_means
