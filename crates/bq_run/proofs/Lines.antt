@@ -1,12 +1,13 @@
 -- The first line of a text, and the parts that the headers cut.
-use Rattle.std.proofs.Common.{◌≡◌, ◌≤◌, ◌<◌, ◌+◌, ◌-◌, ◌++◌, ◌==◌, ℕ, zero, suc, true, false, List, [], ◌∷◌, length, take, drop, map, slice_index, refl, sym, ap, subst, ◌∙◌, arith, append_assoc, take_all, nat_eq, le_refl, length-take-le, length-append, inl, inr, length-drop}
+use Rattle.std.proofs.Common.{◌≡◌, ◌≤◌, ◌<◌, ◌+◌, ◌-◌, ◌++◌, ◌==◌, ℕ, zero, suc, true, false, None, option_and_then, List, [], ◌∷◌, length, take, drop, map, slice_index, refl, sym, ap, subst, ◌∙◌, arith, append_assoc, take_all, nat_eq, nat_le, le_refl, length-take-le, length-append, inl, inr, length-drop}
 use Rattle.std.proofs.lemmas.Bool.{false_from_ne_true, cases_Bool}
 use Rattle.std.proofs.lemmas.Bool.Decides.{nat_tests}
 use Rattle.std.proofs.lemmas.List.{drop_all, drop-drop}
 use Rattle.std.proofs.Math.Seq.{take-add}
 use Rattle.std.specs.List.{starts_with, list_all}
 use Rattle.bq_label.specs.declared.workspace.File.{File}
-use Rattle.bq_run.specs.Bundle.{lines, Cut, cut, marker, is_header, is_whole, file_of, BeginsWith}
+use Rattle.bq_label.specs.Workspace.{max_files, workspace_of}
+use Rattle.bq_run.specs.Bundle.{lines, Cut, cut, marker, is_header, is_whole, file_of, is_bundle, files_of, BeginsWith}
 
 -- a line ends at the first newline
 pub line_at : (text : List ℕ) (k : ℕ) → k < length text → (slice_index text k == 10) ≡ true → ((j : ℕ) → j < k → ¬ ((slice_index text j == 10) ≡ true)) → lines text ≡ take (suc k) text ∷ lines (drop (suc k) text)
@@ -116,3 +117,17 @@ parts_more text rest path content after done h b =
       whole = h.whole ∙ all;
       front = b.front;
     }
+
+-- with one file more than a workspace may have, there is none
+pub too_many : (text rest path content after : List ℕ) (done : List File) → Parts text done rest → BeginsWith rest path content after → length done ≡ max_files → option_and_then workspace_of (files_of text) ≡ None
+unfolding workspace_of
+too_many text rest path content after done h b full =
+    let h' = parts_more text rest path content after done h b in
+    let one : List File = record { path = path; content = content } ∷ [] in
+    let files : List File = map file_of (cut (lines text)).parts in
+    let many : max_files < length files = omega (arith, full, ap length h'.files, length-append (done ++ one) (map file_of (cut (lines after)).parts), length-append done one) in
+    let few : nat_le (length files) max_files ≡ false = grind (arith, nat_tests) in
+    elim (cases_Bool (is_bundle (cut (lines text)))) [
+      | inl is_one ↦ rw (is_one, few) refl
+      | inr is_none ↦ rw is_none refl
+    ]

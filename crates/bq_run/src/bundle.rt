@@ -1,14 +1,15 @@
 //! A workspace from the text form that holds it: header lines `=== PATH`, each followed by the bytes of its file.
 
-ghost use Rattle.std.specs.Prelude.{◌≡◌, ◌⊎◌, ◌+◌, ◌-◌, ◌^◌, ◌<◌, ◌≤◌, ◌∷◌, [], Some, None, true, false, take, drop, length, IfOk, IfSome, IfNone, IsErr, IsErrOf};
+ghost use Rattle.std.specs.Prelude.{◌≡◌, ◌⊎◌, ◌+◌, ◌-◌, ◌^◌, ◌<◌, ◌≤◌, ◌∷◌, [], Some, None, true, false, take, drop, length, option_and_then, IfOk, IfSome, IfNone, IsErr, IsErrOf};
 ghost use Rattle.std.specs.List.{list_all};
+ghost use Rattle.bq_label.specs.Workspace.{workspace_of};
 ghost use Rattle.bq_run.specs.Bundle.{BeginsWith, max_bundle_bytes, bundle_of, cut, files_of, is_whole, lines};
 
 use crate::device::ByteSource;
 use crate::error::RunErr;
 use crate::transfer::{ReadFault, read_all};
 use bq_base::Bytes;
-use bq_label::{File, Workspace};
+use bq_label::{File, MAX_FILES, Workspace};
 use memchr::memchr;
 use std::alloc::{AllocError, Global};
 
@@ -87,10 +88,10 @@ fn make_file(alloc: Global, path: &[u8], content: &[u8]) -> Result<File, AllocEr
     Ok(File { path, content })
 }
 
-/// Returns the files of a text in their order there.
+/// Returns the files of a text in their order there. At the first that is one too many it ends, so that no more are kept.
 fn files_in(alloc: Global, text: &[u8]) -> Result<Vec<File>, RunErr>
     ensures found { IfOk result (λ files. files_of text.now ≡ Some files.items) }
-    ensures none { IsErrOf result RunErr.Bundle → files_of text.now ≡ None }
+    ensures none { IsErrOf result RunErr.Bundle → option_and_then workspace_of (files_of text.now) ≡ None }
     ensures only { IsErr result → IsErrOf result RunErr.Bundle ⊎ IsErrOf result RunErr.Memory }
 {
     if lead(text) != 0 {
@@ -102,6 +103,9 @@ fn files_in(alloc: Global, text: &[u8]) -> Result<Vec<File>, RunErr>
         let Some(piece) = first_piece(rest) else {
             return Err(RunErr::Bundle);
         };
+        if files.len() == MAX_FILES {
+            return Err(RunErr::Bundle);
+        }
         files.push(make_file(alloc, piece.path, piece.content)?)?;
         rest = piece.rest;
     }
