@@ -6,6 +6,7 @@ mod holding;
 mod large;
 mod meeting;
 mod pool;
+mod workplace;
 
 use crate::workspace::file;
 use bq_label::File;
