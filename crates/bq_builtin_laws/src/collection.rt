@@ -4,7 +4,7 @@ ghost use Rattle.std.specs.Prelude.{◌≡◌, ◌∷◌, [], ℕ, ℤ, List, ma
 ghost use Rattle.bq_base.specs.declared.fault.FaultKind.{FaultKind};
 ghost use Rattle.bq_base.specs.declared.fault.FaultKind.TheVariants.{WrongType};
 ghost use Rattle.bq_parse_grammar.specs.declared.tree.Operator.TheVariants as op;
-ghost use Rattle.bq_package_rule_class.specs.Class.{Class};
+ghost use Rattle.bq_value_rule_class.specs.Class.{Class};
 ghost use Rattle.bq_value.specs.Datum.{Datum, cell};
 ghost use Rattle.bq_value.specs.Pairs.{found};
 ghost use Rattle.bq_builtin_machine.specs.Action.{stopped};

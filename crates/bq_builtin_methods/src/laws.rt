@@ -2,7 +2,7 @@
 
 ghost use Rattle.std.specs.Prelude.{◌≡◌, ℕ, List, Some, None, false};
 ghost use Rattle.bq_value.specs.Datum.{Datum, string, cell};
-ghost use Rattle.bq_package_rule_class.specs.Class.{Class};
+ghost use Rattle.bq_value_rule_class.specs.Class.{Class};
 ghost use Rattle.bq_value.specs.Cells.{HoldsRule};
 ghost use Rattle.bq_builtin_machine.specs.State.{State};
 ghost use Rattle.bq_builtin_string_methods.specs.Method.{methods, string_method};

@@ -15,7 +15,7 @@ use crate::outcome::{EvaluatedFile, FileOutcome};
 use crate::run::run_module;
 use bq_builtin_machine::Machine;
 use bq_eval_frame::Frame;
-use bq_eval_host::{BuiltIns, Host};
+use bq_package_host::{BuiltIns, Host};
 use bq_eval_operations::{Evaluation, RuleNames};
 use bq_value::EvalErr;
 use bq_value_seed::Seed;

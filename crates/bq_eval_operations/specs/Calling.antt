@@ -5,7 +5,7 @@ use Rattle.bq_value.specs.Datum.{Datum}
 use Rattle.bq_builtin_machine.specs.State.{State}
 use Rattle.bq_builtin_machine.specs.Action.{Action, on_machine}
 use Rattle.bq_builtin_machine.specs.Args.{Passed}
-pub use Rattle.bq_eval_host.specs.Host.{HostCalls}
+pub use Rattle.bq_package_host.specs.Host.{HostCalls}
 use Rattle.bq_builtin.specs.Call.{call_function}
 
 -- a host carries out its own functions

@@ -13,8 +13,8 @@ use Rattle.bq_builtin_operators.specs.Operate as operate
 use Rattle.bq_builtin_in_place.specs.InPlace as in_place
 use Rattle.bq_builtin_methods.specs.Call as methods
 use Rattle.bq_eval_meaning_spec.specs.Primitives.{Primitives}
-use Rattle.bq_eval_host.specs.BuiltIns.{predeclared_value}
-use Rattle.bq_eval_rule_functions.specs.Call as rules
+use Rattle.bq_package_host.specs.BuiltIns.{predeclared_value}
+use Rattle.bq_package_rule_functions.specs.Call as rules
 use Rattle.bq_eval_operations.specs.Making as making
 use Rattle.bq_eval_operations.specs.Passing as passing
 use Rattle.bq_eval_operations.specs.Unpacking as unpacking

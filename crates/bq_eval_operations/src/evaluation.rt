@@ -9,7 +9,7 @@ use crate::passing;
 use crate::unpacking::parts_of;
 use bq_base::Bytes;
 use bq_builtin_machine::{Args, Elements, Machine};
-use bq_eval_host::{BuiltIns, Host};
+use bq_package_host::{BuiltIns, Host};
 use bq_eval_rules::Runtime;
 use bq_parse_grammar::{Comparison, Operator, UnaryOperator};
 use bq_resolve_predeclared::{Predeclared, RuleFunction};
@@ -256,7 +256,7 @@ impl<'a, H: Host, K: RuleNames> Runtime for Evaluation<'a, H, K> {
         function: RuleFunction,
         args: Args,
     ) -> Result<Value, EvalErr> {
-        bq_eval_rule_functions::call_rule_function(
+        bq_package_rule_functions::call_rule_function(
             alloc,
             &self.host,
             function,
@@ -267,7 +267,7 @@ impl<'a, H: Host, K: RuleNames> Runtime for Evaluation<'a, H, K> {
 
     #[tactic(auto, unfolding(crate::specs::Runtime::primitives))]
     fn call_cell(&mut self, alloc: Global, cell: Cell, args: Args) -> Result<Value, EvalErr> {
-        bq_eval_rule_functions::call_cell(alloc, &mut self.host, cell, args, &mut self.machine)
+        bq_package_rule_functions::call_cell(alloc, &mut self.host, cell, args, &mut self.machine)
     }
 
     #[tactic(auto, using(crate::proofs::Lifting::lifted), unfolding(crate::specs::Runtime::primitives))]

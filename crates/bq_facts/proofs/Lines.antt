@@ -7,8 +7,8 @@ use Rattle.bq_label.specs.Label.{LabelParts}
 use Rattle.bq_facts_json.specs.Json.{Json, Named, member_of, value_text, string}
 use Rattle.bq_facts_json.specs.Values.{Member, json_object}
 use Rattle.bq_facts_json.proofs.Texts.{array_text, object_text}
-use Rattle.bq_package_rule_class.specs.declared.value.AttributeValue.{AttributeValue}
-use Rattle.bq_package_rule_class.specs.declared.value.AttributeValue.TheVariants as v
+use Rattle.bq_value_rule_class.specs.declared.value.AttributeValue.{AttributeValue}
+use Rattle.bq_value_rule_class.specs.declared.value.AttributeValue.TheVariants as v
 use Rattle.bq_package_target.specs.declared.target.Target.{Target}
 use Rattle.bq_package_target.specs.declared.target.TargetKind.{TargetKind}
 use Rattle.bq_package_target.specs.declared.target.TargetKind.TheVariants as k

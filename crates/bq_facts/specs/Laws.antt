@@ -4,7 +4,7 @@ use Rattle.std.specs.List.{Contains}
 use Rattle.bq_query_graph.specs.Paths.{row, DepsWithin}
 use Rattle.bq_label.specs.Label.{IsLabel, LabelParts, full_form}
 use Rattle.bq_label.specs.Packages.{label_path}
-use Rattle.bq_load_fault_line.specs.declared.fault_line.FaultLine.{FaultLine}
+use Rattle.bq_base_fault_line.specs.declared.fault_line.FaultLine.{FaultLine}
 use Rattle.bq_facts_json.specs.Json.{value_text}
 use Rattle.bq_package_target.specs.declared.target.Target.{Target}
 use Rattle.bq_resolve_scope.specs.declared.code.LoadStmt.{LoadStmt}

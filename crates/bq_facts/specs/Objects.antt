@@ -4,10 +4,10 @@ use Rattle.std.specs.List.{zip}
 use Rattle.bq_base.specs.Fault.{fault_name}
 use Rattle.bq_label.specs.Label.{LabelParts, full_form}
 use Rattle.bq_label.specs.Packages.{label_path}
-use Rattle.bq_load_fault_line.specs.declared.fault_line.FaultLine.{FaultLine}
+use Rattle.bq_base_fault_line.specs.declared.fault_line.FaultLine.{FaultLine}
 use Rattle.bq_facts_json.specs.Json.{Json, string, number, truth, array, object, items_of, Named, fields_of}
-use Rattle.bq_package_rule_class.specs.declared.value.AttributeValue.{AttributeValue}
-use Rattle.bq_package_rule_class.specs.declared.value.AttributeValue.TheVariants as v
+use Rattle.bq_value_rule_class.specs.declared.value.AttributeValue.{AttributeValue}
+use Rattle.bq_value_rule_class.specs.declared.value.AttributeValue.TheVariants as v
 use Rattle.bq_package_target.specs.declared.target.Target.{Target}
 use Rattle.bq_package_target.specs.declared.target.TargetKind.{TargetKind}
 use Rattle.bq_package_target.specs.declared.target.TargetKind.TheVariants as k

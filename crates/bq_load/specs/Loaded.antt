@@ -1,8 +1,8 @@
 -- What loading a workspace gives: its modules with their outcomes, the packages, the fault lines and the print lines.
 use Rattle.std.specs.Prelude.{◌≡◌, ℕ, ◌++◌, List, [], ◌∷◌, map, Option, Some, None, Result, Ok, Err, slice_get, codes, option_map, option_and_then, if◌then◌else◌}
 use Rattle.std.specs.List.{flat_map, filter_map}
-use Rattle.bq_load_fault_line.specs.declared.fault_line.FaultLine.{FaultLine}
-use Rattle.bq_load_fault_line.specs.FaultLine.{sorted_lines}
+use Rattle.bq_base_fault_line.specs.declared.fault_line.FaultLine.{FaultLine}
+use Rattle.bq_base_fault_line.specs.FaultLine.{sorted_lines}
 use Rattle.bq_label.specs.declared.workspace.File.{File}
 use Rattle.bq_label.specs.declared.packages.BuildFile.{BuildFile}
 use Rattle.bq_label.specs.Label.{LabelParts, package_of, full_form}

@@ -4,7 +4,7 @@ use Rattle.bq_base.specs.Gives.{Gives}
 use Rattle.bq_base.specs.declared.fault.FaultKind.{FaultKind}
 use Rattle.bq_base.specs.declared.fault.FaultKind.TheVariants as f
 use Rattle.bq_label.specs.Label.{LabelParts}
-use Rattle.bq_package_rule_class.specs.Class.{Class}
+use Rattle.bq_value_rule_class.specs.Class.{Class}
 use Rattle.bq_value.specs.Datum.{Datum, none, string}
 use Rattle.bq_value.specs.declared.error.EvalErr.{EvalErr}
 use Rattle.bq_value.specs.declared.error.EvalErr.TheVariants.{Bad}
@@ -13,7 +13,7 @@ use Rattle.bq_builtin_machine.specs.Binding.{bind}
 use Rattle.bq_builtin_machine.specs.Cells.{new_list, new_content}
 use Rattle.bq_builtin_machine.specs.State.{State, Stop, stop_at}
 use Rattle.bq_builtin_machine.specs.Action.{Run, stopped, ◌>>=◌, given, on_machine, Does, HostDoes}
-use Rattle.bq_eval_host.specs.Refusals.{is_refusal, Refuses}
+use Rattle.bq_package_host.specs.Refusals.{is_refusal, Refuses}
 use Rattle.bq_package_target.specs.declared.target.Target.{Target}
 use Rattle.bq_package_target.specs.declared.state.Declared.{Declared}
 use Rattle.bq_package_target.specs.declared.state.Declared.TheVariants.{Accepted, Refused}

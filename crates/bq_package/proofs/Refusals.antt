@@ -9,11 +9,11 @@ use Rattle.bq_label.specs.declared.packages.BuildFile.{BuildFile}
 use Rattle.bq_label.specs.Label.{PackageParts, LabelParts, label_in}
 use Rattle.bq_label.specs.Paths.{is_path}
 use Rattle.bq_label.specs.Reading.{label_of}
-use Rattle.bq_package_rule_class.specs.declared.attribute_type.AttributeType.{AttributeType}
-use Rattle.bq_package_rule_class.specs.declared.attribute_type.AttributeType.TheVariants as t
-use Rattle.bq_package_rule_class.specs.Class.{Class}
-use Rattle.bq_package_rule_class.specs.declared.value.AttributeValue.{AttributeValue}
-use Rattle.bq_package_rule_class.specs.declared.value.AttributeValue.TheVariants as a
+use Rattle.bq_value_rule_class.specs.declared.attribute_type.AttributeType.{AttributeType}
+use Rattle.bq_value_rule_class.specs.declared.attribute_type.AttributeType.TheVariants as t
+use Rattle.bq_value_rule_class.specs.Class.{Class}
+use Rattle.bq_value_rule_class.specs.declared.value.AttributeValue.{AttributeValue}
+use Rattle.bq_value_rule_class.specs.declared.value.AttributeValue.TheVariants as a
 use Rattle.bq_package_target.specs.Value.{attribute_type}
 use Rattle.bq_package_target.specs.declared.value.GivenAttribute.{GivenAttribute}
 use Rattle.bq_value.specs.declared.error.EvalErr.{EvalErr}
@@ -27,7 +27,7 @@ use Rattle.bq_builtin_machine.specs.Args.{Passed}
 use Rattle.bq_builtin_machine.specs.Parameters.{SignatureView, is_called}
 use Rattle.bq_builtin_machine.specs.Binding.{BoundView, Binding, fill, fill_by, take_keyword, take_named, take_named_by, take_all_named, and_bind, is_complete, if_complete, too_many, placed, bind}
 use Rattle.bq_label_glob.specs.Pattern.{is_pattern}
-use Rattle.bq_eval_host.specs.Refusals.{is_refusal, Refuses}
+use Rattle.bq_package_host.specs.Refusals.{is_refusal, Refuses}
 use Rattle.bq_package_attributes.specs.declared.arguments.Given.{Given}
 use Rattle.bq_package_typed_value.specs.declared.label_texts.TextKind.{TextKind}
 use Rattle.bq_package_typed_value.specs.declared.label_texts.TextKind.TheVariants as k

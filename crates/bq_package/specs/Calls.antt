@@ -5,15 +5,15 @@ use Rattle.bq_base.specs.declared.fault.FaultKind.{FaultKind}
 use Rattle.bq_base.specs.declared.fault.FaultKind.TheVariants.{NotInPackage, DoubleTarget}
 use Rattle.bq_label.specs.declared.packages.BuildFile.{BuildFile}
 use Rattle.bq_label.specs.Label.{PackageParts}
-use Rattle.bq_package_rule_class.specs.Class.{Class}
-use Rattle.bq_package_rule_class.specs.declared.value.AttributeValue.{AttributeValue}
+use Rattle.bq_value_rule_class.specs.Class.{Class}
+use Rattle.bq_value_rule_class.specs.declared.value.AttributeValue.{AttributeValue}
 use Rattle.bq_value.specs.Datum.{Datum, none, string}
 use Rattle.bq_builtin_machine.specs.Args.{Passed}
 use Rattle.bq_builtin_machine.specs.State.{State, stop_at}
 use Rattle.bq_builtin_machine.specs.Action.{Run, Action, done, stopped, ◌>>=◌, given, on_machine}
 use Rattle.bq_builtin_machine.specs.Binding.{bind}
 use Rattle.bq_builtin_machine.specs.Cells.{new_list}
-use Rattle.bq_eval_host.specs.Host.{HostCalls}
+use Rattle.bq_package_host.specs.Host.{HostCalls}
 use Rattle.bq_package_target.specs.declared.state.Declared.{Declared}
 use Rattle.bq_package_target.specs.declared.state.Declared.TheVariants.{Accepted, Refused}
 use Rattle.bq_package_target.specs.Package.{PackageTargets}

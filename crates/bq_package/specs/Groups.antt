@@ -11,7 +11,7 @@ use Rattle.bq_builtin_machine.specs.Args.{Passed}
 use Rattle.bq_builtin_machine.specs.Binding.{bind}
 use Rattle.bq_package_target.specs.declared.target.Target.{Target}
 use Rattle.bq_package_target.specs.declared.target.TargetKind.TheVariants as target
-use Rattle.bq_package_rule_class.specs.declared.value.AttributeValue.TheVariants as a
+use Rattle.bq_value_rule_class.specs.declared.value.AttributeValue.TheVariants as a
 use Rattle.bq_package_typed_value.specs.declared.label_texts.TextKind.TheVariants as k
 use Rattle.bq_package_typed_value.specs.Steps.{and_then}
 use Rattle.bq_package_typed_value.specs.LabelTexts.{label, labels}

@@ -6,8 +6,8 @@ use Rattle.bq_label.specs.declared.packages.BuildFile.{BuildFile}
 use Rattle.bq_label.specs.Label.{PackageParts, LabelParts, ReadsAs}
 use Rattle.bq_resolve_predeclared.specs.declared.host_function.HostFunction.{HostFunction}
 use Rattle.bq_resolve_predeclared.specs.declared.host_function.HostFunction.TheVariants as h
-use Rattle.bq_package_rule_class.specs.Class.{Class}
-use Rattle.bq_package_rule_class.specs.declared.value.AttributeValue.TheVariants as a
+use Rattle.bq_value_rule_class.specs.Class.{Class}
+use Rattle.bq_value_rule_class.specs.declared.value.AttributeValue.TheVariants as a
 use Rattle.bq_value.specs.Datum.{Datum}
 use Rattle.bq_builtin_machine.specs.Args.{Passed}
 use Rattle.bq_builtin_machine.specs.State.{State, stop_at}

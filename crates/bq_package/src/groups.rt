@@ -14,7 +14,7 @@ use crate::place::Place;
 use bq_base::Bytes;
 use bq_builtin_machine::{Args, Bound, Signature, SingleParameter, bind};
 use bq_label::Label;
-use bq_package_rule_class::{AttributeValue, SharedList};
+use bq_value_rule_class::{AttributeValue, SharedList};
 use bq_package_target::{GivenAttribute, Target, TargetKind};
 use bq_package_typed_value::{TextKind, label, labels};
 use bq_value::{EvalErr, Store, Value};

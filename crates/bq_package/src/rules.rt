@@ -10,7 +10,7 @@ use crate::place::Place;
 use bq_base::{Bytes, FaultKind};
 use bq_builtin_machine::Args;
 use bq_package_attributes::{Callee, declaration};
-use bq_package_rule_class::RuleClass;
+use bq_value_rule_class::RuleClass;
 use bq_package_schema::rule_names;
 use bq_package_target::Target;
 use bq_value::{EvalErr, Store};

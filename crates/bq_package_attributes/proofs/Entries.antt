@@ -3,8 +3,8 @@ use Rattle.std.proofs.Common.{◌≡◌, ◌∙◌, ℕ, Bool, true, false, ◌&
 use Rattle.std.specs.List.{list_all}
 use Rattle.std.proofs.lemmas.List.{drop_all}
 use Rattle.std.proofs.lemmas.Option.{slice_get_cases}
-use Rattle.bq_package_rule_class.specs.Class.{Class}
-use Rattle.bq_package_rule_class.specs.declared.attribute.Attribute.{Attribute}
+use Rattle.bq_value_rule_class.specs.Class.{Class}
+use Rattle.bq_value_rule_class.specs.declared.attribute.Attribute.{Attribute}
 use Rattle.bq_package_target.specs.declared.value.GivenAttribute.{GivenAttribute}
 use Rattle.bq_value.specs.Datum.{Datum}
 use Rattle.bq_value.proofs.Lookups.{drop_found}

@@ -5,7 +5,7 @@ use Rattle.bq_base.specs.declared.fault.FaultKind.{FaultKind}
 use Rattle.bq_base.specs.declared.fault.FaultKind.TheVariants.{Args}
 use Rattle.bq_label.specs.declared.packages.BuildFile.{BuildFile}
 use Rattle.bq_label.specs.Label.{PackageParts}
-use Rattle.bq_package_rule_class.specs.Class.{Class}
+use Rattle.bq_value_rule_class.specs.Class.{Class}
 use Rattle.bq_value.specs.Datum.{Datum, string}
 use Rattle.bq_value.specs.Same.{same}
 use Rattle.bq_value.specs.Pairs.{found, put}

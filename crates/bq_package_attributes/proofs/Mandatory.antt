@@ -9,9 +9,9 @@ use Rattle.bq_base.specs.declared.fault.FaultKind.TheVariants as f
 use Rattle.bq_label.specs.declared.packages.BuildFile.{BuildFile}
 use Rattle.bq_label.specs.Label.{PackageParts, LabelParts}
 use Rattle.bq_label.proofs.Orders.{at_head, head_or_tail}
-use Rattle.bq_package_rule_class.specs.declared.attribute_type.AttributeType.{AttributeType}
-use Rattle.bq_package_rule_class.specs.Class.{Class}
-use Rattle.bq_package_rule_class.specs.declared.attribute.Attribute.{Attribute}
+use Rattle.bq_value_rule_class.specs.declared.attribute_type.AttributeType.{AttributeType}
+use Rattle.bq_value_rule_class.specs.Class.{Class}
+use Rattle.bq_value_rule_class.specs.declared.attribute.Attribute.{Attribute}
 use Rattle.bq_value.specs.Datum.{Datum, string}
 use Rattle.bq_value.specs.Same.{same}
 use Rattle.bq_value.specs.SameLaws.{same-true}
@@ -20,8 +20,8 @@ use Rattle.bq_value.specs.Cells.{StoreView}
 use Rattle.bq_builtin_machine.specs.Args.{Passed}
 use Rattle.bq_builtin_machine.specs.Binding.{BoundView, Binding, bind}
 use Rattle.bq_package_target.specs.declared.target.Target.{Target}
-use Rattle.bq_package_rule_class.specs.declared.value.AttributeValue.{AttributeValue}
-use Rattle.bq_package_rule_class.specs.declared.value.AttributeValue.TheVariants as a
+use Rattle.bq_value_rule_class.specs.declared.value.AttributeValue.{AttributeValue}
+use Rattle.bq_value_rule_class.specs.declared.value.AttributeValue.TheVariants as a
 use Rattle.bq_package_target.specs.declared.value.GivenAttribute.{GivenAttribute}
 use Rattle.bq_package_target.specs.Value.{attribute_type}
 use Rattle.bq_package_attributes.specs.declared.arguments.Given.{Given}

@@ -10,7 +10,7 @@ use crate::arguments::{Callee, Given, is_none};
 use crate::named::Keywords;
 use bq_base::{Bytes, FaultKind};
 use bq_builtin_machine::Args;
-use bq_package_rule_class::{Attribute, AttributeValue, RuleClass};
+use bq_value_rule_class::{Attribute, AttributeValue, RuleClass};
 use bq_package_target::{GivenAttribute, Target, TargetKind};
 use bq_value::EvalErr;
 use sqlite_items::Items;

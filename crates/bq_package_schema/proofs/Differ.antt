@@ -4,8 +4,8 @@ use Rattle.std.specs.Option.{is_some}
 use Rattle.std.specs.Map.{lookup}
 use Rattle.std.proofs.lemmas.Slice.Eq.{bytes_eq-Decides}
 use Rattle.bq_base.specs.declared.fault.Fault.{Fault}
-use Rattle.bq_package_rule_class.specs.declared.attribute.Attribute.{Attribute}
-use Rattle.bq_package_rule_class.specs.Class.{Class, has_attribute, extended}
+use Rattle.bq_value_rule_class.specs.declared.attribute.Attribute.{Attribute}
+use Rattle.bq_value_rule_class.specs.Class.{Class, has_attribute, extended}
 use Rattle.bq_package_schema.specs.declared.line.Line.{Line}
 use Rattle.bq_package_schema.specs.declared.line.Line.TheVariants as line
 use Rattle.bq_package_schema.specs.Line.{line_of}

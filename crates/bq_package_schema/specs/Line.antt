@@ -4,8 +4,8 @@ use Rattle.std.specs.Prelude.{ℕ, List, [], ◌∷◌, Bool, true, false, not, 
 use Rattle.std.specs.List.{list_all, slice_split}
 use Rattle.bq_parse_grammar.specs.Literals.{is_identifier}
 use Rattle.bq_resolve_predeclared.specs.Predeclared.{predeclared_named}
-use Rattle.bq_package_rule_class.specs.AttributeType.{type_named, common_attribute}
-use Rattle.bq_package_rule_class.specs.declared.attribute_type.AttributeType.{AttributeType}
+use Rattle.bq_value_rule_class.specs.AttributeType.{type_named, common_attribute}
+use Rattle.bq_value_rule_class.specs.declared.attribute_type.AttributeType.{AttributeType}
 use Rattle.bq_package_schema.specs.declared.line.Line.{Line}
 use Rattle.bq_package_schema.specs.declared.line.Line.TheVariants as line
 

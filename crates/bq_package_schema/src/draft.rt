@@ -8,7 +8,7 @@ use crate::line::Line;
 use crate::schema::Schema;
 use bq_base::Bytes;
 use bq_base_names::NameSet;
-use bq_package_rule_class::{Attribute, Attributes, RuleClass};
+use bq_value_rule_class::{Attribute, Attributes, RuleClass};
 use sqlite_items::Items;
 use std::alloc::{AllocError, Global};
 use std::marker::Model;

@@ -4,7 +4,7 @@ ghost use Rattle.std.specs.Prelude.{◌≡◌, position, slice_get, option_copie
 
 use bq_base::Bytes;
 use bq_base_names::NameSet;
-use bq_package_rule_class::RuleClass;
+use bq_value_rule_class::RuleClass;
 use sqlite_items::Items;
 use std::marker::Model;
 

@@ -11,8 +11,8 @@ use Rattle.std.specs.Cmp.Lexicographic.{nat_list_eq_equiv}
 use Rattle.bq_label.specs.Label.{PackageParts, LabelParts}
 use Rattle.bq_package_target.specs.declared.files.Files.{Files}
 use Rattle.bq_package_target.specs.declared.target.Target.{Target}
-use Rattle.bq_package_rule_class.specs.declared.value.AttributeValue.{AttributeValue}
-use Rattle.bq_package_rule_class.specs.declared.value.AttributeValue.TheVariants as v
+use Rattle.bq_value_rule_class.specs.declared.value.AttributeValue.{AttributeValue}
+use Rattle.bq_value_rule_class.specs.declared.value.AttributeValue.TheVariants as v
 use Rattle.bq_package_target.specs.Value.{labels_of}
 use Rattle.bq_package_target.specs.Names.{has, with_name}
 use Rattle.bq_package_target.specs.Target.{is_of, source}

@@ -10,7 +10,7 @@ use crate::names::TargetNames;
 use crate::state::{Declared, PackageState};
 use crate::target::Target;
 use bq_label::Label;
-use bq_package_rule_class::AttributeValue;
+use bq_value_rule_class::AttributeValue;
 use sqlite_items::Items;
 use std::alloc::{AllocError, Global};
 

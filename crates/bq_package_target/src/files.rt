@@ -9,7 +9,7 @@ use crate::names::TargetNames;
 use crate::target::{Target, TargetKind};
 use crate::value::GivenAttribute;
 use bq_label::{Label, PackageId};
-use bq_package_rule_class::AttributeValue;
+use bq_value_rule_class::AttributeValue;
 use sqlite_items::Items;
 use std::alloc::{AllocError, Global};
 

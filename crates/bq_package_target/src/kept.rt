@@ -5,7 +5,7 @@ ghost use Rattle.std.specs.Prelude.{◌≡◌, IfOk, OnOk};
 use crate::value::GivenAttribute;
 use bq_base::Bytes;
 use bq_label::Label;
-use bq_package_rule_class::AttributeValue;
+use bq_value_rule_class::AttributeValue;
 use sqlite_items::Items;
 use std::alloc::{AllocError, Global};
 use std::collections::BTreeMap;
@@ -79,7 +79,7 @@ impl KeptValues {
     }
 
     /// Returns a share of a value, or of an equal one that is kept. A value whose hash is new is kept.
-    #[tactic(auto, using(bq_package_rule_class::proofs::Equal::value_true))]
+    #[tactic(auto, using(bq_value_rule_class::proofs::Equal::value_true))]
     fn share(&mut self, value: &AttributeValue) -> Result<AttributeValue, AllocError>
         ensures { IfOk result (λ v. v ≡ value.now) }
     {

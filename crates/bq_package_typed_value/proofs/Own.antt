@@ -6,10 +6,10 @@ use Rattle.bq_base.specs.declared.fault.FaultKind.TheVariants as f
 use Rattle.bq_label.specs.declared.packages.BuildFile.{BuildFile}
 use Rattle.bq_label.specs.Label.{PackageParts, LabelParts, label_in}
 use Rattle.bq_label.specs.Paths.{is_path}
-use Rattle.bq_package_rule_class.specs.declared.attribute_type.AttributeType.{AttributeType}
-use Rattle.bq_package_rule_class.specs.declared.attribute_type.AttributeType.TheVariants as t
-use Rattle.bq_package_rule_class.specs.declared.value.AttributeValue.{AttributeValue}
-use Rattle.bq_package_rule_class.specs.declared.value.AttributeValue.TheVariants as a
+use Rattle.bq_value_rule_class.specs.declared.attribute_type.AttributeType.{AttributeType}
+use Rattle.bq_value_rule_class.specs.declared.attribute_type.AttributeType.TheVariants as t
+use Rattle.bq_value_rule_class.specs.declared.value.AttributeValue.{AttributeValue}
+use Rattle.bq_value_rule_class.specs.declared.value.AttributeValue.TheVariants as a
 use Rattle.bq_value.specs.Datum.{Datum}
 use Rattle.bq_value.specs.Cells.{StoreView}
 use Rattle.bq_package_target.specs.Value.{outputs_of}

@@ -8,10 +8,10 @@ use Rattle.bq_label.specs.declared.packages.BuildFile.{BuildFile}
 use Rattle.bq_label.specs.Label.{PackageParts, LabelParts, package_of, label_in, ReadsAs}
 use Rattle.bq_label.specs.Paths.{is_path}
 use Rattle.bq_label.specs.Packages.{label_path, owner_of}
-use Rattle.bq_package_rule_class.specs.declared.attribute_type.AttributeType.{AttributeType}
-use Rattle.bq_package_rule_class.specs.declared.attribute_type.AttributeType.TheVariants as t
-use Rattle.bq_package_rule_class.specs.declared.value.AttributeValue.{AttributeValue}
-use Rattle.bq_package_rule_class.specs.declared.value.AttributeValue.TheVariants as a
+use Rattle.bq_value_rule_class.specs.declared.attribute_type.AttributeType.{AttributeType}
+use Rattle.bq_value_rule_class.specs.declared.attribute_type.AttributeType.TheVariants as t
+use Rattle.bq_value_rule_class.specs.declared.value.AttributeValue.{AttributeValue}
+use Rattle.bq_value_rule_class.specs.declared.value.AttributeValue.TheVariants as a
 use Rattle.bq_value.specs.Datum.{Datum, Data, boolean, int, string, tuple, cell, list_of}
 use Rattle.bq_value.specs.Contents.{items}
 use Rattle.bq_value.specs.Cells.{StoreView, content_at}

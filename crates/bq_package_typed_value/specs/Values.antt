@@ -5,9 +5,9 @@ use Rattle.bq_base.specs.declared.fault.FaultKind.{FaultKind}
 use Rattle.bq_base.specs.declared.fault.FaultKind.TheVariants as f
 use Rattle.bq_label.specs.declared.packages.BuildFile.{BuildFile}
 use Rattle.bq_label.specs.Label.{PackageParts}
-use Rattle.bq_package_rule_class.specs.declared.attribute_type.AttributeType.{AttributeType}
-use Rattle.bq_package_rule_class.specs.declared.value.AttributeValue.{AttributeValue}
-use Rattle.bq_package_rule_class.specs.declared.value.AttributeValue.TheVariants as a
+use Rattle.bq_value_rule_class.specs.declared.attribute_type.AttributeType.{AttributeType}
+use Rattle.bq_value_rule_class.specs.declared.value.AttributeValue.{AttributeValue}
+use Rattle.bq_value_rule_class.specs.declared.value.AttributeValue.TheVariants as a
 use Rattle.bq_value.specs.Datum.{Datum}
 use Rattle.bq_value.specs.Cells.{StoreView}
 use Rattle.bq_package_typed_value.specs.declared.label_texts.TextKind.TheVariants as k

@@ -2,9 +2,9 @@
 -- the reader names: F40 for the default of an attribute, F73 in the call of a rule.
 use Rattle.std.specs.Prelude.{ℤ, pos, negsuc, Bool, true, false, ◌==◌, Result, Ok, Err, if◌then◌else◌}
 use Rattle.bq_base.specs.declared.fault.FaultKind.{FaultKind}
-use Rattle.bq_package_rule_class.specs.declared.attribute_type.AttributeType.{AttributeType}
-use Rattle.bq_package_rule_class.specs.declared.attribute_type.AttributeType.TheVariants as t
-use Rattle.bq_package_rule_class.specs.declared.value.AttributeValue.TheVariants as a
+use Rattle.bq_value_rule_class.specs.declared.attribute_type.AttributeType.{AttributeType}
+use Rattle.bq_value_rule_class.specs.declared.attribute_type.AttributeType.TheVariants as t
+use Rattle.bq_value_rule_class.specs.declared.value.AttributeValue.TheVariants as a
 use Rattle.bq_value.specs.Datum.{Datum, boolean, int}
 use Rattle.bq_value.specs.Cells.{StoreView}
 use Rattle.bq_package_typed_value.specs.declared.written.Written.{Written}

@@ -9,7 +9,7 @@ use crate::label_texts::{TextKind, label, labels};
 use crate::scope::Scope;
 use crate::written::{Written, written_as};
 use bq_base::FaultKind;
-use bq_package_rule_class::{AttributeType, AttributeValue, SharedList};
+use bq_value_rule_class::{AttributeType, AttributeValue, SharedList};
 use bq_value::{EvalErr, Store, Value};
 use std::alloc::Global;
 

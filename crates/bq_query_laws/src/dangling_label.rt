@@ -2,7 +2,7 @@
 
 ghost use Rattle.std.specs.Prelude.{List};
 ghost use Rattle.std.specs.List.{Contains};
-ghost use Rattle.bq_load_fault_line.specs.declared.fault_line.FaultLine.{FaultLine};
+ghost use Rattle.bq_base_fault_line.specs.declared.fault_line.FaultLine.{FaultLine};
 ghost use Rattle.bq_package_target.specs.Package.{PackageTargets};
 ghost use Rattle.bq_query_target_graph.specs.Dangling.{all_dangling};
 ghost use Rattle.bq_query_laws.specs.DanglingLabels.Lines.{IsToldAt};

@@ -7,9 +7,9 @@ use Rattle.std.proofs.lemmas.List.Concat.{flat_map-append}
 use Rattle.std.proofs.lemmas.List.Folds.{list_any-append}
 use Rattle.bq_label.specs.Label.{LabelParts, package_of}
 use Rattle.bq_label.proofs.Orders.{at_head, head_or_tail}
-use Rattle.bq_load_fault_line.specs.declared.fault_line.FaultLine.{FaultLine}
+use Rattle.bq_base_fault_line.specs.declared.fault_line.FaultLine.{FaultLine}
 use Rattle.std.specs.BTreeSet.{insert_key}
-use Rattle.bq_load_fault_line.specs.FaultLine.{line_cmp, put_lines}
+use Rattle.bq_base_fault_line.specs.FaultLine.{line_cmp, put_lines}
 use Rattle.bq_package_target.specs.declared.target.Target.{Target}
 use Rattle.bq_package_target.specs.Target.{is_of, dependencies}
 use Rattle.bq_package_target.specs.Package.{PackageTargets}

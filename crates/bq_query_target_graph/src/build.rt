@@ -6,7 +6,7 @@ ghost use Rattle.bq_query_target_graph.specs.Edges.{IsGraphOf};
 
 use crate::dangling::add_dangling;
 use crate::graph::TargetGraph;
-use bq_load_fault_line::FaultLines;
+use bq_base_fault_line::FaultLines;
 use bq_package_list::PackageList;
 use std::alloc::{AllocError, Global};
 

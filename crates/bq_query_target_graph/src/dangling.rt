@@ -2,8 +2,8 @@
 
 ghost use Rattle.std.specs.Prelude.{◌≡◌, ◌↔◌, List, [], IfOk, OnOk};
 ghost use Rattle.std.specs.List.{flat_map, Contains};
-ghost use Rattle.bq_load_fault_line.specs.FaultLine.{put_lines};
-ghost use Rattle.bq_load_fault_line.specs.declared.fault_line.FaultLine.{FaultLine};
+ghost use Rattle.bq_base_fault_line.specs.FaultLine.{put_lines};
+ghost use Rattle.bq_base_fault_line.specs.declared.fault_line.FaultLine.{FaultLine};
 ghost use Rattle.bq_label.specs.Label.{full_form};
 ghost use Rattle.bq_package_target.specs.Package.{PackageTargets};
 ghost use Rattle.bq_label_set.specs.Labels.{has_label, with_labels};
@@ -15,7 +15,7 @@ use crate::own::are_closed;
 use bq_base::{Bytes, FaultKind};
 use bq_label::{Label, print_label};
 use bq_label_set::LabelSet;
-use bq_load_fault_line::{FaultLine, FaultLines};
+use bq_base_fault_line::{FaultLine, FaultLines};
 use bq_package_target::{Package, Target, TargetKind, is_of};
 use std::alloc::{AllocError, Global};
 use std::slice::from_ref;

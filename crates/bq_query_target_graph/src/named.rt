@@ -4,7 +4,7 @@ ghost use Rattle.std.specs.Prelude.{◌≡◌};
 ghost use Rattle.bq_package_target.specs.Value.{labels_of};
 
 use bq_label::Label;
-use bq_package_rule_class::AttributeValue;
+use bq_value_rule_class::AttributeValue;
 use std::slice::from_ref;
 
 /// Returns the labels of other targets in the value.

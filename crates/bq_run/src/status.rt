@@ -2,14 +2,14 @@
 
 ghost use Rattle.std.specs.Prelude.{◌≡◌, ◌⊎◌, ◌++◌, ◌+◌, ◌-◌, ◌^◌, ◌<◌, IfOk, OnOk, OnErr};
 ghost use Rattle.std.specs.Io.KnownBytes.{Appends};
-ghost use Rattle.bq_load_fault_line.specs.LineText.{detail_text};
+ghost use Rattle.bq_base_fault_line.specs.LineText.{detail_text};
 ghost use Rattle.bq_run.specs.Device.{Begins};
 ghost use Rattle.bq_run.specs.Status.{error_detail, error_line, status_code, status_line};
 
 use crate::device::ByteSink;
 use crate::error::RunErr;
 use crate::transfer::{WriteFault, write_all};
-use bq_load_fault_line::push_detail;
+use bq_base_fault_line::push_detail;
 use bq_run_report::Status;
 use itoa::Buffer;
 use std::alloc::{AllocError, Global};

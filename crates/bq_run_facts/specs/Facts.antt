@@ -9,7 +9,7 @@ use Rattle.bq_package_schema.specs.Schema.{Rules}
 use Rattle.bq_load_discover.specs.LoadGraph.{GraphParts as LoadParts, IsLoadGraph, inputs_of}
 use Rattle.bq_load_discover.specs.Modules.{AreTooMany}
 use Rattle.bq_load_discover.specs.Schema.{schema_in}
-use Rattle.bq_load_fault_line.specs.declared.fault_line.FaultLine.{FaultLine}
+use Rattle.bq_base_fault_line.specs.declared.fault_line.FaultLine.{FaultLine}
 use Rattle.bq_query_lex.specs.declared.query_error.QueryErr.{QueryErr}
 use Rattle.bq_query_target_graph.specs.Graph.{GraphParts}
 use Rattle.bq_query_target_graph.specs.Edges.{IsGraphOf}

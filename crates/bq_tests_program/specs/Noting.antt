@@ -4,12 +4,12 @@ use Rattle.std.specs.Prelude.{ℕ, List, [], ◌∷◌, ◌++◌, Bool, true, fa
 use Rattle.bq_base.specs.declared.fault.FaultKind.TheVariants.{NotInPackage, BadLabel}
 use Rattle.bq_resolve_predeclared.specs.declared.host_function.HostFunction.{HostFunction}
 use Rattle.bq_resolve_predeclared.specs.declared.host_function.HostFunction.TheVariants as h
-use Rattle.bq_package_rule_class.specs.Class.{Class}
+use Rattle.bq_value_rule_class.specs.Class.{Class}
 use Rattle.bq_value.specs.Datum.{Datum, none}
 use Rattle.bq_builtin_machine.specs.Args.{Passed}
 use Rattle.bq_builtin_machine.specs.State.{State, stop_at}
 use Rattle.bq_builtin_machine.specs.Action.{Action, done, stopped}
-use Rattle.bq_eval_host.specs.Host.{HostCalls}
+use Rattle.bq_package_host.specs.Host.{HostCalls}
 
 abbrev pub is_licenses : HostFunction → Bool
 is_licenses h.Licenses = true

@@ -6,7 +6,7 @@ use Rattle.std.specs.Cmp.Lexicographic.{pointwise}
 use lib.Pointwise.{bytes_decides}
 use Rattle.bq_value.specs.Datum.{Datum, none, boolean, int, string, tuple, range, cell, function, built_in, rule_function, attribute, list_of}
 use Rattle.bq_value.specs.Range.{ranges_same}
-use Rattle.bq_package_rule_class.specs.Same.{same_attribute}
+use Rattle.bq_value_rule_class.specs.Same.{same_attribute}
 use Rattle.bq_value.specs.Codes.{number_of, numbers_differ}
 use Rattle.bq_value.specs.Same.{bool_same, same_built_in}
 use Rattle.bq_value.specs.SameLaws.{attributes_decide, built_ins_decide}

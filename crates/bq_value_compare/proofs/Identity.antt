@@ -1,9 +1,9 @@
 -- Rules are equal where they are one cell, and attributes where they say the same.
 use Rattle.std.proofs.Common.{◌≡◌, ◌∙◌, ◌==◌, ◌&&◌, ℕ, zero, suc, Bool, true, Option, Some, Ok, refl, sym, ap}
 use Rattle.std.specs.Prelude.{◌↔◌}
-use Rattle.bq_package_rule_class.specs.Class.{Class}
-use Rattle.bq_package_rule_class.specs.Same.{same_attribute}
-use Rattle.bq_package_rule_class.specs.declared.attribute.Attribute.{Attribute}
+use Rattle.bq_value_rule_class.specs.Class.{Class}
+use Rattle.bq_value_rule_class.specs.Same.{same_attribute}
+use Rattle.bq_value_rule_class.specs.declared.attribute.Attribute.{Attribute}
 use Rattle.bq_value.specs.Datum.{cell, attribute}
 use Rattle.bq_value.specs.Contents.{Contents, rule}
 use Rattle.bq_value.specs.Cells.{StoreView, content_at}

@@ -9,8 +9,8 @@ use Rattle.bq_resolve_predeclared.specs.declared.predeclared.Predeclared.{Predec
 use Rattle.bq_resolve_predeclared.specs.declared.predeclared.Predeclared.TheVariants as p
 use Rattle.bq_resolve_predeclared.specs.declared.rule_function.RuleFunction.{RuleFunction}
 use Rattle.bq_resolve_predeclared.specs.declared.rule_function.RuleFunction.TheVariants as f
-use Rattle.bq_package_rule_class.specs.Codes.{coded_attribute}
-pub use Rattle.bq_package_rule_class.specs.Codes.{coded_class}
+use Rattle.bq_value_rule_class.specs.Codes.{coded_attribute}
+pub use Rattle.bq_value_rule_class.specs.Codes.{coded_class}
 use Rattle.bq_value_datum.specs.Datum.{BuiltIn, predeclared, schema_rule, Datum, none, boolean, int, string, tuple, range, cell, function, built_in, rule_function, attribute, Data, end, datum}
 
 abbrev pub number_of : RuleFunction → ℕ

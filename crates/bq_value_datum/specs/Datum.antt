@@ -6,7 +6,7 @@ use Rattle.bq_resolve_predeclared.specs.declared.host_function.HostFunction.TheV
 use Rattle.bq_resolve_predeclared.specs.declared.predeclared.Predeclared.{Predeclared}
 use Rattle.bq_resolve_predeclared.specs.declared.predeclared.Predeclared.TheVariants as p
 use Rattle.bq_resolve_predeclared.specs.declared.rule_function.RuleFunction.{RuleFunction}
-use Rattle.bq_package_rule_class.specs.declared.attribute.Attribute.{Attribute}
+use Rattle.bq_value_rule_class.specs.declared.attribute.Attribute.{Attribute}
 
 -- a built-in function: one of the language or a build function, which have names of their own, or a rule of the schema, by its place
 -- there and its name

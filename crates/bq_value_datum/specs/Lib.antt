@@ -1,4 +1,4 @@
-pub use Rattle.bq_package_rule_class.specs.Class
+pub use Rattle.bq_value_rule_class.specs.Class
 pub mod Datum
 pub mod Codes
 pub mod View

@@ -5,9 +5,9 @@ use Rattle.std.specs.Ordering.{int_eq}
 use Rattle.std.specs.Cmp.{signed_Decides, unsigned_Decides, IsEquivalence, decided}
 use Rattle.std.specs.Cmp.Lexicographic.{pointwise}
 use lib.Pointwise.{bytes_decides}
-use Rattle.bq_package_rule_class.proofs.Equal.{same_attribute_true, same_attribute_refl}
-use Rattle.bq_package_rule_class.specs.Same.{same_attribute}
-use Rattle.bq_package_rule_class.specs.declared.attribute.Attribute.{Attribute}
+use Rattle.bq_value_rule_class.proofs.Equal.{same_attribute_true, same_attribute_refl}
+use Rattle.bq_value_rule_class.specs.Same.{same_attribute}
+use Rattle.bq_value_rule_class.specs.declared.attribute.Attribute.{Attribute}
 use Rattle.bq_value_datum.specs.Codes.{number_of, numbers_differ, predeclared_number, place_of, predeclared_differ}
 use Rattle.bq_value_datum.specs.Datum.{BuiltIn, predeclared, schema_rule, Datum, none, boolean, int, string, tuple, range, cell, function, built_in, rule_function, attribute, Data, end, datum}
 use Rattle.bq_value_datum.specs.Same.{bool_same, same_built_in, same, same_all, feed}

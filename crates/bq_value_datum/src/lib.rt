@@ -21,7 +21,7 @@ mod range;
 mod same;
 mod value;
 
-pub use bq_package_rule_class::RuleClass;
+pub use bq_value_rule_class::RuleClass;
 pub use key::Key;
 pub use range::Range;
 pub use value::{Cell, Function, Node, Value};

@@ -5,7 +5,7 @@ ghost use Rattle.bq_value_datum.specs.Datum.{Datum, none, boolean, int, string, 
 
 use crate::range::Range;
 use bq_base::Bytes;
-use bq_package_rule_class::Attribute;
+use bq_value_rule_class::Attribute;
 use bq_resolve_predeclared::{Predeclared, RuleFunction};
 use std::alloc::{AllocError, Global};
 use std::marker::Model;

@@ -2,7 +2,7 @@
 use Rattle.std.proofs.Common.{◌≡◌, ◌∙◌, ap, ℕ, Some, Option}
 use Rattle.bq_base.specs.declared.fault.FaultKind.TheVariants.{WrongType}
 use Rattle.bq_parse_grammar.specs.declared.tree.Operator.TheVariants as op
-use Rattle.bq_package_rule_class.specs.Class.{Class}
+use Rattle.bq_value_rule_class.specs.Class.{Class}
 use Rattle.bq_value.specs.Contents.{Contents, rule}
 use Rattle.bq_value.specs.Datum.{Datum, cell}
 use Rattle.bq_builtin_machine.specs.Action.{Run, stopped, following, ◌>>=◌, given, pure, look}

@@ -2,7 +2,7 @@
 use Rattle.std.proofs.Common.{◌≡◌, ◌∙◌, ◌<◌, ℕ, zero, suc, ◌+◌, ◌-◌, Bool, true, false, cond, List, [], ◌∷◌, ◌++◌, Option, Some, None, Result, Ok, Err, nat_lt, ◌==◌, length, slice_get, set, refl, sym, ap, subst, arith, le-ltb, lt-ltb}
 use Rattle.bq_base.specs.declared.fault.FaultKind.{FaultKind}
 use Rattle.bq_base.specs.declared.fault.FaultKind.TheVariants as f
-use Rattle.bq_package_rule_class.specs.Class.{Class}
+use Rattle.bq_value_rule_class.specs.Class.{Class}
 use Rattle.bq_value.specs.Cells.{StoreView, with_cells, content_at}
 use Rattle.bq_value.specs.Contents.{Contents, items, pairs, rule}
 use Rattle.bq_value.specs.Datum.{Datum, cell}

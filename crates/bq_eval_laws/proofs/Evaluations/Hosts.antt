@@ -5,8 +5,8 @@ use Rattle.bq_base.specs.declared.fault.FaultKind.TheVariants.{BadValue, NotInPa
 use Rattle.bq_resolve_predeclared.specs.declared.predeclared.Predeclared.{Predeclared}
 use Rattle.bq_resolve_predeclared.specs.declared.predeclared.Predeclared.TheVariants as p
 use Rattle.bq_resolve_predeclared.specs.declared.rule_function.RuleFunction.{RuleFunction}
-use Rattle.bq_package_rule_class.specs.Class.{Class}
-use Rattle.bq_package_rule_class.specs.declared.attribute_type.AttributeType.{AttributeType}
+use Rattle.bq_value_rule_class.specs.Class.{Class}
+use Rattle.bq_value_rule_class.specs.declared.attribute_type.AttributeType.{AttributeType}
 use Rattle.bq_resolve_scope.specs.Names.{Name}
 use Rattle.bq_value.specs.Cells.{content_at, kind_of}
 use Rattle.bq_value.specs.Contents.{rule}
@@ -20,10 +20,10 @@ use Rattle.bq_builtin_machine.specs.Cells.{new_content}
 use Rattle.bq_builtin_machine.specs.Machine.{with_steps}
 use Rattle.bq_builtin_machine.specs.State.{State}
 use Rattle.bq_builtin.specs.Call.{call_function}
-use Rattle.bq_eval_rule_functions.specs.Attribute.{attribute}
-use Rattle.bq_eval_host.specs.Host.{ReadDefault}
-use Rattle.bq_eval_rule_functions.specs.Call.{new_attribute, new_rule, declare, type_of, call_rule_function, class_in, call_kind, call_class, call_cell}
-use Rattle.bq_eval_rule_functions.specs.Rule.{class}
+use Rattle.bq_package_rule_functions.specs.Attribute.{attribute}
+use Rattle.bq_package_host.specs.Host.{ReadDefault}
+use Rattle.bq_package_rule_functions.specs.Call.{new_attribute, new_rule, declare, type_of, call_rule_function, class_in, call_kind, call_class, call_cell}
+use Rattle.bq_package_rule_functions.specs.Rule.{class}
 use Rattle.bq_eval_operations.specs.Calling.{HostCalls, call_built_in}
 use Rattle.bq_eval_operations.specs.Runtime.{primitives}
 use Rattle.bq_eval_meaning_laws.proofs.Respects.{Relation, Respects, OfLines, choosing}

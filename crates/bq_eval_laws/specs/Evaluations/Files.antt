@@ -6,7 +6,7 @@ use Rattle.bq_resolve_scope.specs.Names.{Name}
 use Rattle.bq_resolve_scope.specs.declared.code.CodeTopLevel.{CodeTopLevel}
 use Rattle.bq_resolve_scope.specs.declared.code.Resolved.{Resolved}
 use Rattle.bq_resolve_predeclared.specs.declared.host_function.HostFunction.{HostFunction}
-use Rattle.bq_package_rule_class.specs.Class.{Class}
+use Rattle.bq_value_rule_class.specs.Class.{Class}
 use Rattle.bq_value.specs.Cells.{FrozenView, content_at, frozen_at}
 use Rattle.bq_value.specs.Contents.{rule}
 use Rattle.bq_value.specs.Datum.{Datum}

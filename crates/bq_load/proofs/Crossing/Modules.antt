@@ -7,7 +7,7 @@ use Rattle.bq_value_seed.proofs.seed.Seed.TheSendSync as Seed
 use Rattle.bq_value_seed.proofs.hasher.KeyHasher.TheSendSync as KeyHasher
 use Rattle.bq_base.proofs.fault.Fault.TheSendSync as Fault
 use Rattle.bq_base_names.proofs.name_set.NameSet.TheSendSync as Names
-use Rattle.bq_eval_host.specs.contracts.built_ins.BuiltIns as BuiltIns
+use Rattle.bq_package_host.specs.contracts.built_ins.BuiltIns as BuiltIns
 use Rattle.bq_load_front.specs.contracts.named_files.NamedFiles as NamedFiles
 use Rattle.bq_load_module.specs.contracts.outcome.LoadedModule as LoadedModule
 use Rattle.bq_load.specs.contracts.source.Source as Source

@@ -18,7 +18,7 @@ use Rattle.bq_eval_laws.specs.Evaluations.Callable.{IsCallable}
 use Rattle.bq_eval_laws.specs.Evaluations.Files.{FrozenAre}
 use Rattle.bq_eval_laws.proofs.Evaluations.Callable.{stay_callable}
 use Rattle.bq_package.specs.Calls.{meaning}
-use Rattle.bq_package_laws.proofs.BuildFiles.Calls.{calls_own}
+use Rattle.bq_eval_package_laws.proofs.BuildFiles.Calls.{calls_own}
 use Rattle.bq_package_target.specs.Package.{PackageTargets, finished}
 use Rattle.bq_load_front.specs.Front.{kind_of, front_of}
 use Rattle.bq_load_front.specs.Inputs.{InputParts}

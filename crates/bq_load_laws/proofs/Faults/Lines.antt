@@ -8,10 +8,10 @@ use Rattle.bq_label.specs.declared.workspace.File.{File}
 use Rattle.bq_label.specs.Label.{LabelParts}
 use Rattle.bq_label.specs.Workspace.{IsWorkspace}
 use Rattle.bq_label.proofs.Orders.{head_or_tail}
-use Rattle.bq_eval_host.specs.Refusals.{is_refusal}
-use Rattle.bq_load_fault_line.specs.declared.fault_line.FaultLine.{FaultLine}
-use Rattle.bq_load_fault_line.specs.FaultLine.{sorted_lines}
-use Rattle.bq_load_fault_line.proofs.LineOrder.{same_lines}
+use Rattle.bq_package_host.specs.Refusals.{is_refusal}
+use Rattle.bq_base_fault_line.specs.declared.fault_line.FaultLine.{FaultLine}
+use Rattle.bq_base_fault_line.specs.FaultLine.{sorted_lines}
+use Rattle.bq_base_fault_line.proofs.LineOrder.{same_lines}
 use Rattle.bq_load.specs.declared.loaded.Loaded.{Loaded}
 use Rattle.bq_load.specs.Loaded.{line_of, lines_by, lines_of, fault_lines, LoadsWorkspace}
 use Rattle.bq_load.specs.Results.{outcomes}

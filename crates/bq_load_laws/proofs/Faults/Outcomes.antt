@@ -42,10 +42,10 @@ use Rattle.bq_parse_grammar.specs.declared.tree.FileKind.TheVariants as kinds
 use Rattle.bq_eval_laws.specs.Evaluations.Files.{FailsAtAStatement}
 use Rattle.bq_eval_laws.proofs.Evaluations.Lines.{files_fail_at}
 use Rattle.bq_package.specs.Calls.{meaning}
-use Rattle.bq_package_laws.proofs.BuildFiles.Calls.{calls_own}
-use Rattle.bq_package_fault_laws.specs.Faults.{FailsAsEvaluated, IsResolvedFile, IfAny}
-use Rattle.bq_package_fault_laws.proofs.BuildCalls.{calls_refuse}
-use Rattle.bq_package_fault_laws.proofs.Files.{files_fail}
+use Rattle.bq_eval_package_laws.proofs.BuildFiles.Calls.{calls_own}
+use Rattle.bq_eval_fault_laws.specs.Faults.{FailsAsEvaluated, IsResolvedFile, IfAny}
+use Rattle.bq_eval_fault_laws.proofs.BuildCalls.{calls_refuse}
+use Rattle.bq_eval_fault_laws.proofs.Files.{files_fail}
 use Rattle.bq_package_target.specs.Package.{PackageTargets}
 use Rattle.bq_resolve_scope.specs.Names.{Name}
 use Rattle.bq_resolve_scope.specs.declared.code.LoadStmt.{LoadStmt}

@@ -8,7 +8,7 @@ use Rattle.bq_resolve_predeclared.specs.declared.host_function.HostFunction.{Hos
 use Rattle.bq_resolve_predeclared.specs.declared.predeclared.Predeclared.{Predeclared}
 use Rattle.bq_resolve_predeclared.specs.declared.predeclared.Predeclared.TheVariants as p
 use Rattle.bq_resolve_predeclared.specs.declared.rule_function.RuleFunction.{RuleFunction}
-use Rattle.bq_package_rule_class.specs.Class.{Class}
+use Rattle.bq_value_rule_class.specs.Class.{Class}
 use Rattle.bq_resolve_scope.specs.Names.{Name}
 use Rattle.bq_resolve_scope.specs.declared.code.CodeTopLevel.{CodeTopLevel}
 use Rattle.bq_resolve_scope.specs.declared.code.Resolved.{Resolved}
@@ -35,7 +35,7 @@ use Rattle.bq_eval_meaning_spec.specs.Calls.{Units}
 use Rattle.bq_eval_meaning_spec.specs.Frame.{Frame, empty}
 use Rattle.bq_eval_meaning_spec.specs.Module.{Own, top_level, top_levels, eval_top, first_globals, module_meaning, frozen_units}
 use Rattle.bq_eval_meaning_spec.specs.Statements.{Flow, next, leave, again, answer, go_on}
-use Rattle.bq_eval_rule_functions.specs.Call.{class_in, declare, type_of, call_rule_function, call_kind, call_class, call_cell}
+use Rattle.bq_package_rule_functions.specs.Call.{class_in, declare, type_of, call_rule_function, call_kind, call_class, call_cell}
 use Rattle.bq_eval_operations.specs.Calling.{HostCalls, call_built_in}
 use Rattle.bq_eval_operations.specs.Making as making
 use Rattle.bq_eval_operations.specs.Passing as passing

@@ -4,7 +4,7 @@ use Rattle.std.specs.List.{AllByRecursion}
 use Rattle.bq_base.specs.declared.fault.FaultKind.{FaultKind}
 use Rattle.bq_label.specs.declared.packages.BuildFile.{BuildFile}
 use Rattle.bq_label.specs.Label.{LabelParts, PackageParts}
-use Rattle.bq_package_rule_class.specs.Class.{Class}
+use Rattle.bq_value_rule_class.specs.Class.{Class}
 use Rattle.bq_value.specs.Cells.{StoreView}
 use Rattle.bq_value.specs.Datum.{Datum}
 use Rattle.bq_builtin_machine.specs.Args.{Passed}

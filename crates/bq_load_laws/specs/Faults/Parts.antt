@@ -19,9 +19,9 @@ use Rattle.bq_label.specs.Label.{LabelParts}
 use Rattle.bq_label.specs.Packages.{label_file}
 use Rattle.bq_label.specs.Workspace.{IsWorkspace}
 use Rattle.bq_package_schema.specs.Schema.{Rules}
-use Rattle.bq_eval_host.specs.Refusals.{is_from, is_refusal}
+use Rattle.bq_package_host.specs.Refusals.{is_from, is_refusal}
 use Rattle.bq_eval_laws.specs.Evaluations.Files.{IsAtStatement}
-use Rattle.bq_load_fault_line.specs.declared.fault_line.FaultLine.{FaultLine}
+use Rattle.bq_base_fault_line.specs.declared.fault_line.FaultLine.{FaultLine}
 use Rattle.bq_load_front.specs.Front.{kind_of}
 use Rattle.bq_load_front.specs.Inputs.{InputParts, universe_of}
 use Rattle.bq_load_front.specs.Laws.{HasCode}

@@ -1,7 +1,7 @@
 -- The lines of labels that name no target.
 use Rattle.std.proofs.Common.{◌≡◌, ap, List}
 use Rattle.std.specs.List.{Contains}
-use Rattle.bq_load_fault_line.specs.declared.fault_line.FaultLine.{FaultLine}
+use Rattle.bq_base_fault_line.specs.declared.fault_line.FaultLine.{FaultLine}
 use Rattle.bq_package_target.specs.Package.{PackageTargets}
 use Rattle.bq_query_target_graph.specs.Dangling.{all_dangling}
 use Rattle.bq_query_target_graph.proofs.Danglings.{in_words}

@@ -2,7 +2,7 @@
 use Rattle.std.specs.Prelude.{◌≡◌, List, false}
 use Rattle.std.specs.List.{Contains}
 use Rattle.bq_base.specs.declared.fault.FaultKind.TheVariants.{DanglingLabel}
-use Rattle.bq_load_fault_line.specs.declared.fault_line.FaultLine.{FaultLine}
+use Rattle.bq_base_fault_line.specs.declared.fault_line.FaultLine.{FaultLine}
 use Rattle.bq_label.specs.Label.{LabelParts, full_form, package_of}
 use Rattle.bq_package_target.specs.declared.target.Target.{Target}
 use Rattle.bq_package_target.specs.Package.{PackageTargets}

@@ -6,7 +6,7 @@ use crate::calls::shown::{show_count, show_error, show_lines, show_refused};
 use crate::calls::window;
 use anyhow::Result;
 use bq_eval::{FileOutcome, ResolvedModule, eval_module};
-use bq_eval_host::BuiltIns;
+use bq_package_host::BuiltIns;
 use bq_label::{Label, Packages, Workspace};
 use bq_load::{ModuleOutcome, load_one_thread};
 use bq_load_discover::discover;

@@ -1,6 +1,6 @@
 use Rattle.std.proofs.Common.{◌≡◌, take}
 use Rattle.std.specs.List.{flat_map}
-use Rattle.bq_load_fault_line.specs.FaultLine.{put_lines}
+use Rattle.bq_base_fault_line.specs.FaultLine.{put_lines}
 use Rattle.bq_label_set.specs.Labels.{has_label}
 use Rattle.bq_query_target_graph.specs.Order.{all_targets, labels_of}
 use Rattle.bq_query_target_graph.specs.Dangling.{dangling_in, dangling_of}

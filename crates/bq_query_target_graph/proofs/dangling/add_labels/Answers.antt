@@ -3,7 +3,7 @@ use Rattle.std.specs.List.{flat_map}
 use Rattle.std.specs.BTreeSet.{insert_key}
 use Rattle.std.proofs.lemmas.List.{take_all}
 use Rattle.bq_label.specs.Label.{package_of}
-use Rattle.bq_load_fault_line.specs.FaultLine.{line_cmp, put_lines}
+use Rattle.bq_base_fault_line.specs.FaultLine.{line_cmp, put_lines}
 use Rattle.bq_package_target.specs.Target.{is_of}
 use Rattle.bq_label_set.specs.Labels.{has_label}
 use Rattle.bq_query_target_graph.specs.Dangling.{dangling, dangling_line}

@@ -1,7 +1,7 @@
 use Rattle.std.proofs.Common.{◌∙◌, ap, sym}
 use Rattle.std.specs.List.{flat_map}
 use Rattle.std.proofs.lemmas.List.{take_all}
-use Rattle.bq_load_fault_line.specs.FaultLine.{put_lines}
+use Rattle.bq_base_fault_line.specs.FaultLine.{put_lines}
 use Rattle.bq_package_target.specs.Value.{labels_of, labels_in}
 use Rattle.bq_label_set.specs.Labels.{has_label}
 use Rattle.bq_query_target_graph.specs.Dangling.{dangling}

@@ -1,0 +1,65 @@
+//! The values of predeclared names.
+
+ghost use Rattle.std.specs.Prelude.{◌≡◌, [], IfOk};
+ghost use Rattle.bq_resolve_scope.specs.Names.{with_each, with_name};
+ghost use Rattle.bq_package_host.specs.BuiltIns.{predeclared_value};
+
+use bq_base::Bytes;
+use bq_resolve_predeclared::{HostFunction, Predeclared};
+use bq_resolve_scope::Names;
+use bq_value::Value;
+use sqlite_items::Items;
+use std::alloc::{AllocError, Global};
+use std::marker::Model;
+
+/// The built-in functions of a workspace. Contracts see the names of the rules, in their order.
+#[derive(Drop)]
+pub struct BuiltIns {
+    rules: Items<Bytes>,
+}
+
+impl Model for BuiltIns {
+    ghost use Rattle.std.specs.Prelude.{List, ℕ};
+    ghost use Rattle.std.specs.Coded.{coded_ℕ, coded_list};
+
+    ghost Value = { List (List ℕ) };
+
+    ghost coded = { coded_list (coded_list coded_ℕ) };
+
+    ghost view = { λ b. b.rules };
+}
+
+impl BuiltIns {
+    /// Makes those of a workspace whose schema has these rules. Each name is kept once.
+    pub fn new(alloc: Global, rules: &[Bytes]) -> Result<BuiltIns, AllocError>
+        ensures { IfOk result (λ b. b ≡ with_each with_name [] rules.now) }
+    {
+        let mut distinct = Names::new(alloc);
+        for name in rules {
+            distinct.add(name)?;
+        }
+        Ok(BuiltIns {
+            rules: distinct.list(alloc)?,
+        })
+    }
+
+    /// Returns the value of a predeclared name.
+    #[tactic(auto, unfolding(crate::specs::BuiltIns::predeclared_value))]
+    pub fn value(&self, name: Predeclared) -> Result<Value, AllocError>
+        ensures { IfOk result (λ v. v ≡ predeclared_value self.now name) }
+    {
+        match name {
+            Predeclared::None => Ok(Value::none()),
+            Predeclared::True => Ok(Value::bool(true)),
+            Predeclared::False => Ok(Value::bool(false)),
+            Predeclared::Host(HostFunction::Rule(place)) => {
+                match self.rules.as_slice().get(place as usize) {
+                    None => Ok(Value::none()),
+                    Some(name) => Ok(Value::schema_rule(place, name.share()?)),
+                }
+            }
+            Predeclared::RuleFunction(function) => Ok(Value::rule_function(function)),
+            function => Ok(Value::built_in(function)),
+        }
+    }
+}

@@ -1,0 +1,60 @@
+-- `attr.NAME(..)` (Bazel, "attr"): F52; F40 where the default isn't of the type, or `doc` is neither a string nor `None`; F78 and F37
+-- of the default's labels.
+use Rattle.std.specs.Prelude.{pos, Bool, true, false, List, [], Option, Some, None, Result, Ok, if◌then◌else◌}
+use Rattle.std.specs.Ordering.{int_eq}
+use Rattle.bq_base.specs.declared.fault.FaultKind.{FaultKind}
+use Rattle.bq_base.specs.declared.fault.FaultKind.TheVariants.{WrongType}
+use Rattle.bq_value_rule_class.specs.declared.attribute.Attribute.{Attribute}
+use Rattle.bq_value_rule_class.specs.declared.attribute_type.AttributeType.{AttributeType}
+use Rattle.bq_value_rule_class.specs.declared.value.AttributeValue.{AttributeValue}
+use Rattle.bq_value_rule_class.specs.declared.value.AttributeValue.TheVariants as a
+use Rattle.bq_value.specs.Datum.{Datum, none}
+use Rattle.bq_value.specs.Cells.{StoreView}
+use Rattle.bq_value_compare.specs.Truth.{truth_of}
+use Rattle.bq_builtin_machine.specs.Args.{Passed}
+use Rattle.bq_builtin_machine.specs.Binding.{bind}
+use Rattle.bq_package_typed_value.specs.declared.written.Written.{Written}
+use Rattle.bq_package_typed_value.specs.Steps.{and_then}
+use Rattle.bq_package_typed_value.specs.Parameters.{argument}
+use Rattle.bq_package_typed_value.specs.Written.{written_as}
+use Rattle.bq_package_host.specs.Host.{ReadDefault}
+use Rattle.bq_package_rule_functions.specs.Keywords.{attribute_parameters, documented}
+
+-- the default as it is written, where one is given that isn't `None`
+abbrev pub written_default : StoreView → AttributeType → Option Datum → Result (Option Written) FaultKind
+written_default store type None = Ok None
+written_default store type (Some none) = Ok None
+written_default store type (Some v) = and_then (written_as WrongType store type v) (λ x. Ok (Some x))
+
+-- what an attribute of the type has by itself: nothing in it, 0 or `False`
+abbrev pub is_blank : AttributeValue → Bool
+is_blank (a.String []) = true
+is_blank (a.Int n) = int_eq n (pos 0)
+is_blank (a.Bool false) = true
+is_blank (a.StringList []) = true
+is_blank (a.LabelList []) = true
+is_blank _ = false
+
+-- the default that is kept: none that is the type's own
+abbrev pub kept : AttributeValue → Option AttributeValue
+kept v = if is_blank v then None else Some v
+
+abbrev pub resolved_default : ReadDefault → Option Written → Result (Option AttributeValue) FaultKind
+resolved_default read None = Ok None
+resolved_default read (Some x) = and_then (read x) (λ v. Ok (kept v))
+
+-- by the truth of the argument
+abbrev pub is_mandatory : StoreView → Option Datum → Bool
+is_mandatory store None = false
+is_mandatory store (Some v) = truth_of store v
+
+-- an attribute of a type, of the arguments of its parameters
+unfoldable pub attribute_of : ReadDefault → StoreView → AttributeType → List (Option Datum) → Result Attribute FaultKind
+attribute_of read store type vs =
+    and_then (written_default store type (argument vs 0)) (λ x.
+    and_then (documented (argument vs 2)) (λ _.
+    and_then (resolved_default read x) (λ default. Ok (record { kind = type; is_mandatory = is_mandatory store (argument vs 1); default = default }))))
+
+-- the attribute that a call declares
+unfoldable pub attribute : ReadDefault → StoreView → AttributeType → Passed → Result Attribute FaultKind
+attribute read store type passed = and_then (bind attribute_parameters passed) (λ b. attribute_of read store type b.values)
