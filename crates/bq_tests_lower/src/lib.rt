@@ -1,5 +1,5 @@
 //! The tests of lower crates for what no program shows: tokens and their places, shares of bytes, values that no program makes, directories
-//! on a disk, and the board. All else is in the rows of bq_tests_data.
+//! on a disk, and the board. All else is in the rows in `tests/rows`.
 #![tactic(auto)]
 
 #[cfg(test)]

@@ -1,4 +1,4 @@
-//! The tokens of texts, and where they lie: which no program shows. What begins no token is in the rows of bq_tests_data.
+//! The tokens of texts, and where they lie: which no program shows. What begins no token is in the rows in `tests/rows`.
 
 use crate::rows::{Row, Subject, check_rows};
 use bq_source::Token;

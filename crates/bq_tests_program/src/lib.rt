@@ -1,6 +1,6 @@
 //! The tests that need a type of their own: hosts that note their calls, gates that hold modules, and evaluators of load graphs.
 //!
-//! What a run shows in its bytes is in the rows of bq_tests_data.
+//! What a run shows in its bytes is in the rows in `tests/rows`.
 //!
 //! - `chunks`: tables as texts, with what is wanted beside their lines
 //! - `program`: programs of one file, or of two

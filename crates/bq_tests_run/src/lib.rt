@@ -1,4 +1,4 @@
-//! What neither a clause of the program says nor the rows of bq_tests_data show: devices that give little or fail, the status and error
+//! What neither a clause of the program says nor the rows in `tests/rows` show: devices that give little or fail, the status and error
 //! line of each ending, runs over files and directories, sessions of many queries, facts, workspaces with as many edges of loads as there
 //! may be, the options of a command line, and clap's texts.
 //!
