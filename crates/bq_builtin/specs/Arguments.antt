@@ -11,6 +11,7 @@ abbrev pub and_then : {A B : Type 0} → Result A FaultKind → (A → Result B 
 and_then (Ok a) next = next a
 and_then (Err kind) next = Err kind
 
+-- a result, refused where arguments were passed by name
 abbrev pub without_names : {A : Type 0} → List (List ℕ × Datum) → A → Result A FaultKind
 without_names [] a = Ok a
 without_names (n ∷ named) a = Err Args
@@ -19,10 +20,12 @@ without_names (n ∷ named) a = Err Args
 unfoldable pub by_place : Passed → Result (List Datum) FaultKind
 by_place p = without_names p.named p.positional
 
+-- the argument of a function that takes one
 unfoldable pub one_argument : List Datum → Result Datum FaultKind
 one_argument (v ∷ []) = Ok v
 one_argument _ = Err Args
 
+-- the argument of a function that takes one or none
 unfoldable pub optional_argument : List Datum → Result (Option Datum) FaultKind
 optional_argument [] = Ok None
 optional_argument (v ∷ []) = Ok (Some v)
@@ -41,6 +44,7 @@ one_to_three (v ∷ w ∷ []) = Ok (v, (Some w, None))
 one_to_three (v ∷ w ∷ x ∷ []) = Ok (v, (Some w, Some x))
 one_to_three _ = Err Args
 
+-- the one argument of a call, passed by place
 unfoldable pub only_argument : Passed → Result Datum FaultKind
 only_argument p = and_then (by_place p) one_argument
 

@@ -81,6 +81,7 @@ given_by f.Print args = print args
 given_by f.Fail args = fail args
 given_by f.Select args = stop fault.Select
 
+-- a call of a predeclared value; one that is not a function can't be called
 abbrev pub called : Option BuiltInFunction → Passed → Action State Datum
 called (Some function) args = given_by function args
 called None args = stop fault.WrongType

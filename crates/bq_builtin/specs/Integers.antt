@@ -16,6 +16,7 @@ use Rattle.bq_builtin.specs.Arguments.{and_then}
 use Rattle.bq_builtin.specs.Arguments.{one_to_three, integer}
 use Rattle.bq_builtin.specs.Arguments.{by_place, only_argument}
 
+-- an integer as a value
 abbrev pub as_int : Result ℤ FaultKind → Result Datum FaultKind
 as_int r = and_then r (λ i. Ok (datum.int i))
 
@@ -37,11 +38,13 @@ integer_from (boolean true) = Ok (pos 1)
 integer_from (string text) = read_integer text
 integer_from v = Err WrongType
 
+-- `int(x)`
 unfoldable pub int : Passed → Result Datum FaultKind
 int p = and_then (only_argument p) (λ v. as_int (integer_from v))
 
 -- ---- `len(x)`
 
+-- how many elements or pairs a cell holds
 abbrev pub content_length : Option Contents → Result ℕ FaultKind
 content_length (Some (items xs)) = Ok (length xs)
 content_length (Some (pairs ps)) = Ok (length ps)
@@ -62,6 +65,7 @@ len s p = and_then (only_argument p) (λ v. and_then (length_in s v) (λ n. as_i
 
 -- ---- `range(stop)`, `range(start, stop, step)`
 
+-- the step of a range, 1 where none is given
 abbrev pub step_or_one : Option Datum → Result ℤ FaultKind
 step_or_one None = Ok (pos 1)
 step_or_one (Some v) = integer v
@@ -75,5 +79,6 @@ unfoldable pub range_from : Datum × (Option Datum × Option Datum) → Result D
 range_from (v, (None, o)) = and_then (integer v) (λ stop. range_by (pos 0) stop (pos 1))
 range_from (v, (Some w, o)) = and_then (integer v) (λ start. and_then (integer w) (λ stop. and_then (step_or_one o) (λ step. range_by start stop step)))
 
+-- `range(stop)`, `range(start, stop)` and `range(start, stop, step)`
 unfoldable pub range : Passed → Result Datum FaultKind
 range p = and_then (by_place p) (λ vs. and_then (one_to_three vs) (λ r. range_from r))

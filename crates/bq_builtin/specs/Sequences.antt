@@ -28,6 +28,7 @@ reversed s p = and_then (only_argument p) (λ v. and_then (listed s v) (λ xs. O
 
 -- ---- `enumerate(x, start = 0)`
 
+-- the first number of `enumerate`, 0 where none is given
 abbrev pub start_or_zero : Option Datum → Result ℤ FaultKind
 start_or_zero None = Ok (pos 0)
 start_or_zero (Some v) = integer v
@@ -46,6 +47,7 @@ abbrev pub numbered : ℤ → List Datum → List Datum
 numbered start [] = []
 numbered start (v ∷ vs) = numbered_value start v ∷ numbered (start +ℤ pos 1) vs
 
+-- `enumerate(x, start)`: the elements, each in a pair behind its number
 unfoldable pub enumerate : StoreView → Passed → Result (List Datum) FaultKind
 enumerate s p =
     and_then (one_and_named (codes "start") p) (λ r. and_then (start_or_zero r.1) (λ start. and_then (elements_in s r.0) (λ xs. and_then (numbers_fit start (length xs)) (λ _. and_then (room_for (length xs)) (λ _. Ok (numbered start xs))))))
@@ -62,6 +64,7 @@ abbrev pub rows : ℕ → List (List Datum) → List Datum
 rows zero xss = []
 rows (suc n) xss = datum.tuple (data_of (heads xss)) ∷ rows n (map (drop 1) xss)
 
+-- the least of `n` and of the lengths of these lists
 abbrev pub shortest_from : ℕ → List (List Datum) → ℕ
 shortest_from n [] = n
 shortest_from n (xs ∷ xss) = shortest_from (min n (length xs)) xss
@@ -76,5 +79,6 @@ abbrev pub elements_of_each : StoreView → List Datum → Result (List (List Da
 elements_of_each s [] = Ok []
 elements_of_each s (v ∷ vs) = and_then (elements_in s v) (λ xs. and_then (elements_of_each s vs) (λ xss. Ok (xs ∷ xss)))
 
+-- `zip(..)`: as many rows as the shortest argument has elements, each with one of every argument
 unfoldable pub zip : StoreView → Passed → Result (List Datum) FaultKind
 zip s p = and_then (by_place p) (λ vs. and_then (elements_of_each s vs) (λ xss. and_then (room_for (shortest xss)) (λ _. Ok (rows (shortest xss) xss))))

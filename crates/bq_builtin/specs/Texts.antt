@@ -26,6 +26,7 @@ content_type (Some (pairs ps)) = Ok (codes "dict")
 content_type (Some (rule c)) = Ok (codes "rule")
 content_type None = Err WrongType
 
+-- the text that `type` gives
 unfoldable pub type_name : StoreView → Datum → Result (List ℕ) FaultKind
 type_name s none = Ok (codes "NoneType")
 type_name s (boolean b) = Ok (codes "bool")
@@ -39,14 +40,17 @@ type_name s (built_in b) = Ok (codes "builtin_function_or_method")
 type_name s (rule_function f) = Ok (codes "builtin_function_or_method")
 type_name s (attribute a) = Ok (codes "Attribute")
 
+-- `type(x)`
 unfoldable pub type_of : StoreView → Passed → Result Datum FaultKind
 type_of s p = and_then (only_argument p) (λ v. and_then (type_name s v) (λ name. Ok (string name)))
 
 -- ---- `str(x)`, `repr(x)`
 
+-- `str(x)`
 unfoldable pub str : Passed → Action State Datum
 str p = given (only_argument p) >>= λ v. machine.text v >>= λ t. pure (string t)
 
+-- `repr(x)`
 unfoldable pub repr : Passed → Action State Datum
 repr p = given (only_argument p) >>= λ v. machine.repr v >>= λ t. pure (string t)
 
@@ -66,6 +70,7 @@ values_shown separator s page n (v ∷ vs) = shown.and_then (text_shown s page n
 unfoldable pub joined_texts : List ℕ → StoreView → ℕ → List Datum → Looked (List ℕ)
 joined_texts separator s n vs = finished_by (values_shown separator s (Some []) n vs)
 
+-- what stands between the arguments of `print`, where no `sep` is given
 abbrev pub space : List ℕ
 space = codes " "
 
@@ -78,6 +83,7 @@ separator_of (Some v) = text v
 unfoldable pub separator_in : List (List ℕ × Datum) → Result (List ℕ) FaultKind
 separator_in named = and_then (only_named (codes "sep") named) separator_of
 
+-- `print(.., sep)`: a line of the arguments' texts
 unfoldable pub print : Passed → Action State Datum
 print p =
     given (separator_in p.named) >>= λ separator. walk (λ store n. joined_texts separator store n p.positional) >>= λ t. machine.print t >> pure none

@@ -36,6 +36,7 @@ all s p = and_then (only_argument p) (λ x. and_then (elements_in s x) (λ xs. O
 unfoldable pub any : StoreView → Passed → Result Datum FaultKind
 any s p = and_then (only_argument p) (λ x. and_then (elements_in s x) (λ xs. Ok (boolean (any_true s xs))))
 
+-- the truth of a value, false where there is none
 abbrev pub truth_if_any : StoreView → Option Datum → Bool
 truth_if_any s None = false
 truth_if_any s (Some v) = truth_of s v

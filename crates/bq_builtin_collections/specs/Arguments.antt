@@ -4,18 +4,22 @@ use Rattle.bq_base.specs.declared.fault.FaultKind.{FaultKind}
 use Rattle.bq_base.specs.declared.fault.FaultKind.TheVariants.{WrongType, Args}
 use Rattle.bq_value.specs.Datum.{Datum, none, int}
 
+-- a method that takes no argument got none
 unfoldable pub no_argument : List Datum → Result (Unit {0}) FaultKind
 no_argument [] = Ok tt
 no_argument _ = Err Args
 
+-- the argument of a method that takes one
 unfoldable pub one_argument : List Datum → Result Datum FaultKind
 one_argument (v ∷ []) = Ok v
 one_argument _ = Err Args
 
+-- the arguments of a method that takes two
 unfoldable pub two_arguments : List Datum → Result (Datum × Datum) FaultKind
 two_arguments (v ∷ w ∷ []) = Ok (v, w)
 two_arguments _ = Err Args
 
+-- the argument of a method that takes one or none
 unfoldable pub optional_argument : List Datum → Result (Option Datum) FaultKind
 optional_argument [] = Ok None
 optional_argument (v ∷ []) = Ok (Some v)
@@ -27,6 +31,7 @@ one_or_two (v ∷ []) = Ok (v, None)
 one_or_two (v ∷ w ∷ []) = Ok (v, Some w)
 one_or_two _ = Err Args
 
+-- the integer that an argument has to be
 unfoldable pub integer : Datum → Result ℤ FaultKind
 integer (int i) = Ok i
 integer _ = Err WrongType
@@ -36,6 +41,7 @@ unfoldable pub index_or_last : Option Datum → Result ℤ FaultKind
 index_or_last None = Ok (negsuc 0)
 index_or_last (Some v) = integer v
 
+-- a value, `None` where it is missing
 abbrev pub or_none : Option Datum → Datum
 or_none None = none
 or_none (Some v) = v

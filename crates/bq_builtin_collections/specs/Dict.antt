@@ -24,15 +24,18 @@ use Rattle.bq_builtin_collections.specs.PairsGiven.{Pairs, pairs_given, all_pair
 abbrev pub DictChange : Type 0
 DictChange = Pairs → Result (Datum × Pairs) FaultKind
 
+-- the pairs that a change left, as what a cell holds
 abbrev pub as_pairs : Result (Datum × Pairs) FaultKind → Result (Datum × Contents) FaultKind
 as_pairs (Ok r) = Ok (r.0, pairs r.1)
 as_pairs (Err kind) = Err kind
 
+-- a change of a dict, of a cell that has to hold one
 unfoldable pub on_pairs : DictChange → Change Datum
 on_pairs f (pairs ps) = as_pairs (f ps)
 on_pairs f (items xs) = Err WrongType
 on_pairs f (rule c) = Err WrongType
 
+-- the pairs of a cell that has to hold a dict
 abbrev pub dict_of : Contents → Result Pairs FaultKind
 dict_of (pairs ps) = Ok ps
 dict_of (items xs) = Err WrongType
@@ -46,10 +49,12 @@ pairs_in home number = content home number >>= λ c. given (dict_of c)
 abbrev pub pair_tuple : Datum × Datum → Datum
 pair_tuple p = tuple (datum p.0 (datum p.1 end))
 
+-- a value, `d` where it is missing
 abbrev pub or_value : Datum → Option Datum → Datum
 or_value d (Some v) = v
 or_value d None = d
 
+-- `clear`: no pair is left
 unfoldable pub emptied : DictChange
 emptied ps = Ok (none, [])
 
@@ -58,6 +63,7 @@ abbrev pub or_no_key : Option Datum → Pairs → Result (Datum × Pairs) FaultK
 or_no_key (Some d) ps = Ok (d, ps)
 or_no_key None ps = Err NoKey
 
+-- `pop`, by what the dict has at the key
 abbrev pub taken_out_by : Option Datum → Datum → Option Datum → DictChange
 taken_out_by (Some v) k d ps = Ok (v, without k ps)
 taken_out_by None k d ps = or_no_key d ps
@@ -71,6 +77,7 @@ unfoldable pub first_out : DictChange
 first_out [] = Err NoKey
 first_out (p ∷ ps) = Ok (pair_tuple p, ps)
 
+-- `setdefault`, by what the dict has at the key
 abbrev pub with_default_by : Option Datum → Datum → Datum → DictChange
 with_default_by (Some v) k d ps = Ok (v, ps)
 with_default_by None k d ps = and_then (within (length ps + 1)) (λ n. Ok (d, put k d ps))
@@ -87,18 +94,23 @@ edited (edit.SetDefault k d) = with_default k d
 
 -- ---- calls: the arguments are read first (F52), then the dict may be changed or not (F47, F48), then the key is made (F45, F53, F55)
 
+-- `d.clear()`
 unfoldable pub clear : ℕ → ℕ → List Datum → Action State Datum
 clear home number args = given (no_argument args) >> changing home number (on_pairs emptied)
 
+-- `d.get(key, default)`
 unfoldable pub get : ℕ → ℕ → List Datum → Action State Datum
 get home number args = given (one_or_two args) >>= λ r. key r.0 >>= λ q. pairs_in home number >>= λ ps. pure (or_value (or_none r.1) (found q ps))
 
+-- `d.items()`: a new list of the pairs, as tuples
 unfoldable pub dict_items : ℕ → ℕ → List Datum → Action State Datum
 dict_items home number args = given (no_argument args) >> (pairs_in home number >>= λ ps. new_list (map pair_tuple ps))
 
+-- `d.keys()`: a new list of the keys
 unfoldable pub dict_keys : ℕ → ℕ → List Datum → Action State Datum
 dict_keys home number args = given (no_argument args) >> (pairs_in home number >>= λ ps. new_list (keys ps))
 
+-- `d.values()`: a new list of the values
 unfoldable pub dict_values : ℕ → ℕ → List Datum → Action State Datum
 dict_values home number args = given (no_argument args) >> (pairs_in home number >>= λ ps. new_list (map (λ p. p.1) ps))
 
@@ -106,12 +118,15 @@ dict_values home number args = given (no_argument args) >> (pairs_in home number
 unfoldable pub key_to_change : ℕ → ℕ → Datum → Action State Datum
 key_to_change home number k = pairs_in home number >>= λ ps. may_change home number >> key k
 
+-- `d.pop(key, default)`
 unfoldable pub pop : ℕ → ℕ → List Datum → Action State Datum
 pop home number args = given (one_or_two args) >>= λ r. key_to_change home number r.0 >>= λ q. changing home number (on_pairs (taken_out q r.1))
 
+-- `d.popitem()`: the first pair, taken out
 unfoldable pub popitem : ℕ → ℕ → List Datum → Action State Datum
 popitem home number args = given (no_argument args) >> changing home number (on_pairs first_out)
 
+-- `d.setdefault(key, default)`
 unfoldable pub setdefault : ℕ → ℕ → List Datum → Action State Datum
 setdefault home number args = given (one_or_two args) >>= λ r. key_to_change home number r.0 >>= λ q. changing home number (on_pairs (with_default q (or_none r.1)))
 

@@ -20,15 +20,18 @@ use Rattle.bq_builtin_collections.specs.Arguments.{one_to_three, optional_intege
 abbrev pub ListChange : Type 0
 ListChange = List Datum → Result (Datum × List Datum) FaultKind
 
+-- the elements that a change left, as what a cell holds
 abbrev pub as_items : Result (Datum × List Datum) FaultKind → Result (Datum × Contents) FaultKind
 as_items (Ok r) = Ok (r.0, items r.1)
 as_items (Err kind) = Err kind
 
+-- a change of a list, of a cell that has to hold one
 unfoldable pub on_items : ListChange → Change Datum
 on_items f (items xs) = as_items (f xs)
 on_items f (pairs ps) = Err WrongType
 on_items f (rule c) = Err WrongType
 
+-- what follows a result, unless that is a fault
 abbrev pub and_then : {A B : Type 0} → Result A FaultKind → (A → Result B FaultKind) → Result B FaultKind
 and_then (Ok a) next = next a
 and_then (Err kind) next = Err kind
@@ -45,6 +48,7 @@ extended ys xs = and_then (within (length xs + length ys)) (λ n. Ok (none, xs +
 unfoldable pub inserted : ℤ → Datum → ListChange
 inserted i v xs = and_then (within (length xs + 1)) (λ n. Ok (none, insert xs (clamped (length xs) i) v))
 
+-- `pop`, by the element at the place
 abbrev pub taken_by : Option Datum → ℕ → ListChange
 taken_by (Some v) at xs = Ok (v, remove xs at)
 taken_by None at xs = Err Index
@@ -61,6 +65,7 @@ popped i xs = and_then (indexed (length xs) i) (λ at. taken at xs)
 unfoldable pub cleared : ListChange
 cleared xs = Ok (none, [])
 
+-- the element at the place leaves the list, if there is one
 abbrev pub dropped_by : Option Datum → ℕ → ListChange
 dropped_by (Some v) at xs = Ok (none, remove xs at)
 dropped_by None at xs = Err Index
@@ -79,9 +84,11 @@ edited (edit.Drop at) = dropped at
 
 -- ---- calls: the arguments are read first (F52, F40), then the list may be changed or not (F47, F48)
 
+-- `l.append(x)`
 unfoldable pub append : ℕ → ℕ → List Datum → Action State Datum
 append home number args = given (one_argument args) >>= λ v. changing home number (on_items (appended v))
 
+-- `l.clear()`
 unfoldable pub clear : ℕ → ℕ → List Datum → Action State Datum
 clear home number args = given (no_argument args) >> changing home number (on_items cleared)
 
@@ -89,14 +96,17 @@ clear home number args = given (no_argument args) >> changing home number (on_it
 unfoldable pub extend : ℕ → ℕ → List Datum → Action State Datum
 extend home number args = given (one_argument args) >>= λ x. elements x >>= λ ys. changing home number (on_items (extended ys))
 
+-- `l.insert(i, x)`
 unfoldable pub insert_at : ℕ → ℕ → List Datum → Action State Datum
 insert_at home number args = given (two_arguments args) >>= λ r. given (integer r.0) >>= λ i. changing home number (on_items (inserted i r.1))
 
+-- `l.pop(i)`
 unfoldable pub pop : ℕ → ℕ → List Datum → Action State Datum
 pop home number args = given (optional_argument args) >>= λ o. given (index_or_last o) >>= λ i. changing home number (on_items (popped i))
 
 -- ---- methods that look for an element
 
+-- the elements of a cell that has to hold a list
 abbrev pub list_of : Contents → Result (List Datum) FaultKind
 list_of (items xs) = Ok xs
 list_of (pairs ps) = Err WrongType
@@ -106,9 +116,11 @@ list_of (rule c) = Err WrongType
 unfoldable pub list_in : ℕ → ℕ → Action State (List Datum)
 list_in home number = content home number >>= λ c. given (list_of c)
 
+-- where a list has a value between two indices first
 unfoldable pub find : ℕ → ℕ → Datum → Option ℤ → Option ℤ → Action State (Option ℕ)
 find home number v start end = list_in home number >>= λ xs. walk (λ store n. found_between store n xs v start end)
 
+-- the place that was found, as an integer of the language; it has to be there
 abbrev pub place_by : Option ℕ → Result ℕ FaultKind
 place_by (Some at) = within at
 place_by None = Err BadValue
@@ -123,6 +135,7 @@ index home number args =
     given (one_to_three args) >>= λ r. given (optional_integer r.1.0) >>= λ start. given (optional_integer r.1.1) >>= λ end.
     find home number r.0 start end >>= λ at. given (place_value at)
 
+-- `l.remove(x)`, by the place where the value was found
 abbrev pub drop_at : ℕ → ℕ → Option ℕ → Action State Datum
 drop_at home number (Some at) = changing home number (on_items (dropped at))
 drop_at home number None = stop BadValue

@@ -16,6 +16,7 @@ use Rattle.bq_builtin_machine.specs.Iteration.{elements}
 use Rattle.bq_builtin_machine.specs.Machine.{key}
 use Rattle.bq_builtin_collections.specs.List.{and_then}
 
+-- the pairs of a dict, in its order
 abbrev pub Pairs : Type 0
 Pairs = List (Datum × Datum)
 
@@ -34,11 +35,13 @@ abbrev pub values_of_content : Option Contents → Result (List Datum) FaultKind
 values_of_content (Some (items xs)) = Ok xs
 values_of_content _ = Err WrongType
 
+-- the elements of what is given as a pair
 abbrev pub parts_of : StoreView → Datum → Result (List Datum) FaultKind
 parts_of s (tuple xs) = Ok (list_of xs)
 parts_of s (cell home number) = values_of_content (content_at s home number)
 parts_of s _ = Err WrongType
 
+-- a pair of two elements, if there are just two
 abbrev pub two : List Datum → Option (Datum × Datum)
 two (k ∷ v ∷ []) = Some (k, v)
 two _ = None
@@ -47,17 +50,21 @@ two _ = None
 unfoldable pub pair_in : StoreView → Datum → Result (Option (Datum × Datum)) FaultKind
 pair_in s v = and_then (parts_of s v) (λ xs. Ok (two xs))
 
+-- one more pair was read, or one with another number of elements
 abbrev pub with_pair : Option (Datum × Datum) → GivenView → GivenView
 with_pair (Some p) g = record g { unkeyed = g.unkeyed ++ p ∷ [] }
 with_pair None g = record g { all_have_two = false }
 
+-- reads one element as a pair
 unfoldable pub take_element : StoreView → Datum → GivenView → Result GivenView FaultKind
 take_element s v g = and_then (pair_in s v) (λ o. Ok (with_pair o g))
 
+-- reads elements as pairs, in turn
 abbrev pub take_elements : StoreView → List Datum → GivenView → Result GivenView FaultKind
 take_elements s [] g = Ok g
 take_elements s (v ∷ vs) g = and_then (take_element s v g) (take_elements s vs)
 
+-- the pairs of a cell that holds a dict
 abbrev pub pairs_of_content : Option Contents → Option Pairs
 pairs_of_content (Some (pairs ps)) = Some ps
 pairs_of_content _ = None
@@ -67,6 +74,7 @@ abbrev pub dict_of : StoreView → Datum → Option Pairs
 dict_of s (cell home number) = pairs_of_content (content_at s home number)
 dict_of s _ = None
 
+-- reads an argument: a dict's pairs as they are, other values by their elements
 abbrev pub read_by : Option Pairs → Datum → GivenView → Action State GivenView
 read_by (Some ps) v g = pure (record g { keyed = g.keyed ++ ps })
 read_by None v g = elements v >>= λ xs. look (λ s. take_elements s.store xs g)
@@ -81,13 +89,16 @@ read v g = λ s. read_by (dict_of s.store v) v g s
 abbrev pub pairs_signature : SignatureView
 pairs_signature = record { parameters = record { name = None; is_required = false } ∷ []; placed = 1; takes_rest = false; takes_keywords = true }
 
+-- the argument by place, if there is one
 abbrev pub first_value : List (Option Datum) → Option Datum
 first_value [] = None
 first_value (o ∷ os) = o
 
+-- before the argument is read there are the keywords alone
 abbrev pub nothing_read : Pairs → GivenView
 nothing_read ps = record { keyed = []; unkeyed = []; all_have_two = true; keywords = ps }
 
+-- reads the argument, if there is one
 abbrev pub read_optional : Option Datum → GivenView → Action State GivenView
 read_optional None g = pure g
 read_optional (Some v) g = read v g
@@ -102,6 +113,7 @@ pairs_given args = given (bind pairs_signature args) >>= λ b. read_optional (fi
 unfoldable pub make_key : Datum × Datum → Pairs → Action State Pairs
 make_key p made = key p.0 >>= λ k. pure (made ++ (k, p.1) ∷ [])
 
+-- puts pairs into those that are made, in turn, each after its key was looked at
 abbrev pub make_keys : List (Datum × Datum) → Pairs → Action State Pairs
 make_keys [] made = pure made
 make_keys (p ∷ ps) made = make_key p made >>= λ now. make_keys ps now

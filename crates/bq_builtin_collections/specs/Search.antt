@@ -6,6 +6,7 @@ use Rattle.bq_value.specs.Cells.{StoreView}
 use Rattle.bq_value_compare.specs.Looked.{Looked}
 use Rattle.bq_builtin_machine.specs.Machine.{looked_equal}
 
+-- the place where two values were equal, or what is found further on
 abbrev pub if_unequal : Looked Bool → ℕ → (ℕ → Looked (Option ℕ)) → Looked (Option ℕ)
 if_unequal (Ok (true, n)) at next = Ok (Some at, n)
 if_unequal (Ok (false, n)) at next = next n

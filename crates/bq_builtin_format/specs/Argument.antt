@@ -41,6 +41,7 @@ next_after next name = if bytes_eq name [] then drop 1 next else next
 abbrev pub no_fields : Numbering
 no_fields = record { is_automatic = false; is_numbered = false }
 
+-- how fields are numbered, after one of this name
 abbrev pub numbering_after : Numbering → List ℕ → Numbering
 numbering_after m name =
     if bytes_eq name [] then record { is_automatic = true; is_numbered = m.is_numbered } else

@@ -17,6 +17,7 @@ abbrev pub field_shown : StoreView → DraftView → ℕ → Option Datum → Lo
 field_shown s d n None = Ok (spoiled d, n)
 field_shown s d n (Some v) = onto d.malformed (text_shown s d.page n v)
 
+-- fields with and without numbers in one format spoil the text
 abbrev pub unmixed : Numbering → DraftView → DraftView
 unmixed m d = if is_mixed m then spoiled d else d
 
@@ -28,5 +29,6 @@ made s all named d n next m (lone ∷ ps) = made s all named (spoiled d) n next 
 made s all named d n next m (field name ∷ ps) =
     and_then (field_shown s d n (argument all named next name)) (λ e k. made s all named e k (next_after next name) (numbering_after m name) ps)
 
+-- `format.format(..)`
 unfoldable pub formatted : StoreView → ℕ → List ℕ → List Datum → List (List ℕ × Datum) → Looked (List ℕ)
 formatted s n format all named = text_by (made s all named blank n all no_fields (pieces format))

@@ -17,16 +17,20 @@ pub record DraftView : Type 0 where
   pub page : PageView
   pub malformed : Bool
 
+-- bytes are written behind what a draft has
 abbrev pub and_write : DraftView → List ℕ → DraftView
 and_write d bytes = record { page = written d.page bytes; malformed = d.malformed }
 
+-- the format is found to be wrong, which is said at the end
 abbrev pub spoiled : DraftView → DraftView
 spoiled d = record { page = d.page; malformed = true }
 
+-- a page that was written on, as a draft
 abbrev pub onto : Bool → Looked PageView → Looked DraftView
 onto malformed (Ok (page, n)) = Ok (record { page = page; malformed = malformed }, n)
 onto malformed (Err kind) = Err kind
 
+-- what follows on a draft, unless there was a fault
 abbrev pub and_then : Looked DraftView → (DraftView → ℕ → Looked DraftView) → Looked DraftView
 and_then (Ok (d, n)) next = next d n
 and_then (Err kind) next = Err kind
@@ -40,6 +44,7 @@ decimal d _ = spoiled d
 abbrev pub takes_value : ℕ → Bool
 takes_value k = (k == 115) || ((k == 114) || (k == 100))
 
+-- a value by the letter of its conversion: `s` its text, `r` its representation, and `d`
 abbrev pub shown : StoreView → DraftView → ℕ → ℕ → Datum → Looked DraftView
 shown s d n k v = cond (k == 115) (onto d.malformed (text_shown s d.page n v)) (cond (k == 114) (onto d.malformed (repr_shown s d.page n v)) (Ok (decimal d v, n)))
 
@@ -63,6 +68,7 @@ abbrev pub ended : DraftView → List Datum → DraftView
 ended d [] = d
 ended d (v ∷ vs) = spoiled d
 
+-- a format by its next `%`, if it has one: the text before, the conversion, and what is `later`
 abbrev pub filled_by : (DraftView → ℕ → List Datum → List ℕ → Looked DraftView) → StoreView → DraftView → ℕ → List Datum → List ℕ → Option (List ℕ × List ℕ) → Looked DraftView
 filled_by later s d n values text None = Ok (ended (and_write d text) values, n)
 filled_by later s d n values text (Some p) = and_then (converted s (and_write d p.0) n p.1 values) (λ e m. later e m (values_after p.1 values) (drop 1 p.1))
@@ -82,17 +88,21 @@ abbrev pub finished_when : Bool → PageView → Result (List ℕ) FaultKind
 finished_when true page = Err Format
 finished_when false page = finished page
 
+-- the text of a draft, or the fault that it met
 abbrev pub finished_draft : DraftView → Result (List ℕ) FaultKind
 finished_draft d = finished_when d.malformed d.page
 
+-- a text, beside the steps left
 abbrev pub with_steps : ℕ → Result (List ℕ) FaultKind → Looked (List ℕ)
 with_steps n (Ok text) = Ok (text, n)
 with_steps n (Err kind) = Err kind
 
+-- the text of a draft, beside the steps left
 abbrev pub text_by : Looked DraftView → Looked (List ℕ)
 text_by (Ok (d, n)) = with_steps n (finished_draft d)
 text_by (Err kind) = Err kind
 
+-- `format % values`: the text with all its conversions filled in
 abbrev pub text_filled : StoreView → ℕ → List ℕ → List Datum → Looked (List ℕ)
 text_filled s n format values = text_by (filled (length format) s blank n values format)
 

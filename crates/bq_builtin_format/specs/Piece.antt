@@ -4,6 +4,7 @@ use Rattle.std.specs.Prelude.{◌≡◌, ◌≢◌, ℕ, zero, suc, Bool, not, �
 use Rattle.std.specs.List.{All, prefix_len}
 use Rattle.bq_builtin_format.specs.Percent.{DraftView, and_write, spoiled}
 
+-- a piece of a format: a byte of text, a field by its name, or a brace that has no partner
 pub data Piece : Type 0 where
   byte : ℕ → Piece
   field : List ℕ → Piece
@@ -26,12 +27,14 @@ pub data IsCutInto : List ℕ → List Piece → Type 0 where
 
 -- ---- as functions
 
+-- `{` or `}`
 abbrev pub is_brace : ℕ → Bool
 is_brace b = (b == 123) || (b == 125)
 
 abbrev pub is_plain : ℕ → Bool
 is_plain b = not (is_brace b)
 
+-- a byte that can stand in a field: all but `}`
 abbrev pub is_inside : ℕ → Bool
 is_inside b = not (b == 125)
 
@@ -40,6 +43,7 @@ abbrev pub closed : List ℕ → List ℕ → Option (List ℕ × List ℕ)
 closed name [] = None
 closed name (b ∷ rest) = Some (name, rest)
 
+-- the name of a field, and what stands behind its `}`, of the bytes behind a `{` that begins one
 abbrev pub opened : List ℕ → Option (List ℕ × List ℕ)
 opened [] = None
 opened (b ∷ bs) = if b == 123 then None else closed (take (prefix_len is_inside (b ∷ bs)) (b ∷ bs)) (drop (prefix_len is_inside (b ∷ bs)) (b ∷ bs))
@@ -54,6 +58,7 @@ abbrev pub doubled : ℕ → List ℕ → Piece × List ℕ
 doubled b [] = (lone, [])
 doubled b (c ∷ cs) = if c == b then (byte b, cs) else (lone, (if b == 123 then [] else c ∷ cs))
 
+-- the first piece of a text, and what stands behind it, by the field that begins here
 abbrev pub piece_by : ℕ → List ℕ → Option (List ℕ × List ℕ) → Piece × List ℕ
 piece_by b bs (Some p) = (field p.0, p.1)
 piece_by b bs None = if is_brace b then doubled b bs else (byte b, bs)
@@ -68,6 +73,7 @@ cut most [] = []
 cut zero (b ∷ bs) = []
 cut (suc most) (b ∷ bs) = (first_piece b bs).0 ∷ cut most (first_piece b bs).1
 
+-- a format, cut into its pieces
 unfoldable pub pieces : List ℕ → List Piece
 pieces text = cut (length text) text
 

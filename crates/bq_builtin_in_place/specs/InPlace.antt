@@ -70,6 +70,7 @@ set_in home number at v (items xs) = given (int_of at) >>= λ i. changing home n
 set_in home number at v (pairs ps) = may_change home number >> (key at >>= λ k. changing home number (pair_put k v))
 set_in home number at v (rule c) = stop WrongType
 
+-- `x[at] = v`, of a list or a dict
 unfoldable pub set_item : ℕ → ℕ → Datum → Datum → Action State (Unit {0})
 set_item home number at v = content home number >>= λ c. set_in home number at v c
 

@@ -12,9 +12,11 @@ pub data Run (S A : Type 0) : Type 0 where
   done : A → S → Run S A
   stopped : Stop → Run S A
 
+-- what an evaluation does in a state: it gives a value and the next state, or it stops
 abbrev pub Action : Type 0 → Type 0 → Type 0
 Action S A = S → Run S A
 
+-- what follows a run, unless that stopped
 abbrev pub following : {S A B : Type 0} → Run S A → (A → Action S B) → Run S B
 following (done a s) next = next a s
 following (stopped why) next = stopped why

@@ -4,10 +4,12 @@ use Rattle.std.specs.Coded.{Coded, code_by, coded×, coded_ℕ, coded_list}
 use Rattle.bq_value.specs.Datum.{Datum}
 use Rattle.bq_value.specs.Codes.{coded_datum}
 
+-- the arguments of a call: those by place, and those by name in source order
 pub record Passed : Type 0 where
   pub positional : List Datum
   pub named : List (List ℕ × Datum)
 
+-- a call without arguments
 abbrev pub nothing_passed : Passed
 nothing_passed = record { positional = []; named = [] }
 

@@ -18,6 +18,7 @@ pub record BoundView : Type 0 where
   pub rest : List Datum
   pub keywords : List (Datum × Datum)
 
+-- the values of parameters, or the fault of the call
 abbrev pub Binding : Type 0
 Binding = Result BoundView FaultKind
 
@@ -29,6 +30,7 @@ placed_values zero (suc n) xs = None ∷ placed_values zero n xs
 placed_values (suc placed) (suc n) [] = None ∷ placed_values placed n []
 placed_values (suc placed) (suc n) (x ∷ xs) = Some x ∷ placed_values placed n xs
 
+-- the arguments by place go to the parameters in turn; what is left over goes to `*args`
 abbrev pub placed : SignatureView → List Datum → BoundView
 placed s xs = record { values = placed_values (places s) (length s.parameters) xs; rest = drop (places s) xs; keywords = [] }
 
@@ -36,6 +38,7 @@ placed s xs = record { values = placed_values (places s) (length s.parameters) x
 abbrev pub too_many : SignatureView → List Datum → Bool
 too_many s xs = not (s.takes_rest || nat_le (length xs) (places s))
 
+-- fills a parameter, by what it has: none may be filled twice, nor one that isn't there
 abbrev pub fill_by : Option (Option Datum) → ℕ → Datum → BoundView → Binding
 fill_by (Some None) i v b = Ok (record b { values = set b.values i (Some v) })
 fill_by _ i v b = Err Args
@@ -49,6 +52,7 @@ unfoldable pub take_keyword : Bool → List ℕ → Datum → BoundView → Bind
 take_keyword takes name v b =
     cond takes (cond (is_some (found (string name) b.keywords)) (Err Args) (Ok (record b { keywords = put (string name) v b.keywords }))) (Err Args)
 
+-- binds an argument by name, by the parameter that has this name
 abbrev pub take_named_by : Option ℕ → SignatureView → List ℕ → Datum → BoundView → Binding
 take_named_by (Some i) s name v b = fill i v b
 take_named_by None s name v b = take_keyword s.takes_keywords name v b
@@ -57,14 +61,17 @@ take_named_by None s name v b = take_keyword s.takes_keywords name v b
 unfoldable pub take_named : SignatureView → List ℕ → Datum → BoundView → Binding
 take_named s name v b = take_named_by (position_from (is_called name) 0 s.parameters) s name v b
 
+-- what follows a binding, unless it failed
 abbrev pub and_bind : Binding → (BoundView → Binding) → Binding
 and_bind (Ok b) next = next b
 and_bind (Err kind) next = Err kind
 
+-- binds the arguments by name, in turn
 unfoldable pub take_all_named : SignatureView → List (List ℕ × Datum) → BoundView → Binding
 take_all_named s [] b = Ok b
 take_all_named s (a ∷ named) b = and_bind (take_named s a.0 a.1 b) (take_all_named s named)
 
+-- the parameter is there and has a value
 abbrev pub is_given : Option (Option Datum) → Bool
 is_given (Some (Some v)) = true
 is_given _ = false
@@ -78,9 +85,11 @@ abbrev pub complete_from : ℕ → List ParameterView → List (Option Datum) �
 complete_from i [] vs = true
 complete_from i (p ∷ ps) vs = cond (p.is_required && not (has_value vs i)) false (complete_from (i + 1) ps vs)
 
+-- each parameter has a value or a default
 abbrev pub is_complete : List ParameterView → List (Option Datum) → Bool
 is_complete ps vs = complete_from 0 ps vs
 
+-- a binding that leaves no parameter without a value
 abbrev pub if_complete : SignatureView → BoundView → Binding
 if_complete s b = cond (is_complete s.parameters b.values) (Ok b) (Err Args)
 

@@ -9,6 +9,7 @@ use Rattle.bq_builtin_machine.specs.Action.{Action, done, stop}
 abbrev pub max_active : ℕ
 max_active = 100
 
+-- a function, by its home and its place there, is among those that are running
 abbrev pub is_active : ℕ → ℕ → List (ℕ × ℕ) → Bool
 is_active home place active = list_any (λ f. (f.0 == home) && (f.1 == place)) active
 

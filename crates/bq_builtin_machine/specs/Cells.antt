@@ -11,6 +11,7 @@ use Rattle.bq_value.specs.Cell.{Cell}
 use Rattle.bq_builtin_machine.specs.State.{State}
 use Rattle.bq_builtin_machine.specs.Action.{Action, done, ◌>>=◌, ◌>>◌, pure, stop, given, look, change}
 
+-- the state with another store
 abbrev pub with_store : StoreView → State → State
 with_store store s = record s { store = store }
 
@@ -22,6 +23,7 @@ with_content s number c = with_store (with_cell s.store number c) s
 unfoldable pub new_content : Contents → Action State Datum
 new_content c s = done (cell s.store.own (length s.store.cells)) (with_store (with_cells (s.store.cells ++ c ∷ []) s.store) s)
 
+-- a value of the type that is needed, or the fault that it has another
 abbrev pub or_wrong : {A : Type 0} → Option A → Result A FaultKind
 or_wrong (Some a) = Ok a
 or_wrong None = Err WrongType
@@ -42,6 +44,7 @@ may_change home number s = cond (home == s.store.own) (cond (is_walked home numb
 unfoldable pub can_change : ℕ → ℕ → Action State (Unit {0})
 can_change home number = content home number >> may_change home number
 
+-- a cell of the running module holds something else from now on
 abbrev pub put_content : ℕ → Contents → Action State (Unit {0})
 put_content number c = change (λ s. with_content s number c)
 
@@ -49,6 +52,7 @@ put_content number c = change (λ s. with_content s number c)
 abbrev pub Change : Type 0 → Type 0
 Change A = Contents → Result (A × Contents) FaultKind
 
+-- changes what a cell holds: it has to be one that may be changed, then of the right type
 unfoldable pub changing : {A : Type 0} → ℕ → ℕ → Change A → Action State A
 changing home number f = can_change home number >> (content home number >>= λ c. given (f c) >>= λ r. put_content number r.1 >> pure r.0)
 
@@ -56,5 +60,6 @@ changing home number f = can_change home number >> (content home number >>= λ c
 unfoldable pub new_list : List Datum → Action State Datum
 new_list xs = new_content (items xs)
 
+-- a new dict of these pairs
 unfoldable pub new_dict : List (Datum × Datum) → Action State Datum
 new_dict ps = new_content (pairs ps)

@@ -16,9 +16,11 @@ abbrev pub integers : ℤ → ℤ → ℕ → List ℤ
 integers first step zero = []
 integers first step (suc n) = first ∷ integers (first +ℤ step) step n
 
+-- the integers of a range
 abbrev pub range_integers : ℤ → ℤ → ℤ → List ℤ
 range_integers start stop step = integers start step (range_count start stop step)
 
+-- what a walk over a cell goes through: the elements of a list, the keys of a dict
 abbrev pub content_elements : Option Contents → Result (List Datum) FaultKind
 content_elements (Some (items xs)) = Ok xs
 content_elements (Some (pairs ps)) = Ok (keys ps)
@@ -32,6 +34,7 @@ elements_in s (range start stop step) = Ok (map int (range_integers start stop s
 elements_in s (cell home number) = content_elements (content_at s home number)
 elements_in s _ = Err WrongType
 
+-- what a walk over a value goes through
 unfoldable pub elements : Datum → Action State (List Datum)
 elements v = look (λ s. elements_in s.store v)
 

@@ -12,6 +12,7 @@ use Rattle.bq_value_text.specs.Shown.{repr_of, text_of}
 use Rattle.bq_builtin_machine.specs.State.{State}
 use Rattle.bq_builtin_machine.specs.Action.{Action, done, stop, change}
 
+-- the state with another number of steps left
 abbrev pub with_steps : ℕ → State → State
 with_steps n s = record s { steps = n }
 
@@ -28,9 +29,11 @@ after_walk (Err kind) = stop kind
 abbrev pub walk : {A : Type 0} → (StoreView → ℕ → Looked A) → Action State A
 walk looked = λ s. after_walk (looked s.store s.steps) s
 
+-- whether two values are equal, with all levels still to go
 unfoldable pub looked_equal : StoreView → ℕ → Datum → Datum → Looked Bool
 looked_equal store n a b = equal_at max_levels store n a b
 
+-- which of two values comes first, with all levels still to go
 unfoldable pub looked_order : StoreView → ℕ → Datum → Datum → Looked Ordering
 looked_order store n a b = ordered_at max_levels store n a b
 

@@ -32,6 +32,7 @@ parameter_of p = record { name = name_of p.name; is_required = p.is_required }
 abbrev pub signature_of : Signature → SignatureView
 signature_of s = record { parameters = map parameter_of s.parameters.now; placed = s.placed; takes_rest = s.takes_rest; takes_keywords = s.takes_keywords }
 
+-- a parameter has this name
 abbrev pub name_is : List ℕ → Option (List ℕ) → Bool
 name_is name None = false
 name_is name (Some other) = bytes_eq name other

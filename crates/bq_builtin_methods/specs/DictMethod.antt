@@ -13,6 +13,7 @@ use Rattle.bq_builtin_methods.specs.declared.dict_method.PlacedMethod.{PlacedMet
 use Rattle.bq_builtin_methods.specs.declared.dict_method.PlacedMethod.TheVariants as p
 use Rattle.bq_builtin_methods.specs.Placed.{placed}
 
+-- the methods of dicts, by their names in order
 abbrev pub dict_methods : List (List ℕ × DictMethod)
 dict_methods =
     (codes "clear", m.Placed p.Clear) ∷
@@ -30,6 +31,7 @@ dict_methods =
 abbrev pub dict_method : List ℕ → Option DictMethod
 dict_method name = lookup (bytes_eq name) dict_methods
 
+-- calls a method of dicts that takes its arguments by place
 unfoldable pub placed_call : PlacedMethod → ℕ → ℕ → List Datum → Action State Datum
 placed_call p.Clear home number args = clear home number args
 placed_call p.Get home number args = get home number args

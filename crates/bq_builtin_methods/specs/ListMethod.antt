@@ -9,6 +9,7 @@ use Rattle.bq_builtin_collections.specs.List.{append, clear, extend, index, inse
 use Rattle.bq_builtin_methods.specs.declared.list_method.ListMethod.{ListMethod}
 use Rattle.bq_builtin_methods.specs.declared.list_method.ListMethod.TheVariants as m
 
+-- the methods of lists, by their names in order
 abbrev pub list_methods : List (List ℕ × ListMethod)
 list_methods =
     (codes "append", m.Append) ∷

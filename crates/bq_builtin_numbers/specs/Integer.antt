@@ -21,11 +21,14 @@ Fitted answer z = SomeIff answer (FitsSigned w64 z) z
 abbrev pub of_bits : (ℕ → ℕ → ℕ) → ℤ → ℤ → ℤ
 of_bits operation x y = cast_signed w64 (operation (cast_unsigned w64 x) (cast_unsigned w64 y))
 
+-- `x & y`
 abbrev pub both : ℤ → ℤ → ℤ
 both x y = of_bits bit_and x y
 
+-- `x | y`
 abbrev pub either : ℤ → ℤ → ℤ
 either x y = of_bits bit_or x y
 
+-- `x ^ y`
 abbrev pub one_of : ℤ → ℤ → ℤ
 one_of x y = of_bits bit_xor x y

@@ -3,6 +3,7 @@ use Rattle.std.specs.Prelude.{ℕ, nat_le, cond, ℤ, pos, negsuc, Result, Ok, E
 use Rattle.bq_base.specs.declared.fault.FaultKind.{FaultKind}
 use Rattle.bq_base.specs.declared.fault.FaultKind.TheVariants.{TooLong}
 
+-- the most elements of a list, tuple, dict or range
 abbrev pub max_len : ℕ
 max_len = 1048576
 

@@ -5,6 +5,7 @@ use Rattle.bq_base.specs.declared.fault.FaultKind.{FaultKind}
 use Rattle.bq_value.specs.Range.{range_count, range_element}
 use Rattle.bq_builtin_numbers.specs.Place.{indexed}
 
+-- the element of a range by its number, if the index was in it
 abbrev pub element_by : ℤ → ℤ → Result ℕ FaultKind → Result ℤ FaultKind
 element_by start step (Ok number) = Ok (range_element start step number)
 element_by start step (Err e) = Err e

@@ -14,6 +14,7 @@ shift_count (negsuc n) = Err BadValue
 unfoldable pub scaled : ℤ → ℕ → Result ℤ FaultKind
 scaled x n = fitted (x *ℤ pos (2 ^ n))
 
+-- `x << n`, by the distance, if that is allowed
 abbrev pub scaled_by : ℤ → Result ℕ FaultKind → Result ℤ FaultKind
 scaled_by x (Ok n) = scaled x n
 scaled_by x (Err e) = Err e
@@ -22,6 +23,7 @@ scaled_by x (Err e) = Err e
 unfoldable pub halved : ℤ → ℕ → ℤ
 halved x n = floor_quotient x (pos (2 ^ n))
 
+-- `x >> n`, by the distance, if that is allowed
 abbrev pub halved_by : ℤ → Result ℕ FaultKind → Result ℤ FaultKind
 halved_by x (Ok n) = Ok (halved x n)
 halved_by x (Err e) = Err e

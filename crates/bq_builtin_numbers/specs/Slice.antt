@@ -35,6 +35,7 @@ abbrev pub element_at : {A : Type 0} → List A → ℤ → Option A
 element_at xs (pos k) = slice_get xs k
 element_at xs (negsuc k) = None
 
+-- a list with an element before it, if there is one
 abbrev pub with_first : {A : Type 0} → Option A → List A → List A
 with_first (Some x) xs = x ∷ xs
 with_first None xs = xs

@@ -20,6 +20,7 @@ abbrev pub by_order : (Ordering → Bool) → Looked Ordering → Looked Bool
 by_order test (Ok (ordering, n)) = Ok (test ordering, n)
 by_order test (Err kind) = Err kind
 
+-- what each comparison says of two values
 unfoldable pub compared : Comparison → StoreView → ℕ → Datum → Datum → Looked Bool
 compared comparison.Equal s n a b = looked_equal s n a b
 compared comparison.NotEqual s n a b = negated (looked_equal s n a b)

@@ -38,12 +38,15 @@ unfoldable pub in_range : ℕ → Datum → ℤ → ℤ → ℤ → Looked Bool
 in_range n (int i) start stop step = Ok (range_has start stop step i, n)
 in_range n _ start stop step = Err WrongType
 
+-- `v in xs`, of the elements of a list
 unfoldable pub in_list : StoreView → ℕ → Datum → List Datum → Looked Bool
 in_list s n v xs = among (looked_equal s) n v xs
 
+-- `v in ps`, of the keys of a dict, once `v` is found to be one
 unfoldable pub in_dict : ℕ → Datum → List (Datum × Datum) → Looked Bool
 in_dict n v ps = among_keys (keyed v (walked_at max_levels n v)) ps
 
+-- `v in x`, by what the cell of `x` holds
 abbrev pub in_content : StoreView → ℕ → Datum → Option Contents → Looked Bool
 in_content s n v (Some (items xs)) = in_list s n v xs
 in_content s n v (Some (pairs ps)) = in_dict n v ps

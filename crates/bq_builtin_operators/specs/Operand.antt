@@ -11,23 +11,29 @@ abbrev pub and_then : {A B : Type 0} → Result A FaultKind → (A → Result B 
 and_then (Ok a) next = next a
 and_then (Err kind) next = Err kind
 
+-- an integer as a value
 abbrev pub as_int : Result ℤ FaultKind → Result Datum FaultKind
 as_int r = and_then r (λ n. Ok (int n))
 
+-- a text as a value
 abbrev pub as_string : Result (List ℕ) FaultKind → Result Datum FaultKind
 as_string r = and_then r (λ text. Ok (string text))
 
+-- elements as a tuple
 abbrev pub as_tuple : Result (List Datum) FaultKind → Result Datum FaultKind
 as_tuple r = and_then r (λ xs. Ok (tuple (data_of xs)))
 
+-- the integer that an operand has to be
 abbrev pub int_of : Datum → Result ℤ FaultKind
 int_of (int n) = Ok n
 int_of _ = Err WrongType
 
+-- the elements of a cell that has to hold a list
 abbrev pub list_of_content : Option Contents → Result (List Datum) FaultKind
 list_of_content (Some (items xs)) = Ok xs
 list_of_content _ = Err WrongType
 
+-- the pairs of a cell that has to hold a dict
 abbrev pub dict_of_content : Option Contents → Result (List (Datum × Datum)) FaultKind
 dict_of_content (Some (pairs ps)) = Ok ps
 dict_of_content _ = Err WrongType

@@ -41,6 +41,7 @@ compare comparison a b = walk (λ s n. compared comparison s n a b) >>= λ so. p
 unfoldable pub index : Datum → Datum → Action State Datum
 index container at = walk (λ s n. item_of s n container at)
 
+-- `a[start:stop:step]`, of a list
 unfoldable pub list_slice : StoreView → Datum → Datum → Datum → Datum → Result (List Datum) FaultKind
 list_slice s a start stop step = and_then (list_in s a) (λ xs. sliced xs start stop step)
 

@@ -12,6 +12,7 @@ use Rattle.bq_builtin_numbers.specs.Place.{indexed}
 use Rattle.bq_builtin_numbers.specs.RangeItem.{range_item}
 use Rattle.bq_builtin_operators.specs.Operand.{and_then, as_int, int_of}
 
+-- what was found, or this fault
 abbrev pub or_fault : {A : Type 0} → FaultKind → Option A → Result A FaultKind
 or_fault kind (Some a) = Ok a
 or_fault kind None = Err kind
@@ -20,6 +21,7 @@ or_fault kind None = Err kind
 abbrev pub element_by : {A : Type 0} → List A → Result ℕ FaultKind → Result A FaultKind
 element_by xs place = and_then place (λ k. or_fault Index (slice_get xs k))
 
+-- the element at an index, which may count from the end
 unfoldable pub item_in : {A : Type 0} → List A → Datum → Result A FaultKind
 item_in xs index = and_then (int_of index) (λ i. element_by xs (indexed (length xs) i))
 
@@ -27,6 +29,7 @@ item_in xs index = and_then (int_of index) (λ i. element_by xs (indexed (length
 unfoldable pub byte_in : List ℕ → Datum → Result Datum FaultKind
 byte_in text index = and_then (item_in text index) (λ b. Ok (string (b ∷ [])))
 
+-- the integer at an index of a range
 unfoldable pub integer_in : ℤ → ℤ → ℤ → Datum → Result Datum FaultKind
 integer_in start stop step index = as_int (and_then (int_of index) (λ i. range_item start stop step i))
 
@@ -39,9 +42,11 @@ abbrev pub value_by : List (Datum × Datum) → Looked Datum → Looked Datum
 value_by ps (Ok (key, n)) = at_no_cost n (or_fault NoKey (found key ps))
 value_by ps (Err kind) = Err kind
 
+-- the value at a key, once the key was looked at
 unfoldable pub value_in : ℕ → List (Datum × Datum) → Datum → Looked Datum
 value_in n ps key = value_by ps (keyed key (walked_at max_levels n key))
 
+-- `x[index]`, by what the cell of `x` holds
 abbrev pub content_item : ℕ → Option Contents → Datum → Looked Datum
 content_item n (Some (items xs)) index = at_no_cost n (item_in xs index)
 content_item n (Some (pairs ps)) key = value_in n ps key

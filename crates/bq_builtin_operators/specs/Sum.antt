@@ -13,10 +13,12 @@ use Rattle.bq_builtin_operators.specs.Operand.{and_then, as_string, as_tuple, li
 use Rattle.bq_builtin_operators.specs.Integers.{integers}
 use Rattle.bq_builtin_operators.specs.Sequence.{joined}
 
+-- a string and what is added to it
 unfoldable pub string_sum : List ℕ → Datum → Result Datum FaultKind
 string_sum text (string more) = as_string (joined text more)
 string_sum text _ = Err WrongType
 
+-- a tuple and what is added to it
 unfoldable pub tuple_sum : List Datum → Datum → Result Datum FaultKind
 tuple_sum xs (tuple ys) = as_tuple (joined xs (list_of ys))
 tuple_sum xs _ = Err WrongType

@@ -14,9 +14,11 @@ all_are class text = nat_lt 0 (length text) && list_all (has class) text
 abbrev pub is_lower : List ℕ → Bool
 is_lower text = list_any (has Lowercase) text && not (list_any (has Uppercase) text)
 
+-- `isupper`: there is a letter in upper case, and none in lower case
 abbrev pub is_upper : List ℕ → Bool
 is_upper text = list_any (has Uppercase) text && not (list_any (has Lowercase) text)
 
+-- a text of one byte
 abbrev pub alone : ℕ → List ℕ
 alone b = b ∷ []
 

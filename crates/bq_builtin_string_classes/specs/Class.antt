@@ -5,9 +5,11 @@ use Rattle.bq_builtin_string_parts.specs.Trim.{is_among, spaces}
 use Rattle.bq_builtin_string_classes.specs.declared.class.ByteClass.{ByteClass}
 use Rattle.bq_builtin_string_classes.specs.declared.class.ByteClass.TheVariants.{Alphanumeric, Alphabetic, Digit, Lowercase, Uppercase, Space, NonSpace}
 
+-- white space of ASCII
 abbrev pub is_space : ℕ → Bool
 is_space b = is_among spaces b
 
+-- a byte is of a class
 abbrev pub has : ByteClass → ℕ → Bool
 has Alphanumeric b = is_ascii_alphanumeric b
 has Alphabetic b = is_ascii_alphabetic b

@@ -2,6 +2,7 @@
 use Rattle.std.specs.Prelude.{ℕ, suc, ◌-◌, Bool, true, false, not, ◌&&◌, ◌||◌, ◌==◌, nat_eq, List, [], ◌∷◌, length, take, if◌then◌else◌}
 use Rattle.std.specs.List.{starts_with, ends_with}
 
+-- the end of a line
 abbrev pub newline : List ℕ
 newline = 10 ∷ []
 

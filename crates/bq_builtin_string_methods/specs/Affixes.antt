@@ -8,6 +8,7 @@ use Rattle.bq_builtin_string_methods.specs.Argument.{and_then, text_in, region}
 use Rattle.bq_builtin_string_methods.specs.declared.affixes.EndMethod.{EndMethod}
 use Rattle.bq_builtin_string_methods.specs.declared.affixes.EndMethod.TheVariants.{Startswith, Endswith}
 
+-- `startswith` and `endswith`, for one part
 abbrev pub has_end : EndMethod → List ℕ → List ℕ → Bool
 has_end Startswith part text = starts_with nat_eq part text
 has_end Endswith part text = ends_with nat_eq part text

@@ -11,6 +11,7 @@ use Rattle.bq_builtin_string_methods.specs.Argument.{and_then, text_in, separato
 use Rattle.bq_builtin_string_methods.specs.declared.cuts.Side.{Side}
 use Rattle.bq_builtin_string_methods.specs.declared.cuts.Side.TheVariants.{Left, Right}
 
+-- a tuple of three strings
 abbrev pub three : List ℕ → List ℕ → List ℕ → Datum
 three a b c = tuple (data_of (string a ∷ string b ∷ string c ∷ []))
 
@@ -20,6 +21,7 @@ three_parts side sep text (Some p) = three (p.0) sep (p.1)
 three_parts Left sep text None = three text [] []
 three_parts Right sep text None = three [] [] text
 
+-- a text cut at the first or the last place of a separator
 abbrev pub cut_once : Side → List ℕ → List ℕ → Option (List ℕ × List ℕ)
 cut_once Left sep text = parts.partition sep text
 cut_once Right sep text = parts.rpartition sep text
@@ -32,14 +34,17 @@ when_some sep a = if bytes_eq sep [] then Err BadValue else Ok a
 unfoldable pub partition : Side → List ℕ → List Datum → Result Datum FaultKind
 partition side text vs = and_then (text_in (slice_get vs 0)) (λ sep. when_some sep (three_parts side sep text (cut_once side sep text)))
 
+-- a text cut at a separator, at most so often, from one side
 abbrev pub split_at : Side → List ℕ → ℕ → List ℕ → List (List ℕ)
 split_at Left sep most text = parts.split sep most text
 split_at Right sep most text = parts.rsplit sep most text
 
+-- the words of a text, cut at most so often, from one side
 abbrev pub words_of : Side → ℕ → List ℕ → List (List ℕ)
 words_of Left most text = word.words most text
 words_of Right most text = word.rwords most text
 
+-- `split` and `rsplit`: at white space where no separator is given; an empty one is refused
 abbrev pub split_by : Side → List ℕ → ℕ → Option (List ℕ) → Result (List (List ℕ)) FaultKind
 split_by side text most None = Ok (words_of side most text)
 split_by side text most (Some sep) = when_some sep (split_at side sep most text)

@@ -11,6 +11,7 @@ use Rattle.bq_builtin_string_methods.specs.Argument.{and_then, text_in, most_in}
 abbrev pub fits : ℕ → Result (Unit {0}) FaultKind
 fits len = if nat_le len max_len then Ok tt else Err TooLong
 
+-- a text that keeps the limit
 abbrev pub unless_too_long : List ℕ → Result (List ℕ) FaultKind
 unless_too_long text = and_then (fits (length text)) (λ _. Ok text)
 

@@ -37,6 +37,7 @@ use Rattle.bq_builtin_string_methods.specs.declared.method.PartsMethod.TheVarian
 
 -- ---- names
 
+-- the methods of strings, by their names in order
 abbrev pub methods : List (List ℕ × StringMethod)
 methods =
     (codes "count", m.Value (v.Search search_method.Count)) ∷
@@ -88,6 +89,7 @@ value_counts (v.Strip method) = (0, 1)
 value_counts (v.Partition side) = (1, 1)
 value_counts v.Replace = (2, 3)
 
+-- the fewest and the most arguments of a method that gives parts
 abbrev pub parts_counts : PartsMethod → ℕ × ℕ
 parts_counts (p.Split side) = (0, 2)
 parts_counts p.Splitlines = (0, 1)
@@ -97,6 +99,7 @@ parts_counts p.Elems = (0, 0)
 abbrev pub placed : ℕ × ℕ → Passed → Result (Unit {0}) FaultKind
 placed counts args = if nat_le (length args.named) 0 && (nat_le (counts.0) (length args.positional) && nat_le (length args.positional) (counts.1)) then Ok tt else Err Args
 
+-- a method can be called so: `format` takes any arguments
 abbrev pub takes : StringMethod → Passed → Result (Unit {0}) FaultKind
 takes (m.Value method) args = placed (value_counts method) args
 takes (m.Parts method) args = placed (parts_counts method) args
@@ -105,6 +108,7 @@ takes m.Format args = Ok tt
 
 -- ---- answers
 
+-- a text as a value
 abbrev pub as_string : Result (List ℕ) FaultKind → Result Datum FaultKind
 as_string r = and_then r (λ text. Ok (string text))
 
@@ -124,6 +128,7 @@ parts (p.Split side) text vs = split side text vs
 parts p.Splitlines text vs = splitlines text vs
 parts p.Elems text vs = Ok (elems text)
 
+-- a new list of strings
 abbrev pub new_strings : List (List ℕ) → Action State Datum
 new_strings strings = new_content (items (map string strings))
 
@@ -132,9 +137,11 @@ abbrev pub joined : List ℕ → Option Datum → Action State Datum
 joined text None = given (Err Args)
 joined text (Some v) = elements v >>= λ vs. given (as_string (and_then (texts_of vs) (λ strings. join text strings)))
 
+-- `format`, and the steps that it takes
 abbrev pub made : List ℕ → Passed → Action State Datum
 made text args = walk (λ store n. formatted store n text args.positional args.named) >>= λ bytes. pure (string bytes)
 
+-- what a method answers, once its arguments were counted
 unfoldable pub answered : StringMethod → List ℕ → Passed → Action State Datum
 answered (m.Value method) text args = given (value method text args.positional)
 answered (m.Parts method) text args = given (parts method text args.positional) >>= λ strings. new_strings strings

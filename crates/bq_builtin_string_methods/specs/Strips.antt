@@ -15,6 +15,7 @@ end_in Removeprefix vs = text_in (slice_get vs 0)
 end_in Removesuffix vs = text_in (slice_get vs 0)
 end_in m vs = bytes_in (slice_get vs 0)
 
+-- a text without what a method takes off its ends
 abbrev pub without : StripMethod → List ℕ → List ℕ → List ℕ
 without Strip end text = trim.strip end text
 without Lstrip end text = trim.lstrip end text

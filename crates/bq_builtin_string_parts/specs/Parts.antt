@@ -26,6 +26,7 @@ unfoldable pub cut_last_within : List ℕ → ℕ → List ℕ → Option (List 
 cut_last_within separator zero text = None
 cut_last_within separator (suc left) text = rpartition separator text
 
+-- a text cut from the left, by its first cut
 abbrev pub split_by : (List ℕ → List (List ℕ)) → List ℕ → Option (List ℕ × List ℕ) → List (List ℕ)
 split_by later text None = text ∷ []
 split_by later text (Some p) = p.0 ∷ later p.1
@@ -35,6 +36,7 @@ unfoldable pub split : List ℕ → ℕ → List ℕ → List (List ℕ)
 split separator zero text = text ∷ []
 split separator (suc most) text = split_by (split separator most) text (partition separator text)
 
+-- a text cut from the right, by its last cut
 abbrev pub rsplit_by : (List ℕ → List (List ℕ)) → List ℕ → Option (List ℕ × List ℕ) → List (List ℕ)
 rsplit_by earlier text None = text ∷ []
 rsplit_by earlier text (Some p) = earlier p.0 ++ p.1 ∷ []
@@ -44,6 +46,7 @@ unfoldable pub rsplit : List ℕ → ℕ → List ℕ → List (List ℕ)
 rsplit separator zero text = text ∷ []
 rsplit separator (suc most) text = rsplit_by (rsplit separator most) text (rpartition separator text)
 
+-- how many cuts there are, by the first
 abbrev pub cuts_by : (List ℕ → ℕ) → Option (List ℕ × List ℕ) → ℕ
 cuts_by later None = 0
 cuts_by later (Some p) = 1 + later p.1
@@ -67,6 +70,7 @@ unfoldable pub join : List ℕ → List (List ℕ) → List ℕ
 join separator [] = []
 join separator (part ∷ parts) = part ++ joined_on separator parts
 
+-- a text with replacements from the left on, by its first cut
 abbrev pub replace_by : (List ℕ → List ℕ) → List ℕ → List ℕ → Option (List ℕ × List ℕ) → List ℕ
 replace_by later new text None = text
 replace_by later new text (Some p) = p.0 ++ (new ++ later p.1)
@@ -82,5 +86,6 @@ interleave new zero text = text
 interleave new (suc most) [] = new
 interleave new (suc most) (b ∷ bs) = new ++ b ∷ interleave new most bs
 
+-- the first `most` places of `old` are `new`; an empty `old` stands before each byte and at the end
 unfoldable pub replace : List ℕ → List ℕ → ℕ → List ℕ → List ℕ
 replace old new most text = if bytes_eq old [] then interleave new most text else replace_cuts old new most text

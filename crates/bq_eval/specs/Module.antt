@@ -47,6 +47,7 @@ frozen_values file imports globals = values_from 0 file.globals globals ++ impor
 abbrev pub detail_of : FaultKind → List ℕ → List ℕ
 detail_of kind message = cond (fault_number kind == fault_number f.Fail) (quoted message) []
 
+-- the fault that an evaluation stopped with, as a line of the report tells it
 abbrev pub fault_of : Stop → Fault
 fault_of why = record { kind = why.kind; line = why.line; detail = detail_of why.kind why.message }
 

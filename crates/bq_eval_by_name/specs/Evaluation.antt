@@ -34,6 +34,7 @@ abbrev pub frozen_by : ParsedFile → List Datum → TreeUnit
 frozen_by file values =
     meaning.frozen_unit file.universe file.statements (drop (length (global_names file.statements)) values) (values_named (global_names file.statements) values)
 
+-- a loaded file with its globals, for the calls of its functions
 abbrev pub frozen_unit : Option (Option ParsedFile) → Option (List Datum) → Option TreeUnit
 frozen_unit (Some (Some file)) (Some values) = Some (frozen_by file values)
 frozen_unit _ _ = None
@@ -53,6 +54,7 @@ value_of (Some v) = or_none v
 unfoldable pub frozen_values : ParsedFile → List Datum → Env → List Datum
 frozen_values file imports globals = map (λ name. value_of (globals name)) (global_names file.statements) ++ imports
 
+-- how an evaluation ends: with its frozen globals and its prints, or with a fault and the prints before it
 abbrev pub ended : {W : Type 0} → ParsedFile → List Datum → Run (State × W) Env → Ended
 ended file imports (done globals s) = evaluated (frozen s.0.store (global_names file.statements) (frozen_values file imports globals)) s.0.prints
 ended file imports (stopped why) = failed (fault_of why) why.prints

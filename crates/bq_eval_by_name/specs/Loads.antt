@@ -15,14 +15,17 @@ pub record LoadLine : Type 0 where
   pub line : ℕ
   pub symbols : List Name
 
+-- what a small statement loads, if it is a load
 abbrev pub loads_by : ℕ → SmallKind → List LoadLine
 loads_by line (small.Load l) = record { line = line; symbols = map (λ c. c.symbol) l.clauses } ∷ []
 loads_by line _ = []
 
+-- what the small statements of a line load
 abbrev pub line_loads : List SmallStmt → List LoadLine
 line_loads [] = []
 line_loads (x ∷ xs) = loads_by x.line x.kind ++ line_loads xs
 
+-- what a statement loads; loads stand at the top level of a file alone
 abbrev pub stmt_loads : Stmt-F Stmt Branch → List LoadLine
 stmt_loads (Stmt-F.Simple xs) = line_loads xs
 stmt_loads _ = []

@@ -50,16 +50,19 @@ placed_of (parameter.Default n x ∷ ps) = suc (placed_of ps)
 placed_of (parameter.StarStar n ∷ ps) = placed_of ps
 placed_of (_ ∷ ps) = 0
 
+-- there is a parameter `*args`
 abbrev pub has_star : List Parameter → Bool
 has_star [] = false
 has_star (parameter.Star n ∷ ps) = true
 has_star (_ ∷ ps) = has_star ps
 
+-- there is a parameter `**kwargs`
 abbrev pub has_star_star : List Parameter → Bool
 has_star_star [] = false
 has_star_star (parameter.StarStar n ∷ ps) = true
 has_star_star (_ ∷ ps) = has_star_star ps
 
+-- what a call needs to know of the parameters
 unfoldable pub signature : List Parameter → SignatureView
 signature ps = record { parameters = singles ps; placed = placed_of ps; takes_rest = has_star ps; takes_keywords = has_star_star ps }
 
@@ -73,6 +76,7 @@ pub record Filling : Type 0 where
   pub env : Env
 
 module _ {S : Type 0} (m : Primitives S) where
+  -- the parameter takes the next value
   abbrev pub with_value : Name → List (Option Datum) → Filling → Action S Filling
   with_value name (Some v ∷ vs) x = pure (record x { values = vs; env = bind x.env name v })
   with_value name _ x = stop m f.Args
@@ -83,6 +87,7 @@ module _ {S : Type 0} (m : Primitives S) where
   with_default name (None ∷ vs) (d ∷ ds) x = pure (record x { values = vs; defaults = ds; env = bind x.env name d })
   with_default name _ _ x = stop m f.Args
 
+  -- what each form of parameter takes: the next value, a default, the rest, the keywords
   abbrev pub fill_by : Parameter → Filling → Action S Filling
   fill_by (parameter.Plain n) x = with_value n.name x.values x
   fill_by (parameter.Default n e) x = with_default n.name x.values x.defaults x
@@ -90,9 +95,11 @@ module _ {S : Type 0} (m : Primitives S) where
   fill_by (parameter.Star n) x = pure (record x { env = bind x.env n.name x.rest })
   fill_by (parameter.StarStar n) x = pure (record x { env = bind x.env n.name x.keywords })
 
+  -- one parameter takes its value
   unfoldable pub fill_parameter : Parameter → Filling → Action S Filling
   fill_parameter p x = fill_by p x
 
+  -- the parameters take their values in turn
   unfoldable pub fill_parameters : List Parameter → Filling → Action S Filling
   fill_parameters [] x = pure x
   fill_parameters (p ∷ ps) x = fill_parameter p x >>= λ y. fill_parameters ps y
@@ -110,9 +117,11 @@ module _ {S : Type 0} (m : Primitives S) where
   unfoldable pub body_of : Calls S → TreeUnit → Def → Env → Action S Datum
   body_of inner u d env = block m (eval_in m inner u.round) (run_in m (eval_in m inner u.round)) d.body env >>= λ r. pure (answered r.0)
 
+  -- the body runs in the environment of the call, a level further in
   unfoldable pub run_body : Option (Calls S) → TreeUnit → Def → Env → Action S Datum
   run_body inner u d env = within m inner (λ call. body_of call u d env)
 
+  -- a call: the parameters first, then the function is one of those running until its body has ended
   unfoldable pub call_function : Option (Calls S) → ℕ → ℕ → TreeUnit → Def → List Datum → Passed → Action S Datum
   call_function inner home place u d ds p =
       entry d ds p >>= λ env. m.enter home place >>= λ _. run_body inner u d env >>= λ v. change m m.leave >>= λ _. pure v
@@ -129,6 +138,7 @@ module _ {S : Type 0} (m : Primitives S) where
   apply_by units inner (cell home number) p = m.call_cell home number p
   apply_by units inner v p = stop m f.WrongType
 
+  -- a call of a value
   unfoldable pub apply : Units → Option (Calls S) → Calls S
   apply units inner v p = apply_by units inner v p
 

@@ -30,9 +30,11 @@ module _ {S : Type 0} (m : Primitives S) (eval : Eval S) where
 
   -- ---- clauses: `inner` is what the clauses after this one do, and at last the element or pair
 
+  -- one turn of a `for` clause: a step, its variables, and what stands further in
   unfoldable pub turn : TargetExpr → Turn S → Datum → Turn S
   turn t inner v env c = m.step 1 >>= λ _. bind_variables m t v env >>= λ new. inner new c
 
+  -- the turns over these elements
   unfoldable pub turns : TargetExpr → Turn S → List Datum → Turn S
   turns t inner [] env c = pure (c, env)
   turns t inner (v ∷ vs) env c = turn t inner v env c >>= λ r. turns t inner vs r.1 r.0
@@ -45,10 +47,12 @@ module _ {S : Type 0} (m : Primitives S) (eval : Eval S) where
   unfoldable pub if_clause : Expr → Turn S → Turn S
   if_clause x inner env c = eval x env >>= λ v. λ s. (if m.truth v s then inner env c else pure (c, env)) s
 
+  -- a clause, by its form; the iterable of the first one is evaluated outside
   abbrev pub clause_by : ClauseLayer → Env → Turn S → Turn S
   clause_by (Clause-F.For t x) there inner env c = for_clause t x there inner env c
   clause_by (Clause-F.If x) there inner env c = if_clause x inner env c
 
+  -- the clauses, each inside the one before
   unfoldable pub clauses : List Clause → Turn S → Turn S
   clauses [] inner env c = inner env c
   clauses (x ∷ xs) inner env c = clause_by (out-Clause x) env (clauses xs inner) env c

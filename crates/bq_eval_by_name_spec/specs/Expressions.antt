@@ -46,9 +46,11 @@ module _ {S : Type 0} (m : Primitives S) (eval : Eval S) where
   unfoldable pub tuple_display : List Expr → Env → Action S Datum
   tuple_display xs env = m.step 1 >>= λ _. values xs env [] >>= λ vs. pure (tuple (data_of vs))
 
+  -- a pair of a dict: the key, then the value
   unfoldable pub pair : Pair → Env → Contents → Action S Contents
   pair p env c = eval (out-Pair p).key env >>= λ k. eval (out-Pair p).value env >>= λ v. m.add_pair c k v
 
+  -- the pairs of a dict, in turn
   unfoldable pub pairs_each : List Pair → Env → Contents → Action S Contents
   pairs_each [] env c = pure c
   pairs_each (p ∷ ps) env c = pair p env c >>= λ d. pairs_each ps env d
@@ -69,16 +71,20 @@ module _ {S : Type 0} (m : Primitives S) (eval : Eval S) where
   operation_by operator.Or x env v = λ s. (if m.truth v s then pure v else eval x env) s
   operation_by op x env v = eval x env >>= λ u. m.binary op v u
 
+  -- an operator, and its operand on the right
   unfoldable pub operation : Operation → Env → Datum → Action S Datum
   operation o env v = operation_by (out-Operation o).operator (out-Operation o).operand env v
 
+  -- a chain of operators, from the left
   unfoldable pub operations : List Operation → Env → Datum → Action S Datum
   operations [] env v = pure v
   operations (o ∷ os) env v = operation o env v >>= λ u. operations os env u
 
+  -- a chain takes a step for each of its operators, before its first operand
   unfoldable pub binary : Expr → List Operation → Env → Action S Datum
   binary x os env = m.step (length os) >>= λ _. eval x env >>= λ v. operations os env v
 
+  -- a comparison: a step, the left side, the right side
   unfoldable pub compare : Expr → Comparison → Expr → Env → Action S Datum
   compare x o y env = m.step 1 >>= λ _. eval x env >>= λ v. eval y env >>= λ w. m.compare o v w
 
@@ -90,10 +96,12 @@ module _ {S : Type 0} (m : Primitives S) (eval : Eval S) where
       m.step 1 >>= λ _. eval (out-Choice c).condition env
       >>= λ t. λ s. (if m.truth t s then (eval (out-Choice c).value env >>= λ v. pure (Some v)) else pure None) s
 
+  -- the value that a condition chose, or what is otherwise
   abbrev pub chosen : Action S Datum → Option Datum → Action S Datum
   chosen otherwise None = otherwise
   chosen otherwise (Some v) = pure v
 
+  -- `x if c else y`: the first value whose condition holds
   unfoldable pub conditional : List Choice → Expr → Env → Action S Datum
   conditional [] x env = eval x env
   conditional (c ∷ cs) x env = choice c env >>= λ o. chosen (conditional cs x env) o
@@ -109,15 +117,18 @@ module _ {S : Type 0} (m : Primitives S) (eval : Eval S) where
   part None env = pure none
   part (Some x) env = eval x env
 
+  -- a slice: its three parts in turn, then the slice
   unfoldable pub slice : Option Expr → Option Expr → Option Expr → Env → Datum → Action S Datum
   slice i j k env v = part i env >>= λ x. part j env >>= λ y. part k env >>= λ z. m.slice v x y z
 
+  -- an argument, by its form
   abbrev pub argument_by : ArgumentLayer → Env → Passed → Action S Passed
   argument_by (Argument-F.Positional x) env p = eval x env >>= λ v. m.pass p v
   argument_by (Argument-F.Named name x) env p = eval x env >>= λ v. m.pass_named p name v
   argument_by (Argument-F.Star x) env p = eval x env >>= λ v. m.pass_all p v
   argument_by (Argument-F.StarStar x) env p = eval x env >>= λ v. m.pass_all_named p v
 
+  -- an argument joins those that are passed
   unfoldable pub argument : Argument → Env → Passed → Action S Passed
   argument a env p = argument_by (out-Argument a) env p
 
@@ -143,13 +154,16 @@ module _ {S : Type 0} (m : Primitives S) (eval : Eval S) where
     suffix_by (Suffix-F.Suffix::Index i) env v = index i env v
     suffix_by (Suffix-F.Slice i j k) env v = slice i j k env v
 
+    -- what stands behind an operand: a call, an index, a slice or a member
     unfoldable pub suffix : Suffix → Env → Datum → Action S Datum
     suffix x env v = suffix_by (out-Suffix x) env v
 
+    -- what stands behind an operand, in turn
     unfoldable pub suffixes : List Suffix → Env → Datum → Action S Datum
     suffixes [] env v = pure v
     suffixes (x ∷ xs) env v = suffix x env v >>= λ u. suffixes xs env u
 
+    -- an operand takes a step for each suffix, before it is evaluated
     unfoldable pub operand : Expr → List Suffix → Env → Action S Datum
     operand x xs env = m.step (length xs) >>= λ _. eval x env >>= λ v. suffixes xs env v
 
@@ -164,15 +178,18 @@ module _ {S : Type 0} (m : Primitives S) (eval : Eval S) where
       call_member space n xs ss env =
           m.step (suc (length ss)) >>= λ _. member_by (member_named space round.universe.rules n.name) >>= λ v. call_of xs env v >>= λ u. suffixes ss env u
 
+      -- an operand with suffixes; a call of a namespace's member, as `native.glob(..)`, is one
       abbrev pub primary_by : Expr → List Suffix → Option MemberCall → Env → Action S Datum
       primary_by x ss None env = operand x ss env
       primary_by x ss (Some (space, n, xs, rest)) env = call_member space n xs rest env
 
+      -- an operand with suffixes
       unfoldable pub primary : Expr → List Suffix → Env → Action S Datum
       primary x ss env = primary_by x ss (member_call (namespace_at m round (out-Expr x) env) ss) env
 
       -- ---- expressions
 
+      -- an expression, by its form
       abbrev pub expr_by : ExprLayer → Env → Action S Datum
       expr_by (Expr-F.Expr::Name n) env = use_of m round n.name env
       expr_by (Expr-F.Int n) env = literal m (int n)
@@ -189,6 +206,7 @@ module _ {S : Type 0} (m : Primitives S) (eval : Eval S) where
       expr_by (Expr-F.Conditional cs x) env = conditional cs x env
       expr_by Expr-F.Lambda env = stop m f.LeftOut
 
+      -- an expression in an environment
       unfoldable pub expr : Expr → Env → Action S Datum
       expr e env = expr_by (out-Expr e) env
 
@@ -197,5 +215,6 @@ unfoldable pub expr_to : {S : Type 0} → ℕ → Primitives S → Calls S → R
 expr_to zero m call round e env = stop m f.Nesting
 expr_to (suc depth) m call round e env = expr m (expr_to depth m call round) call round e env
 
+-- what an expression means, where calls mean `call` and names are those of `round`
 abbrev pub eval_in : {S : Type 0} → Primitives S → Calls S → Round → Eval S
 eval_in m call round = expr_to max_layers m call round

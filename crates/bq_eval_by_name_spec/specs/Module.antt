@@ -29,6 +29,7 @@ use Rattle.bq_eval_by_name_spec.specs.Trees.{Eval}
 
 -- ---- what a file has
 
+-- the function that a statement defines, if it defines one
 abbrev pub defs_by : Stmt-F Stmt Branch → List Def
 defs_by (Stmt-F.Def n ps body) = record { name = n.name; parameters = ps; body = body } ∷ []
 defs_by _ = []
@@ -38,14 +39,17 @@ abbrev pub defs : List TopLevel → List Def
 defs [] = []
 defs (t ∷ ts) = defs_by (out-Stmt t.statement) ++ defs ts
 
+-- what a small statement binds by loading
 abbrev pub clauses_by : SmallKind → List LoadClause
 clauses_by (small.Load l) = l.clauses
 clauses_by _ = []
 
+-- what the small statements of a line bind by loading
 abbrev pub line_clauses : List SmallStmt → List LoadClause
 line_clauses [] = []
 line_clauses (x ∷ xs) = clauses_by x.kind ++ line_clauses xs
 
+-- what a statement binds by loading
 abbrev pub clauses_of : Stmt-F Stmt Branch → List LoadClause
 clauses_of (Stmt-F.Simple xs) = line_clauses xs
 clauses_of _ = []
@@ -70,6 +74,7 @@ pub record Own : Type 0 where
   pub loaded : Env
   pub universe : UniverseParts
 
+-- what names mean in a file, beside its variables
 abbrev pub own_round : Own → Env → Round
 own_round own globals = record { globals = globals; loaded = own.loaded; universe = own.universe }
 
@@ -90,6 +95,7 @@ module _ {S : Type 0} (m : Primitives S) (own : Own) (eval : Eval S) where
   file_stmt_by place (Stmt-F.For t x body) globals = stop m f.BadFlow
   file_stmt_by place (Stmt-F.Def n ps body) globals = def_stmt place n ps globals
 
+  -- a statement at the top level, by its place there
   unfoldable pub file_stmt : ℕ → Stmt → Exec S
   file_stmt place x globals = file_stmt_by place (out-Stmt x) globals
 
@@ -125,6 +131,7 @@ loaded_values ts vs = first_of_clauses (loaded_names ts) (load_clauses ts) vs (d
 unfoldable pub first_globals : List TopLevel → List Datum → Env
 first_globals ts vs = first_of_clauses (global_names ts) (load_clauses ts) vs (declare outside (global_names ts))
 
+-- what a file has from its start on: its number, its functions and what it loads
 abbrev pub own_of : ℕ → UniverseParts → List TopLevel → List Datum → Own
 own_of number universe ts vs = record { number = number; functions = defs ts; loaded = loaded_values ts vs; universe = universe }
 

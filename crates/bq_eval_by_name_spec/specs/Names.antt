@@ -49,9 +49,11 @@ module _ {S : Type 0} (m : Primitives S) (round : Round) where
   value_by None = stop m f.UnknownName
   value_by (Some v) = bound m v
 
+  -- the use of a name takes a step; a variable without a value yet is a fault
   unfoldable pub use_of : Name → Env → Action S Datum
   use_of name env = m.step 1 >>= λ _. value_by (held env name)
 
+  -- a name is not that of a variable here
   abbrev pub is_unknown : Option (Option Datum) → Bool
   is_unknown None = true
   is_unknown (Some v) = false

@@ -19,6 +19,7 @@ use Rattle.bq_eval_by_name_spec.specs.Names.{Env}
 use Rattle.bq_eval_by_name_spec.specs.Targets.{bind_variables, assign, augment}
 use Rattle.bq_eval_by_name_spec.specs.Trees.{Eval, StmtLayer}
 
+-- what a statement does in an environment: where the run goes on, and the environment then
 abbrev pub Exec : Type 0 → Type 0
 Exec S = Env → Action S (Flow × Env)
 
@@ -42,6 +43,7 @@ steps_of _ = 1
 module _ {S : Type 0} (m : Primitives S) (eval : Eval S) where
   -- ---- small statements
 
+  -- an expression as a statement
   unfoldable pub expr_stmt : Expr → Exec S
   expr_stmt x env = eval x env >>= λ _. pure (next, env)
 
@@ -54,6 +56,7 @@ module _ {S : Type 0} (m : Primitives S) (eval : Eval S) where
   return_stmt None env = pure (answer none, env)
   return_stmt (Some x) env = eval x env >>= λ v. pure (answer v, env)
 
+  -- a small statement, by its form; the names of a load are bound before the file runs
   abbrev pub small_by : SmallKind → Exec S
   small_by (small.Expr x) env = expr_stmt x env
   small_by (small.Assign t x) env = assign_stmt t x env
@@ -64,9 +67,11 @@ module _ {S : Type 0} (m : Primitives S) (eval : Eval S) where
   small_by small.Pass env = pure (next, env)
   small_by (small.Load l) env = pure (next, env)
 
+  -- what a small statement does, after its step
   unfoldable pub small_effect : SmallKind → Exec S
   small_effect x env = small_by x env
 
+  -- a small statement: its step, and what it does
   unfoldable pub small_stmt : SmallStmt → Exec S
   small_stmt x env = m.step (steps_of x.kind) >>= λ _. small_effect x.kind env
 
@@ -87,9 +92,11 @@ module _ {S : Type 0} (m : Primitives S) (eval : Eval S) where
     branches (b ∷ bs) otherwise env =
         eval (out-Branch b).condition env >>= λ t. λ s. (if m.truth t s then block (out-Branch b).block env else branches bs otherwise env) s
 
+    -- one turn of a loop: a step, its variables, its body
     unfoldable pub turn : TargetExpr → List Stmt → Datum → Exec S
     turn t body v env = m.step 1 >>= λ _. bind_variables m t v env >>= λ new. block body new
 
+    -- the turns of a loop over these elements
     unfoldable pub turns : TargetExpr → List Stmt → List Datum → Exec S
     turns t body [] env = pure (next, env)
     turns t body (v ∷ vs) env = turn t body v env >>= λ r. turn_on (turns t body vs) r
@@ -105,6 +112,7 @@ module _ {S : Type 0} (m : Primitives S) (eval : Eval S) where
     stmt_by (Stmt-F.For t x body) env = m.step 1 >>= λ _. for_loop t x body env
     stmt_by (Stmt-F.Def n ps body) env = stop m f.LeftOut
 
+    -- a statement in an environment
     unfoldable pub stmt : Stmt → Exec S
     stmt x env = stmt_by (out-Stmt x) env
 
@@ -113,5 +121,6 @@ unfoldable pub run_to : {S : Type 0} → ℕ → Primitives S → Eval S → Stm
 run_to zero m eval x env = stop m f.Nesting
 run_to (suc depth) m eval x env = stmt m eval (run_to depth m eval) x env
 
+-- what a statement means, where expressions mean `eval`
 abbrev pub run_in : {S : Type 0} → Primitives S → Eval S → Stmt → Exec S
 run_in m eval = run_to max_layers m eval

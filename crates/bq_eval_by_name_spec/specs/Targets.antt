@@ -35,12 +35,14 @@ module _ {S : Type 0} (m : Primitives S) where
   unfoldable pub unpack : (TargetExpr → Binds) → List TargetExpr → Binds
   unpack inner ts v env ps = m.parts (length ts) v >>= λ vs. bind_each inner ts vs env ps
 
+  -- a target takes its value, by its form; places of elements were evaluated before
   abbrev pub bind_by : (TargetExpr → Binds) → TargetLayer → Binds
   bind_by inner (TargetExpr-F.TargetExpr::Name n) v env ps = pure (bind env n.name v, ps)
   bind_by inner (TargetExpr-F.TargetExpr::Index x i) v env ps = bind_place v env ps
   bind_by inner (TargetExpr-F.TargetExpr::Tuple ts) v env ps = unpack inner ts v env ps
   bind_by inner (TargetExpr-F.TargetExpr::List ts) v env ps = unpack inner ts v env ps
 
+  -- a target takes its value
   unfoldable pub bind_target : (TargetExpr → Binds) → TargetExpr → Binds
   bind_target inner t v env ps = bind_by inner (out-TargetExpr t) v env ps
 
@@ -62,19 +64,23 @@ module _ {S : Type 0} (m : Primitives S) where
   module _ (eval : Eval S) where
     -- ---- a target's places
 
+    -- the place `x[i]`, evaluated
     unfoldable pub place : Expr → Expr → Env → Places → Action S Places
     place x i env ps = eval x env >>= λ v. eval i env >>= λ w. pure (ps ++ (v, w) ∷ [])
 
+    -- the places in these targets, from the left
     unfoldable pub places_each : (TargetExpr → Env → Places → Action S Places) → List TargetExpr → Env → Places → Action S Places
     places_each inner [] env ps = pure ps
     places_each inner (t ∷ ts) env ps = inner t env ps >>= λ qs. places_each inner ts env qs
 
+    -- the places in a target, by its form
     abbrev pub places_by : (TargetExpr → Env → Places → Action S Places) → TargetLayer → Env → Places → Action S Places
     places_by inner (TargetExpr-F.TargetExpr::Name n) env ps = pure ps
     places_by inner (TargetExpr-F.TargetExpr::Index x i) env ps = place x i env ps
     places_by inner (TargetExpr-F.TargetExpr::Tuple ts) env ps = places_each inner ts env ps
     places_by inner (TargetExpr-F.TargetExpr::List ts) env ps = places_each inner ts env ps
 
+    -- the places in a target, evaluated
     unfoldable pub places_of : (TargetExpr → Env → Places → Action S Places) → TargetExpr → Env → Places → Action S Places
     places_of inner t env ps = places_by inner (out-TargetExpr t) env ps
 
@@ -85,6 +91,7 @@ module _ {S : Type 0} (m : Primitives S) where
 
     -- ---- assignments
 
+    -- an assignment: the places of its target are evaluated, then all take their values
     unfoldable pub assign : TargetExpr → Datum → Env → Action S Env
     assign t v env = places_to max_layers t env [] >>= λ ps. bind_to max_layers t v env ps >>= λ r. pure r.0
 
@@ -103,5 +110,6 @@ module _ {S : Type 0} (m : Primitives S) where
     augment_by (TargetExpr-F.TargetExpr::Index y i) op x env = augment_index y i op x env
     augment_by _ op x env = stop m f.Syntax
 
+    -- `t op= x`
     unfoldable pub augment : TargetExpr → Operator → Expr → Env → Action S Env
     augment t op x env = augment_by (out-TargetExpr t) op x env

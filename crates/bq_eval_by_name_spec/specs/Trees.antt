@@ -15,9 +15,11 @@ use Rattle.bq_value.specs.Datum.{Datum}
 use Rattle.bq_builtin_machine.specs.Action.{Action}
 use Rattle.bq_eval_by_name_spec.specs.Names.{Env}
 
+-- the form of an argument
 abbrev pub ArgumentLayer : Type 0
 ArgumentLayer = Argument-F Argument Clause Expr Suffix TargetExpr Choice Operation Pair
 
+-- the form of a statement
 abbrev pub StmtLayer : Type 0
 StmtLayer = Stmt-F Stmt Branch
 

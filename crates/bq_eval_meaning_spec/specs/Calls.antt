@@ -124,6 +124,7 @@ module _ {S : Type 0} (m : Primitives S) where
   call_function inner home place u d ds p =
       entry d ds p >>= λ env. m.enter home place >>= λ _. run_body inner u d env >>= λ v. change m m.leave >>= λ _. pure v
 
+  -- what follows, unless what is called isn't there
   abbrev pub known : {A B : Type 0} → Option A → (A → Action S B) → Action S B
   known None go = stop m f.WrongType
   known (Some x) go = go x

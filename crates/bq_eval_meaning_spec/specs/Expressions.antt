@@ -45,6 +45,7 @@ module _ {S : Type 0} (m : Primitives S) where
 
   -- ---- operators before an operand
 
+  -- unary operators, from the innermost
   unfoldable pub unary_each : List UnaryOperator → Datum → Action S Datum
   unary_each [] v = pure v
   unary_each (o ∷ os) v = m.unary o v >>= λ u. unary_each os u

@@ -44,6 +44,7 @@ abbrev pub or_else : {A : Type 0} → Option A → Option A → Option A
 or_else (Some x) other = Some x
 or_else None other = other
 
+-- the globals of a loaded module, by its number
 unfoldable pub globals_among : ℕ → List FrozenView → Option (List Datum)
 globals_among n [] = None
 globals_among n (f ∷ fs) = or_else (globals_at f n) (globals_among n fs)

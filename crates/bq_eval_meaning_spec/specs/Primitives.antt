@@ -13,6 +13,7 @@ use Rattle.bq_builtin_machine.specs.Action.{Action, done, stopped}
 use Rattle.bq_builtin_machine.specs.Args.{Passed}
 use Rattle.bq_builtin_machine.specs.State.{State, stop_at}
 
+-- what the language is made of, over a state `S`: a meaning is said over these, and what each does stands where it is made
 pub record Primitives (S : Type 0) : Type 0 where
   -- what a state has of the machine's
   pub machine : S → State
@@ -68,9 +69,11 @@ pub record Primitives (S : Type 0) : Type 0 where
   pub leave : S → S
 
 module _ {S : Type 0} (m : Primitives S) where
+  -- the run stops with a fault, on the line that it is on
   abbrev pub stop : {A : Type 0} → FaultKind → Action S A
   stop kind = λ s. stopped (stop_at kind (m.machine s))
 
+  -- a result as what an evaluation does
   abbrev pub given_by : {A : Type 0} → Result A FaultKind → Action S A
   given_by (Ok x) = λ s. done x s
   given_by (Err kind) = stop kind

@@ -26,11 +26,14 @@ unfoldable pub with_new_pair : Contents → Datum → Datum → Result Contents 
 with_new_pair (pairs ps) k v = cond (is_some (found k ps)) (Err DoubleKey) (with_pair (pairs ps) k v)
 with_new_pair _ k v = Err WrongType
 
+-- a list that is made takes an element
 unfoldable pub add : Contents → Datum → Action State Contents
 add c v = given (with_element c v)
 
+-- a dict that is made takes a pair, in place of one with the same key
 unfoldable pub put_pair : Contents → Datum → Datum → Action State Contents
 put_pair c x v = key x >>= λ k. given (with_pair c k v)
 
+-- a dict display takes a pair, whose key may not stand there twice
 unfoldable pub add_pair : Contents → Datum → Datum → Action State Contents
 add_pair c x v = key x >>= λ k. given (with_new_pair c k v)

@@ -14,9 +14,11 @@ use Rattle.bq_builtin_numbers.specs.Length.{max_len}
 abbrev pub if_few : Passed → Result Passed FaultKind
 if_few p = cond (nat_le (length p.positional + length p.named) max_len) (Ok p) (Err TooLong)
 
+-- more arguments by place
 abbrev pub with_positional : Passed → List Datum → Passed
 with_positional p xs = record p { positional = p.positional ++ xs }
 
+-- one more argument by name
 abbrev pub with_named : Passed → List ℕ → Datum → Passed
 with_named p name v = record p { named = p.named ++ (name, v) ∷ [] }
 

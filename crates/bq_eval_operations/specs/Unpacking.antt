@@ -13,5 +13,6 @@ abbrev pub just : ℕ → Result (List Datum) FaultKind → Result (List Datum) 
 just count (Ok xs) = cond (length xs == count) (Ok xs) (Err BadValue)
 just count (Err _) = Err BadValue
 
+-- as many elements as there are targets
 unfoldable pub parts : ℕ → Datum → Action State (List Datum)
 parts count v = look (λ s. just count (elements_in s.store v))

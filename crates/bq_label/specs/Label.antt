@@ -17,9 +17,11 @@ pub record LabelParts : Type 0 where
   pub «package» : List ℕ
   pub name : List ℕ
 
+-- a package, by its repository and its path
 abbrev pub package_at : List ℕ → List ℕ → PackageParts
 package_at r p = record { repo = r; «package» = p }
 
+-- a label, by its repository, its package and its name
 abbrev pub label_at : List ℕ → List ℕ → List ℕ → LabelParts
 label_at r p n = record { repo = r; «package» = p; name = n }
 
@@ -40,6 +42,7 @@ pub record IsLabel (l : LabelParts) : Type 0 where
   pub valid_package : is_package l.package ≡ true
   pub valid_name : is_path l.name ≡ true
 
+-- `@`
 abbrev pub at_sign : ℕ
 at_sign = 64
 

@@ -31,6 +31,7 @@ label_path l = repository_root l.repo ++ joined l.package l.name
 abbrev pub external_root : List ℕ
 external_root = codes "external/"
 
+-- the repository of a path, if it names one that can be
 abbrev pub split_repository_by : Option (List ℕ × List ℕ) → Option (List ℕ × List ℕ)
 split_repository_by None = None
 split_repository_by (Some p) = if not (bytes_eq p.0 []) && is_repository p.0 then Some p else None
@@ -54,6 +55,7 @@ is_in repo (Some found) = bytes_eq found.0 repo
 unfoldable pub is_in_repository : List ℕ → List ℕ → Bool
 is_in_repository repo path = is_in repo (split_repository path)
 
+-- a path was found to be in a repository, at a path there
 abbrev pub is_at : List ℕ → List ℕ → Option (List ℕ × List ℕ) → Bool
 is_at repo rest None = false
 is_at repo rest (Some found) = bytes_eq found.0 repo && bytes_eq found.1 rest
@@ -85,6 +87,7 @@ unfoldable pub is_build_file : List (List ℕ) → List ℕ → Bool
 is_build_file paths path = bytes_eq (last_segment path) (codes "BUILD.bazel")
     || (bytes_eq (last_segment path) (codes "BUILD") && not (list_any (bytes_eq (path ++ codes ".bazel")) paths))
 
+-- the package of a BUILD file, by where it was found
 abbrev pub build_file : File → List ℕ × List ℕ → BuildFile
 build_file f found = record { id = package_at found.0 (directory_of found.1); file = f }
 
@@ -104,6 +107,7 @@ build_files paths files = filter_map (package_of_file paths) files
 abbrev pub id_cmp : PackageParts → PackageParts → Ordering
 id_cmp p q = ordering_then (slice_cmp nat_cmp p.repo q.repo) (slice_cmp nat_cmp p.package q.package)
 
+-- the order of packages
 abbrev pub package_cmp : BuildFile → BuildFile → Ordering
 package_cmp a b = id_cmp a.id b.id
 
@@ -111,6 +115,7 @@ package_cmp a b = id_cmp a.id b.id
 unfoldable pub packages_of : List File → List BuildFile
 packages_of files = in_order package_cmp (build_files (paths_of files) files)
 
+-- a BUILD file is that of a package
 abbrev pub is_package_id : List ℕ → List ℕ → BuildFile → Bool
 is_package_id repo path b = bytes_eq b.id.repo repo && bytes_eq b.id.package path
 
@@ -127,6 +132,7 @@ abbrev pub nearer : BuildFile → Option BuildFile → Option BuildFile
 nearer a None = Some a
 nearer a (Some b) = if nat_lt (length a.id.package) (length b.id.package) then Some b else Some a
 
+-- the package furthest in of those that hold a path
 abbrev pub nearest : List BuildFile → Option BuildFile
 nearest [] = None
 nearest (b ∷ bs) = nearer b (nearest bs)

@@ -21,10 +21,12 @@ label_of_parts repo text (Some p) = label_at repo p.0 p.1
 unfoldable pub absolute_label : List ℕ → List ℕ → LabelParts
 absolute_label repo text = label_of_parts repo text (split_once 58 text)
 
+-- a text begins with a byte
 abbrev pub first_is : ℕ → List ℕ → Bool
 first_is c [] = false
 first_is c (b ∷ bs) = b == c
 
+-- a label behind `@`: without `//` it is the target of the repository's own name
 abbrev pub label_of_repository : List ℕ → Option (List ℕ × List ℕ) → Option LabelParts
 label_of_repository text None = Some (label_at text [] text)
 label_of_repository text (Some p) = if first_is 47 p.1 then Some (absolute_label p.0 (drop 1 p.1)) else None
@@ -42,9 +44,11 @@ parts_of own (b ∷ bs) =
     else if b == 58 then Some (label_in own bs)
     else Some (label_in own (b ∷ bs))
 
+-- each part of a label has the form that it needs
 unfoldable pub is_label : LabelParts → Bool
 is_label l = is_repository l.repo && is_package l.package && is_path l.name
 
+-- a label, if its parts have their forms
 unfoldable pub valid_label : LabelParts → Option LabelParts
 valid_label l = if is_label l then Some l else None
 

@@ -22,6 +22,7 @@ are_distinct (p ∷ ps) = not (list_any (bytes_eq p) ps) && are_distinct ps
 unfoldable pub are_apart : List (List ℕ) → Bool
 are_apart paths = list_all (λ p. not (list_any (λ d. is_above d p) paths)) paths
 
+-- the paths of files, in their order
 abbrev pub paths_of : List File → List (List ℕ)
 paths_of files = map (λ f. f.path) files
 

@@ -28,24 +28,30 @@ abbrev pub any_tail : {X : Type 0} → (List X → Bool) → List X → Bool
 any_tail test [] = test []
 any_tail test (x ∷ xs) = test (x ∷ xs) || any_tail test xs
 
+-- the next piece fits, and what is left takes the others
 abbrev pub takes_one : {X : Type 0} → (X → Bool) → (List X → Bool) → List X → Bool
 takes_one fits rest [] = false
 takes_one fits rest (x ∷ xs) = fits x && rest xs
 
+-- there is nothing left
 abbrev pub is_nothing : {X : Type 0} → List X → Bool
 is_nothing [] = true
 is_nothing (x ∷ xs) = false
 
+-- a pattern takes a list: a piece that stands for many takes any number, each other piece one that fits
 unfoldable pub takes : {A X : Type 0} → (A → Bool) → (A → X → Bool) → List A → List X → Bool
 takes many fits [] xs = is_nothing xs
 takes many fits (a ∷ ps) xs = if many a then any_tail (takes many fits ps) xs else takes_one (fits a) (takes many fits ps) xs
 
+-- `*`
 abbrev pub is_star : ℕ → Bool
 is_star p = p == 42
 
+-- a byte stands for itself
 abbrev pub is_same : ℕ → ℕ → Bool
 is_same p b = p == b
 
+-- a segment of a pattern fits one of a path: `*` stands for any bytes
 unfoldable pub fits_segment : List ℕ → List ℕ → Bool
 fits_segment pattern segment = takes is_star is_same pattern segment
 
@@ -53,6 +59,7 @@ fits_segment pattern segment = takes is_star is_same pattern segment
 abbrev pub is_any_segments : List ℕ → Bool
 is_any_segments segment = bytes_eq segment (codes "**")
 
+-- a pattern matches a path, segment by segment; `**` stands for any number of them
 unfoldable pub matches : List ℕ → List ℕ → Bool
 matches pattern path = takes is_any_segments fits_segment (slice_split is_slash pattern) (slice_split is_slash path)
 

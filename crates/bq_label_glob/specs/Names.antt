@@ -25,6 +25,7 @@ is_before text f = is_lt (slice_cmp nat_cmp f.path text)
 abbrev pub is_beneath : List ℕ → List ℕ → Bool
 is_beneath dir path = starts_with nat_eq path dir
 
+-- the owner of a file is this package
 abbrev pub is_package : PackageParts → Option BuildFile → Bool
 is_package p None = false
 is_package p (Some b) = is_package_id p.repo p.package b
@@ -50,6 +51,7 @@ names_in packages p files = filter_map (λ f. name_in packages p f.path) files
 unfoldable pub is_wanted : List (List ℕ) → List (List ℕ) → List ℕ → Bool
 is_wanted include exclude name = list_any (λ p. matches p name) include && not (list_any (λ p. matches p name) exclude)
 
+-- the names that `glob` gives: the package's own files that a pattern of `include` matches and none of `exclude`, sorted
 unfoldable pub glob : List File → List BuildFile → PackageParts → List (List ℕ) → List (List ℕ) → List (List ℕ)
 glob files packages p include exclude = filter (is_wanted include exclude) (names_in packages p files)
 

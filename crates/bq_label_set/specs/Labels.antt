@@ -7,6 +7,7 @@ use Rattle.std.specs.Cmp.{IsEquivalence, decided}
 use Rattle.std.specs.Cmp.Lexicographic.{bytes_decides}
 use Rattle.bq_label.specs.Label.{LabelParts, label_at}
 
+-- two labels are the same
 unfoldable pub same_label : LabelParts → LabelParts → Bool
 same_label a b = bytes_eq a.name b.name && (bytes_eq a.package b.package && bytes_eq a.repo b.repo)
 

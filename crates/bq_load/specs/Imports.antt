@@ -66,9 +66,11 @@ abbrev pub global_by : List (Option Resolved) → Option ModuleView → Name →
 global_by code None name = None
 global_by code (Some m) name = global_of code m name
 
+-- a name that begins with `_` can't be loaded
 abbrev pub is_private : Name → Bool
 is_private name = starts_with nat_eq name (codes "_")
 
+-- the value of a symbol, or the fault that the file has none
 abbrev pub or_no_symbol : Option Datum → Result Datum FaultKind
 or_no_symbol None = Err f.NoSymbol
 or_no_symbol (Some v) = Ok v

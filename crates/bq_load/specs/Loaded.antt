@@ -24,6 +24,7 @@ use Rattle.bq_load.specs.Results.{outcomes}
 
 -- ---- packages
 
+-- the labels of modules, in their order
 abbrev pub labels_of : List OutcomeView → List LabelParts
 labels_of os = map (λ o. o.label) os
 
@@ -41,6 +42,7 @@ package_by l (Err m) = no_targets l
 unfoldable pub package_at : List OutcomeView → LabelParts → Option PackageTargets
 package_at os l = option_map (λ o. package_by l o.result) (option_and_then (slice_get os) (number_in (with_labels [] (labels_of os)) l))
 
+-- the package that a BUILD file declared, unless it failed
 abbrev pub package_in : List OutcomeView → BuildFile → Option PackageTargets
 package_in os b = option_and_then (package_at os) (build_label b)
 
@@ -50,9 +52,11 @@ packages_in bs os = filter_map (package_in os) bs
 
 -- ---- lines
 
+-- the line of the report for a module that failed
 abbrev pub line_of : LabelParts → FailedView → FaultLine
 line_of l m = record { label = full_form l; line = m.fault.line; kind = m.fault.kind; detail = m.fault.detail }
 
+-- the line of a module, if it failed
 abbrev pub lines_by : LabelParts → Result ModuleView FailedView → List FaultLine
 lines_by l (Ok m) = []
 lines_by l (Err m) = line_of l m ∷ []
@@ -61,6 +65,7 @@ lines_by l (Err m) = line_of l m ∷ []
 abbrev pub lines_of : OutcomeView → List FaultLine
 lines_of o = lines_by o.label o.result
 
+-- the lines of all modules that failed, in the order of modules
 abbrev pub fault_lines : List OutcomeView → List FaultLine
 fault_lines os = flat_map lines_of os
 
@@ -68,6 +73,7 @@ fault_lines os = flat_map lines_of os
 abbrev pub print_line : List ℕ → List ℕ → List ℕ
 print_line form text = form ++ (codes ": " ++ (text ++ 10 ∷ []))
 
+-- what a module printed, also before it failed
 abbrev pub prints_by : Result ModuleView FailedView → List (List ℕ)
 prints_by (Ok m) = m.prints
 prints_by (Err m) = m.prints

@@ -30,10 +30,12 @@ loading_of l = record { sources = l.sources.items; code = l.code.items; files = 
 
 -- ---- of a load graph
 
+-- what a module loads, or its fault, by how it was read
 abbrev pub source_by : LabelParts → Result Front Fault → Source
 source_by l (Ok front) = record { label = l; loads = front.loads; fault = None }
 source_by l (Err why) = record { label = l; loads = []; fault = Some why }
 
+-- what a module loads, or its fault
 abbrev pub source_of : Module → Source
 source_of m = source_by m.label m.front
 

@@ -23,6 +23,7 @@ use Rattle.bq_load_by_name.specs.Parsed.{ParsedParts}
 
 -- ---- a file that is evaluated
 
+-- the package that the evaluation of a file declares into: a .bzl file has none
 abbrev pub kept_by : ParsedParts → LabelParts → FileKind → HeldPackage
 kept_by x l kinds.Bzl = outside (package_of l) x.packages
 kept_by x l kinds.Build = declaring (record { place = record { own = package_of l; files = x.files; packages = x.packages; rules = x.rules }; «package» = no_targets l })
@@ -41,24 +42,30 @@ module_after file values run = module_by (ended file values run) (package_left (
 
 -- ---- a module
 
+-- what the loads of a module are resolved among
 abbrev pub loaded_parts : ParsedParts → Source → List ModuleView → LoadedParts
 loaded_parts x s modules = record { files = with_labels [] s.loads; modules = modules; parsed = x.parsed }
 
+-- a module, by what its loads gave
 abbrev pub by_imports : ParsedParts → ℕ → LabelParts → ParsedFile → List ModuleView → Result (List Datum) Fault → Result ModuleView FailedView
 by_imports x m l file modules (Err why) = Err (not_evaluated why)
 by_imports x m l file modules (Ok values) = module_after file values (evaluation x m l file modules values)
 
+-- the outcome of a file, over those of the modules before it
 unfoldable pub file_means : ParsedParts → ℕ → Source → ParsedFile → List ModuleView → Result ModuleView FailedView
 file_means x m s file modules = by_imports x m s.label file modules (imports (loaded_parts x s modules) [] (file_loads file.statements) s.loads)
 
+-- the parsed file at a place, if there is one
 abbrev pub file_in : Option (Option ParsedFile) → Option ParsedFile
 file_in None = None
 file_in (Some file) = file
 
+-- the outcome of a module, by its parsed file
 abbrev pub by_file : ParsedParts → ℕ → Source → List ModuleView → Option ParsedFile → Result ModuleView FailedView
 by_file x m s modules None = Err (not_evaluated (or_no_file s.fault))
 by_file x m s modules (Some file) = file_means x m s file modules
 
+-- the outcome of a module, by what it loads
 abbrev pub by_source : ParsedParts → ℕ → List ModuleView → Option Source → Result ModuleView FailedView
 by_source x m modules None = Err (not_evaluated (or_no_file None))
 by_source x m modules (Some s) = by_file x m s modules (file_in (slice_get x.parsed m))

@@ -27,6 +27,7 @@ module_named x l = option_and_then (slice_get x.modules) (number_in x.files l)
 
 -- ---- a symbol
 
+-- the names that a parsed file binds at its top level
 abbrev pub globals_by : Option (Option ParsedFile) → List Name
 globals_by None = []
 globals_by (Some None) = []

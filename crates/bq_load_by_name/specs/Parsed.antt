@@ -39,10 +39,12 @@ pub record ParsedParts : Type 0 where
 unfoldable pub trees_of : UniverseParts → List ℕ → Result (List TopLevel) Fault
 trees_of universe text = tokens_of text >>= λ ts. statements_of universe.kind (lexemes text ts)
 
+-- a file that was read, with the names known in it
 abbrev pub parsed_by : UniverseParts → Result (List TopLevel) Fault → Option ParsedFile
 parsed_by universe (Err why) = None
 parsed_by universe (Ok ts) = Some (record { universe = universe; statements = ts })
 
+-- the parsed file of a label, if it reads
 abbrev pub parsed_at : InputParts → LabelParts → Option File → Option ParsedFile
 parsed_at inputs l None = None
 parsed_at inputs l (Some x) = parsed_by (universe_of inputs (kind_of l)) (trees_of (universe_of inputs (kind_of l)) x.content)
@@ -56,6 +58,7 @@ abbrev pub unless_faulty : Result Front Fault → Option ParsedFile → Option P
 unless_faulty (Err why) file = None
 unless_faulty (Ok front) file = file
 
+-- the parsed file of a module, unless that has a fault
 abbrev pub parsed_module : InputParts → Module → Option ParsedFile
 parsed_module inputs m = unless_faulty m.front (parsed_of inputs m.label)
 

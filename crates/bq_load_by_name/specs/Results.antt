@@ -31,10 +31,12 @@ line_of_load l [] ls = 0
 line_of_load l (s ∷ ss) [] = 0
 line_of_load l (s ∷ ss) (k ∷ ks) = if bytes_eq (full_form l) (full_form k) then s.line else line_of_load l ss ks
 
+-- the line that loads a label first, in a parsed file
 abbrev pub line_by : LabelParts → Source → Option ParsedFile → ℕ
 line_by l s None = 0
 line_by l s (Some file) = line_of_load l (file_loads file.statements) s.loads
 
+-- the fault of a loader, by the module that it loads
 abbrev pub load_fault_by : FaultKind → Source → Option ParsedFile → Option Source → Fault
 load_fault_by kind s file None = fault_at kind 0
 load_fault_by kind s file (Some loaded) = record { kind = kind; line = line_by loaded.label s file; detail = full_form loaded.label }
@@ -43,6 +45,7 @@ load_fault_by kind s file (Some loaded) = record { kind = kind; line = line_by l
 unfoldable pub load_fault : ParsedParts → ℕ → Source → FaultKind → ℕ → Fault
 load_fault x m s kind k = load_fault_by kind s (file_in (slice_get x.parsed m)) (slice_get x.sources k)
 
+-- the outcome of a module, with the fault that a load gave it
 abbrev pub result_of : ParsedParts → ℕ → Source → Outcome ModuleView FailedView → Result ModuleView FailedView
 result_of x m s (o.Loaded v) = Ok v
 result_of x m s (o.Faulty e) = Err e

@@ -7,6 +7,7 @@ use Rattle.bq_package_schema.specs.Schema.{Rules}
 use Rattle.bq_package_schema.specs.Reading.{schema_of}
 use Rattle.bq_package_schema.specs.Standard.{standard_rules}
 
+-- the rules of a workspace: the standard ones, where it has no schema file
 abbrev pub declared_by : Option File → Result Rules Fault
 declared_by None = Ok standard_rules
 declared_by (Some f) = schema_of f.content
@@ -15,6 +16,7 @@ declared_by (Some f) = schema_of f.content
 unfoldable pub declared_in : List File → Result Rules Fault
 declared_in files = declared_by (file_at files (codes "rules.schema"))
 
+-- rules, or the line of the schema file that is wrong
 abbrev pub or_line : Result Rules Fault → Result Rules ℕ
 or_line (Ok rules) = Ok rules
 or_line (Err why) = Err why.line

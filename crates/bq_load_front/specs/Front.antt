@@ -47,5 +47,6 @@ abbrev pub loads_by : Result Front Fault → List LabelParts
 loads_by (Err why) = []
 loads_by (Ok front) = front.loads
 
+-- the labels that a file loads, in source order
 unfoldable pub loads_of : InputParts → LabelParts → List LabelParts
 loads_of inputs l = loads_by (front_of inputs l)

@@ -8,6 +8,7 @@ use Rattle.bq_label.specs.Packages.{label_path, owner_of}
 unfoldable pub is_of : LabelParts → PackageParts → Bool
 is_of l p = bytes_eq l.repo p.repo && bytes_eq l.package p.package
 
+-- a path lies in another package than its label's (F37)
 abbrev pub is_owned_by_other : LabelParts → Option BuildFile → Bool
 is_owned_by_other l None = false
 is_owned_by_other l (Some b) = not (is_of l b.id)

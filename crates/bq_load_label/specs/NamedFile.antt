@@ -16,6 +16,7 @@ use Rattle.bq_load_label.specs.Crossing.{crosses}
 unfoldable pub has_load_form : List ℕ → Bool
 has_load_form text = starts_with nat_eq text (codes "//") || starts_with nat_eq text (codes "@") || starts_with nat_eq text (codes ":")
 
+-- a label that can be loaded ends in `.bzl`
 abbrev pub if_bzl : Option LabelParts → Option LabelParts
 if_bzl None = None
 if_bzl (Some l) = if ends_with nat_eq l.name (codes ".bzl") then Some l else None
@@ -31,10 +32,12 @@ fault_of_file files packages l =
     then (if crosses packages l then Some f.CrossesPackage else (if is_some (label_file files l) then None else Some f.NoSuchFile))
     else Some f.NoPackage
 
+-- a label, unless it has a fault
 abbrev pub unless_fault : ℕ → LabelParts → Option FaultKind → Result LabelParts Fault
 unless_fault line l None = Ok l
 unless_fault line l (Some kind) = Err (record { kind = kind; line = line; detail = full_form l })
 
+-- the file that a load names, or the fault of its line
 abbrev pub file_named : List File → List BuildFile → ℕ → Option LabelParts → Result LabelParts Fault
 file_named files packages line None = Err (fault_at f.BadLoadLabel line)
 file_named files packages line (Some l) = unless_fault line l (fault_of_file files packages l)

@@ -21,6 +21,7 @@ abbrev pub stays : FrozenView → Option PackageTargets → FrozenView
 stays made None = made
 stays made (Some p) = without_cells made.own
 
+-- a module, of its globals, its prints and its package
 abbrev pub module_with : FrozenView → List (List ℕ) → Option PackageTargets → ModuleView
 module_with made prints p = record { frozen = stays made p; prints = prints; «package» = p }
 

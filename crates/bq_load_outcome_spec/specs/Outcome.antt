@@ -13,6 +13,7 @@ first f [] = 0
 first f (x ∷ xs) = cond (f x) x (first f xs)
 
 module _ {V F : Type 0} where
+  -- the values of loads, up to the first that didn't succeed
   abbrev pub with_value : Outcome V F → ℕ → Result (List V) ℕ → Result (List V) ℕ
   with_value (Loaded v) x (Ok vs) = Ok (v ∷ vs)
   with_value (Loaded v) x (Err l) = Err l
@@ -31,6 +32,7 @@ module _ {V F : Type 0} where
   own (Ok v) = Loaded v
   own (Err e) = Faulty e
 
+  -- the outcome of a module, by the values of its loads
   abbrev pub evaluated : (List V → Result V F) → Result (List V) ℕ → Outcome V F
   evaluated f (Ok vs) = own (f vs)
   evaluated f (Err l) = LoadFailed l

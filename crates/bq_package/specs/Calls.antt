@@ -96,6 +96,7 @@ abbrev pub declares : {A : Type 0} → State → Declaring → Result A FaultKin
 declares s d (Ok a) declare = settled s d (declare a)
 declares s d (Err why) declare = stopped (stop_at why s)
 
+-- a call in a BUILD file, by its function
 unfoldable pub call_in : Declaring → State → HostFunction → Passed → Run (State × HeldPackage) Datum
 call_in d s b.Glob passed = on_machine (given (globbed d.place s.store passed) >>= new_strings) (s, declaring d)
 call_in d s b.PackageName passed = on_machine (given (package_name d.place passed)) (s, declaring d)
@@ -105,6 +106,7 @@ call_in d s b.ExportsFiles passed = declares s d (files_named d.place s.store pa
 call_in d s b.PackageGroup passed = declares s d (group_named d.place s.store s.line passed) (declared d.package)
 call_in d s (b.Rule rule) passed = declares s d (rule_target d.place s.store s.line rule passed) (declared d.package)
 
+-- a call of a function of BUILD files: elsewhere there is no package
 abbrev pub call_by : State → HeldPackage → HostFunction → Passed → Run (State × HeldPackage) Datum
 call_by s (outside own packages) function passed = stopped (stop_at NotInPackage s)
 call_by s (declaring d) function passed = call_in d s function passed
@@ -113,6 +115,7 @@ call_by s (declaring d) function passed = call_in d s function passed
 unfoldable pub call_of : HostFunction → Passed → Action (State × HeldPackage) Datum
 call_of function passed q = call_by q.0 q.1 function passed
 
+-- a call of a rule that a .bzl file declared, which a BUILD file alone can make
 abbrev pub rule_by : State → HeldPackage → List ℕ → Class → Passed → Run (State × HeldPackage) Datum
 rule_by s (outside own packages) rule class passed = stopped (stop_at NotInPackage s)
 rule_by s (declaring d) rule class passed = declares s d (declared_target d.place s.store s.line rule class passed) (declared d.package)
@@ -121,6 +124,7 @@ rule_by s (declaring d) rule class passed = declares s d (declared_target d.plac
 unfoldable pub rule_call : List ℕ → Class → Passed → Action (State × HeldPackage) Datum
 rule_call rule class passed q = rule_by q.0 q.1 rule class passed
 
+-- a BUILD file is evaluated
 abbrev pub is_building : HeldPackage → Bool
 is_building (outside own packages) = false
 is_building (declaring d) = true

@@ -17,6 +17,7 @@ use Rattle.bq_package.specs.Place.{PlaceView}
 use Rattle.bq_package_typed_value.specs.Parameters.{argument}
 use Rattle.bq_package.specs.Bound.{glob_parameters, texts_of}
 
+-- a pattern, if it is well formed
 abbrev pub pattern : List ℕ → Result (List ℕ) FaultKind
 pattern text = if is_pattern text then Ok text else Err GlobPattern
 
@@ -36,9 +37,11 @@ abbrev pub allows_empty : StoreView → Option Datum → Bool
 allows_empty store None = true
 allows_empty store (Some v) = truth_of store v
 
+-- what `glob` is asked for
 abbrev pub asked : Bool → List (List ℕ) → List (List ℕ) → GlobRequest
 asked allows include exclude = record { include = include; exclude = exclude; allows_empty = allows }
 
+-- what `glob` is asked for, if its patterns are well formed
 unfoldable pub request_by : Bool → Bool → List (List ℕ) → List (List ℕ) → Result GlobRequest FaultKind
 request_by excludes allows include exclude =
     if excludes then and_then (patterns include) (λ is. and_then (patterns exclude) (λ es. Ok (asked allows is es)))
@@ -51,6 +54,7 @@ request_of store vs =
     and_then (texts_of store (argument vs 1)) (λ exclude.
     request_by (excludes_directories (argument vs 2)) (allows_empty store (argument vs 3)) include exclude))
 
+-- no name was found
 abbrev pub is_nothing : List (List ℕ) → Bool
 is_nothing [] = true
 is_nothing (name ∷ names) = false

@@ -29,6 +29,7 @@ is_name_first (argument ∷ arguments) =
 abbrev pub names_first : Passed → Bool
 names_first p = some_element p.positional || is_name_first p.named
 
+-- the target that `package_group` declares
 abbrev pub group : ℕ → LabelParts → List LabelParts → Target
 group line l includes = record { label = l; kind = target.Group; attributes = record { name = codes "includes"; value = a.LabelList includes } ∷ []; line = line }
 

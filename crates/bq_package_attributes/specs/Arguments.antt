@@ -19,6 +19,7 @@ use Rattle.bq_package_typed_value.specs.Texts.{text_in}
 use Rattle.bq_package_typed_value.specs.LabelTexts.{label}
 use Rattle.bq_package_typed_value.specs.Values.{value_as}
 
+-- before the first argument
 abbrev pub nothing_given : Given
 nothing_given = record { name = None; attributes = [] }
 
@@ -40,6 +41,7 @@ unfoldable pub with_name : PackageParts → List BuildFile → Datum → Given �
 with_name own packages v g =
     if is_none v then Ok g else and_then (text_in f.AttributeType v) (λ text. and_then (label own packages k.Name text) (λ l. Ok (with_label text l g)))
 
+-- an attribute takes its value, by its type; `None` leaves it out
 abbrev pub with_attribute_by : PackageParts → List BuildFile → StoreView → Option AttributeType → List ℕ → Datum → Given → Result Given FaultKind
 with_attribute_by own packages store None name v g = Err f.NoAttribute
 with_attribute_by own packages store (Some kind) name v g =
@@ -54,6 +56,7 @@ abbrev pub keyword : Datum → List ℕ
 keyword (string name) = name
 keyword _ = []
 
+-- one more argument of a rule: its name, or an attribute
 unfoldable pub with_argument : PackageParts → List BuildFile → StoreView → Class → Given → Datum × Datum → Result Given FaultKind
 with_argument own packages store class g argument =
     if bytes_eq (keyword argument.0) (codes "name") then with_name own packages argument.1 g

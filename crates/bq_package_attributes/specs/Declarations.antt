@@ -27,6 +27,7 @@ use Rattle.bq_package_attributes.specs.Arguments.{nothing_given, is_none, with_a
 abbrev pub keywords_alone : SignatureView
 keywords_alone = record { parameters = []; placed = 0; takes_rest = false; takes_keywords = true }
 
+-- an argument was given, and not `None`
 abbrev pub is_value : Option Datum → Bool
 is_value None = false
 is_value (Some v) = not (is_none v)
@@ -50,6 +51,7 @@ default_of (Some (a.Output l)) = None
 default_of (Some (a.OutputList ls)) = None
 default_of (Some v) = Some v
 
+-- the default of an attribute that was not given
 abbrev pub default_by : Bool → List ℕ → Option AttributeValue → List GivenAttribute
 default_by true name v = []
 default_by false name None = []
@@ -63,6 +65,7 @@ default_for keywords e = default_by (gives keywords e.0) e.0 (default_of e.1.def
 abbrev pub defaults : List (Datum × Datum) → Class → List GivenAttribute
 defaults keywords class = flat_map (default_for keywords) class
 
+-- the target that a rule declares
 abbrev pub target_of : List ℕ → Class → ℕ → LabelParts → List GivenAttribute → Target
 target_of rule class line l attributes = record { label = l; kind = kind.Rule rule class; attributes = attributes; line = line }
 

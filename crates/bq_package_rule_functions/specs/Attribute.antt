@@ -39,6 +39,7 @@ is_blank _ = false
 abbrev pub kept : AttributeValue → Option AttributeValue
 kept v = if is_blank v then None else Some v
 
+-- the default of an attribute, if one was given
 abbrev pub resolved_default : ReadDefault → Option Written → Result (Option AttributeValue) FaultKind
 resolved_default read None = Ok None
 resolved_default read (Some x) = and_then (read x) (λ v. Ok (kept v))

@@ -38,6 +38,7 @@ new_attribute read type args = look (λ s. attribute read s.store type args) >>=
 unfoldable pub new_rule : Bool → Passed → Action State Datum
 new_rule in_build args = look (λ s. class in_build s.store args) >>= λ x. new_content (contents.rule x)
 
+-- a call of `rule`, or of a function of `attr`, which has a type
 abbrev pub declare : ReadDefault → Bool → Option AttributeType → Passed → Action State Datum
 declare read in_build None args = new_rule in_build args
 declare read in_build (Some type) args = new_attribute read type args

@@ -26,6 +26,7 @@ implemented _ = Err WrongType
 
 -- ---- `attrs`
 
+-- the attribute that a value has to be
 abbrev pub attribute_in : Datum → Result Attribute FaultKind
 attribute_in (datum.attribute x) = Ok x
 attribute_in _ = Err WrongType
@@ -38,6 +39,7 @@ entry p = and_then (text_in WrongType p.0) (λ name. and_then (attribute_in p.1)
 unfoldable pub entries : List (Datum × Datum) → Result Class FaultKind
 entries ps = in_turn entry [] ps
 
+-- the attributes of a dict, by name
 abbrev pub entries_in : Option Contents → Result Class FaultKind
 entries_in (Some (pairs ps)) = entries ps
 entries_in _ = Err WrongType
@@ -54,9 +56,11 @@ attributes_in store (Some v) = Err WrongType
 unfoldable pub may_be_named : List ℕ → Bool
 may_be_named name = is_identifier name && not (is_some (common_attribute name))
 
+-- each attribute has a name that one can have
 unfoldable pub are_named : Class → Bool
 are_named class = list_all (λ e. may_be_named e.0) class
 
+-- a class is declared in a .bzl file, and with such names
 abbrev pub if_declared : Bool → Class → Result Class FaultKind
 if_declared in_build class = if in_build || not (are_named class) then Err BadValue else Ok class
 
@@ -69,5 +73,6 @@ class_of in_build store vs =
     and_then (attributes_in store (argument vs 1)) (λ class.
     and_then (documented (argument vs 2)) (λ _. if_declared in_build class)))
 
+-- the class that a call of `rule` declares
 unfoldable pub class : Bool → StoreView → Passed → Result Class FaultKind
 class in_build store passed = and_then (bind rule_parameters passed) (λ b. class_of in_build store b.values)

@@ -34,13 +34,16 @@ names_attribute name = is_identifier name && not (is_some (common_attribute name
 abbrev pub words : List ℕ → List (List ℕ)
 words line = slice_split (λ b. b == 32) line
 
+-- a line that begins a rule, if it has a name that one can have
 unfoldable pub rule_line : List ℕ → Line
 rule_line name = if names_rule name then line.Rule name else line.Other
 
+-- a line that declares an attribute, if its type is known
 abbrev pub typed : Option AttributeType → List ℕ → Bool → Line
 typed None name mandatory = line.Other
 typed (Some kind) name mandatory = line.Attribute name (record { kind = kind; is_mandatory = mandatory; default = None })
 
+-- a line that declares an attribute, if its name and its type are good
 unfoldable pub attribute_line : List ℕ → List ℕ → Bool → Line
 attribute_line name kind mandatory = if names_attribute name then typed (type_named kind) name mandatory else line.Other
 

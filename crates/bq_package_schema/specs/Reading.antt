@@ -15,9 +15,11 @@ lines text = slice_split (λ b. b == 10) text
 abbrev pub line_number : ℕ → ℕ
 line_number before = if nat_lt before 4294967295 then before + 1 else 4294967295
 
+-- the fault of the line behind this many
 abbrev pub bad_line : ℕ → Fault
 bad_line before = fault_at f.Schema (line_number before)
 
+-- what follows a line, if that was good
 abbrev pub go_on : (Rules → Result Rules Fault) → ℕ → Option Rules → Result Rules Fault
 go_on further before None = Err (bad_line before)
 go_on further before (Some rules) = further rules

@@ -11,9 +11,11 @@ pub record Rules : Type 0 where
   pub names : List (List ℕ)
   pub classes : List Class
 
+-- a schema without a line
 abbrev pub no_rules : Rules
 no_rules = record { names = []; classes = [] }
 
+-- a name is among these
 abbrev pub has : List (List ℕ) → List ℕ → Bool
 has names name = list_any (bytes_eq name) names
 
@@ -21,6 +23,7 @@ has names name = list_any (bytes_eq name) names
 unfoldable pub with_rule : Rules → List ℕ → Option Rules
 with_rule rules name = if has rules.names name then None else Some (record { names = rules.names ++ name ∷ []; classes = rules.classes ++ [] ∷ [] })
 
+-- a list as all but its last element, and that
 abbrev pub last_by : {A : Type 0} → A → Option (List A × A) → List A × A
 last_by x None = ([], x)
 last_by x (Some p) = (x ∷ p.0, p.1)
@@ -30,10 +33,12 @@ unfoldable pub last_of : {A : Type 0} → List A → Option (List A × A)
 last_of [] = None
 last_of (x ∷ xs) = Some (last_by x (last_of xs))
 
+-- the rules with their last class as it is now
 abbrev pub with_last : Rules → List Class → Option Class → Option Rules
 with_last rules before None = None
 with_last rules before (Some class) = Some (record { names = rules.names; classes = before ++ class ∷ [] })
 
+-- the last rule takes an attribute; there has to be one
 abbrev pub onto : Rules → List ℕ → Attribute → Option (List Class × Class) → Option Rules
 onto rules name attribute None = None
 onto rules name attribute (Some p) = with_last rules p.0 (extended p.1 name attribute)

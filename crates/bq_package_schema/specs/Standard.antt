@@ -16,9 +16,11 @@ standard_lines =
     ∷ codes "rule alias" ∷ codes "attr actual label mandatory"
     ∷ codes "rule test_suite" ∷ codes "attr tests label_list" ∷ []
 
+-- an attribute that may be left out
 abbrev optional : List ℕ → AttributeType → List ℕ × Attribute
 optional name kind = (name, record { kind = kind; is_mandatory = false; default = None })
 
+-- an attribute that has to be given
 abbrev mandatory : List ℕ → AttributeType → List ℕ × Attribute
 mandatory name kind = (name, record { kind = kind; is_mandatory = true; default = None })
 

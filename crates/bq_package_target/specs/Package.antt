@@ -35,6 +35,7 @@ IsOwnCall own t = list_all (λ d. is_of own d.label) (declares t) ≡ true
 abbrev pub target_named : List Target → List ℕ → Option Target
 target_named ts name = find (λ t. bytes_eq name t.label.name) ts
 
+-- a target that is not a source file
 abbrev pub is_other : Option Target → Bool
 is_other None = false
 is_other (Some t) = not (is_source t.kind)

@@ -6,6 +6,7 @@ use Rattle.bq_package_target.specs.declared.target.TargetKind.TheVariants as k
 use Rattle.bq_package_target.specs.declared.target.Target.{Target}
 use Rattle.bq_package_target.specs.Value.{labels_in, outputs_in}
 
+-- it is a source file
 abbrev pub is_source : TargetKind → Bool
 is_source k.Source = true
 is_source (k.Rule name class) = false
@@ -28,6 +29,7 @@ source l line = record { label = l; kind = k.Source; attributes = []; line = lin
 abbrev pub generated : Target → LabelParts → Target
 generated rule l = record { label = l; kind = k.Generated rule.label; attributes = []; line = rule.line }
 
+-- a generated file depends on its rule, another target on the labels that its attributes name
 abbrev pub dependencies_by : TargetKind → List LabelParts → List LabelParts
 dependencies_by (k.Generated rule) named = rule ∷ []
 dependencies_by (k.Rule name class) named = named

@@ -46,6 +46,7 @@ outputs_in given = flat_map (λ a. outputs_of a.value) given
 abbrev pub own_type : Class → List ℕ → Option AttributeType
 own_type class name = option_map (λ a. a.kind) (lookup (bytes_eq name) class)
 
+-- the type that is declared, or else the value's own
 abbrev pub or_own : Option AttributeType → Option AttributeType → Option AttributeType
 or_own (Some kind) own = Some kind
 or_own None own = own

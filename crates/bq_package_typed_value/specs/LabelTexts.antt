@@ -12,6 +12,7 @@ use Rattle.bq_package_typed_value.specs.declared.label_texts.TextKind.TheVariant
 use Rattle.bq_package_typed_value.specs.Steps.{and_then, in_turn}
 use Rattle.bq_package_typed_value.specs.Scope.{inside, all_inside}
 
+-- a label that was read, or the fault that it is none
 abbrev pub label_found : Option LabelParts → Result LabelParts FaultKind
 label_found None = Err BadLabel
 label_found (Some l) = Ok l

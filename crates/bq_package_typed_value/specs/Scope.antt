@@ -9,6 +9,7 @@ use Rattle.bq_label.specs.Paths.{HasNoSlash}
 use Rattle.bq_label.specs.Packages.{label_path, owner_of}
 use Rattle.bq_package_target.specs.Target.{is_of}
 
+-- a path lies in another package than its label's (F37)
 abbrev pub is_owned_by_other : LabelParts → Option BuildFile → Bool
 is_owned_by_other l None = false
 is_owned_by_other l (Some b) = not (is_of b.id l)

@@ -11,6 +11,7 @@ unfoldable pub text_in : FaultKind → Datum → Result (List ℕ) FaultKind
 text_in why (string text) = Ok text
 text_in why _ = Err why
 
+-- the elements of a list, or this fault
 abbrev pub listed : FaultKind → Option Contents → Result (List Datum) FaultKind
 listed why (Some (items vs)) = Ok vs
 listed why _ = Err why

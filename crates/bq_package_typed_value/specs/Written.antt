@@ -17,6 +17,7 @@ abbrev pub int_in : FaultKind → Datum → Result ℤ FaultKind
 int_in why (int n) = Ok n
 int_in why _ = Err why
 
+-- an integer as a bool: 0 or 1
 abbrev pub bool_of : FaultKind → ℤ → Result Bool FaultKind
 bool_of why (pos n) = if n == 0 then Ok false else (if n == 1 then Ok true else Err why)
 bool_of why (negsuc n) = Err why

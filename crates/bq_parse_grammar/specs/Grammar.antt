@@ -39,14 +39,17 @@ abbrev pub tuple_of : Expr → List Expr → Expr
 tuple_of x [] = x
 tuple_of x (y ∷ ys) = e.Tuple (x ∷ y ∷ ys)
 
+-- an operand with operators behind it, if there are any
 abbrev pub binary_of : Expr → List Operation → Expr
 binary_of x [] = x
 binary_of x (y ∷ ys) = e.Binary x (y ∷ ys)
 
+-- an operand with operators before it, if there are any
 abbrev pub unary_of : List UnaryOperator → Expr → Expr
 unary_of [] x = x
 unary_of (y ∷ ys) x = e.Unary (y ∷ ys) x
 
+-- an operand with suffixes, if there are any
 abbrev pub primary_of : Expr → List Suffix → Expr
 primary_of x [] = x
 primary_of x (y ∷ ys) = e.Primary x (y ∷ ys)

@@ -24,6 +24,7 @@ abbrev pub calls_method : List TokenKind → Bool
 calls_method (k.Dot ∷ k.Identifier ∷ k.LeftParen ∷ ts) = true
 calls_method ts = false
 
+-- the kinds of tokens
 abbrev pub kinds : List Lexeme → List TokenKind
 kinds [] = []
 kinds (t ∷ ts) = t.kind ∷ kinds ts
@@ -37,14 +38,17 @@ leaves_out_by k.Dot t ts = not (calls_name (kinds ts))
 leaves_out_by k.Identifier t ts = bytes_eq t.spelling native && not (calls_method (kinds ts))
 leaves_out_by _ t ts = false
 
+-- a token begins something of Starlark that is left out here
 abbrev pub leaves_out : List Lexeme → Bool
 leaves_out [] = false
 leaves_out (t ∷ ts) = leaves_out_by t.kind t ts || leaves_out ts
 
+-- it holds of a member
 abbrev pub any : {A : Type 0} → (A → Bool) → List A → Bool
 any f [] = false
 any f (x ∷ xs) = f x || any f xs
 
+-- a function is defined in another, by the form of the statement
 abbrev pub nested_in : (Bool → Stmt → Bool) → Bool → Stmt-F Stmt Branch → Bool
 nested_in inner inside (Stmt-F.Simple xs) = false
 nested_in inner inside (Stmt-F.If bs zs) = any (λ b. any (inner inside) (out-Branch b).block) bs || any (inner inside) zs
@@ -73,9 +77,11 @@ is_starred (k.Comma ∷ k.Star ∷ ts) = true
 is_starred (k.Comma ∷ k.StarStar ∷ ts) = true
 is_starred ts = false
 
+-- there is an argument `*x` or `**x`
 abbrev pub has_starred : List TokenKind → Bool
 has_starred [] = false
 has_starred (t ∷ ts) = is_starred (t ∷ ts) || has_starred ts
 
+-- a statement that a BUILD file can't have: `if`, `for`, `def`, or a call with `*x` or `**x`
 abbrev pub barred_in_build : List Lexeme → Bool
 barred_in_build ts = is_compound (kinds ts) || has_starred (kinds ts)

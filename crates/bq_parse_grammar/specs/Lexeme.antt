@@ -3,11 +3,13 @@ use Rattle.std.specs.Prelude.{ℕ, List, [], ◌∷◌, slice_range}
 use Rattle.bq_source.specs.declared.token.Token.{Token}
 use Rattle.bq_source.specs.declared.token.TokenKind.{TokenKind}
 
+-- a token with the bytes that it is written with, and its line
 pub record Lexeme : Type 0 where
   pub kind : TokenKind
   pub line : ℕ
   pub spelling : List ℕ
 
+-- a token of a text
 abbrev pub lexeme : List ℕ → Token → Lexeme
 lexeme text t = record { kind = t.kind; line = t.line; spelling = slice_range text t.start t.end }
 

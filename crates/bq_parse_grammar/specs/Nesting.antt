@@ -4,6 +4,7 @@ use Rattle.bq_source.specs.declared.token.TokenKind.{TokenKind}
 use Rattle.bq_source.specs.declared.token.TokenKind.TheVariants as k
 use Rattle.bq_parse_grammar.specs.Lexeme.{Lexeme}
 
+-- the most levels that brackets and blocks stand in one another
 abbrev pub max_nesting : ℕ
 max_nesting = 64
 

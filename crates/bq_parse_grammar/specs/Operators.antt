@@ -26,6 +26,7 @@ binary_operator k.And = Some (9, o.And)
 binary_operator k.Or = Some (10, o.Or)
 binary_operator _ = None
 
+-- the operator, if it binds as tightly as this level
 abbrev pub of_level : ℕ → Option (ℕ × Operator) → Option Operator
 of_level l None = None
 of_level l (Some p) = if p.0 == l then Some p.1 else None
@@ -41,6 +42,7 @@ sign k.Minus = Some u.Minus
 sign k.Tilde = Some u.Invert
 sign _ = None
 
+-- `not`
 abbrev pub negation : TokenKind → Option UnaryOperator
 negation k.Not = Some u.Not
 negation _ = None

@@ -35,6 +35,7 @@ Parses kind ts r = ReadsAll kind (pieces ts) r
 
 -- ---- the function
 
+-- it is a BUILD file
 abbrev pub is_build : FileKind → Bool
 is_build file.Build = true
 is_build file.Bzl = false
@@ -62,6 +63,7 @@ first_and p (Err why) more = Err (fault_at why (line_of p))
 first_and p (Ok x) (Err why) = Err why
 first_and p (Ok x) (Ok xs) = Ok (x ∷ xs)
 
+-- the statements of all pieces, or the first fault
 abbrev pub all_read : FileKind → List (List Lexeme) → Result (List TopLevel) Fault
 all_read kind [] = Ok []
 all_read kind (p ∷ ps) = first_and p (verdict kind p) (all_read kind ps)

@@ -24,10 +24,12 @@ begins_statement k.Elif = false
 begins_statement k.Else = false
 begins_statement _ = true
 
+-- nothing is open
 abbrev pub is_zero : ℕ → Bool
 is_zero zero = true
 is_zero (suc n) = false
 
+-- a token joins the first piece
 abbrev pub onto : Lexeme → List (List Lexeme) → List (List Lexeme)
 onto t [] = (t ∷ []) ∷ []
 onto t (p ∷ ps) = (t ∷ p) ∷ ps
@@ -39,6 +41,7 @@ cut line n (t ∷ ts) =
     if line && (is_zero n && begins_statement t.kind) then [] ∷ onto t (cut (ends_line t.kind) (indents_after t.kind n) ts)
     else onto t (cut (ends_line t.kind) (indents_after t.kind n) ts)
 
+-- the tokens of a file, a piece for each statement at its top level
 abbrev pub pieces : List Lexeme → List (List Lexeme)
 pieces [] = []
 pieces (t ∷ ts) = cut false 0 (t ∷ ts)

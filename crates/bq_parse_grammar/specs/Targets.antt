@@ -19,9 +19,11 @@ use Rattle.bq_parse_grammar.specs.Grammar.{primary_of}
 abbrev pub ExprLayer : Type 0
 ExprLayer = Expr-F Argument Clause Expr Suffix TargetExpr Choice Operation Pair
 
+-- the form of a suffix
 abbrev pub SuffixLayer : Type 0
 SuffixLayer = Suffix-F Argument Clause Expr Suffix TargetExpr Choice Operation Pair
 
+-- what follows an expression that can be a target
 abbrev pub with_target : {B : Type 0} → Result TargetExpr SyntaxErr → (TargetExpr → Result B SyntaxErr) → Result B SyntaxErr
 with_target (Err why) f = Err why
 with_target (Ok x) f = f x
@@ -48,6 +50,7 @@ indexed_from x done [] = Err Syntax
 indexed_from x done (y ∷ []) = index_of (primary_of x done) (out-Suffix y)
 indexed_from x done (y ∷ z ∷ zs) = indexed_from x (done ++ y ∷ []) (z ∷ zs)
 
+-- the target that an expression stands for: a name, a place `x[i]`, or several in brackets
 abbrev pub target_by : (Expr → Result TargetExpr SyntaxErr) → ExprLayer → Result TargetExpr SyntaxErr
 target_by inner (Expr-F.Expr::Name n) = Ok (target.Name n)
 target_by inner (Expr-F.Primary x xs) = indexed_from x [] xs
@@ -66,5 +69,6 @@ augmented_by (Expr-F.Expr::Name n) = Ok (target.Name n)
 augmented_by (Expr-F.Primary x xs) = indexed_from x [] xs
 augmented_by _ = Err Syntax
 
+-- the target of `t op= x`: a name or a place
 unfoldable pub augmented_target : Expr → Result TargetExpr SyntaxErr
 augmented_target x = augmented_by (out-Expr x)

@@ -12,10 +12,12 @@ use Rattle.bq_query.specs.Stands.{Stands, Bound, AreSets}
 use Rattle.bq_query_target_graph.specs.Graph.{GraphParts}
 use Rattle.bq_query.specs.Graph.{targets_of, packages_of, count_of}
 
+-- the first of these patterns that names nothing (Q5)
 abbrev pub first_missing : GraphParts → List TargetPattern → Fault
 first_missing w [] = None
 first_missing w (p ∷ ps) = first_of (missing (packages_of w) (targets_of w) p) (first_missing w ps)
 
+-- the first pattern in a formula that names nothing
 abbrev pub fault_in : GraphParts → Formula → Fault
 fault_in w (named patterns) = first_missing w patterns
 fault_in w (variable k) = None

@@ -4,9 +4,11 @@ use Rattle.bq_label.specs.Label.{PackageParts}
 use Rattle.bq_package_target.specs.declared.target.Target.{Target}
 use Rattle.bq_query_target_graph.specs.Graph.{GraphParts}
 
+-- all targets, sorted by their labels
 abbrev pub targets_of : GraphParts → List Target
 targets_of w = w.targets
 
+-- all packages, sorted
 abbrev pub packages_of : GraphParts → List PackageParts
 packages_of w = w.packages
 

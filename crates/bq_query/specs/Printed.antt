@@ -12,9 +12,11 @@ abbrev pub line_of : OutputForm → Target → List ℕ
 line_of form.Label t = text_of t ++ codes "\n"
 line_of form.LabelKind t = kind_text t.kind ++ (codes " " ++ (text_of t ++ codes "\n"))
 
+-- the line of a target, by its number
 abbrev pub line_by : OutputForm → Option Target → List ℕ
 line_by f None = []
 line_by f (Some t) = line_of f t
 
+-- the lines of an answer
 abbrev pub printed : OutputForm → List Target → List ℕ → List ℕ
 printed f targets answer = flat_map (λ at. line_by f (slice_get targets at)) answer

@@ -11,6 +11,7 @@ use Rattle.bq_query_check.specs.declared.formula.ChainStep.{ChainStep, fold-Chai
 use Rattle.bq_query_check.specs.declared.formula.SetExpr.TheOpen as query
 use Rattle.bq_query_check.specs.declared.formula.SetExpr.TheOpen.{SetExpr-F, ChainStep-F}
 
+-- what a query stands for, its words read and its variables resolved
 pub data Formula : Type 0 where
   -- the targets that patterns name: a word alone, or those of `set(word ..)`
   named : List TargetPattern → Formula
@@ -35,9 +36,11 @@ abbrev pub chained : Formula → List Step → Formula
 chained x [] = x
 chained x (o ∷ os) = chained (combined o.operator x o.formula) os
 
+-- an operator and its right operand
 abbrev pub step_step : ChainStep-F Formula Step → Step
 step_step o = record { operator = o.operator; formula = o.operand }
 
+-- a formula, by the form of the query
 abbrev pub query_step : SetExpr-F Formula Step → Formula
 query_step (query.Named ps) = named ps
 query_step (query.Variable k) = variable k
@@ -46,6 +49,7 @@ query_step (query.Chain x os) = chained x os
 query_step (query.One f x) = one f x
 query_step (query.Two f x y) = two f x y
 
+-- the formula of a checked query
 abbrev pub formula_of : SetExpr → Formula
 formula_of = fold-SetExpr Formula Step query_step step_step
 

@@ -17,6 +17,7 @@ use Rattle.bq_query_check.specs.Patterns.{IsPatternOf}
 
 -- ---- arguments that are words
 
+-- a number with more digits, kept at 2 ^ 32 once it is there
 abbrev pub more_digits : ℕ → List ℕ → ℕ
 more_digits n [] = n
 more_digits n (b ∷ bs) = more_digits (min (n * 10 + (b - 48)) (2 ^ 32)) bs
@@ -57,6 +58,7 @@ IsNamed words y = (ps : List TargetPattern) × ArePatternsOf words ps × (y ≡ 
 -- ---- trees, where the lets around them bind these names
 
 mutual
+  -- a query, inside lets of these names, is checked to a formula
   pub data IsFormulaOf : List (List ℕ) → Query → Formula → Type 0 where
     -- `word`
     word : {ns : List (List ℕ)} {x : Query} {y : Formula} {w : List ℕ} → x ≡ tree.Word w → IsNamed (w ∷ []) y → IsFormulaOf ns x y

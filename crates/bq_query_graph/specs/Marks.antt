@@ -4,6 +4,7 @@ use Rattle.std.specs.Bool.{Decides}
 use Rattle.std.specs.List.{Contains, sum_by}
 use Rattle.bq_query_graph.specs.Paths.{Pair}
 
+-- a target is marked
 abbrev pub Marked : List Bool → ℕ → Type 0
 Marked ms y = slice_index_or ms y false ≡ true
 

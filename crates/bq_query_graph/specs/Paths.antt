@@ -34,6 +34,7 @@ pub record EndsWithin (E : ℕ → ℕ → Type 0) (S : ℕ → Type 0) (n : ℕ
 abbrev pub Deps : List (List ℕ) → (ℕ → Type 0) → ℕ → Type 0
 Deps g = Ends (Pair g)
 
+-- targets at the ends of paths of at most so many edges
 abbrev pub DepsWithin : List (List ℕ) → (ℕ → Type 0) → ℕ → ℕ → Type 0
 DepsWithin g = EndsWithin (Pair g)
 

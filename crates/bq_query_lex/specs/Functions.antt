@@ -7,6 +7,7 @@ use Rattle.bq_query_lex.specs.declared.function.QueryFunction.TheVariants as f
 use Rattle.bq_query_lex.specs.declared.function.QueryArgumentKind.{QueryArgumentKind}
 use Rattle.bq_query_lex.specs.declared.function.QueryArgumentKind.TheVariants.{Query, Pattern, Attribute}
 
+-- the functions of queries, by their names in order
 abbrev pub functions : List (List ℕ × QueryFunction)
 functions =
     (codes "allpaths", f.Allpaths) ∷ (codes "attr", f.Attr) ∷ (codes "deps", f.Deps) ∷ (codes "filter", f.Filter) ∷ (codes "kind", f.Kind)
@@ -18,12 +19,15 @@ left_out =
     codes "allrdeps" ∷ codes "buildfiles" ∷ codes "executables" ∷ codes "loadfiles" ∷ codes "same_pkg_direct_rdeps" ∷ codes "siblings" ∷ codes "some"
     ∷ codes "somepath" ∷ codes "tests" ∷ codes "visible" ∷ []
 
+-- the function of this name
 abbrev pub function_named : List ℕ → Option QueryFunction
 function_named name = lookup (bytes_eq name) functions
 
+-- a function of Bazel's that is left out here
 abbrev pub is_left_out : List ℕ → Bool
 is_left_out name = list_any (bytes_eq name) left_out
 
+-- what the arguments of a function are
 abbrev pub arguments_of : QueryFunction → List QueryArgumentKind
 arguments_of f.Allpaths = Query ∷ Query ∷ []
 arguments_of f.Attr = Attribute ∷ Pattern ∷ Query ∷ []

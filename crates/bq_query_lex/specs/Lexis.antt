@@ -13,9 +13,11 @@ use Rattle.bq_query_lex.specs.declared.lexis.QueryPiece.TheVariants.{End, Blank,
 abbrev pub is_blank : ℕ → Bool
 is_blank b = list_any (nat_eq b) (32 ∷ 9 ∷ 10 ∷ 13 ∷ [])
 
+-- `"` or `'`
 abbrev pub is_quote : ℕ → Bool
 is_quote b = b == 34 || b == 39
 
+-- a letter or a digit of ASCII
 abbrev pub is_letter_or_digit : ℕ → Bool
 is_letter_or_digit b = (nat_le 97 b && nat_le b 122) || (nat_le 65 b && nat_le b 90) || (nat_le 48 b && nat_le b 57)
 
@@ -27,10 +29,12 @@ is_word_byte b = is_letter_or_digit b || list_any (nat_eq b) (codes "*/@.-_:$~[]
 abbrev pub begins_word : ℕ → Bool
 begins_word b = is_word_byte b && not (b == 45 || b == 42)
 
+-- the tokens of one byte
 abbrev pub punctuation : List (ℕ × QueryTokenKind)
 punctuation =
     (40, k.Open) ∷ (41, k.Close) ∷ (44, k.Comma) ∷ (61, k.Equals) ∷ (43, k.Union) ∷ (94, k.Intersect) ∷ (45, k.Except) ∷ []
 
+-- the words that are tokens of their own
 abbrev pub keywords : List (List ℕ × QueryTokenKind)
 keywords =
     (codes "except", k.Except) ∷ (codes "in", k.In) ∷ (codes "intersect", k.Intersect) ∷ (codes "let", k.Let) ∷ (codes "set", k.Set) ∷ (codes "union", k.Union) ∷ []
@@ -49,6 +53,7 @@ abbrev pub plain_kind : List ℕ → Option QueryTokenKind
 plain_kind [] = None
 plain_kind (b ∷ bs) = if b == 36 then (if is_variable_name bs then Some k.Variable else None) else Some k.Word
 
+-- the kind of a word
 abbrev pub keyword_or_plain : Option QueryTokenKind → List ℕ → Option QueryTokenKind
 keyword_or_plain (Some kind) word = Some kind
 keyword_or_plain None word = plain_kind word
@@ -57,6 +62,7 @@ keyword_or_plain None word = plain_kind word
 unfoldable pub word_kind : List ℕ → Option QueryTokenKind
 word_kind word = keyword_or_plain (lookup (bytes_eq word) keywords) word
 
+-- a word of this kind and length, if it is one
 abbrev pub word_of : Option QueryTokenKind → ℕ → QueryPiece
 word_of (Some kind) n = Found kind n
 word_of None n = Unknown
@@ -65,6 +71,7 @@ word_of None n = Unknown
 unfoldable pub word_piece : List ℕ → QueryPiece
 word_piece text = let n = prefix_len is_word_byte text in word_of (word_kind (take n text)) n
 
+-- a word in quotes, if the second quote is there
 abbrev pub quoted_of : Option ℕ → QueryPiece
 quoted_of (Some n) = Found k.Quoted (n + 2)
 quoted_of None = Unknown
@@ -73,9 +80,11 @@ quoted_of None = Unknown
 unfoldable pub quoted_piece : ℕ → List ℕ → QueryPiece
 quoted_piece quote rest = quoted_of (position (λ b. b == quote) rest)
 
+-- what begins here, where no token of one byte does
 abbrev pub other_piece : ℕ → List ℕ → QueryPiece
 other_piece b bs = if is_quote b then quoted_piece b bs else (if begins_word b then word_piece (b ∷ bs) else Unknown)
 
+-- what begins here, by its first byte
 abbrev pub piece_by : Option QueryTokenKind → ℕ → List ℕ → QueryPiece
 piece_by (Some kind) b bs = Found kind 1
 piece_by None b bs = other_piece b bs

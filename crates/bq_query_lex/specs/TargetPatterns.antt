@@ -10,6 +10,7 @@ pub record Ending : Type 0 where
   pub dropped : ℕ
   pub form : PatternForm
 
+-- an ending of words, how many of its bytes a package keeps off, and the form that it tells
 abbrev pub ending : List ℕ → ℕ → PatternForm → Ending
 ending e n f = record { end = e; dropped = n; form = f }
 
@@ -22,6 +23,7 @@ endings =
     ∷ ending (codes "//...:all-targets") 15 AllBeneath ∷ ending (codes "/...:all-targets") 16 AllBeneath
     ∷ ending (codes ":all") 4 Rules ∷ ending (codes ":*") 2 All ∷ ending (codes ":all-targets") 12 All ∷ []
 
+-- `:`
 abbrev pub is_colon : ℕ → Bool
 is_colon b = b == 58
 
@@ -33,6 +35,7 @@ package_part part = if list_any is_colon part then None else Some part
 unfoldable pub part_before : List ℕ → ℕ → List ℕ → Option (List ℕ)
 part_before end dropped word = if ends_with nat_eq word end then package_part (take (length word - dropped) word) else None
 
+-- the form of an ending, and the part before it, if the word has that ending
 abbrev pub form_or : PatternForm → PatternForm × List ℕ → Option (List ℕ) → PatternForm × List ℕ
 form_or f other None = other
 form_or f other (Some part) = (f, part)
@@ -42,9 +45,11 @@ abbrev pub form_by : List Ending → List ℕ → PatternForm × List ℕ
 form_by [] word = (Target, word)
 form_by (e ∷ es) word = form_or e.form (form_by es word) (part_before e.end e.dropped word)
 
+-- the form of a word, and its part before the ending
 abbrev pub word_form : List ℕ → PatternForm × List ℕ
 word_form word = form_by endings word
 
+-- a text begins with a byte
 abbrev pub first_is : ℕ → List ℕ → Bool
 first_is c [] = false
 first_is c (b ∷ bs) = b == c

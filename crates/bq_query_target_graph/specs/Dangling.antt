@@ -15,6 +15,7 @@ use Rattle.bq_query_target_graph.specs.Order.{all_targets, labels_of}
 abbrev pub dangling_line : LabelParts → ℕ → LabelParts → FaultLine
 dangling_line b line l = record { label = full_form b; line = line; kind = f.DanglingLabel; detail = full_form l }
 
+-- the line of a label that no target has
 abbrev pub line_by : Bool → FaultLine → List FaultLine
 line_by true x = []
 line_by false x = x ∷ []

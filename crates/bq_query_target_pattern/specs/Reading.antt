@@ -19,6 +19,7 @@ label_named word = label_of (package_at [] []) word
 unfoldable pub package_named : List ℕ → Option PackageParts
 package_named part = option_map package_of (label_named (part ++ codes ":x"))
 
+-- what a word stands for, by its form
 abbrev pub pattern_by : PatternForm → List ℕ → Option TargetPattern
 pattern_by form.Target part = option_map pattern.Target (label_named part)
 pattern_by form.Rules part = option_map pattern.Rules (package_named part)
@@ -38,6 +39,7 @@ ArePatternsOf words patterns = map pattern_of words ≡ map Some patterns
 abbrev pub word_fault : List ℕ → Option QueryErr
 word_fault w = if begins_pattern w then (if is_some (label_named w) then None else Some e.Arguments) else Some (e.LeftOut w)
 
+-- the first of two faults
 abbrev pub first_of : Option QueryErr → Option QueryErr → Option QueryErr
 first_of None g = g
 first_of (Some why) g = Some why

@@ -23,10 +23,12 @@ labels_in (v.Int n) = []
 labels_in (v.Bool b) = []
 labels_in (v.StringList ss) = []
 
+-- the labels in an attribute, if it is there
 abbrev pub labels_by : Option GivenAttribute → List LabelParts
 labels_by None = []
 labels_by (Some a) = labels_in a.value
 
+-- the labels that a target's attribute names; rules alone have attributes
 abbrev pub named_by : TargetKind → List ℕ → Target → List LabelParts
 named_by (kind.Rule rule class) name t = labels_by (given name t)
 named_by kind.Source name t = []

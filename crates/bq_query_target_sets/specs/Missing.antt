@@ -10,20 +10,25 @@ use Rattle.bq_package_target.specs.declared.target.Target.{Target}
 use Rattle.bq_query_target_sets.specs.Order.{is_text}
 use Rattle.bq_query_target_sets.specs.Words.{package_text}
 
+-- two packages are the same
 abbrev pub is_package : PackageParts → PackageParts → Bool
 is_package p q = bytes_eq q.repo p.repo && bytes_eq q.package p.package
 
+-- there is a package
 abbrev pub has_package : List PackageParts → PackageParts → Bool
 has_package packages p = is_some (find (is_package p) packages)
 
+-- a target has this label
 abbrev pub has_target : List Target → LabelParts → Bool
 has_target targets l = is_some (find (is_text (full_form l)) targets)
 
+-- a label that names nothing: its package, or the target in it, is missing
 abbrev pub missing_label : List PackageParts → List Target → LabelParts → Option QueryErr
 missing_label packages targets l =
     if has_package packages (package_of l) then (if has_target targets l then None else Some (e.NoSuchTarget (full_form l)))
     else Some (e.NoSuchPackage (full_form l))
 
+-- a package that isn't there, as its pattern is written
 abbrev pub missing_package : List PackageParts → List ℕ → PackageParts → Option QueryErr
 missing_package packages ending p = if has_package packages p then None else Some (e.NoSuchPackage (package_text p ++ ending))
 

@@ -30,6 +30,7 @@ abbrev pub further : List (List ℕ) → List ℕ
 further [] = []
 further (x ∷ xs) = codes ", " ++ (x ++ further xs)
 
+-- texts with commas between them
 abbrev pub items : List (List ℕ) → List ℕ
 items [] = []
 items (x ∷ xs) = x ++ further xs
@@ -65,10 +66,12 @@ default_text (Some t.OutputList) = Some (codes "[]")
 abbrev pub given : List ℕ → Target → Option GivenAttribute
 given name t = find (λ a. bytes_eq a.name name) t.attributes
 
+-- the text of an attribute; one that was not given has the text of its type's empty value
 abbrev pub text_by : Option GivenAttribute → Class → List ℕ → Option (List ℕ)
 text_by (Some a) class name = Some (value_text a.value)
 text_by None class name = default_text (attribute_type class name)
 
+-- the text of a target's attribute; rules alone have attributes
 abbrev pub attribute_by : TargetKind → List ℕ → Target → Option (List ℕ)
 attribute_by (kind.Rule rule class) name t = text_by (given name t) class name
 attribute_by kind.Source name t = None

@@ -14,12 +14,14 @@ use Rattle.bq_query_target_sets.specs.Order.{text_of, is_text}
 abbrev pub Those : (Target → Bool) → List Target → ℕ → Type 0
 Those test targets = Marked (map test targets)
 
+-- it is made by a rule
 abbrev pub is_rule_kind : TargetKind → Bool
 is_rule_kind (kind.Rule name class) = true
 is_rule_kind kind.Source = false
 is_rule_kind (kind.Generated rule) = false
 is_rule_kind kind.Group = false
 
+-- a target that a rule made
 abbrev pub is_rule : Target → Bool
 is_rule t = is_rule_kind t.kind
 
@@ -44,6 +46,7 @@ abbrev pub beneath_by : List ℕ → PackageParts → Beginning
 beneath_by [] p = (repository_prefix p.repo ++ codes "/", 47)
 beneath_by (b ∷ bs) p = (package_text p, 47)
 
+-- how the labels of a package and of those beneath it begin
 abbrev pub beneath : PackageParts → Beginning
 beneath p = beneath_by p.package p
 
@@ -51,6 +54,7 @@ beneath p = beneath_by p.package p
 unfoldable pub begins : Beginning → Target → Bool
 begins b t = starts_with nat_eq (text_of t) (b.0 ++ b.1 ∷ [])
 
+-- a target has this label
 abbrev pub has_label : LabelParts → Target → Bool
 has_label l t = is_text (full_form l) t
 

@@ -19,6 +19,7 @@ operator k.Intersect = Some o.Intersect
 operator k.Except = Some o.Except
 operator _ = None
 
+-- an operator and its right operand
 abbrev pub operation : SetOperator → Query → SetOperation
 operation o x = roll-SetOperation (record { operator = o; operand = x })
 
@@ -76,5 +77,6 @@ abbrev pub IsQueryTo : ℕ → Phrase Query
 IsQueryTo zero = IsQueryOver 0 none
 IsQueryTo (suc depth) = IsQueryOver (suc depth) (IsQueryTo depth)
 
+-- the most levels that a query is nested
 abbrev pub max_open : ℕ
 max_open = 64

@@ -5,10 +5,12 @@ use Rattle.bq_query_lex.specs.contracts.token.QueryTokenKind.{the_type}
 use Rattle.bq_query_lex.specs.declared.token.QueryToken.{QueryToken}
 use Rattle.bq_query_lex.specs.declared.token.QueryTokenKind.{QueryTokenKind}
 
+-- a token with the bytes that it is written with
 pub record Lexeme : Type 0 where
   pub kind : QueryTokenKind
   pub spelling : List ℕ
 
+-- a token of a text
 abbrev pub lexeme : List ℕ → QueryToken → Lexeme
 lexeme text t = record { kind = t.kind; spelling = slice_range text t.start t.end }
 

@@ -3,6 +3,7 @@ use Rattle.std.specs.Prelude.{List, [], ◌∷◌, ◌≡◌}
 use Rattle.bq_query_lex.specs.declared.token.QueryTokenKind.TheVariants as k
 use Rattle.bq_query_tree.specs.Lexeme.{Lexeme}
 
+-- a reading: between these tokens and what is left of them stands a phrase with this meaning
 abbrev pub Phrase : Type 0 → Type 1
 Phrase A = List Lexeme → List Lexeme → A → Type 0
 

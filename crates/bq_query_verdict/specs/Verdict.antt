@@ -29,12 +29,15 @@ Tells fault (Err why) = why ≢ e.Memory → fault ≡ Some why
 abbrev pub variable : List (List ℕ) → List ℕ → Fault
 variable names name = if list_any (bytes_eq name) names then None else Some (e.UnboundVariable name)
 
+-- a function that there isn't, or that is left out
 abbrev pub unknown : List ℕ → QueryErr
 unknown name = if is_left_out name then e.LeftOut name else e.UnknownFunction name
 
+-- a function takes so many arguments, and some one more, a number
 abbrev pub fits : QueryFunction → ℕ → Bool
 fits f n = (n == length (arguments_of f)) || (takes_number f && (n == length (arguments_of f) + 1))
 
+-- the fault of a call, by its function
 abbrev pub function_by : Option QueryFunction → List ℕ → ℕ → Fault
 function_by None name n = Some (unknown name)
 function_by (Some f) name n = if fits f n then None else Some e.Arguments
@@ -43,6 +46,7 @@ function_by (Some f) name n = if fits f n then None else Some e.Arguments
 abbrev pub function : List ℕ → ℕ → Fault
 function name n = function_by (function_named name) name n
 
+-- a digit
 abbrev pub is_digit : ℕ → Bool
 is_digit b = nat_le 48 b && nat_le b 57
 
@@ -68,14 +72,17 @@ pub record Part : Type 0 where
 abbrev pub no_word : Part → List (List ℕ) → Fault
 no_word x names = first_of (x.at_first names) (Some e.Arguments)
 
+-- a pattern has to be a word, and one that `regex` takes
 abbrev pub pattern_by : Option (List ℕ) → Part → List (List ℕ) → Need
 pattern_by (Some w) x names = regex w
 pattern_by None x names = no_fault (no_word x names)
 
+-- the name of an attribute has to be a word
 abbrev pub attribute_by : Option (List ℕ) → Part → List (List ℕ) → Fault
 attribute_by (Some w) x names = None
 attribute_by None x names = no_word x names
 
+-- a number has to be a word of digits
 abbrev pub number_by : Option (List ℕ) → Part → List (List ℕ) → Fault
 number_by (Some w) x names = if is_number w then None else Some e.Arguments
 number_by None x names = no_word x names
@@ -87,18 +94,22 @@ argument (Some kind.Pattern) x names = pattern_by x.word x names ∷ []
 argument (Some kind.Attribute) x names = no_fault (attribute_by x.word x names) ∷ []
 argument None x names = no_fault (number_by x.word x names) ∷ []
 
+-- what the first argument has to be
 abbrev pub first_kind : List QueryArgumentKind → Option QueryArgumentKind
 first_kind [] = None
 first_kind (k ∷ ks) = Some k
 
+-- what the others have to be
 abbrev pub other_kinds : List QueryArgumentKind → List QueryArgumentKind
 other_kinds [] = []
 other_kinds (k ∷ ks) = ks
 
+-- what the arguments of a function need, from the left
 abbrev pub arguments : List QueryArgumentKind → List Part → List (List ℕ) → List Need
 arguments ks [] names = []
 arguments ks (x ∷ xs) names = argument (first_kind ks) x names ++ arguments (other_kinds ks) xs names
 
+-- what these parts need, from the left
 abbrev pub parts : List Part → List (List ℕ) → List Need
 parts [] names = []
 parts (x ∷ xs) names = x.all names ++ parts xs names
@@ -107,6 +118,7 @@ parts (x ∷ xs) names = x.all names ++ parts xs names
 abbrev pub call_of : QueryFunction → List Part → List (List ℕ) → List Need
 call_of f xs names = no_fault (if fits f (length xs) then None else Some e.Arguments) ∷ arguments (arguments_of f) xs names
 
+-- what a call needs, by its function
 abbrev pub call_by : Option QueryFunction → List ℕ → List Part → List (List ℕ) → List Need
 call_by None name xs names = no_fault (Some (unknown name)) ∷ []
 call_by (Some f) name xs names = call_of f xs names
@@ -115,9 +127,11 @@ call_by (Some f) name xs names = call_of f xs names
 abbrev pub larger : (List (List ℕ) → List Need) → Part
 larger all = record { word = None; at_first = λ names. None; all = all }
 
+-- an operator needs what its right operand needs
 abbrev pub operation_step : SetOperation-F Part Part → Part
 operation_step o = o.operand
 
+-- what a query needs, by its form, from the left
 abbrev pub query_step : Query-F Part Part → Part
 query_step (tree.Word w) = record { word = Some w; at_first = λ names. word_fault w; all = λ names. no_fault (word_fault w) ∷ [] }
 query_step (tree.Variable n) = record { word = None; at_first = λ names. variable names n; all = λ names. no_fault (variable names n) ∷ [] }
@@ -127,6 +141,7 @@ query_step (tree.Call f xs) = record { word = None; at_first = λ names. functio
 query_step (tree.Let n x y) = larger (λ names. x.all names ++ y.all (names ++ n ∷ []))
 query_step (tree.Chain x os) = record { word = None; at_first = x.at_first; all = λ names. x.all names ++ parts os names }
 
+-- what a query needs
 abbrev pub part_of : Query → Part
 part_of = fold-Query Part Part query_step operation_step
 

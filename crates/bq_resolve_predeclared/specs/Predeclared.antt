@@ -44,10 +44,12 @@ all_predeclared =
     ∷ p.Host host.Glob ∷ p.Host host.PackageName ∷ p.Host host.Package ∷ p.Host host.Licenses ∷ p.Host host.ExportsFiles
     ∷ p.Host host.PackageGroup ∷ []
 
+-- a value has this name
 abbrev pub has_name : List ℕ → Option (List ℕ) → Bool
 has_name name None = false
 has_name name (Some own) = bytes_eq name own
 
+-- a predeclared value has this name
 abbrev pub is_named : List ℕ → Predeclared → Bool
 is_named name x = has_name name (name_of x)
 
@@ -63,6 +65,7 @@ abbrev pub has_head : List ℕ → Bool
 has_head [] = false
 has_head (b ∷ bs) = list_any (λ h. h.0 == b && h.1 == length (b ∷ bs)) heads
 
+-- the first value of this name
 unfoldable pub first_named : List ℕ → List Predeclared → Option Predeclared
 first_named name [] = None
 first_named name (x ∷ xs) = if is_named name x then Some x else first_named name xs

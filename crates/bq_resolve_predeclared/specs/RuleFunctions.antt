@@ -17,6 +17,7 @@ rule_function_name f.AttrLabelList = codes "label_list"
 abbrev pub attr_functions : List RuleFunction
 attr_functions = f.AttrString ∷ f.AttrInt ∷ f.AttrBool ∷ f.AttrStringList ∷ f.AttrLabel ∷ f.AttrLabelList ∷ []
 
+-- the first function of this name
 unfoldable pub first_called : List ℕ → List RuleFunction → Option RuleFunction
 first_called name [] = None
 first_called name (x ∷ xs) = if bytes_eq name (rule_function_name x) then Some x else first_called name xs

@@ -39,11 +39,13 @@ use Rattle.bq_resolve_scope.specs.Visit.{Passed, Visit, ◌>>=◌, pure, stop, g
 
 -- ---- names
 
+-- where a target's variable is; it has to be one of the function or of the file
 abbrev pub place_of : Option Binding → Option CodeTarget
 place_of (Some (b.Local slot)) = Some (target.Local slot)
 place_of (Some (b.Global k)) = Some (target.Global k)
 place_of _ = None
 
+-- it is a .bzl file
 abbrev pub is_bzl : FileKind → Bool
 is_bzl kinds.Bzl = true
 is_bzl kinds.Build = false
@@ -64,6 +66,7 @@ bind_in kind (block ∷ blocks) n = pure tt
 abbrev pub open_block : {A : Type 0} → List Name → (BlockParts → Visit A) → Visit A
 open_block names go = λ s. go (record { base = s.slots; names = names }) (record s { slots = s.slots + length names })
 
+-- a comprehension at the top level has a frame of its own; behind it there are as many slots as before
 abbrev pub framed : ℕ → Result (Code × Passed) Fault → Result (Code × Passed) Fault
 framed slots (Err why) = Err why
 framed slots (Ok r) = Ok (c.Framed r.1.slots r.0, record r.1 { slots = slots })
@@ -77,18 +80,22 @@ in_frame (block ∷ blocks) v = v
 abbrev pub MemberCall : Type 0
 MemberCall = Namespace × Identifier × List Argument × List Suffix
 
+-- a call of a namespace's member, and what stands behind it
 abbrev pub member_by : Namespace → SuffixLayer → List Suffix → Option MemberCall
 member_by space (Suffix-F.Method m xs) ss = Some (space, m, xs, ss)
 member_by space _ ss = None
 
+-- the member that the first suffix calls, if it is a method
 abbrev pub member_in : Namespace → List Suffix → Option MemberCall
 member_in space [] = None
 member_in space (s ∷ ss) = member_by space (out-Suffix s) ss
 
+-- the member of a namespace that is called, if a name is that of a namespace
 abbrev pub member_call : Option Namespace → List Suffix → Option MemberCall
 member_call None ss = None
 member_call (Some space) ss = member_in space ss
 
+-- a name has no meaning here
 abbrev pub is_unbound : Option Binding → Bool
 is_unbound None = true
 is_unbound (Some x) = false
@@ -109,6 +116,7 @@ name_target file blocks n = bind_in file.universe.kind blocks n >>= λ _. given 
 module _ (file : FileParts) (visit : List BlockParts → Expr → Visit Code) where
   -- ---- targets
 
+  -- a target, by its form
   abbrev pub target_by : (TargetExpr → Visit CodeTarget) → List BlockParts → TargetLayer → Visit CodeTarget
   target_by inner blocks (TargetExpr-F.TargetExpr::Name n) = name_target file blocks n
   target_by inner blocks (TargetExpr-F.TargetExpr::Index x i) = visit blocks x >>= λ y. visit blocks i >>= λ j. pure (target.Index y j)
@@ -122,9 +130,11 @@ module _ (file : FileParts) (visit : List BlockParts → Expr → Visit Code) wh
 
   -- ---- what stands in an expression
 
+  -- a pair of a dict
   unfoldable pub pair : List BlockParts → Pair → Visit CodePair
   pair blocks p = visit blocks (out-Pair p).key >>= λ k. visit blocks (out-Pair p).value >>= λ v. pure (roll-CodePair (record { key = k; value = v }))
 
+  -- an operator and its right operand
   unfoldable pub operation : List BlockParts → Operation → Visit CodeOperation
   operation blocks o = visit blocks (out-Operation o).operand >>= λ x. pure (roll-CodeOperation (record { operator = (out-Operation o).operator; operand = x }))
 
@@ -132,15 +142,18 @@ module _ (file : FileParts) (visit : List BlockParts → Expr → Visit Code) wh
   unfoldable pub choice : List BlockParts → Choice → Visit CodeChoice
   choice blocks o = visit blocks (out-Choice o).value >>= λ v. visit blocks (out-Choice o).condition >>= λ x. pure (roll-CodeChoice (record { value = v; condition = x }))
 
+  -- an argument, by its form
   abbrev pub argument_by : List BlockParts → Argument-F Argument Clause Expr Suffix TargetExpr Choice Operation Pair → Visit CodeArgument
   argument_by blocks (Argument-F.Positional x) = visit blocks x >>= λ y. pure (argument.Positional y)
   argument_by blocks (Argument-F.Named name x) = visit blocks x >>= λ y. pure (argument.Named name y)
   argument_by blocks (Argument-F.Star x) = visit blocks x >>= λ y. pure (argument.Star y)
   argument_by blocks (Argument-F.StarStar x) = visit blocks x >>= λ y. pure (argument.StarStar y)
 
+  -- the arguments of a call, from the left
   unfoldable pub arguments : List BlockParts → List Argument → Visit (List CodeArgument)
   arguments blocks xs = each (λ x. argument_by blocks (out-Argument x)) [] xs
 
+  -- a suffix, by its form
   abbrev pub suffix_by : List BlockParts → SuffixLayer → Visit CodeSuffix
   suffix_by blocks (Suffix-F.Call xs) = arguments blocks xs >>= λ ys. pure (suffix.Call ys)
   suffix_by blocks (Suffix-F.Method m xs) = arguments blocks xs >>= λ ys. pure (suffix.Method m.name ys)
@@ -153,6 +166,7 @@ module _ (file : FileParts) (visit : List BlockParts → Expr → Visit Code) wh
   unfoldable pub suffixes : List BlockParts → List CodeSuffix → List Suffix → Visit (List CodeSuffix)
   suffixes blocks done ss = each (λ s. suffix_by blocks (out-Suffix s)) done ss
 
+  -- an operand and its suffixes, from the left
   unfoldable pub operand : List BlockParts → Expr → List Suffix → Visit Code
   operand blocks x ss = visit blocks x >>= λ y. suffixes blocks [] ss >>= λ ts. pure (c.Primary y ts)
 
@@ -163,15 +177,18 @@ module _ (file : FileParts) (visit : List BlockParts → Expr → Visit Code) wh
       given (fault_of f.UnknownName m) (member_named space file.universe.rules m.name) >>= λ p. arguments blocks xs
       >>= λ ys. suffixes blocks (suffix.Call ys ∷ []) ss >>= λ ts. pure (c.Primary (c.Member p) ts)
 
+  -- an operand with suffixes; a call of a namespace's member is one
   abbrev pub primary_by : List BlockParts → Expr → List Suffix → Option MemberCall → Visit Code
   primary_by blocks x ss None = operand blocks x ss
   primary_by blocks x ss (Some (space, m, xs, rest)) = call_member blocks space m xs rest
 
+  -- an operand with suffixes
   unfoldable pub primary : List BlockParts → Expr → List Suffix → Visit Code
   primary blocks x ss = primary_by blocks x ss (member_call (namespace_at file blocks (out-Expr x)) ss)
 
   -- ---- comprehensions: an iterable is resolved among `round`, all else among `blocks`
 
+  -- a clause, by its form; the iterable of the first one is read outside
   abbrev pub clause_by : List BlockParts → List BlockParts → ClauseLayer → Visit CodeClause
   clause_by round blocks (Clause-F.For t x) = target_to max_layers blocks t >>= λ u. visit round x >>= λ y. pure (clause.For u y)
   clause_by round blocks (Clause-F.If x) = visit blocks x >>= λ y. pure (clause.If y)
@@ -186,11 +203,13 @@ module _ (file : FileParts) (visit : List BlockParts → Expr → Visit Code) wh
   in_block element make blocks xs =
       open_block (comprehension_names xs) (λ block. element (block ∷ blocks) >>= λ x. clauses blocks (block ∷ blocks) xs >>= λ ys. pure (make x ys))
 
+  -- a comprehension, in a frame where there is none, and in a block of its own
   unfoldable pub comprehension : {A : Type 0} → (List BlockParts → Visit A) → (A → List CodeClause → Code) → List BlockParts → List Clause → Visit Code
   comprehension element make blocks xs = in_frame blocks (in_block element make blocks xs)
 
   -- ---- expressions
 
+  -- an expression, by its form
   abbrev pub expr_by : List BlockParts → ExprLayer → Visit Code
   expr_by blocks (Expr-F.Expr::Name n) = use_at file blocks n >>= λ x. pure (c.Use x)
   expr_by blocks (Expr-F.Int i) = pure (c.Int i)

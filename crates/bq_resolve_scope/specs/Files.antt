@@ -36,15 +36,19 @@ module _ (file : FileParts) where
   file_stmt line (Stmt-F.For t x body) = misplaced line
   file_stmt line (Stmt-F.Def n ps body) = def_stmt n ps body
 
+  -- a statement at the top level
   unfoldable pub top_level : TopLevel → Visit CodeTopLevel
   top_level t = file_stmt t.line (out-Stmt t.statement) >>= λ x. pure (record { line = t.line; statement = x })
 
+-- what a walk over a file gives
 abbrev pub resolved_by : FileParts → Result (List CodeTopLevel × Passed) Fault → Result Resolved Fault
 resolved_by file (Err why) = Err why
 resolved_by file (Ok r) = Ok (record { statements = r.0; functions = r.1.functions; globals = file.globals; loads = r.1.loads })
 
+-- a file, resolved among its names
 abbrev pub resolved_in : FileParts → List TopLevel → Result Resolved Fault
 resolved_in file ts = resolved_by file (each (top_level file) [] ts nothing_passed)
 
+-- a file, resolved in a universe of predeclared names
 unfoldable pub resolved : UniverseParts → List TopLevel → Result Resolved Fault
 resolved universe ts = resolved_in (file_names universe ts) ts

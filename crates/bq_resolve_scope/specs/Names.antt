@@ -24,6 +24,7 @@ use Rattle.bq_parse_grammar.specs.declared.tree.Parameter.TheVariants as paramet
 use Rattle.bq_parse_grammar.specs.declared.tree.LoadClause.{LoadClause}
 use Rattle.bq_parse_grammar.specs.declared.tree.TopLevel.{TopLevel}
 
+-- a name, as its bytes
 abbrev pub Name : Type 0
 Name = List ℕ
 
@@ -52,18 +53,22 @@ with_each add names (x ∷ xs) = with_each add (add names x) xs
 
 -- ---- targets
 
+-- the form of a target
 abbrev pub TargetLayer : Type 0
 TargetLayer = TargetExpr-F Argument Clause Expr Suffix TargetExpr Choice Operation Pair
 
+-- the form of a clause
 abbrev pub ClauseLayer : Type 0
 ClauseLayer = Clause-F Argument Clause Expr Suffix TargetExpr Choice Operation Pair
 
+-- the names that a target binds join others, by its form
 abbrev pub with_target_by : (List Name → TargetExpr → List Name) → List Name → TargetLayer → List Name
 with_target_by inner names (TargetExpr-F.TargetExpr::Name n) = with_name names n.name
 with_target_by inner names (TargetExpr-F.TargetExpr::Index x i) = names
 with_target_by inner names (TargetExpr-F.TargetExpr::Tuple ts) = with_each inner names ts
 with_target_by inner names (TargetExpr-F.TargetExpr::List ts) = with_each inner names ts
 
+-- the names of a target join others, down to a depth
 unfoldable pub with_target_to : ℕ → List Name → TargetExpr → List Name
 with_target_to zero names t = names
 with_target_to (suc depth) names t = with_target_by (with_target_to depth) names (out-TargetExpr t)
@@ -72,6 +77,7 @@ with_target_to (suc depth) names t = with_target_by (with_target_to depth) names
 unfoldable pub with_target : List Name → TargetExpr → List Name
 with_target names t = with_target_to max_layers names t
 
+-- the names that a clause binds join others
 abbrev pub with_clause_by : List Name → ClauseLayer → List Name
 with_clause_by names (Clause-F.For t e) = with_target names t
 with_clause_by names (Clause-F.If e) = names
@@ -86,23 +92,28 @@ comprehension_names cs = with_each with_clause [] cs
 
 -- ---- statements
 
+-- the names that a small statement assigns join others
 abbrev pub with_small_by : List Name → SmallKind → List Name
 with_small_by names (small.Assign t e) = with_target names t
 with_small_by names (small.Augment t o e) = with_target names t
 with_small_by names _ = names
 
+-- the names that a small statement assigns join others
 unfoldable pub with_small : List Name → SmallStmt → List Name
 with_small names s = with_small_by names s.kind
 
+-- the names bound in a branch join others
 abbrev pub with_branch : (List Name → Stmt → List Name) → List Name → Branch → List Name
 with_branch inner names b = with_each inner names (out-Branch b).block
 
+-- the names that a statement binds join others, by its form
 abbrev pub with_stmt_by : (List Name → Stmt → List Name) → List Name → Stmt-F Stmt Branch → List Name
 with_stmt_by inner names (Stmt-F.Simple xs) = with_each with_small names xs
 with_stmt_by inner names (Stmt-F.If bs zs) = with_each inner (with_each (with_branch inner) names bs) zs
 with_stmt_by inner names (Stmt-F.For t e xs) = with_each inner (with_target names t) xs
 with_stmt_by inner names (Stmt-F.Def n ps xs) = with_name names n.name
 
+-- the names of a statement join others, down to a depth
 unfoldable pub with_stmt_to : ℕ → List Name → Stmt → List Name
 with_stmt_to zero names s = names
 with_stmt_to (suc depth) names s = with_stmt_by (with_stmt_to depth) names (out-Stmt s)
@@ -113,6 +124,7 @@ with_stmt names s = with_stmt_to max_layers names s
 
 -- ---- functions
 
+-- the name of a parameter joins others
 abbrev pub with_parameter : List Name → Parameter → List Name
 with_parameter names (parameter.Plain n) = with_name names n.name
 with_parameter names (parameter.Default n e) = with_name names n.name
@@ -130,20 +142,25 @@ function_names ps body = with_each with_stmt (with_each with_parameter [] ps) bo
 unfoldable pub global_names : List TopLevel → List Name
 global_names ts = with_each (λ names t. with_stmt names t.statement) [] ts
 
+-- the name that a loaded symbol gets joins others
 abbrev pub with_load_clause : List Name → LoadClause → List Name
 with_load_clause names c = with_name names c.local.name
 
+-- the names that a load binds join others
 abbrev pub with_load_by : List Name → SmallKind → List Name
 with_load_by names (small.Load l) = with_each with_load_clause names l.clauses
 with_load_by names _ = names
 
+-- the names that a small statement loads join others
 unfoldable pub with_load : List Name → SmallStmt → List Name
 with_load names s = with_load_by names s.kind
 
+-- the names that a statement loads join others
 abbrev pub with_loads_by : List Name → Stmt-F Stmt Branch → List Name
 with_loads_by names (Stmt-F.Simple xs) = with_each with_load names xs
 with_loads_by names _ = names
 
+-- the names that a statement at the top level loads join others
 unfoldable pub with_loads : List Name → TopLevel → List Name
 with_loads names t = with_loads_by names (out-Stmt t.statement)
 

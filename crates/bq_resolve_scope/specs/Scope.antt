@@ -18,6 +18,7 @@ pub record FileParts : Type 0 where
   pub globals : List Name
   pub loaded : List Name
 
+-- the first of two, if there is one, or else the second
 abbrev pub or_else : {A : Type 0} → Option A → Option A → Option A
 or_else None y = y
 or_else (Some x) y = Some x

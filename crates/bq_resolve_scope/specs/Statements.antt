@@ -42,13 +42,16 @@ pub record ParameterParts : Type 0 where
   pub parameters : List CodeParameter
   pub defaults : List Code
 
+-- before the first parameter
 abbrev pub no_parameters : ParameterParts
 no_parameters = record { names = []; parameters = []; defaults = [] }
 
 module _ (file : FileParts) where
+  -- an expression among blocks
   unfoldable pub expr : List BlockParts → Expr → Visit Code
   expr blocks x = expr_to max_layers file blocks x
 
+  -- a target among blocks
   unfoldable pub target : List BlockParts → TargetExpr → Visit CodeTarget
   target blocks t = target_to file (expr_to max_layers file) max_layers blocks t
 
@@ -61,9 +64,11 @@ module _ (file : FileParts) where
       else (if is_bzl file.universe.kind && has p.bound x.local.name then Err (fault_of f.Rebound x.local)
       else Ok (record { local = x.local.name; symbol = x.symbol; global = place_among x.local.name file.globals }, record p { loaded = with_name p.loaded x.local.name }))
 
+  -- a load joins those of the file
   abbrev pub with_load : ℕ → Load → List LoadedSymbol → Visit (Unit {0})
   with_load line l xs = λ p. Ok (tt, record p { loads = p.loads ++ record { label = l.label; line = line; clauses = xs } ∷ [] })
 
+  -- a load statement
   unfoldable pub load : ℕ → Load → Visit CodeSmall
   load line l = each load_clause [] l.clauses >>= λ xs. with_load line l xs >>= λ _. pure c.Load
 
@@ -92,6 +97,7 @@ module _ (file : FileParts) where
   in_loop true line x = pure x
   in_loop false line x = misplaced line
 
+  -- a small statement, by its form
   abbrev pub small_by : List BlockParts → Bool → ℕ → SmallKind → Visit CodeSmall
   small_by blocks looping line (small.Expr x) = expr blocks x >>= λ y. pure (c.Expr y)
   small_by blocks looping line (small.Assign t x) = assign blocks t x
@@ -102,17 +108,21 @@ module _ (file : FileParts) where
   small_by blocks looping line small.Pass = pure c.Pass
   small_by blocks looping line (small.Load l) = load_in blocks line l
 
+  -- a small statement
   unfoldable pub small_stmt : List BlockParts → Bool → SmallStmt → Visit CodeSmall
   small_stmt blocks looping x = small_by blocks looping x.line x.kind
 
   -- ---- statements of a function: `inner` resolves those in blocks
 
+  -- a condition and its block
   unfoldable pub branch : (Stmt → Visit CodeStmt) → List BlockParts → Branch → Visit CodeBranch
   branch inner blocks b = expr blocks (out-Branch b).condition >>= λ x. each inner [] (out-Branch b).block >>= λ ys. pure (roll-CodeBranch (record { condition = x; block = ys }))
 
+  -- an `if`, its branches in turn
   unfoldable pub if_stmt : (Stmt → Visit CodeStmt) → List BlockParts → List Branch → List Stmt → Visit CodeStmt
   if_stmt inner blocks bs zs = each (branch inner blocks) [] bs >>= λ xs. each inner [] zs >>= λ ys. pure (s.If xs ys)
 
+  -- a loop: its target, its iterable, its body
   unfoldable pub for_stmt : (Stmt → Visit CodeStmt) → List BlockParts → TargetExpr → Expr → List Stmt → Visit CodeStmt
   for_stmt inner blocks t x body = target blocks t >>= λ u. expr blocks x >>= λ y. each inner [] body >>= λ zs. pure (s.For u y zs)
 
@@ -157,6 +167,7 @@ module _ (file : FileParts) where
   abbrev pub statements_in : List Name → List Stmt → Visit (List CodeStmt)
   statements_in names body = each (stmt_to max_layers (record { base = 0; names = names } ∷ []) false) [] body
 
+  -- a function joins those of the file; its number is its place there
   abbrev pub with_function : Name → List CodeParameter → ℕ → Result (List CodeStmt × Passed) Fault → Result (ℕ × Passed) Fault
   with_function name ps slots (Err why) = Err why
   with_function name ps slots (Ok r) =

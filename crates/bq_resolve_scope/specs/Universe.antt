@@ -19,9 +19,11 @@ use Rattle.bq_resolve_scope.specs.Names.{place_among}
 abbrev pub native : List ℕ
 native = codes "native"
 
+-- `attr`
 abbrev pub attr : List ℕ
 attr = codes "attr"
 
+-- the namespace of this name
 abbrev pub namespace_named : List ℕ → Option Namespace
 namespace_named name = if bytes_eq name native then Some space.Native else if bytes_eq name attr then Some space.Attr else None
 
@@ -38,18 +40,22 @@ pub record UniverseParts : Type 0 where
 abbrev pub max_rules : ℕ
 max_rules = 4294967295
 
+-- the rule at a place of the schema
 abbrev pub rule_at : Option ℕ → Option HostFunction
 rule_at None = None
 rule_at (Some place) = if nat_lt place max_rules then Some (host.Rule place) else None
 
+-- the rule of this name
 abbrev pub rule_named : List (List ℕ) → List ℕ → Option HostFunction
 rule_named rules name = rule_at (place_among name rules)
 
+-- the function of BUILD files of this name: one that is predeclared, or a rule
 abbrev pub host_by : List (List ℕ) → List ℕ → Option Predeclared → Option HostFunction
 host_by rules name None = rule_named rules name
 host_by rules name (Some (p.Host f)) = Some f
 host_by rules name (Some _) = None
 
+-- the function of BUILD files of this name
 unfoldable pub host_named : List (List ℕ) → List ℕ → Option HostFunction
 host_named rules name = host_by rules name (predeclared_named name)
 
@@ -58,15 +64,18 @@ unfoldable pub member_named : Namespace → List (List ℕ) → List ℕ → Opt
 member_named space.Native rules name = option_map p.Host (host_named rules name)
 member_named space.Attr rules name = option_map p.RuleFunction (attr_named name)
 
+-- what a name means in a BUILD file: a rule, where it isn't predeclared
 abbrev pub in_build : List (List ℕ) → List ℕ → Option Predeclared → Option Predeclared
 in_build rules name None = option_map p.Host (rule_named rules name)
 in_build rules name (Some x) = Some x
 
+-- what a name means in a .bzl file: `rule` is known, functions of BUILD files aren't
 abbrev pub in_bzl : List ℕ → Option Predeclared → Option Predeclared
 in_bzl name None = if bytes_eq name rule then Some (p.RuleFunction f.Rule) else None
 in_bzl name (Some (p.Host f)) = None
 in_bzl name (Some x) = Some x
 
+-- what a name means in a file of this kind
 abbrev pub in_kind : FileKind → List (List ℕ) → List ℕ → Option Predeclared → Option Predeclared
 in_kind file.Build rules name x = in_build rules name x
 in_kind file.Bzl rules name x = in_bzl name x

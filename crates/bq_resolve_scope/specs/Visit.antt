@@ -18,20 +18,25 @@ pub record Passed : Type 0 where
   pub functions : List CodeFunction
   pub loads : List LoadStmt
 
+-- before the walk
 abbrev pub nothing_passed : Passed
 nothing_passed = record { slots = 0; bound = []; loaded = []; functions = []; loads = [] }
 
+-- a part of the walk: it goes on with what was passed, or ends in a fault
 abbrev pub Visit : Type 0 → Type 0
 Visit A = Passed → Result (A × Passed) Fault
 
+-- what follows a part, unless that met a fault
 abbrev pub following : {A B : Type 0} → Result (A × Passed) Fault → (A → Visit B) → Result (B × Passed) Fault
 following (Err f) go = Err f
 following (Ok r) go = go r.0 r.1
 
 infixl 10 ◌>>=◌
+-- a part of the walk, and what follows it
 abbrev pub ◌>>=◌ : {A B : Type 0} → Visit A → (A → Visit B) → Visit B
 v >>= go = λ s. following (v s) go
 
+-- nothing is passed
 abbrev pub pure : {A : Type 0} → A → Visit A
 pure x = λ s. Ok (x, s)
 
@@ -39,9 +44,11 @@ pure x = λ s. Ok (x, s)
 abbrev pub fault_of : FaultKind → Identifier → Fault
 fault_of kind n = record { kind = kind; line = n.line; detail = n.name }
 
+-- the walk ends in a fault
 abbrev pub stop : {A : Type 0} → Fault → Visit A
 stop f = λ s. Err f
 
+-- a value, or this fault where it is missing
 abbrev pub given : {A : Type 0} → Fault → Option A → Visit A
 given f None = stop f
 given f (Some x) = pure x
@@ -51,6 +58,7 @@ unfoldable pub each : {A B : Type 0} → (A → Visit B) → List B → List A �
 each one done [] = pure done
 each one done (x ∷ xs) = one x >>= λ y. each one (done ++ y ∷ []) xs
 
+-- a part that may be missing
 abbrev pub optional : {A B : Type 0} → (A → Visit B) → Option A → Visit (Option B)
 optional one None = pure None
 optional one (Some x) = one x >>= λ y. pure (Some y)

@@ -18,6 +18,7 @@ lines (b ∷ bs) = if b == 10 then (b ∷ []) ∷ lines bs else onto_first b (li
 abbrev pub marker : List ℕ
 marker = codes "=== "
 
+-- a line begins a file
 abbrev pub is_header : List ℕ → Bool
 is_header line = starts_with nat_eq line marker
 
@@ -32,11 +33,13 @@ pub record Cut : Type 0 where
   pub before : List ℕ
   pub parts : List Part
 
+-- a line before a bundle that was cut: it begins a file, or stands in the one before
 abbrev pub cut_at : List ℕ → Cut → Cut
 cut_at line c = if is_header line
     then record { before = []; parts = record { header = line; content = c.before } ∷ c.parts }
     else record { before = line ++ c.before; parts = c.parts }
 
+-- lines, cut at each header
 abbrev pub cut : List (List ℕ) → Cut
 cut [] = record { before = []; parts = [] }
 cut (l ∷ ls) = cut_at l (cut ls)

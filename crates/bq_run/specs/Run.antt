@@ -29,6 +29,7 @@ abbrev pub run_by : List ℕ → List ℕ → Result Status NoAnswer → Run
 run_by faults answer (Ok status) = record { faults = faults; answer = answer; end = Ok status }
 run_by faults answer (Err why) = record { faults = if is_unanswered why then faults else []; answer = []; end = Err (run_err why) }
 
+-- what a run does with a report
 abbrev pub run_report : ReportView → Run
 run_report r = run_by r.faults r.answer r.end
 
@@ -36,6 +37,7 @@ run_report r = run_by r.faults r.answer r.end
 abbrev pub IsRunOver : Options → List File → Run → Type 0
 IsRunOver options files what = (r : ReportView) × IsReportOn options files r × (what ≡ run_report r)
 
+-- a run over the files of a bundle, or over a bundle that is none (E2 to E5)
 abbrev pub IsRunFrom : Options → Option (List File) → Run → Type 0
 IsRunFrom options None what = what ≡ record { faults = []; answer = []; end = Err run.Bundle }
 IsRunFrom options (Some files) what = IsRunOver options files what

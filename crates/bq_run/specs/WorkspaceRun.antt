@@ -33,6 +33,7 @@ inside_by bs os = record { prints = print_lines os; faults = sorted_lines (fault
 abbrev pub loaded_in : List File → Rules → ℕ → GraphParts → Inside
 loaded_in files rules limit g = inside_by (packages_of files) (outcomes (parsed_in files rules limit g) g.edges)
 
+-- a report on these files: the first error there is, in this order, or the report of the loaded workspace
 pub data IsReportOn (o : Options) (files : List File) (r : ReportView) : Type 0 where
   -- Q1 to Q4, Q7, Q8
   wrong_query : (why : QueryErr) → IsWrong o.query.items why → r ≡ refused (Query why) → IsReportOn o files r

@@ -29,6 +29,7 @@ use Rattle.bq_run_report.specs.declared.whole.Report.{Report}
 
 -- ---- what is in a workspace that is loaded
 
+-- what loading leaves for a report
 pub record Inside : Type 0 where
   -- the lines of what its modules printed
   pub prints : List ℕ
@@ -44,6 +45,7 @@ inside l = record { prints = l.prints; faults = l.faults; packages = l.packages 
 abbrev pub all_faults : Inside → List FaultLine
 all_faults i = put_lines i.faults (dangling_lines i.packages)
 
+-- the lines of prints, and those of faults behind them
 abbrev pub fault_text : Inside → List ℕ
 fault_text i = i.prints ++ flat_map line_text (all_faults i)
 
@@ -73,6 +75,7 @@ abbrev pub RepliesBy : Fault → GraphParts → Formula → OutputForm → Statu
 RepliesBy None w x form status reply = (v : List ℕ) × IsAnswer w x v × (reply ≡ record { text = printed form (targets_of w) v; end = Ok status })
 RepliesBy (Some why) w x form status reply = reply ≡ record { text = []; end = Err (Query why) }
 
+-- the reply to a query over a graph: its fault, or the lines of its answer
 abbrev pub Replies : GraphParts → Formula → OutputForm → Status → ReplyView → Type 0
 Replies w x form status reply = RepliesBy (fault_in w x) w x form status reply
 

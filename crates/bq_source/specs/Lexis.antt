@@ -17,17 +17,21 @@ is_blank b = b == 32 || b == 9
 abbrev pub is_letter : ℕ → Bool
 is_letter b = nat_le 97 b && nat_le b 122 || nat_le 65 b && nat_le b 90 || b == 95
 
+-- a decimal digit
 abbrev pub is_digit : ℕ → Bool
 is_digit b = nat_le 48 b && nat_le b 57
 
+-- a byte that can stand in a name
 abbrev pub is_word : ℕ → Bool
 is_word b = is_letter b || is_digit b
 
+-- a byte belongs to a run of this class
 abbrev pub has : RunClass → ℕ → Bool
 has Space b = b == 32
 has Blank b = is_blank b
 has Word b = is_word b
 
+-- how many lines end in these bytes
 abbrev pub newlines : List ℕ → ℕ
 newlines bs = count_by (λ b. b == 10) bs
 
@@ -59,9 +63,11 @@ reserved_words =
     codes "as" ∷ codes "assert" ∷ codes "class" ∷ codes "del" ∷ codes "except" ∷ codes "finally" ∷ codes "from" ∷ codes "global" ∷ codes "import"
     ∷ codes "is" ∷ codes "nonlocal" ∷ codes "raise" ∷ codes "try" ∷ codes "while" ∷ codes "with" ∷ codes "yield" ∷ []
 
+-- the token of a keyword
 abbrev pub keyword : List ℕ → Option TokenKind
 keyword word = lookup (bytes_eq word) keywords
 
+-- a word of Python's that can't be a name
 abbrev pub is_reserved : List ℕ → Bool
 is_reserved word = list_any (bytes_eq word) reserved_words
 
@@ -79,13 +85,16 @@ abbrev pub has_head : List ℕ → Bool
 has_head [] = false
 has_head (b ∷ bs) = is_first b (slice_get first_bytes (length (b ∷ bs)))
 
+-- a word that is no keyword: reserved, or a name
 abbrev pub other_word : Bool → TokenKind
 other_word true = k.Reserved
 other_word false = k.Identifier
 
+-- the token of a word, by the keyword that it is
 abbrev pub word_kind_by : Option TokenKind → List ℕ → TokenKind
 word_kind_by (Some kind) word = kind
 word_kind_by None word = other_word (is_reserved word)
 
+-- the token of a word
 unfoldable pub word_kind : List ℕ → TokenKind
 word_kind word = word_kind_by (keyword word) word

@@ -6,9 +6,11 @@ use Rattle.std.specs.Str.Parse.{digits_value, digits_value_after, IsNumeral}
 use Rattle.bq_source.specs.Lexis as lexis
 use Rattle.bq_source.specs.Lexis.{is_word}
 
+-- a decimal digit
 abbrev pub is_decimal : ℕ → Bool
 is_decimal b = lexis.is_digit b
 
+-- a text begins with a decimal digit
 abbrev pub begins_decimal : List ℕ → Bool
 begins_decimal [] = false
 begins_decimal (b ∷ bs) = is_decimal b

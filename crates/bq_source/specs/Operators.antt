@@ -6,6 +6,7 @@ use Rattle.bq_source.specs.declared.operators.Lexeme.TheVariants.{Plain, Opens, 
 use Rattle.bq_source.specs.declared.token.TokenKind.{TokenKind}
 use Rattle.bq_source.specs.declared.token.TokenKind.TheVariants as k
 
+-- the token that a lexeme makes
 abbrev pub kind_of : Lexeme → TokenKind
 kind_of (Plain kind) = kind
 kind_of (Opens kind closing) = kind
@@ -40,5 +41,6 @@ first_spelled (entry ∷ entries) text = if starts_with nat_eq text entry.0 then
 abbrev pub with_len : (List ℕ × Lexeme) → ℕ × Lexeme
 with_len entry = (length entry.0, entry.1)
 
+-- the longest operator that a text begins with, and what stands behind it
 unfoldable pub operator : List ℕ → Option (List ℕ × Lexeme)
 operator text = first_spelled operators text

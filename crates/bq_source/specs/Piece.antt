@@ -33,10 +33,12 @@ abbrev pub escapes_by : Option ℕ → ℕ → List ℕ → Piece
 escapes_by None n text = Lexed (Plain k.String) (record { len = n; lines = newlines (take n text) })
 escapes_by (Some before) n text = Bad f.Escape (newlines (take before text))
 
+-- the piece of a string literal, if it has an end
 abbrev pub string_by : Option StringLiteral → List ℕ → Piece
 string_by None text = Bad f.OpenString 0
 string_by (Some literal) text = escapes_by literal.bad_escape literal.len text
 
+-- the string literal that a text begins with
 unfoldable pub string : List ℕ → Piece
 string text = string_by (scan_string text) text
 
@@ -45,6 +47,7 @@ abbrev pub mark_by : Option (List ℕ × Lexeme) → Piece
 mark_by None = Bad f.BadByte 0
 mark_by (Some entry) = Lexed entry.1 (bytes (length entry.0))
 
+-- the operator or bracket that a text begins with
 unfoldable pub mark : List ℕ → Piece
 mark text = mark_by (operator text)
 
@@ -52,6 +55,7 @@ mark text = mark_by (operator text)
 unfoldable pub joined : List ℕ → Piece
 joined behind = let n = newline_len behind in if n == 0 then Bad f.BadByte 0 else Gap (record { len = n + 1; lines = 1 })
 
+-- the end of a line
 abbrev pub line_end : List ℕ → Piece
 line_end text = LineEnd (record { len = newline_len text; lines = 1 })
 
@@ -68,6 +72,7 @@ piece_by (b ∷ behind) text =
     else (if newline_len text == 0 then mark text
     else line_end text))))))
 
+-- the piece that a text begins with
 unfoldable pub next_piece : List ℕ → Piece
 next_piece text = piece_by text text
 

@@ -14,6 +14,7 @@ use Rattle.bq_source.specs.declared.string_literal.BodyPart.TheVariants.{Closing
 abbrev pub is_quote : ℕ → Bool
 is_quote b = b == 34 || b == 39
 
+-- a text begins with a byte
 abbrev pub begins : ℕ → List ℕ → Bool
 begins a [] = false
 begins a (b ∷ bs) = b == a
@@ -28,16 +29,20 @@ abbrev pub opening_quotes : Bool → List ℕ → Option Quoting
 opening_quotes raw [] = None
 opening_quotes raw (q ∷ bs) = if is_quote q then Some (record { raw = raw; quote = q; triple = begins_pair q bs }) else None
 
+-- how a string literal begins, if one begins here: `r` makes it raw
 unfoldable pub opening : List ℕ → Option Quoting
 opening [] = None
 opening (b ∷ bs) = if b == 114 then opening_quotes true bs else opening_quotes false (b ∷ bs)
 
+-- a string literal begins here
 abbrev pub begins_string : List ℕ → Bool
 begins_string text = is_some (opening text)
 
+-- one quote, or three
 abbrev pub quotes_len : Quoting → ℕ
 quotes_len q = if q.triple then 3 else 1
 
+-- the bytes before the body of a literal
 abbrev pub opening_len : Quoting → ℕ
 opening_len q = (if q.raw then 1 else 0) + quotes_len q
 
@@ -55,10 +60,12 @@ newline_len (b ∷ bs) = if b == 10 then 1 else (if b == 13 && begins 10 bs then
 abbrev pub escapes : List (ℕ × ℕ)
 escapes = (110, 10) ∷ (114, 13) ∷ (116, 9) ∷ (92, 92) ∷ (39, 39) ∷ (34, 34) ∷ []
 
+-- the byte of an escape, if there is such an escape
 abbrev pub escape_by : Option ℕ → ItemValue
 escape_by None = BadEscape
 escape_by (Some b) = Byte b
 
+-- what a backslash and this byte stand for
 abbrev pub escape : ℕ → ItemValue
 escape c = escape_by (lookup (nat_eq c) escapes)
 
@@ -68,6 +75,7 @@ after_backslash_by raw (suc n) bs = Item (suc n) (if raw then BackslashAnd 10 el
 after_backslash_by raw zero [] = Unclosed
 after_backslash_by raw zero (c ∷ cs) = Item 1 (if raw then BackslashAnd c else escape c)
 
+-- what a backslash and the bytes behind it are
 abbrev pub after_backslash : Bool → List ℕ → BodyPart
 after_backslash raw bs = after_backslash_by raw (newline_len bs) bs
 
@@ -97,12 +105,14 @@ pub record BodyItem : Type 0 where
   pub spelled : List ℕ
   pub value : Option (List ℕ)
 
+-- the bytes that an item stands for
 abbrev pub item_value : ItemValue → Option (List ℕ)
 item_value (Byte b) = Some (b ∷ [])
 item_value (BackslashAnd b) = Some (92 ∷ b ∷ [])
 item_value Empty = Some []
 item_value BadEscape = None
 
+-- the items of a body, by its first part; a literal without its end has none
 abbrev pub items_by : BodyPart → ℕ → List ℕ → (ℕ → Option (List BodyItem)) → Option (List BodyItem)
 items_by Closing b bs later = Some []
 items_by Unclosed b bs later = None
@@ -134,6 +144,7 @@ abbrev pub literal_from : Quoting → ℕ → Option ℕ → Option (List BodyIt
 literal_from q at bad None = None
 literal_from q at bad (Some is) = Some (record { len = at + length (spelling is) + quotes_len q; bad_escape = option_or bad (bad_escape at is) })
 
+-- a string literal, by how it begins
 abbrev pub scan_string_by : Option Quoting → List ℕ → Option StringLiteral
 scan_string_by None text = None
 scan_string_by (Some q) text = literal_from q (opening_len q) None (items q 0 (drop (opening_len q) text))
@@ -142,10 +153,12 @@ scan_string_by (Some q) text = literal_from q (opening_len q) None (items q 0 (d
 unfoldable pub scan_string : List ℕ → Option StringLiteral
 scan_string text = scan_string_by (opening text) text
 
+-- the bytes that a literal stands for, by how it begins
 abbrev pub string_value_by : Option Quoting → List ℕ → Option (List ℕ)
 string_value_by None spelled = None
 string_value_by (Some q) spelled = option_map values (items q 0 (drop (opening_len q) spelled))
 
+-- a literal takes just so many bytes, and each of its escapes is one
 abbrev pub is_whole : Option StringLiteral → ℕ → Bool
 is_whole None n = false
 is_whole (Some l) n = l.len == n && is_none l.bad_escape
@@ -267,16 +280,20 @@ pub record SameCut (q p : Quoting) (is js : List BodyItem) (rest tail : List ℕ
 abbrev pub quoted_escapes : List (ℕ × ℕ)
 quoted_escapes = (92, 92) ∷ (34, 34) ∷ (10, 110) ∷ (13, 114) ∷ (9, 116) ∷ []
 
+-- a byte as it is written in quotes
 abbrev pub quoted_byte_by : ℕ → Option ℕ → List ℕ
 quoted_byte_by b None = b ∷ []
 quoted_byte_by b (Some c) = 92 ∷ c ∷ []
 
+-- a byte as it is written in quotes
 abbrev pub quoted_byte : ℕ → List ℕ
 quoted_byte b = quoted_byte_by b (lookup (nat_eq b) quoted_escapes)
 
+-- bytes as they are written in quotes
 abbrev pub quoted_body : List ℕ → List ℕ
 quoted_body [] = []
 quoted_body (b ∷ bs) = quoted_byte b ++ quoted_body bs
 
+-- a string literal of these bytes
 unfoldable pub quoted : List ℕ → List ℕ
 quoted bytes = 34 ∷ quoted_body bytes ++ 34 ∷ []

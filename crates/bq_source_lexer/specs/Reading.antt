@@ -48,12 +48,15 @@ margin_of text line =
 abbrev pub begin_line : State → State
 begin_line s = record s { margin = Some (margin_of s.rest s.line) }
 
+-- before the first byte
 abbrev pub start : List ℕ → State
 start text = record { at = 0; line = 1; rest = text; margin = Some (margin_of text 1); open_brackets = []; widths = []; tokens = [] }
 
+-- bytes that make no token
 abbrev pub skip : Extent → State → State
 skip extent s = record s { at = s.at + extent.len; line = s.line + extent.lines; rest = drop extent.len s.rest }
 
+-- a token of these bytes, on the line where it begins
 abbrev pub token_at : TokenKind → ℕ → State → Token
 token_at kind n s = record { kind = kind; start = s.at; end = s.at + n; line = s.line }
 
@@ -71,6 +74,7 @@ end_line_by (o ∷ os) margin extent s = skip extent s
 end_line_by [] (Some margin) extent s = begin_line (skip extent s)
 end_line_by [] None extent s = begin_line (push_token k.Newline extent s)
 
+-- the end of a line, which makes a token outside brackets
 unfoldable pub end_line : Extent → State → State
 end_line extent s = end_line_by s.open_brackets s.margin extent s
 
@@ -90,6 +94,7 @@ abbrev pub at_width : ℕ → ℕ → State → Result State Fault
 at_width width line s =
     if width_of s.widths == width then Ok s else Err (fault_at f.Indent line)
 
+-- a line is indented so: further in, as far as before, or as far as a line further out
 unfoldable pub set_width : ℕ → ℕ → State → Result State Fault
 set_width width line s =
     if nat_lt (width_of s.widths) width then Ok (record (push_empty k.Indent s) { widths = width ∷ s.widths })
@@ -100,6 +105,7 @@ abbrev pub indent_by : Option Margin → State → Result State Fault
 indent_by None s = Ok s
 indent_by (Some margin) s = if margin.tab then Err (fault_at f.Tab margin.line) else set_width margin.width margin.line (record s { margin = None })
 
+-- the first token of a line is preceded by what its margin makes
 unfoldable pub indent : State → Result State Fault
 indent s = indent_by s.margin s
 
@@ -114,13 +120,16 @@ nest_by (Plain kind) s = Ok s
 nest_by (Opens kind closing) s = Ok (record s { open_brackets = record { closing = closing; line = s.line } ∷ s.open_brackets })
 nest_by (Closes kind) s = close_by s.open_brackets kind s
 
+-- a bracket opens or closes
 unfoldable pub nest : Lexeme → State → Result State Fault
 nest lexeme s = nest_by lexeme s
 
+-- what follows, unless there was a fault
 abbrev pub and_then : Result State Fault → (State → Result State Fault) → Result State Fault
 and_then (Ok s) next = next s
 and_then (Err e) next = Err e
 
+-- a token, behind what its margin makes
 unfoldable pub take_token : Lexeme → Extent → State → Result State Fault
 take_token lexeme extent s = and_then (indent s) (λ t. and_then (nest lexeme t) (λ u. Ok (push_token (kind_of lexeme) extent u)))
 
@@ -128,6 +137,7 @@ take_token lexeme extent s = and_then (indent s) (λ t. and_then (nest lexeme t)
 unfoldable pub refuse : Fault → State → Result State Fault
 refuse fault s = and_then (indent s) (λ t. Err fault)
 
+-- a piece of the text
 abbrev pub advance : Piece → State → Result State Fault
 advance (Gap extent) s = Ok (skip extent s)
 advance (LineEnd extent) s = Ok (end_line extent s)
@@ -148,6 +158,7 @@ abbrev pub finish_by : List OpenBracket → State → Result (List Token) Fault
 finish_by (o ∷ os) s = Err (fault_at f.Bracket o.line)
 finish_by [] s = Ok ((close_above 0 s.widths (end_text s.margin s)).tokens)
 
+-- the end of the text: no bracket is open, and all blocks end
 unfoldable pub finish : State → Result (List Token) Fault
 finish s = finish_by s.open_brackets s
 

@@ -6,10 +6,12 @@ use Rattle.bq_base.specs.declared.fault.FaultKind.TheVariants as f
 use Rattle.bq_base.specs.Fault.{fault_at}
 use Rattle.bq_source_lexer.specs.Reading.{State, start, step, finish, max_file_bytes, line_behind}
 
+-- what follows a step, unless that met a fault
 abbrev pub by_step : (State → Result (List Token) Fault) → Result State Fault → Result (List Token) Fault
 by_step on (Ok t) = on t
 by_step on (Err e) = Err e
 
+-- the end of the text, or a step and what follows it
 abbrev pub by_rest : (State → Result (List Token) Fault) → List ℕ → State → Result (List Token) Fault
 by_rest on [] s = finish s
 by_rest on (b ∷ bs) s = by_step on (step s)

@@ -34,14 +34,17 @@ abbrev pub module_at : ℕ → Modules → Option FrozenCells
 module_at home [] = None
 module_at home (m ∷ ms) = cond (home == m.0) (Some m.1) (module_at home ms)
 
+-- what a cell of a loaded module holds
 abbrev pub cell_of : ℕ → Option FrozenCells → Option Contents
 cell_of number None = None
 cell_of number (Some c) = slice_get c.cells number
 
+-- the kind of a rule, by its cell in a loaded module
 abbrev pub kind_in : ℕ → Option FrozenCells → Option (List ℕ)
 kind_in number None = None
 kind_in number (Some c) = kind_at number c.kinds
 
+-- the globals of a loaded module
 abbrev pub globals_of : Option FrozenCells → Option (List Datum)
 globals_of None = None
 globals_of (Some c) = Some c.globals
@@ -96,6 +99,7 @@ added ms m = cond (is_some (module_at m.0 ms)) ms (placed m ms)
 abbrev pub brought : FrozenView → Modules
 brought f = (f.own, f.cells) ∷ f.reached
 
+-- a store with these loaded modules
 abbrev pub with_loaded : Modules → StoreView → StoreView
 with_loaded ms s = record s { loaded = ms }
 
@@ -103,6 +107,7 @@ with_loaded ms s = record s { loaded = ms }
 abbrev pub loading : StoreView → FrozenView → StoreView
 loading s f = with_loaded (fold added s.loaded (brought f)) s
 
+-- a store with these cells of the running module
 abbrev pub with_cells : List Contents → StoreView → StoreView
 with_cells cs s = record s { cells = cs }
 

@@ -29,6 +29,7 @@ all_equal compare n (x ∷ xs) (y ∷ ys) = if_so (compare n x y) (λ m. all_equ
 abbrev pub lists_equal : Compares → ℕ → List Datum → List Datum → Looked Bool
 lists_equal compare n xs ys = cond (length xs == length ys) (all_equal compare n xs ys) (Ok (false, n))
 
+-- a value equals what the other dict has at its key, if it has that
 abbrev pub partner_equal : Compares → ℕ → Datum → Option Datum → Looked Bool
 partner_equal compare n v None = Ok (false, n)
 partner_equal compare n v (Some w) = compare n v w
@@ -38,6 +39,7 @@ abbrev pub pairs_equal : Compares → ℕ → List (Datum × Datum) → List (Da
 pairs_equal compare n [] qs = Ok (true, n)
 pairs_equal compare n (p ∷ ps) qs = if_so (partner_equal compare n p.1 (found p.0 qs)) (λ m. pairs_equal compare m ps qs)
 
+-- dicts of one length, equal at each key
 abbrev pub dicts_equal : Compares → ℕ → List (Datum × Datum) → List (Datum × Datum) → Looked Bool
 dicts_equal compare n ps qs = cond (length ps == length qs) (pairs_equal compare n ps qs) (Ok (false, n))
 
@@ -64,10 +66,12 @@ abbrev pub function_equal : ℕ → ℕ → Datum → Bool
 function_equal a i (function b j _ _) = (a == b) && (i == j)
 function_equal a i _ = false
 
+-- a tuple equals a tuple
 abbrev pub tuple_equal : Compares → ℕ → List Datum → Datum → Looked Bool
 tuple_equal compare n xs (tuple ys) = lists_equal compare n xs (list_of ys)
 tuple_equal compare n xs _ = Ok (false, n)
 
+-- a list or dict equals another, or is the same cell
 abbrev pub cell_equal : Compares → StoreView → ℕ → ℕ → ℕ → Datum → Looked Bool
 cell_equal compare s n a i (cell b j) = cells_equal compare n ((a == b) && (i == j)) (content_at s a i) (content_at s b j)
 cell_equal compare s n a i _ = Ok (false, n)

@@ -9,18 +9,22 @@ use Rattle.bq_value_compare.specs.Looked.{Looked}
 abbrev pub Walked : Type 0
 Walked = Result ℕ FaultKind
 
+-- a step of a walk over a key
 abbrev pub walk_step : ℕ → (ℕ → Walked) → Walked
 walk_step zero next = Err StepLimit
 walk_step (suc n) next = next n
 
+-- what follows, unless the walk ended in a fault
 abbrev pub and_walk : Walked → (ℕ → Walked) → Walked
 and_walk (Ok n) next = next n
 and_walk (Err e) next = Err e
 
+-- the elements of a tuple, in turn
 abbrev pub all_walked : (ℕ → Datum → Walked) → ℕ → List Datum → Walked
 all_walked walk n [] = Ok n
 all_walked walk n (x ∷ xs) = and_walk (walk n x) (λ m. all_walked walk m xs)
 
+-- the parts of a key; what can change is none
 abbrev pub parts_walked : (ℕ → Datum → Walked) → ℕ → Datum → Walked
 parts_walked walk n none = Ok n
 parts_walked walk n (boolean b) = Ok n

@@ -3,6 +3,7 @@ use Rattle.std.specs.Prelude.{ℕ, zero, suc, Result, Err}
 use Rattle.bq_base.specs.declared.fault.FaultKind.{FaultKind}
 use Rattle.bq_base.specs.declared.fault.FaultKind.TheVariants.{StepLimit}
 
+-- what is found by looking through values, with the steps left; or a fault
 abbrev pub Looked : Type 0 → Type 0
 Looked A = Result (A × ℕ) FaultKind
 

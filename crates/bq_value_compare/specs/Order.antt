@@ -29,10 +29,12 @@ lists_ordered same order n [] (y ∷ ys) = Ok (Less, n)
 lists_ordered same order n (x ∷ xs) [] = Ok (Greater, n)
 lists_ordered same order n (x ∷ xs) (y ∷ ys) = at_first (same n x y) (λ m. lists_ordered same order m xs ys) (λ m. order m x y)
 
+-- the order of two lists; dicts have none
 abbrev pub contents_ordered : Compares → Orders → ℕ → Contents → Contents → Looked Ordering
 contents_ordered same order n (items xs) (items ys) = lists_ordered same order n xs ys
 contents_ordered same order n _ _ = Err WrongType
 
+-- the order of what two cells hold
 abbrev pub cells_ordered : Compares → Orders → ℕ → Option Contents → Option Contents → Looked Ordering
 cells_ordered same order n (Some c) (Some d) = contents_ordered same order n c d
 cells_ordered same order n _ _ = Err WrongType
@@ -42,22 +44,27 @@ unfoldable pub bool_ordered : ℕ → Bool → Datum → Looked Ordering
 bool_ordered n a (boolean b) = Ok (bool_cmp a b, n)
 bool_ordered n a _ = Err WrongType
 
+-- the order of an integer and another
 unfoldable pub int_ordered : ℕ → ℤ → Datum → Looked Ordering
 int_ordered n a (int b) = Ok (int_cmp a b, n)
 int_ordered n a _ = Err WrongType
 
+-- the order of a string and another, by their bytes
 unfoldable pub string_ordered : ℕ → List ℕ → Datum → Looked Ordering
 string_ordered n a (string b) = Ok (slice_cmp nat_cmp a b, n)
 string_ordered n a _ = Err WrongType
 
+-- the order of a tuple and another
 unfoldable pub tuple_ordered : Compares → Orders → ℕ → List Datum → Datum → Looked Ordering
 tuple_ordered same order n xs (tuple ys) = lists_ordered same order n xs (list_of ys)
 tuple_ordered same order n xs _ = Err WrongType
 
+-- the order of a list and another
 unfoldable pub cell_ordered : Compares → Orders → StoreView → ℕ → Option Contents → Datum → Looked Ordering
 cell_ordered same order s n c (cell b j) = cells_ordered same order n c (content_at s b j)
 cell_ordered same order s n c _ = Err WrongType
 
+-- the order of two values of one type that has one
 abbrev pub parts_ordered : Compares → Orders → StoreView → ℕ → Datum → Datum → Looked Ordering
 parts_ordered same order s n (boolean a) b = bool_ordered n a b
 parts_ordered same order s n (int a) b = int_ordered n a b

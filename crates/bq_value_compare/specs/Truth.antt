@@ -6,16 +6,19 @@ use Rattle.bq_value.specs.Range.{range_count}
 use Rattle.bq_value.specs.Contents.{Contents, items, pairs, rule}
 use Rattle.bq_value.specs.Cells.{StoreView, content_at}
 
+-- it isn't empty
 abbrev pub some_element : {A : Type 0} → List A → Bool
 some_element [] = false
 some_element (x ∷ xs) = true
 
+-- the truth of what a cell holds
 abbrev pub content_truth : Option Contents → Bool
 content_truth None = false
 content_truth (Some (items xs)) = some_element xs
 content_truth (Some (pairs ps)) = some_element ps
 content_truth (Some (rule c)) = true
 
+-- the truth of a value
 abbrev pub truth_of : StoreView → Datum → Bool
 truth_of s none = false
 truth_of s (boolean b) = b

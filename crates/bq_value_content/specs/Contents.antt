@@ -7,6 +7,7 @@ use Rattle.bq_value_datum.specs.Datum.{Datum}
 use Rattle.bq_value_datum.specs.Codes.{coded_class, coded_datum}
 use Rattle.bq_value_content.specs.Pairs.{HasNoKeyTwice}
 
+-- what a cell holds: a list's elements, a dict's pairs in order, or a rule's class
 pub data Contents : Type 0 where
   items : List Datum → Contents
   pairs : List (Datum × Datum) → Contents

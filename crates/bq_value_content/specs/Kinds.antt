@@ -19,6 +19,7 @@ coded_kinds = coded_list (coded× coded_ℕ coded_text)
 abbrev pub kind_at : ℕ → Kinds → Option (List ℕ)
 kind_at number kinds = lookup (λ n. number == n) kinds
 
+-- a cell holds a rule
 abbrev pub is_rule : Option Contents → Bool
 is_rule (Some (rule c)) = true
 is_rule _ = false

@@ -49,10 +49,12 @@ mutual
     end : Data
     datum : Datum → Data → Data
 
+-- a list of values, as a tuple has it
 abbrev pub data_of : List Datum → Data
 data_of [] = end
 data_of (x ∷ xs) = datum x (data_of xs)
 
+-- the values of a tuple
 abbrev pub list_of : Data → List Datum
 list_of end = []
 list_of (datum x xs) = x ∷ list_of xs

@@ -21,6 +21,7 @@ types =
     (codes "string", t.String) ∷ (codes "int", t.Int) ∷ (codes "bool", t.Bool) ∷ (codes "string_list", t.StringList) ∷ (codes "label", t.Label)
     ∷ (codes "label_list", t.LabelList) ∷ (codes "output", t.Output) ∷ (codes "output_list", t.OutputList) ∷ []
 
+-- the type of this name in a schema
 abbrev pub type_named : List ℕ → Option AttributeType
 type_named name = lookup (bytes_eq name) types
 
@@ -30,5 +31,6 @@ common_attributes =
     (codes "name", t.String) ∷ (codes "visibility", t.StringList) ∷ (codes "tags", t.StringList) ∷ (codes "features", t.StringList)
     ∷ (codes "testonly", t.Bool) ∷ (codes "deprecation", t.String) ∷ []
 
+-- the type of an attribute that each rule has
 abbrev pub common_attribute : List ℕ → Option AttributeType
 common_attribute name = lookup (bytes_eq name) common_attributes

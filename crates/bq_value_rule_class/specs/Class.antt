@@ -7,6 +7,7 @@ use Rattle.bq_value_rule_class.specs.declared.attribute.Attribute.{Attribute}
 abbrev pub Class : Type 0
 Class = List (List ℕ × Attribute)
 
+-- a class declares an attribute
 abbrev pub has_attribute : Class → List ℕ → Bool
 has_attribute class name = is_some (lookup (bytes_eq name) class)
 

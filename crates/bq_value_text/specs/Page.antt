@@ -3,6 +3,7 @@ use Rattle.std.specs.Prelude.{ℕ, ◌+◌, nat_le, Bool, true, false, cond, Lis
 use Rattle.bq_base.specs.declared.fault.FaultKind.{FaultKind}
 use Rattle.bq_base.specs.declared.fault.FaultKind.TheVariants.{TooLong}
 
+-- a text that is being written; none once it was too long
 abbrev pub PageView : Type 0
 PageView = Option (List ℕ)
 
@@ -10,6 +11,7 @@ abbrev pub page_of : Bool → List ℕ → PageView
 page_of true bytes = None
 page_of false bytes = Some bytes
 
+-- the most bytes of a text
 abbrev pub max_text : ℕ
 max_text = 1048576
 

@@ -12,6 +12,7 @@ use Rattle.bq_value_text.specs.Leaf.{leaf_written}
 abbrev pub Shows : Type 0
 Shows = PageView → ℕ → Datum → Looked PageView
 
+-- what is written next, unless there was a fault
 abbrev pub and_then : Looked PageView → (PageView → ℕ → Looked PageView) → Looked PageView
 and_then (Ok p) next = next p.0 p.1
 and_then (Err kind) next = Err kind
@@ -27,6 +28,7 @@ pairs_shown show separator page n [] = Ok (page, n)
 pairs_shown show separator page n (x ∷ xs) =
     and_then (show (written page separator) n x.0) (λ p m. and_then (show (written p (codes ": ")) m x.1) (λ q k. pairs_shown show (codes ", ") q k xs))
 
+-- what was written, and this behind it
 abbrev pub closed : List ℕ → Looked PageView → Looked PageView
 closed end r = and_then r (λ p m. Ok (written p end, m))
 
@@ -34,9 +36,11 @@ closed end r = and_then r (λ p m. Ok (written p end, m))
 abbrev pub list_shown : Shows → List ℕ → List ℕ → PageView → ℕ → List Datum → Looked PageView
 list_shown show begin end page n xs = closed end (all_shown show [] (written page begin) n xs)
 
+-- a dict in braces
 abbrev pub dict_shown : Shows → PageView → ℕ → List (Datum × Datum) → Looked PageView
 dict_shown show page n ps = closed (codes "}") (pairs_shown show [] (written page (codes "{")) n ps)
 
+-- what a cell holds, as it is written
 abbrev pub contents_shown : Shows → PageView → ℕ → Contents → Looked PageView
 contents_shown show page n (items xs) = list_shown show (codes "[") (codes "]") page n xs
 contents_shown show page n (pairs ps) = dict_shown show page n ps
@@ -51,6 +55,7 @@ cell_shown show page n None = Ok (page, n)
 abbrev pub tuple_end : List Datum → List ℕ
 tuple_end xs = cond (length xs == 1) (codes ",)") (codes ")")
 
+-- a value, as it is written inside another
 abbrev pub parts_shown : Shows → StoreView → PageView → ℕ → Datum → Looked PageView
 parts_shown show s page n (tuple xs) = list_shown show (codes "(") (tuple_end (list_of xs)) page n (list_of xs)
 parts_shown show s page n (cell home number) = cell_shown show page n (content_at s home number)
@@ -75,9 +80,11 @@ abbrev pub text_by : StoreView → PageView → ℕ → Datum → Option (List �
 text_by s page n v (Some bytes) = stepped n (λ m. Ok (written page bytes, m))
 text_by s page n v None = repr_shown s page n v
 
+-- the text of a value: a string as it is, all else as it is written
 abbrev pub text_shown : StoreView → Shows
 text_shown s page n v = text_by s page n v (string_in v)
 
+-- the text that was written, if it was not too long
 abbrev pub finished_by : Looked PageView → Looked (List ℕ)
 finished_by (Ok (Some text, n)) = Ok (text, n)
 finished_by (Ok (None, n)) = Err TooLong
@@ -87,5 +94,6 @@ finished_by (Err kind) = Err kind
 abbrev pub repr_of : StoreView → ℕ → Datum → Looked (List ℕ)
 repr_of s n v = finished_by (repr_shown s (Some []) n v)
 
+-- the text of a value, with the steps left
 abbrev pub text_of : StoreView → ℕ → Datum → Looked (List ℕ)
 text_of s n v = finished_by (text_shown s (Some []) n v)
