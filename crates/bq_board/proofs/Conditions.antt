@@ -1,17 +1,17 @@
 -- For crates above: a claim, fetches, posts and a finish keep the conditions of the calls that follow (specs/Conditions.antt).
 use Rattle.std.proofs.Common.{◌≡◌, ℕ, ◌+◌, ◌<◌, List, [], ◌∷◌, ◌++◌, length, take, get_or, sym, refl, ap, ◌∙◌, subst, inl, inr, ⊎_elim, arith}
-use Rattle.bq_board.specs.Counts.{times, Has}
-use Rattle.bq_board.specs.Graph.{Loads}
-use Rattle.bq_board.specs.Plan.{source, Into, IsOut}
+use Rattle.bq_board_plan.specs.Counts.{times, Has}
+use Rattle.bq_board_plan.specs.Graph.{Loads}
+use Rattle.bq_board_plan.specs.Plan.{source, Into, IsOut}
 use Rattle.bq_board.specs.Steps.{with_missed, with_claimed, with_taken, with_opened, with_posted, with_fetched, with_finished, IsNew}
 use Rattle.bq_board.specs.Claims.{Answered}
 use Rattle.bq_board.specs.Conditions.{Owes, Holds, KeepsAt, KeepsAll, KeepsOthers, HoldsIfWon, Collects, Delivers}
 use Rattle.bq_board.specs.declared.view.View.{View}
 use Rattle.bq_board.specs.declared.claim.Claim.{Claim}
 use Rattle.bq_board.specs.declared.claim.Claim.TheVariants.{Won, Taken, Waiting}
-use Rattle.bq_board.proofs.Sums.{times_same, Has_more, Has_snoc}
-use Rattle.bq_board.proofs.Edges.{into_once}
-use Rattle.bq_board.proofs.Settling.{times_take_more, times_take-le}
+use Rattle.bq_board_plan.proofs.Sums.{times_same, Has_more, Has_snoc}
+use Rattle.bq_board_plan.proofs.Edges.{into_once}
+use Rattle.bq_board_plan.proofs.Settling.{times_take_more, times_take-le}
 
 -- a claim finishes nothing
 pub finished_kept : {B : Type 0} (v w : View B) (m : ℕ) (r : Claim) → Answered v m r w → w.finished ≡ v.finished

@@ -4,13 +4,13 @@ use Rattle.std.specs.Prelude.{Option}
 use mathlib.Core.Logic.{dite}
 use native.Mathlib.Decide.{ℕ_discrete}
 use Rattle.atomic_table.specs.Table.{State}
-use Rattle.bq_board.specs.Counts.{total, times}
-use Rattle.bq_board.specs.Graph.{Loads}
+use Rattle.bq_board_plan.specs.Counts.{total, times}
+use Rattle.bq_board_plan.specs.Graph.{Loads}
 use Rattle.bq_board.specs.Board.{RuleHolds, module_word}
 use Rattle.bq_board.specs.Laws.{SomeDid, EdgeLaw, ModuleLaw, LoadLaw, OwnerLaw, DoneLaw, SlotLaw, NoteLaw, SeatLaw}
 use Rattle.bq_board.specs.declared.view.View.{View}
-use Rattle.bq_board.proofs.Sums.{term_le, some_term, total_more}
-use Rattle.bq_board.proofs.Edges.{start_le}
+use Rattle.bq_board_plan.proofs.Sums.{term_le, some_term, total_more}
+use Rattle.bq_board_plan.proofs.Edges.{start_le}
 use Rattle.bq_board.proofs.Keeps.{done_le}
 
 module _ (B V : Type 0) (fact : B → ℕ → V → Type 0) (b : B) (p : Loads) (seats : ℕ) (s : State (Option V) (View B)) (k : RuleHolds fact b p seats s) where

@@ -4,8 +4,8 @@ use Rattle.std.specs.Prelude.{Option, Some}
 use Rattle.std.specs.Option.{unwrap_or}
 use Rattle.atomic_table.specs.Seated.{TableId}
 use Rattle.atomic_table.specs.declared.shared.Seat.{Seat as Place}
-use Rattle.bq_board.specs.Graph.{Loads}
-use Rattle.bq_board.specs.Plan.{source}
+use Rattle.bq_board_plan.specs.Graph.{Loads}
+use Rattle.bq_board_plan.specs.Plan.{source}
 use Rattle.bq_board.specs.Seats.{SitsAt}
 use Rattle.bq_board.specs.declared.view.View.{View}
 

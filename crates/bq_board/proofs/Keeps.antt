@@ -12,14 +12,14 @@ use Rattle.atomic_table.specs.Table.{State, Me, step, keeps, takes, gives, stepp
 use Rattle.atomic_table.proofs.Lists.{at_set, at_snoc, at_map, set_here, set_else}
 use Rattle.std.proofs.Math.ListN.{replicate}
 use Rattle.std.proofs.lemmas.List.{length-map, length-replicate}
-use Rattle.bq_board.specs.Counts.{total, times, Has, below}
-use Rattle.bq_board.specs.Graph.{Loads, edges, IsGraph}
-use Rattle.bq_board.specs.Plan.{source, Into}
+use Rattle.bq_board_plan.specs.Counts.{total, times, Has, below}
+use Rattle.bq_board_plan.specs.Graph.{Loads, edges, IsGraph}
+use Rattle.bq_board_plan.specs.Plan.{source, Into}
 use Rattle.bq_board.specs.Board.{module_word, edge_word, Posted, Phase, SlotHolds, blank, blank_with, ViewHolds, RuleHolds}
 use Rattle.bq_board.specs.Steps.{with_seen, with_missed, with_opened, with_posted, with_fetched, with_claimed, with_taken, with_finished, with_count, Fed, Looked, Claimed, looked, tried, opened, posted, fetched, added, counted}
 use Rattle.bq_board.specs.declared.view.View.{View}
-use Rattle.bq_board.proofs.Sums.{total-append, total-set, term_le, terms_le, some_term, total_below, times_same, times_other, Has_more, Has_snoc, below_le, below_full, total_times}
-use Rattle.bq_board.proofs.Edges.{into_once, source_known}
+use Rattle.bq_board_plan.proofs.Sums.{total-append, total-set, term_le, terms_le, some_term, total_below, times_same, times_other, Has_more, Has_snoc, below_le, below_full, total_times}
+use Rattle.bq_board_plan.proofs.Edges.{into_once, source_known}
 
 at_replicate : {A : Type 0} (n i : ℕ) (a : A) → i < n → get_elem? (replicate n a) i ≡ some a
 at_replicate zero i a h = absurd (omega arith)

@@ -3,12 +3,12 @@ use Rattle.std.proofs.Common.{◌≡◌, ℕ, ◌+◌, ◌<◌, ◌≤◌, List,
 use mathlib.Core.List.{append-nil}
 use mathlib.Core.Logic.{dite}
 use native.Mathlib.Decide.{ℕ_discrete}
-use Rattle.bq_board.specs.Counts.{Has}
-use Rattle.bq_board.specs.Plan.{start}
+use Rattle.bq_board_plan.specs.Counts.{Has}
+use Rattle.bq_board_plan.specs.Plan.{start}
 use Rattle.bq_board.specs.Steps.{with_seen, Fed}
 use Rattle.bq_board.specs.Claims.{Saw}
 use Rattle.bq_board.specs.declared.view.View.{View}
-use Rattle.bq_board.proofs.Sums.{total-append, times_more, at_same, Has_more}
+use Rattle.bq_board_plan.proofs.Sums.{total-append, times_more, at_same, Has_more}
 
 module _ {B : Type 0} where
   pub saw_none : (v : View B) → Saw v v

@@ -3,7 +3,7 @@ use Rattle.std.proofs.Common.{◌≡◌, ℕ, ◌-◌, sym, ap, ◌∙◌}
 use Rattle.std.specs.Prelude.{Option}
 use Rattle.atomic_table.specs.Seated.{TableId}
 use Rattle.atomic_table.specs.declared.shared.Seat.{Seat as Place}
-use Rattle.bq_board.specs.Graph.{Loads}
+use Rattle.bq_board_plan.specs.Graph.{Loads}
 use Rattle.bq_board.specs.Board.{blank, blank_with}
 use Rattle.bq_board.specs.Seats.{SitsAt}
 use Rattle.bq_board.specs.declared.view.View.{View}

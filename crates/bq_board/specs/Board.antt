@@ -5,9 +5,9 @@ use lib.ListN.{get_elem?}
 use mathlib.Core.Option.{none, some}
 use mathlib.Core.Option as maybe
 use Rattle.atomic_table.specs.Table.{State}
-use Rattle.bq_board.specs.Counts.{total, times, Has}
-use Rattle.bq_board.specs.Graph.{Loads, edges, IsGraph}
-use Rattle.bq_board.specs.Plan.{source, Into}
+use Rattle.bq_board_plan.specs.Counts.{total, times, Has}
+use Rattle.bq_board_plan.specs.Graph.{Loads, edges, IsGraph}
+use Rattle.bq_board_plan.specs.Plan.{source, Into}
 use Rattle.bq_board.specs.declared.view.View.{View}
 
 -- the index of a module's word, which is 0 while the module is free and 1 once it is claimed

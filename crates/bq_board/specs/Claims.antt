@@ -1,7 +1,7 @@
 -- What a claim answers.
 use Rattle.std.specs.Prelude.{◌≡◌, ℕ, List, ◌++◌, length}
-use Rattle.bq_board.specs.Counts.{Has}
-use Rattle.bq_board.specs.Plan.{Into}
+use Rattle.bq_board_plan.specs.Counts.{Has}
+use Rattle.bq_board_plan.specs.Plan.{Into}
 use Rattle.bq_board.specs.Steps.{Fed, IsNew, with_claimed, with_taken, with_missed}
 use Rattle.bq_board.specs.declared.view.View.{View}
 use Rattle.bq_board.specs.declared.claim.Claim.{Claim}

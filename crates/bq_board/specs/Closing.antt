@@ -3,7 +3,7 @@ use Rattle.std.specs.Prelude.{◌≡◌, ℕ, Option}
 use lib.ListN.{get_elem?}
 use mathlib.Core.Option.{some}
 use Rattle.atomic_table.specs.Table.{State}
-use Rattle.bq_board.specs.Graph.{Loads}
+use Rattle.bq_board_plan.specs.Graph.{Loads}
 use Rattle.bq_board.specs.Board.{RuleHolds}
 use Rattle.bq_board.specs.declared.view.View.{View}
 

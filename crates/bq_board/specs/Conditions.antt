@@ -1,9 +1,9 @@
 -- The conditions of `fetch`, `post` and `finish`, from call to call: what a seat still may do, and must do, for the modules that it won.
 -- A worker that claims a module, fetches all edges into it, posts all edges out of it and finishes it meets them by the lemmas of proofs/Conditions.antt.
 use Rattle.std.specs.Prelude.{◌≡◌, ◌≢◌, ℕ, ◌≤◌, ◌⊎◌, List, take}
-use Rattle.bq_board.specs.Counts.{Has}
-use Rattle.bq_board.specs.Graph.{Loads}
-use Rattle.bq_board.specs.Plan.{source, Into}
+use Rattle.bq_board_plan.specs.Counts.{Has}
+use Rattle.bq_board_plan.specs.Graph.{Loads}
+use Rattle.bq_board_plan.specs.Plan.{source, Into}
 use Rattle.bq_board.specs.declared.view.View.{View}
 use Rattle.bq_board.specs.declared.claim.Claim.{Claim}
 use Rattle.bq_board.specs.declared.claim.Claim.TheVariants.{Won, Taken, Waiting}

@@ -3,9 +3,9 @@ use Rattle.std.specs.Prelude.{◌≡◌, ℕ, ◌+◌, ◌<◌, ◌≤◌, ◌�
 use lib.ListN.{get_elem?}
 use mathlib.Core.Option.{none, some}
 use Rattle.atomic_table.specs.Table.{State}
-use Rattle.bq_board.specs.Counts.{total, times, Has}
-use Rattle.bq_board.specs.Graph.{Loads, edges}
-use Rattle.bq_board.specs.Plan.{source, Into}
+use Rattle.bq_board_plan.specs.Counts.{total, times, Has}
+use Rattle.bq_board_plan.specs.Graph.{Loads, edges}
+use Rattle.bq_board_plan.specs.Plan.{source, Into}
 use Rattle.bq_board.specs.Board.{RuleHolds, edge_word, module_word, Posted}
 use Rattle.bq_board.specs.declared.view.View.{View}
 

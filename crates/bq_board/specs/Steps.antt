@@ -1,8 +1,8 @@
 -- What each step means to its seat: how its view changes, and which slot comes or goes.
 use Rattle.std.specs.Prelude.{◌≡◌, ◌≢◌, ℕ, ◌≤◌, [], ◌∷◌, ◌++◌, length, Option, Some, None}
 use Rattle.atomic_table.specs.Table.{Me, Step, rest}
-use Rattle.bq_board.specs.Counts.{Has}
-use Rattle.bq_board.specs.Plan.{source, Into}
+use Rattle.bq_board_plan.specs.Counts.{Has}
+use Rattle.bq_board_plan.specs.Plan.{source, Into}
 use Rattle.bq_board.specs.Board.{edge_word, module_word, Posted}
 use Rattle.bq_board.specs.declared.view.View.{View}
 

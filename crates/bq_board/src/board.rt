@@ -1,13 +1,13 @@
 //! The board and its seats.
 ghost use Rattle.std.specs.Prelude.{◌≡◌};
 ghost use Rattle.bq_board.specs.Board.{edge_word};
-ghost use Rattle.bq_board.specs.Graph.{edges};
+ghost use Rattle.bq_board_plan.specs.Graph.{edges};
 
 use crate::parcel::Parcel;
-use crate::plan::Plan;
 use crate::rule::{Rule, RuleContext};
 use crate::view::View;
 use atomic_table::Table;
+use bq_board_plan::Plan;
 use std::alloc::Global;
 
 pub type BoardSeat<V, B> = atomic_table::Seat<Option<V>, View<B>>;

@@ -1,6 +1,6 @@
 //! How many modules are finished.
 ghost use Rattle.std.specs.Prelude.{◌≡◌, ℕ, ◌≤◌, length};
-ghost use Rattle.bq_board.specs.Counts.{Has};
+ghost use Rattle.bq_board_plan.specs.Counts.{Has};
 ghost use Rattle.bq_board.specs.Seats.{IsSeatOf, view_of};
 ghost use Rattle.bq_board.specs.Steps.{with_count};
 

@@ -1,8 +1,8 @@
 //! Fetches: the parcel of an edge goes to the seat that claimed its target.
 ghost use Rattle.std.specs.Prelude.{◌≡◌, ℕ, ◌<◌};
-ghost use Rattle.bq_board.specs.Counts.{Has};
-ghost use Rattle.bq_board.specs.Graph.{edges};
-ghost use Rattle.bq_board.specs.Plan.{source, Into};
+ghost use Rattle.bq_board_plan.specs.Counts.{Has};
+ghost use Rattle.bq_board_plan.specs.Graph.{edges};
+ghost use Rattle.bq_board_plan.specs.Plan.{source, Into};
 ghost use Rattle.bq_board.specs.Seats.{IsSeatOf, base_of, view_of};
 ghost use Rattle.bq_board.specs.Steps.{with_fetched};
 

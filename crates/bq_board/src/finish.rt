@@ -1,8 +1,8 @@
 //! The end of a module.
 ghost use Rattle.std.specs.Prelude.{◌≡◌, ℕ, ◌<◌};
-ghost use Rattle.bq_board.specs.Counts.{Has};
-ghost use Rattle.bq_board.specs.Graph.{edges};
-ghost use Rattle.bq_board.specs.Plan.{source};
+ghost use Rattle.bq_board_plan.specs.Counts.{Has};
+ghost use Rattle.bq_board_plan.specs.Graph.{edges};
+ghost use Rattle.bq_board_plan.specs.Plan.{source};
 ghost use Rattle.bq_board.specs.Seats.{IsSeatOf, view_of};
 ghost use Rattle.bq_board.specs.Steps.{with_finished};
 

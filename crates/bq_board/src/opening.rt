@@ -1,16 +1,16 @@
 //! How a board begins, and its seats.
 ghost use Rattle.std.specs.Prelude.{◌≡◌, ◌-◌, ◌<◌, ◌≤◌, [], All, IfOk, vec_len};
 ghost use Rattle.bq_board.specs.Board.{blank, blank_with, edge_word};
-ghost use Rattle.bq_board.specs.Graph.{edges};
+ghost use Rattle.bq_board_plan.specs.Graph.{edges};
 ghost use Rattle.bq_board.specs.Seats.{IsSeatOf, base_of, seats_of, view_of};
 
 use crate::board::{Board, BoardSeat, Seat};
 use crate::parcel::Parcel;
-use crate::plan::Plan;
 use crate::rule::{Rule, RuleContext};
 use crate::steps::Fresh;
 use crate::view::View;
 use atomic_table::Table;
+use bq_board_plan::Plan;
 use std::alloc::{AllocError, Global};
 use std::snapshot::Snapshot;
 

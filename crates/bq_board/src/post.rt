@@ -1,8 +1,8 @@
 //! Posts: a seat leaves a parcel for an edge out of a module that it claimed.
 ghost use Rattle.std.specs.Prelude.{◌≡◌, ◌<◌};
-ghost use Rattle.bq_board.specs.Counts.{Has};
-ghost use Rattle.bq_board.specs.Graph.{edges};
-ghost use Rattle.bq_board.specs.Plan.{source};
+ghost use Rattle.bq_board_plan.specs.Counts.{Has};
+ghost use Rattle.bq_board_plan.specs.Graph.{edges};
+ghost use Rattle.bq_board_plan.specs.Plan.{source};
 ghost use Rattle.bq_board.specs.Seats.{IsSeatOf, base_of, view_of};
 ghost use Rattle.bq_board.specs.Steps.{with_opened, with_posted};
 

@@ -3,9 +3,9 @@ ghost use Rattle.std.specs.Prelude.{◌-◌};
 ghost use Rattle.bq_board.specs.Board.{RuleHolds, blank_with};
 
 use crate::parcel::Parcel;
-use crate::plan::Plan;
 use crate::view::View;
 use atomic_table::TableRule;
+use bq_board_plan::Plan;
 use std::marker::PhantomData;
 use std::snapshot::Snapshot;
 

@@ -1,6 +1,6 @@
-//! What changes a list or dict in place (Starlark, "Augmented assignments", "Assignments").
+//! What changes a list or dict in place (Starlark, "Assignments").
 
-ghost use Rattle.std.specs.Prelude.{◌≡◌, ◌++◌, IfOk, OnOk};
+ghost use Rattle.std.specs.Prelude.{◌≡◌, ◌++◌, OnOk};
 ghost use Rattle.bq_base.specs.Gives.{Gives};
 ghost use Rattle.bq_value.specs.declared.error.EvalErr.TheVariants.{Bad};
 ghost use Rattle.bq_builtin_machine.specs.Action.{Does};
@@ -8,52 +8,18 @@ ghost use Rattle.bq_builtin_machine.specs.Cells.{changing};
 ghost use Rattle.bq_value.specs.Pairs.{put};
 ghost use Rattle.bq_builtin_operators.specs.Sequence.{limited, joined};
 ghost use Rattle.bq_builtin_operators.specs.Union.{put_all};
-ghost use Rattle.bq_builtin_in_place.specs.InPlace.{list_extended, dict_united, element_set, pair_put, augment_sum, augment_union, augment, set_item, set_index};
+ghost use Rattle.bq_builtin_in_place.specs.InPlace.{list_extended, dict_united, element_set, pair_put, set_item, set_index};
 
 use bq_base::FaultKind;
 use bq_builtin_machine::{Elements, Machine};
 use bq_builtin_numbers::{MAX_LEN, index, joined_len};
-use bq_builtin_operators::{binary, dict_in, int_of, list_in};
-use bq_parse_grammar::Operator;
+use bq_builtin_operators::int_of;
 use bq_value::{Body, Cell, Content, Dict, EvalErr, Key, Node, Value};
-use std::alloc::{AllocError, Global};
+use std::alloc::AllocError;
 
-/// Carries out `a op= b`: a list by `+=`, and a dict by `|=`, is changed in place. All else is `a op b`.
-#[tactic(auto, unfolding(crate::specs::InPlace::augment))]
-pub fn augment(
-    alloc: Global,
-    machine: &mut Machine,
-    operator: Operator,
-    a: &Value,
-    b: &Value,
-) -> Result<Value, EvalErr>
-    ensures { Does (λ value. value) result machine.new (augment operator a.now b.now machine.old) }
-{
-    match operator {
-        Operator::Add => augment_sum(alloc, machine, a, b),
-        Operator::BitOr => augment_union(alloc, machine, a, b),
-        _ => binary(alloc, machine, operator, a, b),
-    }
-}
-
-/// Carries out `a += b`; for a list F40, F47, F48, F54.
-#[tactic(auto, unfolding(crate::specs::InPlace::augment_sum, bq_builtin_operators::specs::Operate::binary))]
-fn augment_sum(alloc: Global, machine: &mut Machine, a: &Value, b: &Value) -> Result<Value, EvalErr>
-    ensures { Does (λ value. value) result machine.new (augment_sum a.now b.now machine.old) }
-{
-    match &a.node {
-        Node::Cell(cell) => {
-            list_in(machine.store(), a)?;
-            let more = machine.elements(alloc, b)?;
-            extend(machine, *cell, more)?;
-            Ok(Value::cell(*cell))
-        }
-        _ => binary(alloc, machine, Operator::Add, a, b),
-    }
-}
-
+/// Appends these elements to a list that may be changed (F47, F48, F54).
 #[tactic(auto, unfolding(bq_builtin_machine::specs::Cells::changing))]
-fn extend(machine: &mut Machine, list: Cell, more: Elements) -> Result<(), EvalErr>
+pub fn extend(machine: &mut Machine, list: Cell, more: Elements) -> Result<(), EvalErr>
     ensures { Does (λ _. tt) result machine.new (changing list.module list.number (list_extended more) machine.old) }
 {
     let content = machine.change(list)?;
@@ -88,39 +54,6 @@ fn push_elements(values: &mut Vec<Value>, mut more: Elements) -> Result<(), Allo
         values.push(value)?;
     }
     Ok(())
-}
-
-/// Carries out `a |= b`; for a dict F40, F47, F48, F54.
-#[tactic(auto, unfolding(crate::specs::InPlace::augment_union, bq_builtin_operators::specs::Operate::binary))]
-fn augment_union(
-    alloc: Global,
-    machine: &mut Machine,
-    a: &Value,
-    b: &Value,
-) -> Result<Value, EvalErr>
-    ensures { Does (λ value. value) result machine.new (augment_union a.now b.now machine.old) }
-{
-    match &a.node {
-        Node::Cell(cell) => {
-            dict_in(machine.store(), a)?;
-            let more = pairs_of(alloc, dict_in(machine.store(), b)?)?;
-            unite(machine, *cell, &more)?;
-            Ok(Value::cell(*cell))
-        }
-        _ => binary(alloc, machine, Operator::BitOr, a, b),
-    }
-}
-
-/// Shares the pairs of a dict.
-fn pairs_of(alloc: Global, dict: &Dict) -> Result<Vec<(Key, Value)>, AllocError>
-    ensures { IfOk result (λ pairs. pairs.items ≡ dict.now) }
-{
-    let mut pairs = Vec::with_capacity(alloc, dict.len())?;
-    for i in 0..dict.len() {
-        let (key, value) = dict.pair(i);
-        pairs.push((key.share()?, value.share()?))?;
-    }
-    Ok(pairs)
 }
 
 /// Inserts these pairs in turn into a dict that may be changed (F47, F48, F54).

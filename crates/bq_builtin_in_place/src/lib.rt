@@ -8,9 +8,13 @@
 //!
 //! In reading order:
 //!
-//! - `in_place`: `+=`, `|=`, and assignments to an index or a key.
+//! - `in_place`: elements and pairs that are put in, and assignments to an index or a key.
 #![tactic(auto)]
 
 mod in_place;
 
-pub use in_place::{augment, put_pairs, set_index, unite};
+pub use bq_builtin_machine::Machine;
+pub use bq_builtin_operators::{binary, dict_in, list_in};
+pub use bq_parse_grammar::Operator;
+pub use bq_value::{Dict, EvalErr, Key, Node, Value};
+pub use in_place::{extend, put_pairs, set_index, unite};

@@ -10,7 +10,7 @@ use Rattle.bq_builtin_machine.specs.Cells as cells
 use Rattle.bq_builtin_machine.specs.Iteration as iteration
 use Rattle.bq_builtin_machine.specs.Calls as calls
 use Rattle.bq_builtin_operators.specs.Operate as operate
-use Rattle.bq_builtin_in_place.specs.InPlace as in_place
+use Rattle.bq_builtin_augment.specs.InPlace as in_place
 use Rattle.bq_builtin_methods.specs.Call as methods
 use Rattle.bq_eval_meaning_spec.specs.Primitives.{Primitives}
 use Rattle.bq_package_host.specs.BuiltIns.{predeclared_value}

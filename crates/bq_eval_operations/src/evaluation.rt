@@ -127,7 +127,7 @@ impl<'a, H: Host, K: RuleNames> Runtime for Evaluation<'a, H, K> {
         left: &Value,
         right: &Value,
     ) -> Result<Value, EvalErr> {
-        bq_builtin_in_place::augment(self.alloc, &mut self.machine, operator, left, right)
+        bq_builtin_augment::augment(self.alloc, &mut self.machine, operator, left, right)
     }
 
     #[tactic(auto, using(crate::proofs::Lifting::lifted), unfolding(crate::specs::Runtime::primitives))]
@@ -137,7 +137,7 @@ impl<'a, H: Host, K: RuleNames> Runtime for Evaluation<'a, H, K> {
 
     #[tactic(auto, using(crate::proofs::Lifting::lifted), unfolding(crate::specs::Runtime::primitives))]
     fn set_index(&mut self, value: &Value, index: &Value, item: Value) -> Result<(), EvalErr> {
-        bq_builtin_in_place::set_index(&mut self.machine, value, index, item)
+        bq_builtin_augment::set_index(&mut self.machine, value, index, item)
     }
 
     #[tactic(auto, using(crate::proofs::Lifting::lifted), unfolding(crate::specs::Runtime::primitives))]

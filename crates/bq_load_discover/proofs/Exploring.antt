@@ -9,7 +9,7 @@ use Rattle.bq_label.specs.Label.{LabelParts}
 use Rattle.bq_label.specs.Packages.{build_label}
 use Rattle.bq_label_set.specs.Labels.{same_label, with_labels}
 use Rattle.bq_label_set.proofs.Added.{numbers_stay, the_labels_added, each_label_once, still_distinct}
-use Rattle.bq_board.specs.Graph.{max_modules}
+use Rattle.bq_board_plan.specs.Graph.{max_modules}
 use Rattle.bq_load_front.specs.Inputs.{InputParts}
 use Rattle.bq_load_front.specs.Front.{loads_by, loads_of}
 use Rattle.bq_load_discover.specs.declared.modules.Module.{Module}

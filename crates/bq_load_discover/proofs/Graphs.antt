@@ -9,7 +9,7 @@ use Rattle.bq_label.specs.declared.packages.BuildFile.{BuildFile}
 use Rattle.bq_label.specs.Label.{LabelParts}
 use Rattle.bq_label_set.specs.Labels.{same_label, with_labels}
 use Rattle.bq_label_set.proofs.Added.{those_that_differ}
-use Rattle.bq_board.specs.Graph.{Loads, edges, max_modules, max_edges, Fits, IsGraph}
+use Rattle.bq_board_plan.specs.Graph.{Loads, edges, max_modules, max_edges, Fits, IsGraph}
 use Rattle.bq_load_front.specs.Inputs.{InputParts}
 use Rattle.bq_load_front.specs.Front.{loads_by, loads_of}
 use Rattle.bq_load_discover.specs.declared.modules.Module.{Module}

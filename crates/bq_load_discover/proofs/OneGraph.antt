@@ -9,7 +9,7 @@ use Rattle.bq_label.specs.Label.{LabelParts}
 use Rattle.bq_label.proofs.Orders.{same_ascending}
 use Rattle.bq_label_set.specs.Labels.{same_label, same_label-Decides, same_label-equiv}
 use Rattle.bq_label_set.proofs.Numbers.{the_number}
-use Rattle.bq_board.specs.Graph.{Loads, edges}
+use Rattle.bq_board_plan.specs.Graph.{Loads, edges}
 use Rattle.bq_load_front.specs.Inputs.{InputParts}
 use Rattle.bq_load_discover.specs.declared.modules.Module.{Module}
 use Rattle.bq_load_discover.specs.Module.{module_of, label_cmp, label_cmp_total}

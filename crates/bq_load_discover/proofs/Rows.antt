@@ -9,7 +9,7 @@ use Rattle.bq_label.proofs.Orders.{at_head, in_tail}
 use Rattle.bq_label_set.specs.Labels.{same_label, with_labels}
 use Rattle.bq_label_set.proofs.Added.{the_labels_added}
 use Rattle.bq_label_set.proofs.Numbers.{the_number}
-use Rattle.bq_board.specs.Graph.{Loads, sources, edges}
+use Rattle.bq_board_plan.specs.Graph.{Loads, sources, edges}
 use Rattle.bq_load_front.specs.Inputs.{InputParts}
 use Rattle.bq_load_front.specs.Front.{loads_by, loads_of}
 use Rattle.bq_load_discover.specs.declared.modules.Module.{Module}

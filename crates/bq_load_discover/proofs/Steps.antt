@@ -10,7 +10,7 @@ use Rattle.bq_label.specs.Label.{LabelParts}
 use Rattle.bq_label.specs.Packages.{build_label}
 use Rattle.bq_label_set.specs.Labels.{with_labels}
 use Rattle.bq_label_set.proofs.Added.{with_labels-append}
-use Rattle.bq_board.specs.Graph.{lists}
+use Rattle.bq_board_plan.specs.Graph.{lists}
 use Rattle.bq_load_front.specs.Front.{loads_by}
 use Rattle.bq_load_discover.specs.declared.modules.Module.{Module}
 use Rattle.bq_load_discover.specs.Module.{labels_of}

@@ -5,7 +5,7 @@ use Rattle.bq_label.specs.declared.packages.BuildFile.{BuildFile}
 use Rattle.bq_label.specs.Label.{LabelParts}
 use Rattle.bq_label.specs.Packages.{build_label}
 use Rattle.bq_label_set.specs.Labels.{same_label}
-use Rattle.bq_board.specs.Graph.{max_modules}
+use Rattle.bq_board_plan.specs.Graph.{max_modules}
 use Rattle.std.specs.Prelude.{Vec}
 use Rattle.std.specs.Global.{Global}
 use Rattle.bq_load_front.specs.Inputs.{InputParts}

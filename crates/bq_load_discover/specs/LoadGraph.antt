@@ -7,7 +7,7 @@ use Rattle.bq_label.specs.Label.{LabelParts}
 use Rattle.bq_label.specs.Packages.{packages_of}
 use Rattle.bq_resolve_scope.specs.Names.{with_each, with_name}
 use Rattle.bq_package_schema.specs.Schema.{Rules}
-use Rattle.bq_board.specs.Graph.{Loads, IsGraph}
+use Rattle.bq_board_plan.specs.Graph.{Loads, IsGraph}
 use Rattle.bq_load_front.specs.Inputs.{InputParts}
 use Rattle.bq_load_discover.specs.declared.modules.Module.{Module}
 use Rattle.bq_load_discover.specs.declared.load_err.LoadErr.{LoadErr}

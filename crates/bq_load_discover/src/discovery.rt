@@ -16,7 +16,7 @@ use crate::load_graph::LoadGraph;
 use crate::modules::Module;
 use crate::order::{labels, sorted};
 use crate::waves::explore_by_workers;
-use bq_board::MAX_MODULES;
+use bq_board_plan::MAX_MODULES;
 use bq_label::{Packages, Workspace};
 use bq_load_front::Inputs;
 use bq_package_schema::{Schema, rule_names};

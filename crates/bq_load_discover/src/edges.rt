@@ -1,14 +1,14 @@
 //! Which module loads which, by their numbers.
 
 ghost use Rattle.std.specs.Prelude.{◌≡◌, ◌≤◌, [], ◌++◌, length, map, option_to_list, IfOk, IfErr, OnOk};
-ghost use Rattle.bq_board.specs.Graph.{lists, IsGraph};
+ghost use Rattle.bq_board_plan.specs.Graph.{lists, IsGraph};
 ghost use Rattle.std.specs.List.{filter_map};
 ghost use Rattle.bq_label_set.specs.Labels.{with_labels};
 ghost use Rattle.bq_load_discover.specs.Edges.{number_in, rows_of, RefusesEdges};
 
 use crate::load_err::LoadErr;
 use crate::modules::Module;
-use bq_board::{Graph, MAX_MODULES, PlanErr};
+use bq_board_plan::{Graph, MAX_MODULES, PlanErr};
 use bq_label::Label;
 use bq_label_set::LabelSet;
 use std::alloc::{AllocError, Global};

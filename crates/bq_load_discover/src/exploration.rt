@@ -9,7 +9,7 @@ ghost use Rattle.bq_load_discover.specs.Modules.{build_labels};
 ghost use Rattle.bq_load_discover.specs.Exploring.{Explores, IsNextIn, AfterReading, AllAreRead, Finds};
 
 use crate::modules::Module;
-use bq_board::MAX_MODULES;
+use bq_board_plan::MAX_MODULES;
 use bq_label::{BuildFile, Packages};
 use bq_label_set::LabelSet;
 use bq_load_front::Inputs;

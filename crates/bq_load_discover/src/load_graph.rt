@@ -3,7 +3,7 @@
 ghost use Rattle.std.specs.Prelude.{◌≡◌};
 
 use crate::modules::Module;
-use bq_board::Graph;
+use bq_board_plan::Graph;
 use bq_label::{Label, Packages};
 use std::marker::Model;
 

@@ -7,7 +7,7 @@ ghost use Rattle.bq_load_discover.specs.Waves.{IsReading, Grows};
 
 use crate::exploration::{Exploration, read_rest};
 use crate::modules::Module;
-use bq_board::MAX_MODULES;
+use bq_board_plan::MAX_MODULES;
 use bq_label_set::LabelSet;
 use bq_load_front::Inputs;
 use std::alloc::{AllocError, Global};

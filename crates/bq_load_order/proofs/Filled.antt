@@ -5,12 +5,12 @@ use native.Mathlib.Decide.{ℕ_discrete}
 use Rattle.std.specs.declared.sync.Arc.{Arc}
 use Rattle.std.specs.declared.alloc.Global.{Global}
 use Rattle.std.proofs.lemmas.List.{map-set, map_push, take_more, take_all, get_or_push, get_or_append_left, length_push, get_or-map, same_lists}
-use Rattle.bq_board.specs.Counts.{Has}
-use Rattle.bq_board.specs.Graph.{Loads, row}
-use Rattle.bq_board.specs.Cycles.{is_cyclic, starts_path}
-use Rattle.bq_board.specs.Depth.{max_load_depth, is_too_deep}
-use Rattle.bq_board.specs.Topological.{IsTopologicalOrder, MarksCycles}
-use Rattle.bq_board.proofs.Lemmas.{Has_snoc, Has-get_or, at_zero, zero_from, bool_cases}
+use Rattle.bq_board_plan.specs.Counts.{Has}
+use Rattle.bq_board_plan.specs.Graph.{Loads, row}
+use Rattle.bq_board_plan.specs.Cycles.{is_cyclic, starts_path}
+use Rattle.bq_board_plan.specs.Depth.{max_load_depth, is_too_deep}
+use Rattle.bq_board_plan.specs.Topological.{IsTopologicalOrder, MarksCycles}
+use Rattle.bq_board_plan.proofs.Lemmas.{Has_snoc, Has-get_or, at_zero, zero_from, bool_cases}
 use Rattle.bq_load_outcome_spec.specs.Outcome.{first, values, evaluated, outcome}
 use Rattle.bq_load_outcome_spec.specs.declared.outcome.Outcome.{Outcome}
 use Rattle.bq_load_outcome_spec.specs.declared.outcome.Outcome.TheVariants.{Cyclic, TooDeep}

@@ -2,9 +2,9 @@
 use Rattle.std.specs.Prelude.{◌≡◌, ℕ, ◌<◌, false, List, length, take, set, Option, Some, None}
 use lib.ListN.{get_or}
 use mathlib.Core.Logic.{◌⊎◌}
-use Rattle.bq_board.specs.Counts.{Has}
-use Rattle.bq_board.specs.Graph.{Loads, row}
-use Rattle.bq_board.specs.Cycles.{is_cyclic}
+use Rattle.bq_board_plan.specs.Counts.{Has}
+use Rattle.bq_board_plan.specs.Graph.{Loads, row}
+use Rattle.bq_board_plan.specs.Cycles.{is_cyclic}
 use Rattle.bq_load_outcome_spec.specs.Outcome.{first}
 use Rattle.bq_load_outcome_spec.specs.declared.outcome.Outcome.{Outcome}
 use Rattle.bq_load_outcome_spec.specs.declared.outcome.Outcome.TheVariants.{Cyclic, LoadFailed}

@@ -1,7 +1,7 @@
 //! The outcomes of all modules, in load order.
 ghost use Rattle.std.specs.Prelude.{◌≡◌, ℕ, [], length, map, IfOk, OnOk};
-ghost use Rattle.bq_board.specs.Depth.{HasDepths};
-ghost use Rattle.bq_board.specs.Topological.{MarksCycles};
+ghost use Rattle.bq_board_plan.specs.Depth.{HasDepths};
+ghost use Rattle.bq_board_plan.specs.Topological.{MarksCycles};
 ghost use Rattle.bq_load_outcome_spec.specs.Outcome.{outcome};
 ghost use Rattle.bq_load_order.specs.Shown.{shown, slot};
 ghost use Rattle.bq_load_order.specs.Slots.{Filling, IsLoadOrder, Puts, Ready, Tabulates};
@@ -12,7 +12,7 @@ use crate::module::outcome_by;
 use crate::shared::SharedOutcome;
 use crate::slots::{all_settled, empty_slots, first_at_limit};
 use crate::watch::Watch;
-use bq_board::{Graph, Order};
+use bq_board_plan::{Graph, Order};
 use bq_load_outcome_spec::Outcome;
 use std::alloc::{AllocError, Global};
 

@@ -1,16 +1,16 @@
 //! The outcomes that are known, in a slot for each module.
 ghost use Rattle.std.specs.Prelude.{◌≡◌, ℕ, ◌<◌, false, None, length, map, vec_len, get_or, IfOk};
-ghost use Rattle.bq_board.specs.Counts.{Has};
-ghost use Rattle.bq_board.specs.Cycles.{is_cyclic, starts_path};
-ghost use Rattle.bq_board.specs.Depth.{max_load_depth, HasDepths};
-ghost use Rattle.bq_board.specs.Topological.{MarksCycles};
+ghost use Rattle.bq_board_plan.specs.Counts.{Has};
+ghost use Rattle.bq_board_plan.specs.Cycles.{is_cyclic, starts_path};
+ghost use Rattle.bq_board_plan.specs.Depth.{max_load_depth, HasDepths};
+ghost use Rattle.bq_board_plan.specs.Topological.{MarksCycles};
 ghost use Rattle.bq_load_outcome_spec.specs.Outcome.{first};
 ghost use Rattle.bq_load_order.specs.Shown.{shown, slot};
 ghost use Rattle.bq_load_order.specs.Slots.{Tabulates, or_cyclic};
 
 use crate::evaluate::Evaluate;
 use crate::shared::{SharedOutcome, share};
-use bq_board::{Graph, Order};
+use bq_board_plan::{Graph, Order};
 use bq_load_outcome_spec::Outcome;
 use std::alloc::{AllocError, Global};
 

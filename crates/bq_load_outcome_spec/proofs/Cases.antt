@@ -1,10 +1,10 @@
 -- The cases of an outcome.
 use Rattle.std.proofs.Common.{◌≡◌, ℕ, ◌⊎◌, Bool, true, false, List, [], ◌∷◌, map, Result, Ok, Err, sym, refl, ap, subst, ◌∙◌, inl, inr, arith, true≢false}
-use Rattle.bq_board.specs.Counts.{Has}
-use Rattle.bq_board.specs.Graph.{Loads, row}
-use Rattle.bq_board.specs.Cycles.{starts_path, is_cyclic, TestsPaths, LoadsACyclic}
-use Rattle.bq_board.specs.Depth.{max_load_depth, is_too_deep, LoadsADeep, DeepIsReached}
-use Rattle.bq_board.proofs.Lemmas.{bool_cases, cons_has, at_split}
+use Rattle.bq_board_plan.specs.Counts.{Has}
+use Rattle.bq_board_plan.specs.Graph.{Loads, row}
+use Rattle.bq_board_plan.specs.Cycles.{starts_path, is_cyclic, TestsPaths, LoadsACyclic}
+use Rattle.bq_board_plan.specs.Depth.{max_load_depth, is_too_deep, LoadsADeep, DeepIsReached}
+use Rattle.bq_board_plan.proofs.Lemmas.{bool_cases, cons_has, at_split}
 use Rattle.bq_load_outcome_spec.specs.Outcome.{first, with_value, values, evaluated, outcome}
 use Rattle.bq_load_outcome_spec.specs.Laws.{IsFirst, CyclicOutcome, TooDeepOutcome, FailedLoadOutcome, LoadedOutcome, OutcomeByPlan}
 use Rattle.bq_load_outcome_spec.specs.declared.outcome.Outcome.{Outcome}

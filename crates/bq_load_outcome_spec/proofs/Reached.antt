@@ -2,11 +2,11 @@
 use Rattle.std.proofs.Common.{◌≡◌, ℕ, zero, suc, Bool, true, false, cond, List, [], ◌∷◌, length, Result, Ok, Err, sym, refl, ap, subst, ◌∙◌, inl, inr}
 use Rattle.std.specs.Prelude.{not, ◌&&◌, ◌||◌}
 use Rattle.std.specs.List.{list_any}
-use Rattle.bq_board.specs.Counts.{Has}
-use Rattle.bq_board.specs.Graph.{Loads, row, Known}
-use Rattle.bq_board.specs.Depth.{max_load_depth, is_too_deep}
-use Rattle.bq_board.specs.Cycles.{starts_path, is_cyclic, PathTo, Reaches, ReachesACycle}
-use Rattle.bq_board.proofs.Lemmas.{bool_cases, head_has, tail_has, loads_acyclic}
+use Rattle.bq_board_plan.specs.Counts.{Has}
+use Rattle.bq_board_plan.specs.Graph.{Loads, row, Known}
+use Rattle.bq_board_plan.specs.Depth.{max_load_depth, is_too_deep}
+use Rattle.bq_board_plan.specs.Cycles.{starts_path, is_cyclic, PathTo, Reaches, ReachesACycle}
+use Rattle.bq_board_plan.proofs.Lemmas.{bool_cases, head_has, tail_has, loads_acyclic}
 use Rattle.bq_load_outcome_spec.specs.Outcome.{first, values, evaluated, outcome}
 use Rattle.bq_load_outcome_spec.specs.Laws.{OutcomeOfReached}
 use Rattle.bq_load_outcome_spec.specs.declared.outcome.Outcome.TheVariants.{Cyclic, TooDeep}

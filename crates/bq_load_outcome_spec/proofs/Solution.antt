@@ -1,10 +1,10 @@
 -- The recursion along loads has one solution, which `outcome` is.
 use Rattle.std.proofs.Common.{◌≡◌, ℕ, zero, suc, ◌≤◌, Bool, true, false, cond, List, [], ◌∷◌, length, Result, sym, refl, ap, ◌∙◌, inl, inr, arith}
-use Rattle.bq_board.specs.Counts.{Has}
-use Rattle.bq_board.specs.Graph.{Loads, row}
-use Rattle.bq_board.specs.Cycles.{starts_path, is_cyclic}
-use Rattle.bq_board.specs.Depth.{max_load_depth, is_too_deep}
-use Rattle.bq_board.proofs.Lemmas.{bool_cases, head_has, tail_has, loads_acyclic, deep_both}
+use Rattle.bq_board_plan.specs.Counts.{Has}
+use Rattle.bq_board_plan.specs.Graph.{Loads, row}
+use Rattle.bq_board_plan.specs.Cycles.{starts_path, is_cyclic}
+use Rattle.bq_board_plan.specs.Depth.{max_load_depth, is_too_deep}
+use Rattle.bq_board_plan.proofs.Lemmas.{bool_cases, head_has, tail_has, loads_acyclic, deep_both}
 use Rattle.bq_load_outcome_spec.specs.Outcome.{first, with_value, values, evaluated, by_loads, outcome_within, outcome, IsByLoads, HasOneSolution}
 use Rattle.bq_load_outcome_spec.specs.declared.outcome.Outcome.{Outcome}
 use Rattle.bq_load_outcome_spec.specs.declared.outcome.Outcome.TheVariants.{Cyclic, TooDeep}

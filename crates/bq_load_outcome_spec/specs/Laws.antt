@@ -1,10 +1,10 @@
 -- What the outcomes are, in plain words.
 use Rattle.std.specs.Prelude.{◌≡◌, ℕ, true, false, List, ◌∷◌, ◌++◌, map, Result}
-use Rattle.bq_board.specs.Counts.{Has}
-use Rattle.bq_board.specs.Graph.{Loads, row, Known}
-use Rattle.bq_board.specs.Cycles.{is_cyclic, HasPath, Reaches}
-use Rattle.bq_board.specs.Depth.{max_load_depth, is_too_deep}
-use Rattle.bq_board.specs.Cut.{IsCut}
+use Rattle.bq_board_plan.specs.Counts.{Has}
+use Rattle.bq_board_plan.specs.Graph.{Loads, row, Known}
+use Rattle.bq_board_plan.specs.Cycles.{is_cyclic, HasPath, Reaches}
+use Rattle.bq_board_plan.specs.Depth.{max_load_depth, is_too_deep}
+use Rattle.bq_board_plan.specs.Cut.{IsCut}
 use Rattle.bq_load_outcome_spec.specs.Outcome.{outcome, own, evaluated, values}
 use Rattle.bq_load_outcome_spec.specs.declared.outcome.Outcome.TheVariants.{Loaded, Cyclic, TooDeep, LoadFailed}
 

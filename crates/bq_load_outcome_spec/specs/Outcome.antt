@@ -1,9 +1,9 @@
 -- The outcome of each module of a load graph, by recursion along loads.
 -- `means m vs` is what the module m evaluates to by the values vs of its loads: its value, or its own fault.
 use Rattle.std.specs.Prelude.{◌≡◌, ℕ, zero, suc, cond, Bool, List, [], ◌∷◌, length, Result, Ok, Err}
-use Rattle.bq_board.specs.Graph.{Loads, row}
-use Rattle.bq_board.specs.Cycles.{is_cyclic, starts_path}
-use Rattle.bq_board.specs.Depth.{max_load_depth, is_too_deep}
+use Rattle.bq_board_plan.specs.Graph.{Loads, row}
+use Rattle.bq_board_plan.specs.Cycles.{is_cyclic, starts_path}
+use Rattle.bq_board_plan.specs.Depth.{max_load_depth, is_too_deep}
 use Rattle.bq_load_outcome_spec.specs.declared.outcome.Outcome.{Outcome}
 use Rattle.bq_load_outcome_spec.specs.declared.outcome.Outcome.TheVariants.{Loaded, Faulty, Cyclic, TooDeep, LoadFailed}
 

@@ -1,10 +1,10 @@
 //! What the recursion along loads means. Each function does nothing; its contract is the law.
 ghost use Rattle.std.specs.Prelude.{ℕ, List, Result};
-ghost use Rattle.bq_board.specs.Graph.{Loads};
+ghost use Rattle.bq_board_plan.specs.Graph.{Loads};
 ghost use Rattle.bq_load_outcome_spec.specs.Outcome.{HasOneSolution};
 ghost use Rattle.bq_load_outcome_spec.specs.Laws.{CyclicOutcome, TooDeepOutcome, FailedLoadOutcome, LoadedOutcome, OutcomeByPlan, OutcomeOfReached};
 
-use bq_board::{
+use bq_board_plan::{
     cyclic_is_a_path, cyclic_loads_a_cyclic, cyclic_reaches_a_cycle, loads_of_too_deep,
     too_deep_loads_a_deep,
 };

@@ -1,5 +1,5 @@
 use Rattle.std.proofs.Common.{◌+◌, length, get_or, ap, ◌∙◌}
-use Rattle.bq_board.proofs.Deep.{get_or-zeros}
+use Rattle.bq_board_plan.proofs.Deep.{get_or-zeros}
 use Rattle.bq_board.proofs.Keeps.{starts}
 use Rattle.bq_board.proofs.opening.free_table.Goals as goal
 

@@ -2,7 +2,7 @@ use Rattle.std.proofs.Common.{◌≡◌, ◌∙◌, ◌≤◌, List, [], Result,
 use Rattle.std.proofs.lemmas.Result.{err_from_is_err_and}
 use Rattle.bq_label.specs.Label.{LabelParts}
 use Rattle.bq_label_set.specs.Labels.{with_labels}
-use Rattle.bq_board.specs.Graph.{max_modules}
+use Rattle.bq_board_plan.specs.Graph.{max_modules}
 use Rattle.bq_load_discover.specs.declared.modules.Module.{Module}
 use Rattle.bq_load_discover.specs.declared.load_err.LoadErr.{LoadErr}
 use Rattle.bq_load_discover.specs.Module.{labels_of, AreValid}

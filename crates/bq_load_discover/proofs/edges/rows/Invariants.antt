@@ -1,5 +1,5 @@
 use Rattle.std.proofs.Common.{◌≡◌, take}
-use Rattle.bq_board.specs.Graph.{lists}
+use Rattle.bq_board_plan.specs.Graph.{lists}
 use Rattle.bq_load_discover.specs.Edges.{rows_of}
 use Rattle.bq_load_discover.proofs.edges.rows.Given as goal
 

@@ -1,5 +1,5 @@
 use Rattle.std.proofs.Common.{get_or}
-use Rattle.bq_board.proofs.Lemmas.{Has-get_or}
+use Rattle.bq_board_plan.proofs.Lemmas.{Has-get_or}
 use Rattle.bq_load_order.proofs.ImportedValues.{imports_begin, imports_next, imports_stop, imports_end}
 use Rattle.bq_load_order.proofs.imports.imported.Goals as goal
 

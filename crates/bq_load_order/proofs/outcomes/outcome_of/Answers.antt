@@ -1,6 +1,6 @@
 use Rattle.std.proofs.Common.{map, sym, ap, subst, ◌∙◌}
-use Rattle.bq_board.specs.Counts.{Has}
-use Rattle.bq_board.proofs.Lemmas.{loads_not_cyclic}
+use Rattle.bq_board_plan.specs.Counts.{Has}
+use Rattle.bq_board_plan.proofs.Lemmas.{loads_not_cyclic}
 use Rattle.bq_load_outcome_spec.specs.Outcome.{values}
 use Rattle.bq_load_order.specs.Shown.{seen, slot}
 use Rattle.bq_load_order.specs.Slots.{found_at}

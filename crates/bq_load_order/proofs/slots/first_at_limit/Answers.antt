@@ -1,7 +1,7 @@
 use Rattle.std.proofs.Common.{get_or, sym, ◌∙◌}
-use Rattle.bq_board.specs.Cycles.{starts_path}
-use Rattle.bq_board.specs.Depth.{max_load_depth}
-use Rattle.bq_board.proofs.Lemmas.{Has-get_or}
+use Rattle.bq_board_plan.specs.Cycles.{starts_path}
+use Rattle.bq_board_plan.specs.Depth.{max_load_depth}
+use Rattle.bq_board_plan.proofs.Lemmas.{Has-get_or}
 use Rattle.bq_load_order.proofs.Values.{first_next, first_stop}
 use Rattle.bq_load_order.proofs.slots.first_at_limit.Goals as goal
 

@@ -1,7 +1,7 @@
 use Rattle.std.proofs.Common.{◌≡◌, ℕ, ◌<◌, length, get_or, arith, sym}
 use Rattle.std.proofs.lemmas.List.{get_or_read}
-use Rattle.bq_board.specs.Cycles.{is_cyclic}
-use Rattle.bq_board.proofs.Lemmas.{Has-get_or}
+use Rattle.bq_board_plan.specs.Cycles.{is_cyclic}
+use Rattle.bq_board_plan.proofs.Lemmas.{Has-get_or}
 use Rattle.bq_load_order.proofs.Values.{first_next, first_stop}
 use Rattle.bq_load_order.proofs.slots.first_cyclic.Goals as goal
 

@@ -1,5 +1,5 @@
 use Rattle.std.proofs.Common.{◌≡◌, drop}
-use Rattle.bq_board.specs.Cycles.{is_cyclic}
+use Rattle.bq_board_plan.specs.Cycles.{is_cyclic}
 use Rattle.bq_load_outcome_spec.specs.Outcome.{first}
 use Rattle.bq_load_order.proofs.slots.first_cyclic.Given as goal
 

@@ -1,8 +1,8 @@
 use Rattle.std.proofs.Common.{◌≡◌, ◌+◌, length, sym, ap, ◌∙◌, subst, refl, arith, true≢false}
-use Rattle.bq_board.specs.Counts.{Has}
-use Rattle.bq_board.specs.Graph.{Loads}
+use Rattle.bq_board_plan.specs.Counts.{Has}
+use Rattle.bq_board_plan.specs.Graph.{Loads}
 use Rattle.bq_board.specs.Board.{Posted, edge_word}
-use Rattle.bq_board.specs.Plan.{start}
+use Rattle.bq_board_plan.specs.Plan.{start}
 use Rattle.bq_board.specs.Steps.{Fed}
 use Rattle.bq_board.proofs.Keeps.{looks, tries}
 use Rattle.bq_board.proofs.Hands.{sits_still}

@@ -1,5 +1,5 @@
 use Rattle.std.proofs.Common.{ℕ, ◌-◌, ◌<◌, ◌≤◌}
-use Rattle.bq_board.specs.Counts.{Has}
+use Rattle.bq_board_plan.specs.Counts.{Has}
 use Rattle.bq_board.specs.Seats.{SitsAt}
 use Rattle.bq_board.specs.Claims.{Saw}
 use Rattle.bq_board.proofs.board.Board.claim.Given as goal

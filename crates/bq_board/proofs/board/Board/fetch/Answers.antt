@@ -1,7 +1,7 @@
 use Rattle.std.proofs.Common.{◌≡◌, ◌∷◌, length, refl, arith, ap, sym, subst, ◌∙◌}
 use Rattle.std.specs.Prelude.{Some, IsSome}
 use Rattle.atomic_table.specs.Table.{rest}
-use Rattle.bq_board.specs.Graph.{Loads}
+use Rattle.bq_board_plan.specs.Graph.{Loads}
 use Rattle.bq_board.specs.Steps.{with_fetched}
 use Rattle.bq_board.proofs.Keeps.{fetches_edge}
 use Rattle.bq_board.proofs.Hands.{head_is, some_is, carry}

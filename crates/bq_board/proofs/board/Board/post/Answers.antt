@@ -1,10 +1,10 @@
 use Rattle.std.proofs.Common.{◌≡◌, ℕ, List, [], ◌∷◌, ◌++◌, length, arith, ap, sym, subst, ◌∙◌}
 use Rattle.std.specs.Prelude.{Some, None}
 use Rattle.atomic_table.specs.Table.{rest}
-use Rattle.bq_board.specs.Counts.{Has}
-use Rattle.bq_board.specs.Graph.{Loads}
+use Rattle.bq_board_plan.specs.Counts.{Has}
+use Rattle.bq_board_plan.specs.Graph.{Loads}
 use Rattle.bq_board.specs.Steps.{with_opened, with_posted}
-use Rattle.bq_board.proofs.Sums.{times_same}
+use Rattle.bq_board_plan.proofs.Sums.{times_same}
 use Rattle.bq_board.proofs.Keeps.{opens_edge, posts_edge}
 use Rattle.bq_board.proofs.board.Board.post.Goals as goal
 

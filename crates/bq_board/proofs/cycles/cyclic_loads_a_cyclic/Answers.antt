@@ -1,5 +1,0 @@
-use Rattle.bq_board.proofs.Going.{loads_a_cyclic}
-use Rattle.bq_board.proofs.cycles.cyclic_loads_a_cyclic.Goals as goal
-
-pub returns : goal.returns
-returns c p = loads_a_cyclic p

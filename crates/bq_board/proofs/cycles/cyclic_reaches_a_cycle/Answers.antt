@@ -1,5 +1,0 @@
-use Rattle.bq_board.proofs.Going.{reaches_a_cycle}
-use Rattle.bq_board.proofs.cycles.cyclic_reaches_a_cycle.Goals as goal
-
-pub returns : goal.returns
-returns c p = reaches_a_cycle p

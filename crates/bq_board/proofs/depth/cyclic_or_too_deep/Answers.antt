@@ -1,5 +1,0 @@
-use Rattle.bq_board.proofs.Deep.{not_both_is}
-use Rattle.bq_board.proofs.depth.cyclic_or_too_deep.Goals as goal
-
-pub returns : goal.returns
-returns c p = not_both_is p

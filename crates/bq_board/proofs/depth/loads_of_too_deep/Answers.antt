@@ -1,5 +1,0 @@
-use Rattle.bq_board.proofs.Deep.{deep_is_reached}
-use Rattle.bq_board.proofs.depth.loads_of_too_deep.Goals as goal
-
-pub returns : goal.returns
-returns c p = deep_is_reached p

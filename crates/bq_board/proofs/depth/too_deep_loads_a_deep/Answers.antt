@@ -1,5 +1,0 @@
-use Rattle.bq_board.proofs.Deep.{loads_a_deep}
-use Rattle.bq_board.proofs.depth.too_deep_loads_a_deep.Goals as goal
-
-pub returns : goal.returns
-returns c p = loads_a_deep p

@@ -1,5 +1,0 @@
-use Rattle.bq_board.proofs.Edges.{are_loads}
-use Rattle.bq_board.proofs.plan.edges_are_loads.Goals as goal
-
-pub returns : goal.returns
-returns c p = are_loads p

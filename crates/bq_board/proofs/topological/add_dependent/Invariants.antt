@@ -1,7 +1,0 @@
-use Rattle.std.proofs.Common.{take}
-use Rattle.bq_board.specs.Sorting.{Adds}
-use Rattle.bq_board.specs.Graph.{lists}
-use Rattle.bq_board.proofs.topological.add_dependent.Given as goal
-
-abbrev pub invariant-loop-l : goal.invariant-loop-l
-invariant-loop-l l = Adds l.u (take l.l-index l.loaded) (lists l.fn.dependents.items) (lists l.dependents.items)

@@ -1,0 +1,9 @@
+pub mod Counts
+pub mod Graph
+pub mod Cycles
+pub mod Depth
+pub mod Refusal
+pub mod Topological
+pub mod Sorting
+pub mod Plan
+pub mod Cut

@@ -1,0 +1,112 @@
+//! Load graphs: for each module, by number, the modules that it loads.
+ghost use Rattle.std.specs.Prelude.{◌≡◌, ℕ, ◌+◌, ◌<◌, ◌≤◌, ◌↔◌, List, [], length, vec_len, IfOk, OnOk, IfErr, IsTrue};
+ghost use Rattle.bq_board_plan.specs.Counts.{Has};
+ghost use Rattle.bq_board_plan.specs.Graph.{row, edges, Known, IsGraph, lists};
+ghost use Rattle.bq_board_plan.specs.Refusal.{Refused};
+
+use crate::refusal::PlanErr;
+use std::alloc::{AllocError, Global};
+use std::marker::Model;
+
+/// The most modules that a graph may have.
+pub const MAX_MODULES: usize = 16_384;
+
+/// The most edges that a graph may have: a module that is loaded twice makes two.
+pub const MAX_EDGES: usize = 262_144;
+
+/// For each module the modules that it loads. A contract sees it as the list of these lists.
+#[derive(Drop)]
+pub struct Graph {
+    pub(crate) rows: Vec<Vec<u32>>,
+}
+
+impl Model for Graph {
+    ghost Value = { List (List ℕ) };
+
+    ghost view = { λ g. lists g.rows.items };
+
+    ghost invariant = { λ g. IsGraph (lists g.rows.items) };
+}
+
+impl Graph {
+    /// Makes the graph in which module `m` loads the modules `rows[m]`, in this order.
+    /// P3 for too many modules or edges, then P2 for a loaded module that the graph doesn't have.
+    pub fn new(rows: Vec<Vec<u32>>) -> Result<Graph, PlanErr>
+        ensures graph { IfOk result (λ g. g ≡ lists rows.items) }
+        ensures valid { OnOk result (IsGraph (lists rows.items)) }
+        ensures refused { IfErr result (λ e. Refused (lists rows.items) e) }
+    {
+        if rows.len() > MAX_MODULES || !has_few_edges(rows.as_slice()) {
+            return Err(PlanErr::TooMany);
+        }
+        if !knows_all(rows.as_slice()) {
+            return Err(PlanErr::BadIndex);
+        }
+        Ok(Graph { rows })
+    }
+
+    /// Returns the number of modules.
+    pub fn len(&self) -> usize
+        ensures len { result ≡ length self.now }
+        ensures valid { IsGraph self.now }
+    {
+        self.rows.len()
+    }
+
+    /// Returns the modules that module `m` loads.
+    pub fn row(&self, m: usize) -> &[u32]
+        requires { m < length self.now }
+        ensures row { result.now ≡ row self.now m }
+        ensures valid { IsGraph self.now }
+    {
+        self.rows[m].as_slice()
+    }
+}
+
+/// Returns whether the rows have no more entries than a graph may have edges.
+fn has_few_edges(rows: &[Vec<u32>]) -> bool
+    ensures { IsTrue result ↔ (edges (lists rows.now) ≤ MAX_EDGES) }
+{
+    let mut left = MAX_EDGES;
+    for row in rows {
+        if row.len() > left {
+            return false;
+        }
+        left -= row.len();
+    }
+    true
+}
+
+/// Returns whether each entry is the number of a row.
+fn knows_all(rows: &[Vec<u32>]) -> bool
+    ensures { IsTrue result ↔ Known (lists rows.now) }
+{
+    for row in rows {
+        if !is_below(row.as_slice(), rows.len()) {
+            return false;
+        }
+    }
+    true
+}
+
+fn is_below(loaded: &[u32], bound: usize) -> bool
+    ensures { IsTrue result ↔ ((l : ℕ) → Has loaded.now l → l < bound) }
+{
+    for l in loaded {
+        if *l as usize >= bound {
+            return false;
+        }
+    }
+    true
+}
+
+/// Makes `n` rows without entries.
+pub(crate) fn empty_rows(alloc: Global, n: usize) -> Result<Vec<Vec<u32>>, AllocError>
+    ensures { IfOk result (λ v. (vec_len v ≡ n) × ((m : ℕ) → row (lists v.items) m ≡ [])) }
+{
+    let mut rows = Vec::new(alloc);
+    for _ in 0..n {
+        rows.push(Vec::new(alloc))?;
+    }
+    Ok(rows)
+}

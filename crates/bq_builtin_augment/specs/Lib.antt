@@ -1,0 +1,1 @@
+pub use Rattle.bq_builtin_in_place.specs.InPlace
