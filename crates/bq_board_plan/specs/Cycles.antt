@@ -14,6 +14,7 @@ unfoldable pub starts_path : Loads → ℕ → ℕ → Bool
 starts_path p zero m = true
 starts_path p (suc n) m = list_any (starts_path p n) (row p m)
 
+-- a path of loads leads from `m` through as many modules as there are, and one more: so it comes to one of them twice
 abbrev pub is_cyclic : Loads → ℕ → Bool
 is_cyclic p m = starts_path p (suc (length p)) m
 

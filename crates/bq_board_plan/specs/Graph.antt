@@ -4,6 +4,7 @@ use Rattle.std.specs.declared.alloc.Global.{Global}
 use lib.ListN.{get_or}
 use Rattle.bq_board_plan.specs.Counts.{Has}
 
+-- the load graph: for each module, by its number, the numbers of those that it loads, in source order
 abbrev pub Loads : Type 0
 Loads = List (List ℕ)
 
@@ -32,9 +33,11 @@ Known p = (m l : ℕ) → Has (row p m) l → l < length p
 abbrev pub max_modules : ℕ
 max_modules = 16384
 
+-- the most loads that one graph has
 abbrev pub max_edges : ℕ
 max_edges = 262144
 
+-- the graph keeps both limits
 abbrev pub Fits : Loads → Type 0
 Fits p = (length p ≤ max_modules) × (edges p ≤ max_edges)
 
