@@ -1,11 +1,14 @@
 -- The names that glob gives, one file after another, and in words.
-use Rattle.std.proofs.Common.{◌≡◌, ◌+◌, ◌<◌, ◌≤◌, ◌++◌, ℕ, true, false, List, [], ◌∷◌, Some, None, length, drop, get_or, refl, sym, ap, ◌∙◌, inl, inr, append_assoc, append-nil}
+use Rattle.std.proofs.Common.{◌≡◌, ◌+◌, ◌<◌, ◌≤◌, ◌++◌, ◌&&◌, ℕ, Bool, true, false, not, List, [], ◌∷◌, Some, None, length, drop, get_or, refl, sym, ap, ◌∙◌, inl, inr, append_assoc, append-nil}
 use Rattle.std.proofs.lemmas.Bool.{cases_Bool}
 use Rattle.std.proofs.lemmas.List.{drop_more, drop_all}
-use Rattle.std.specs.List.{filter, cons_option}
+use Rattle.std.specs.List.{filter, cons_option, list_any}
 use Rattle.bq_label.specs.declared.workspace.File.{File}
 use Rattle.bq_label.specs.declared.packages.BuildFile.{BuildFile}
 use Rattle.bq_label.specs.Label.{PackageParts}
+use Rattle.bq_label_glob_pattern.specs.Matching.{matches}
+use Rattle.bq_label_glob_pattern.specs.PatternSet.{is_match}
+use Rattle.bq_label_glob_pattern.specs.declared.pattern_set.PatternSet.{PatternSet}
 use Rattle.bq_label_glob.specs.Names.{directory, is_beneath, is_owned, name_in, names_in, is_wanted, glob}
 
 next_file : (files : List File) (i : ℕ) (f : File) → i < length files → f ≡ get_or files i f → drop i files ≡ f ∷ drop (i + 1) files
@@ -100,3 +103,9 @@ module _ (packages : List BuildFile) (p : PackageParts) where
     pub rest_is_none : (files : List File) (i : ℕ) (given total : List (List ℕ)) → length files ≤ i → given ++ glob (drop i files) packages p include exclude ≡ total → given ≡ total
     rest_is_none files i given total l h =
         sym (append-nil given) ∙ (ap (λ (v : List (List ℕ)). given ++ v) (sym (ap (λ (v : List File). glob v packages p include exclude) (drop_all i files l) ∙ none_given)) ∙ h)
+
+-- a name that a set of patterns matches and the excluded one doesn't is wanted
+pub wanted_is : (include exclude : List (List ℕ)) (i e : PatternSet) → ((n : List ℕ) → is_match i n ≡ list_any (λ p. matches p n) include) → ((n : List ℕ) → is_match e n ≡ list_any (λ p. matches p n) exclude) → (n : List ℕ) (r : Bool) → r ≡ (is_match i n && not (is_match e n)) → r ≡ is_wanted include exclude n
+unfolding is_wanted
+wanted_is include exclude i e f g n r h =
+    h ∙ (ap (λ (b : Bool). b && not (is_match e n)) (f n) ∙ ap (λ (b : Bool). list_any (λ p. matches p n) include && not b) (g n))

@@ -1,7 +1,8 @@
 -- A package owns nothing beneath the directory of another package that owns a path beneath its own directory.
-use Rattle.std.proofs.Common.{◌≡◌, ◌≢◌, ◌++◌, ◌⊎◌, ◌∙◌, ℕ, true, false, List, [], ◌∷◌, Option, Some, None, length, take, drop, codes, refl, sym, ap, subst, arith, inl, inr, append_assoc}
-use Rattle.std.specs.Prelude.{IfSome, IsSomeAnd}
+use Rattle.std.proofs.Common.{◌≡◌, ◌≢◌, ◌++◌, ◌⊎◌, ◌∙◌, ℕ, Bool, true, false, List, [], ◌∷◌, Option, Some, None, length, take, drop, codes, refl, sym, ap, subst, arith, inl, inr, append_assoc}
+use Rattle.std.specs.Prelude.{IfSome, MatchOption}
 use Rattle.std.proofs.lemmas.Bool.{cases_Bool, false≢true}
+use Rattle.std.proofs.lemmas.List.{nil_from_length}
 use Rattle.std.proofs.Math.Seq.{drop-append_seam, take-append_seam}
 use Rattle.bq_label.specs.declared.packages.BuildFile.{BuildFile}
 use Rattle.bq_label.specs.Label.{PackageParts, package_at}
@@ -10,7 +11,7 @@ use Rattle.bq_label.specs.Packages.{label_path, owner_of, joined, repository_roo
 use Rattle.bq_label.proofs.LabelFiles.{path_from_words}
 use Rattle.bq_label.proofs.Owners.{owner_at}
 use Rattle.bq_label.proofs.Repositories.{in_repository, some_parts}
-use Rattle.bq_label_glob.specs.Names.{directory, is_beneath, is_owned, OwnsNothingBeneath}
+use Rattle.bq_label_glob.specs.Names.{directory, is_beneath, is_package, is_owned, OwnsNothingBeneath}
 use Rattle.bq_label_glob.proofs.Beneath.{beneath_whole}
 use Rattle.bq_label_glob.proofs.GivenNames.{owned_words, words_owned}
 
@@ -72,16 +73,12 @@ is_over b path name repo rest same whole beneath =
     sym (drop-append_seam (repository_root repo) rest) ∙ (ap (drop (length (repository_root repo))) there ∙ drop-append_seam (repository_root repo) (joined b.id.package [] ++ name)) in
     record { repo_is = same; above = after_slash b.id.package name rest after }
 
-empty_by_length : (xs : List ℕ) → length xs ≡ 0 → xs ≡ []
-empty_by_length [] e = refl
-empty_by_length (x ∷ xs) e = absurd (cc)
-
 -- of two packages that are over a path, of which neither is longer, one is the other
 same_path : (repo rest : List ℕ) (a b : BuildFile) → IsOver repo rest a → IsOver repo rest b → length a.id.package ≡ length b.id.package → a.id.package ≡ b.id.package
 same_path repo rest a b x y long = elim x.above [
-  | inl root ↦ root ∙ sym (empty_by_length b.id.package (sym long ∙ ap length root))
+  | inl root ↦ root ∙ sym (nil_from_length b.id.package (sym long ∙ ap length root))
   | inr up ↦ elim y.above [
-    | inl root ↦ empty_by_length a.id.package (long ∙ ap length root) ∙ sym root
+    | inl root ↦ nil_from_length a.id.package (long ∙ ap length root) ∙ sym root
     | inr over ↦
         sym (take-append_seam a.id.package (47 ∷ up.0))
         ∙ (ap (take (length a.id.package)) (sym up.1 ∙ over.1) ∙ (ap (λ (n : ℕ). take n (b.id.package ++ 47 ∷ over.0)) long ∙ take-append_seam b.id.package (47 ∷ over.0)))
@@ -130,6 +127,10 @@ module _ (packages : List BuildFile) (p : PackageParts) (path other : List ℕ) 
       let repo_same : o.id.repo ≡ b.id.repo = repo_of_o ∙ (one_repository ∙ sym repo_of_b) in
       (ap (λ (r : List ℕ). package_at r o.id.package) repo_same ∙ ap (λ (t : List ℕ). package_at b.id.repo t) path_same) ∙ is
 
+pub owned_by : (packages : List BuildFile) (p : PackageParts) (path : List ℕ) (o : Option BuildFile) → o ≡ owner_of packages path → is_owned packages p path ≡ is_package p o
+unfolding is_owned
+owned_by packages p path o e = ap (is_package p) (sym e)
+
 pub owns_nothing_beneath : (packages : List BuildFile) (p : PackageParts) (path : List ℕ) (o : BuildFile) → owner_of packages path ≡ Some o → is_beneath (directory p) path ≡ true → is_owned packages p path ≡ false
     → OwnsNothingBeneath packages p (directory o.id)
 owns_nothing_beneath packages p path o owns beneath not other below = elim (cases_Bool (is_owned packages p other)) [
@@ -141,7 +142,7 @@ owns_nothing_beneath packages p path o owns beneath not other below = elim (case
 ]
 
 -- what is beneath the other directory, if there is one, the package doesn't own
-pub not_in_other : {A : Type 0} (dir : A → List ℕ) (packages : List BuildFile) (p : PackageParts) (other : Option A) (path : List ℕ) → IsSomeAnd other (λ d. is_beneath (dir d) path ≡ true)
+pub not_in_other : {A : Type 0} (dir : A → List ℕ) (packages : List BuildFile) (p : PackageParts) (other : Option A) (path : List ℕ) (found : Bool) → MatchOption other (found ≡ false) (λ d. found ≡ is_beneath (dir d) path) → found ≡ true
     → IfSome other (λ d. OwnsNothingBeneath packages p (dir d)) → is_owned packages p path ≡ false
-not_in_other dir packages p None path h k = absurd h
-not_in_other dir packages p (Some d) path h k = k path h
+not_in_other dir packages p None path found h y k = absurd (false≢true (sym h ∙ y))
+not_in_other dir packages p (Some d) path found h y k = k path (sym h ∙ y)

@@ -1,6 +1,1 @@
-pub mod Matching
-pub mod Segment
-pub mod Step
-pub mod Pattern
-pub mod PatternSet
 pub mod Names

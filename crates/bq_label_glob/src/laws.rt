@@ -1,26 +1,12 @@
 //! Laws of the definitions. The gate proves what a contract names, so each law is the contract of a function that does
 //! nothing.
 
-ghost use Rattle.std.specs.Prelude.{◌≡◌, ◌↔◌, List, ℕ, true, false};
-ghost use Rattle.std.specs.List.{list_any};
+ghost use Rattle.std.specs.Prelude.{List, ℕ};
 ghost use Rattle.bq_label.specs.declared.workspace.File.{File};
 ghost use Rattle.bq_label.specs.declared.packages.BuildFile.{BuildFile};
 ghost use Rattle.bq_label.specs.Label.{PackageParts};
 ghost use Rattle.bq_label.specs.Workspace.{IsWorkspace};
 ghost use Rattle.bq_label_glob.specs.Names.{glob, IsGiven, AreThose, Ascend, IsOwned, HasName};
-ghost use Rattle.bq_label_glob.specs.Matching.{matches, is_star, Matches};
-
-/// A path matches a pattern exactly where its segments can be cut as the pattern's segments say.
-#[tactic(auto, using(crate::proofs::Cuttings::cuttings))]
-pub fn cuts_of_a_path()
-    ensures { (pattern path : List ℕ) → (matches pattern path ≡ true) ↔ Matches pattern path }
-{}
-
-/// A pattern without a star matches itself alone.
-#[tactic(auto, using(crate::proofs::Literals::itself_alone))]
-pub fn a_plain_pattern_matches_itself_alone()
-    ensures { (pattern path : List ℕ) → list_any is_star pattern ≡ false → (matches pattern path ≡ true) ↔ (pattern ≡ path) }
-{}
 
 /// A name is returned exactly if it is that of a file of the package that some pattern includes and none excludes.
 pub fn what_glob_gives()

@@ -1,15 +1,14 @@
 //! The files of a package that some pattern matches and no excluded one.
 
-ghost use Rattle.std.specs.Prelude.{◌≡◌, ◌≤◌, ◌&&◌, not, true, false, length, drop, IfOk, IfSome, IsSomeAnd, MatchOption};
+ghost use Rattle.std.specs.Prelude.{◌≡◌, ◌≤◌, ◌&&◌, not, true, false, length, drop, Some, IfOk, MatchOption};
 ghost use Rattle.std.specs.List.{filter};
 ghost use Rattle.std.specs.List.Sorted.{IsPartitionPoint};
-ghost use Rattle.bq_label_glob.specs.Names.{directory, is_before, is_beneath, is_owned, OwnsNothingBeneath, glob};
-ghost use Rattle.bq_label_glob.specs.PatternSet.{is_match};
+ghost use Rattle.bq_label_glob.specs.Names.{directory, is_before, is_beneath, is_package, glob};
+ghost use Rattle.bq_label_glob_pattern.specs.PatternSet.{is_match};
 
-use crate::pattern::Pattern;
-use crate::pattern_set::PatternSet;
 use bq_base::Bytes;
-use bq_label::{File, PackageId, Packages, Workspace};
+use bq_label::{BuildFile, File, PackageId, Packages, Workspace};
+use bq_label_glob_pattern::{Pattern, PatternSet};
 use std::alloc::{AllocError, Global};
 
 /// Returns what precedes the names of a package's files: `external/NAME/` outside the main repository, then the
@@ -61,39 +60,17 @@ fn name_after<'a>(above: &[u8], path: &'a [u8]) -> Option<&'a [u8]>
     Some(&path[above.len()..])
 }
 
-/// Returns whether the package owns the path.
-#[tactic(auto, unfolding(crate::specs::Names::is_owned))]
-fn is_owned(packages: &Packages, id: &PackageId, path: &[u8]) -> bool
-    ensures { result ≡ is_owned packages.now id.now path.now }
+/// Returns whether a package is the one of this name.
+fn is_package(id: &PackageId, found: &BuildFile) -> bool
+    ensures { result ≡ is_package id.now (Some found.now) }
 {
-    let Some(owner) = packages.owner_of(path) else {
-        return false;
-    };
-    owner.id.repo().as_slice() == id.repo().as_slice()
-        && owner.id.package().as_slice() == id.package().as_slice()
-}
-
-/// Returns the directory of the package that owns the path, if one does. This package owns nothing beneath it.
-#[tactic(auto, using(crate::proofs::Others::owns_nothing_beneath))]
-fn other_directory(
-    alloc: Global,
-    packages: &Packages,
-    id: &PackageId,
-    path: &[u8],
-) -> Result<Option<Vec<u8>>, AllocError>
-    requires beneath { is_beneath (directory id.now) path.now ≡ true }
-    requires another { is_owned packages.now id.now path.now ≡ false }
-    ensures { IfOk result (λ other. IfSome other (λ dir. OwnsNothingBeneath packages.now id.now dir.items)) }
-{
-    match packages.owner_of(path) {
-        Some(owner) => Ok(Some(directory(alloc, &owner.id)?)),
-        None => Ok(None),
-    }
+    found.id.repo().as_slice() == id.repo().as_slice()
+        && found.id.package().as_slice() == id.package().as_slice()
 }
 
 /// Returns whether the path goes on after the directory, if there is one.
 fn is_in_other(other: &Option<Vec<u8>>, path: &[u8]) -> bool
-    ensures { result ≡ true → IsSomeAnd other.now (λ dir. is_beneath dir.items path.now ≡ true) }
+    ensures { MatchOption other.now (result ≡ false) (λ dir. result ≡ is_beneath dir.items path.now) }
 {
     match other {
         Some(dir) => path.starts_with(dir),
@@ -126,7 +103,7 @@ pub fn glob(
     let included = PatternSet::of(alloc, include)?;
     let excluded = PatternSet::of(alloc, exclude)?;
     let mut names = Vec::new(alloc);
-    let mut other = None; // a directory beneath which the package owns nothing
+    let mut other = None; // the directory of another package, beneath which this one owns nothing
     let files = files_beneath(workspace, &above);
     for file in files {
         let path = file.path.as_slice();
@@ -140,8 +117,11 @@ pub fn glob(
         if !is_wanted(&included, &excluded, name) {
             continue;
         }
-        if !is_owned(packages, id, path) {
-            other = other_directory(alloc, packages, id, path)?;
+        let Some(owner) = packages.owner_of(path) else {
+            continue;
+        };
+        if !is_package(id, owner) {
+            other = Some(directory(alloc, &owner.id)?);
             continue;
         }
         names.push(Bytes::from_slice(alloc, name)?)?;

@@ -26,7 +26,7 @@ use Rattle.bq_value.specs.Pairs.{put, found as key_found}
 use Rattle.bq_builtin_machine.specs.Args.{Passed}
 use Rattle.bq_builtin_machine.specs.Parameters.{SignatureView, is_called}
 use Rattle.bq_builtin_machine.specs.Binding.{BoundView, Binding, fill, fill_by, take_keyword, take_named, take_named_by, take_all_named, and_bind, is_complete, if_complete, too_many, placed, bind}
-use Rattle.bq_label_glob.specs.Pattern.{is_pattern}
+use Rattle.bq_label_glob_pattern.specs.Pattern.{is_pattern}
 use Rattle.bq_package_host.specs.Refusals.{is_refusal, Refuses}
 use Rattle.bq_package_attributes.specs.declared.arguments.Given.{Given}
 use Rattle.bq_package_typed_value.specs.declared.label_texts.TextKind.{TextKind}

@@ -9,7 +9,7 @@ use Rattle.bq_value.specs.Cells.{StoreView}
 use Rattle.bq_value_compare.specs.Truth.{truth_of}
 use Rattle.bq_builtin_machine.specs.Args.{Passed}
 use Rattle.bq_builtin_machine.specs.Binding.{bind}
-use Rattle.bq_label_glob.specs.Pattern.{is_pattern}
+use Rattle.bq_label_glob_pattern.specs.Pattern.{is_pattern}
 use Rattle.bq_label_glob.specs.Names.{glob}
 use Rattle.bq_package_typed_value.specs.Steps.{and_then, in_turn}
 use Rattle.bq_package.specs.declared.glob.GlobRequest.{GlobRequest}

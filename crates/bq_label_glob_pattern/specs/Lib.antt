@@ -1,0 +1,5 @@
+pub mod Matching
+pub mod Segment
+pub mod Step
+pub mod Pattern
+pub mod PatternSet
