@@ -5,7 +5,7 @@ use Rattle.std.proofs.Common.{◌⊎◌, inl, inr}
 use Rattle.bq_value_datum.specs.Class.{Class}
 use Rattle.bq_value_datum.specs.Datum.{Datum}
 use Rattle.bq_value_datum.specs.Codes.{coded_class, coded_datum}
-use Rattle.bq_value_content.specs.Pairs.{HasNoKeyTwice}
+use Rattle.bq_value_dict.specs.Pairs.{HasNoKeyTwice, coded_pairs}
 
 -- what a cell holds: a list's elements, a dict's pairs in order, or a rule's class
 pub data Contents : Type 0 where
@@ -32,9 +32,6 @@ pub from_sum-to_sum : (c : Contents) → from_sum (to_sum c) ≡ c
 from_sum-to_sum (items v) = refl
 from_sum-to_sum (pairs v) = refl
 from_sum-to_sum (rule c) = refl
-
-abbrev pub coded_pairs : Coded (List (Datum × Datum))
-coded_pairs = coded_list (coded× coded_datum coded_datum)
 
 abbrev pub coded_contents : Coded Contents
 coded_contents =

@@ -1,4 +1,3 @@
-pub mod Pairs
 pub mod Contents
 pub mod ContentOf
 pub mod Kinds

@@ -3,8 +3,8 @@
 ghost use Rattle.std.specs.Prelude.{◌≡◌, Some};
 ghost use Rattle.bq_value_content.specs.Contents.{items, pairs, rule, KeysDiffer};
 
-use crate::dict::Dict;
 use bq_value_datum::{RuleClass, Value};
+use bq_value_dict::Dict;
 use std::marker::Model;
 
 /// A list, a dict or a rule. Contracts see its `Contents`.

@@ -11,7 +11,7 @@ use Rattle.bq_value_datum.proofs.value.Value.TheLaws.TheKnot as Knot
 use Rattle.bq_value.proofs.tree.Tree.TheLaws.TheKnot as Trees
 use Rattle.bq_value_datum.specs.contracts.value.Value as Value
 use Rattle.bq_value_datum.specs.contracts.key.Key as Key
-use Rattle.bq_value_content.specs.contracts.dict.Dict as Dict
+use Rattle.bq_value_dict.specs.contracts.dict.Dict as Dict
 use Rattle.bq_value_content.specs.contracts.content.Content as Content
 use Rattle.bq_value_content.specs.contracts.kinds.Kinds as Kinds
 use Rattle.bq_value.specs.contracts.shared.Shared as Shared

@@ -1,9 +1,12 @@
-use Rattle.std.proofs.Common.{◌≡◌, ◌∙◌, ap, sym, ◌++◌, ◌∷◌, [], cond, true, false, is_some, None, nat_eq}
+use Rattle.std.proofs.Common.{◌≡◌, ◌∙◌, ap, sym, refl, ◌++◌, ◌∷◌, [], cond, true, false, is_some, Option, Some, None, nat_eq}
 use Rattle.indexmap.specs.IndexMap.{get}
 use Rattle.indexmap.proofs.CallerLemmas.{insert_entry-new}
 use Rattle.bq_value_content.specs.Kinds.{kind_at, with_kind}
-use Rattle.bq_value_content.proofs.Gaps.{none_of}
 use Rattle.bq_value_content.proofs.kinds.Kinds.add.Goals as goal
+
+none_of : {A : Type 0} (o : Option A) → is_some o ≡ false → o ≡ None
+none_of (Some x) h = absurd (cc)
+none_of None h = refl
 
 pub returns-then-contains_key : goal.returns-then-contains_key
 unfolding with_kind

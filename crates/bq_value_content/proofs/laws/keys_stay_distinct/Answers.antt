@@ -1,8 +1,0 @@
-use Rattle.bq_value_content.proofs.Puts.{once_put, once_without}
-use Rattle.bq_value_content.proofs.laws.keys_stay_distinct.Goals as goal
-
-pub returns-clause-put : goal.returns-clause-put
-returns-clause-put c = once_put
-
-pub returns-clause-without : goal.returns-clause-without
-returns-clause-without c = once_without

@@ -1,5 +1,0 @@
-use Rattle.bq_value_content.proofs.Puts.{keys_put}
-use Rattle.bq_value_content.proofs.laws.places_of_keys.Goals as goal
-
-pub returns : goal.returns
-returns c = keys_put
