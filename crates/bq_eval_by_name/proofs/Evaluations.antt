@@ -12,8 +12,8 @@ use Rattle.bq_eval_by_name_expression_laws.specs.Alike.{Alike}
 use Rattle.bq_eval_by_name_expression_laws.specs.Shows.{Reads}
 use Rattle.bq_eval_by_name_spec.specs.Names.{Env}
 use Rattle.bq_eval_by_name_module_laws.proofs.Agreement.{module_alike}
-use Rattle.bq_eval_operations.specs.Calling.{HostCalls}
-use Rattle.bq_eval_operations.specs.Runtime.{primitives}
+use Rattle.bq_eval.specs.Calling.{HostCalls}
+use Rattle.bq_eval.specs.Runtime.{primitives}
 use Rattle.bq_eval.specs.Module as by_slots
 use Rattle.bq_eval.specs.Module.{Ended, evaluated, failed, first_store, fault_of}
 use Rattle.bq_eval_by_name.specs.Agreement.{IsCodeOf, AreCodesOf, EvaluationsAgree}

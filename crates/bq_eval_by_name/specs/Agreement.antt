@@ -12,8 +12,8 @@ use Rattle.bq_eval_meaning_spec.specs.Module as slots
 use Rattle.bq_eval_by_name_spec.specs.Names.{Env}
 use Rattle.bq_eval_by_name_module_laws.specs.Ends.{Gives, AllBound, PartsAreCounted}
 use Rattle.bq_eval_by_name_module_laws.specs.Units.{UnitsAgree}
-use Rattle.bq_eval_operations.specs.Calling.{HostCalls}
-use Rattle.bq_eval_operations.specs.Runtime.{primitives}
+use Rattle.bq_eval.specs.Calling.{HostCalls}
+use Rattle.bq_eval.specs.Runtime.{primitives}
 use Rattle.bq_eval.specs.Module as by_slots
 use Rattle.bq_eval_by_name.specs.Evaluation.{ParsedFile, values_named, frozen_units, frozen_values, ended, kept_after, module_run}
 use Rattle.bq_eval_by_name.specs.Loads.{load_line, file_loads}

@@ -12,8 +12,8 @@ use Rattle.bq_eval_meaning_spec.specs.Module.{globals_among}
 use Rattle.bq_eval_by_name_spec.specs.Calls.{TreeUnit, Units}
 use Rattle.bq_eval_by_name_spec.specs.Module as meaning
 use Rattle.bq_eval_by_name_spec.specs.Names.{Env}
-use Rattle.bq_eval_operations.specs.Calling.{HostCalls}
-use Rattle.bq_eval_operations.specs.Runtime.{primitives}
+use Rattle.bq_eval.specs.Calling.{HostCalls}
+use Rattle.bq_eval.specs.Runtime.{primitives}
 use Rattle.bq_eval.specs.Module.{Ended, evaluated, failed, first_store, or_none, fault_of}
 
 -- a file as it is parsed: the names that every file of its kind has, and its statements

@@ -2,7 +2,7 @@
 
 ghost use Rattle.std.specs.Prelude.{List};
 ghost use Rattle.bq_resolve_scope.specs.Names.{Name};
-ghost use Rattle.bq_eval_operations.specs.Calling.{HostCalls};
+ghost use Rattle.bq_eval.specs.Calling.{HostCalls};
 ghost use Rattle.bq_eval_by_name.specs.Agreement.{LoadsAreKept, GlobalsAreKept, FrozenModulesKeepTheirGlobals, FrozenUnitsAgree, EvaluationsAgree, GlobalsAreBound, UnpackingCounts};
 
 /// A resolved file has the loads and the globals of the file that was parsed.

@@ -5,7 +5,7 @@ pub use Rattle.bq_value_datum.specs.Same
 pub use Rattle.bq_value_datum.specs.SameLaws
 pub use Rattle.bq_value_datum.specs.Key
 pub use Rattle.bq_value_datum.specs.declared.value.Cell
-pub use Rattle.bq_value_dict.specs.Pairs
+pub use Rattle.bq_value_content.specs.Pairs
 pub use Rattle.bq_value_content.specs.Contents
 pub use Rattle.bq_value_content.specs.Kinds
 pub use Rattle.bq_value_content.specs.contracts.content.Content

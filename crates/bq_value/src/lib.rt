@@ -25,9 +25,8 @@ mod shared;
 mod store;
 mod tree;
 
-pub use bq_value_content::{Body, Content};
+pub use bq_value_content::{Body, Content, Dict};
 pub use bq_value_datum::{Cell, Function, Key, Node, Range, Value};
-pub use bq_value_dict::Dict;
 pub use error::EvalErr;
 pub use frozen::{Frozen, freeze};
 pub use shared::Cells;

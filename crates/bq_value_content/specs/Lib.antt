@@ -1,3 +1,4 @@
+pub use Rattle.bq_value_dict.specs.Pairs
 pub mod Contents
 pub mod ContentOf
 pub mod Kinds

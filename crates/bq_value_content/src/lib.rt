@@ -15,6 +15,7 @@ mod content;
 mod kinds;
 mod made;
 
+pub use bq_value_dict::Dict;
 pub use content::{Body, Content};
 pub use kinds::{Kinds, kinds_of};
 pub use made::Made;
