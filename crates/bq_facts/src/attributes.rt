@@ -8,8 +8,8 @@ ghost use Rattle.bq_facts.specs.Members.{further_members};
 
 use crate::labels::{push_label, push_labels};
 use bq_facts_json::{push_bool, push_int, push_key, push_string, push_strings};
-use bq_value_rule_class::AttributeValue;
 use bq_package_target::GivenAttribute;
+use bq_value_rule_class::AttributeValue;
 use std::alloc::{AllocError, Global};
 
 /// Appends the value of an attribute.

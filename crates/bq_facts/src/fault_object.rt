@@ -8,9 +8,9 @@ ghost use Rattle.bq_facts.specs.FaultObject.{file_labelled, what_members, where_
 
 use crate::members::{next_string, open_with_string};
 use bq_base::SourceErr;
+use bq_base_fault_line::FaultLine;
 use bq_facts_json::{close_object, next_key, push_number};
 use bq_label::{PackageId, label_path, read_label};
-use bq_base_fault_line::FaultLine;
 use std::alloc::{AllocError, Global};
 
 /// Returns the path of the file with this label, which is in full.

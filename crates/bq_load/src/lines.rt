@@ -9,9 +9,9 @@ ghost use Rattle.bq_load.specs.Loaded.{line_of, lines_of, fault_lines, print_lin
 use crate::outcome::ModuleOutcome;
 use crate::results::shown;
 use bq_base::Bytes;
+use bq_base_fault_line::{FaultLine, FaultLines};
 use bq_base_rope::Rope;
 use bq_label::Label;
-use bq_base_fault_line::{FaultLine, FaultLines};
 use bq_load_module::FailedModule;
 use std::alloc::{AllocError, Global};
 

@@ -7,9 +7,9 @@ ghost use Rattle.bq_load.specs.Loaded.{IsGathered};
 use crate::lines::{fault_lines, print_lines};
 use crate::outcome::ModuleOutcome;
 use crate::packages::packages_in;
+use bq_base_fault_line::FaultLines;
 use bq_base_rope::Rope;
 use bq_label::Packages;
-use bq_base_fault_line::FaultLines;
 use bq_package_list::PackageList;
 use std::alloc::{AllocError, Global};
 

@@ -4,9 +4,9 @@ ghost use Rattle.bq_load.specs.Coded.{AreCoded};
 
 use crate::source::{Source, Sources};
 use bq_board::Graph;
-use bq_package_host::BuiltIns;
 use bq_label::{Packages, Workspace};
 use bq_load_discover::LoadGraph;
+use bq_package_host::BuiltIns;
 use bq_package_schema::{Schema, rule_names};
 use bq_resolve_scope::Resolved;
 use bq_value_seed::Seed;

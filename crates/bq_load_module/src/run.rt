@@ -11,8 +11,8 @@ ghost use Rattle.bq_load_module.specs.Run.{without_cells, module_with, module_by
 use crate::outcome::{FailedModule, LoadedModule};
 use bq_base::Bytes;
 use bq_eval::{EvaluatedFile, FileOutcome, ResolvedModule, eval_module};
-use bq_package_host::BuiltIns;
 use bq_package::BuildHost;
+use bq_package_host::BuiltIns;
 use bq_package_target::PackageState;
 use bq_value::{Frozen, Store, freeze};
 use bq_value_seed::Seed;

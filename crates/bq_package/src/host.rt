@@ -17,14 +17,14 @@ use crate::building::{BuildHost, Building};
 use crate::place::Place;
 use bq_base::{Bytes, FaultKind};
 use bq_builtin_machine::{Args, Machine, Signature, bind};
-use bq_package_host::Host;
 use bq_label::{Label, PackageId, Packages, Workspace};
-use bq_value_rule_class::{AttributeValue, RuleClass};
+use bq_package_host::Host;
 use bq_package_schema::Schema;
 use bq_package_target::{Declared, PackageState, Target};
 use bq_package_typed_value::{Scope, Written, typed};
 use bq_resolve_predeclared::HostFunction;
 use bq_value::{EvalErr, Value};
+use bq_value_rule_class::{AttributeValue, RuleClass};
 use bq_value_seed::Seed;
 use std::alloc::{AllocError, Global};
 

@@ -10,10 +10,10 @@ use crate::place::Place;
 use bq_base::{Bytes, FaultKind};
 use bq_builtin_machine::Args;
 use bq_package_attributes::{Callee, declaration};
-use bq_value_rule_class::RuleClass;
 use bq_package_schema::rule_names;
 use bq_package_target::Target;
 use bq_value::{EvalErr, Store};
+use bq_value_rule_class::RuleClass;
 use std::alloc::Global;
 
 impl<'a> Place<'a> {

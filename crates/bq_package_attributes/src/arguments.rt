@@ -10,10 +10,10 @@ ghost use Rattle.bq_package_attributes.specs.Arguments.{is_none, keyword, with_n
 use crate::named::{Held, Keywords};
 use bq_base::{Bytes, FaultKind};
 use bq_label::Label;
-use bq_value_rule_class::{AttributeValue, RuleClass};
 use bq_package_target::{GivenAttribute, attribute_type};
 use bq_package_typed_value::{Scope, TextKind, label, text_in, value_as};
 use bq_value::{Dict, EvalErr, Key, Node, Store, Value};
+use bq_value_rule_class::{AttributeValue, RuleClass};
 use sqlite_items::Items;
 use std::alloc::{AllocError, Global};
 

@@ -9,10 +9,10 @@ ghost use Rattle.bq_package_host.specs.Host.{HostCalls};
 
 use bq_base::Bytes;
 use bq_builtin_machine::{Args, Machine};
-use bq_value_rule_class::{AttributeValue, RuleClass};
 use bq_package_typed_value::Written;
 use bq_resolve_predeclared::HostFunction;
 use bq_value::{EvalErr, Value};
+use bq_value_rule_class::{AttributeValue, RuleClass};
 use std::alloc::Global;
 
 /// Carries out the functions of a host, and the calls of rules that .bzl files declare.

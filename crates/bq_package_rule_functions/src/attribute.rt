@@ -9,10 +9,10 @@ use crate::keywords::{bind_attribute, documented};
 use bq_base::FaultKind;
 use bq_builtin_machine::Args;
 use bq_package_host::Host;
-use bq_value_rule_class::{Attribute, AttributeType, AttributeValue};
 use bq_package_typed_value::{Written, argument, written_as};
 use bq_value::{EvalErr, Node, Store, Value};
 use bq_value_compare::truth;
+use bq_value_rule_class::{Attribute, AttributeType, AttributeValue};
 use std::alloc::Global;
 
 /// Returns the default as it is written, if one is given that isn't `None`.

@@ -12,9 +12,9 @@ use crate::rule::class;
 use bq_base::{Bytes, FaultKind};
 use bq_builtin_machine::{Args, Machine};
 use bq_package_host::Host;
-use bq_value_rule_class::{AttributeType, RuleClass};
 use bq_resolve_predeclared::RuleFunction;
 use bq_value::{Body, Cell, Content, EvalErr, Store, Value};
+use bq_value_rule_class::{AttributeType, RuleClass};
 use std::alloc::{AllocError, Global};
 
 /// Returns the type of the attributes that a function declares; `rule` declares none.

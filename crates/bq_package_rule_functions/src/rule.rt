@@ -10,11 +10,11 @@ ghost use Rattle.bq_package_rule_functions.specs.Rule.{implemented, attribute_in
 use crate::keywords::{bind_rule, documented};
 use bq_base::{Bytes, FaultKind};
 use bq_builtin_machine::Args;
-use bq_value_rule_class::{Attribute, Attributes, RuleClass, common_attribute};
 use bq_package_typed_value::{argument, text_in};
 use bq_parse_grammar::is_identifier;
 use bq_value::laws::dicts_of_stores_have_distinct_keys;
 use bq_value::{Body, Cell, Dict, EvalErr, Node, Store, Value};
+use bq_value_rule_class::{Attribute, Attributes, RuleClass, common_attribute};
 use std::alloc::Global;
 
 /// Fails with F40 if this isn't a function that a `def` made.

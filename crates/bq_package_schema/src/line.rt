@@ -6,9 +6,9 @@ ghost use Rattle.bq_package_schema.specs.Line.{is_blank, is_skipped, words, rule
 ghost use Rattle.bq_package_schema.specs.declared.line.Line.TheVariants as line;
 
 use bq_base::Bytes;
-use bq_value_rule_class::{Attribute, common_attribute, type_named};
 use bq_parse_grammar::is_identifier;
 use bq_resolve_predeclared::predeclared_named;
+use bq_value_rule_class::{Attribute, common_attribute, type_named};
 use std::alloc::{AllocError, Global};
 
 /// What a line says.

@@ -9,8 +9,8 @@ use crate::label_texts::{TextKind, label, labels};
 use crate::scope::Scope;
 use crate::written::{Written, written_as};
 use bq_base::FaultKind;
-use bq_value_rule_class::{AttributeType, AttributeValue, SharedList};
 use bq_value::{EvalErr, Store, Value};
+use bq_value_rule_class::{AttributeType, AttributeValue, SharedList};
 use std::alloc::Global;
 
 /// Returns what is written, with its labels read in a package: F78 or F75, then F37.

@@ -7,8 +7,8 @@ ghost use Rattle.bq_package_typed_value.specs.Written.{int_in, bool_in, written_
 
 use crate::texts::{text_in, texts_in};
 use bq_base::{Bytes, FaultKind};
-use bq_value_rule_class::{AttributeType, AttributeValue, SharedList};
 use bq_value::{EvalErr, Node, Store, Value};
+use bq_value_rule_class::{AttributeType, AttributeValue, SharedList};
 use sqlite_items::Items;
 use std::alloc::Global;
 

@@ -13,9 +13,9 @@ ghost use Rattle.bq_query_target_graph.specs.Dangling.{dangling, dangling_line, 
 use crate::named::labels_of;
 use crate::own::are_closed;
 use bq_base::{Bytes, FaultKind};
+use bq_base_fault_line::{FaultLine, FaultLines};
 use bq_label::{Label, print_label};
 use bq_label_set::LabelSet;
-use bq_base_fault_line::{FaultLine, FaultLines};
 use bq_package_target::{Package, Target, TargetKind, is_of};
 use std::alloc::{AllocError, Global};
 use std::slice::from_ref;

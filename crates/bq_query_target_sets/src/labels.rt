@@ -11,8 +11,8 @@ use crate::pattern::add_label;
 use crate::set::no_target;
 use crate::text::given;
 use bq_label::Label;
-use bq_value_rule_class::AttributeValue;
 use bq_package_target::{Target, TargetKind};
+use bq_value_rule_class::AttributeValue;
 use std::alloc::{AllocError, Global};
 
 fn add_labels(

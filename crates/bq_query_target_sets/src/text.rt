@@ -10,8 +10,8 @@ ghost use Rattle.bq_query_target_sets.specs.Texts.{further, kind_text, list_text
 
 use bq_base::Bytes;
 use bq_label::Label;
-use bq_value_rule_class::{AttributeType, AttributeValue, RuleClass};
 use bq_package_target::{GivenAttribute, Target, TargetKind, attribute_type};
+use bq_value_rule_class::{AttributeType, AttributeValue, RuleClass};
 use itoa::Buffer;
 use std::alloc::AllocError;
 

@@ -17,10 +17,10 @@ ghost use Rattle.bq_run_facts.specs.Lines.{module_lines};
 
 use crate::lines::{push_faults, push_modules};
 use crate::replies::facts_over;
+use bq_base_fault_line::FaultLines;
 use bq_base_rope::Rope;
 use bq_label::{Packages, Workspace};
 use bq_load_discover::{LoadErr, LoadGraph, Module, discover_by_workers, schema_of};
-use bq_base_fault_line::FaultLines;
 use bq_package_schema::Schema;
 use bq_query_check::{CheckedQuery, parse_query};
 use bq_query_target_graph::{TargetGraph, build_graph};

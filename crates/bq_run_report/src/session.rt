@@ -7,9 +7,9 @@ ghost use Rattle.bq_run_report.specs.Ending.{status_by};
 ghost use Rattle.bq_run_report.specs.Report.{IsOver, inside};
 
 use crate::ending::Status;
+use bq_base_fault_line::FaultLines;
 use bq_base_rope::Rope;
 use bq_load::Loaded;
-use bq_base_fault_line::FaultLines;
 use bq_query_target_graph::{TargetGraph, build_graph};
 use std::alloc::{AllocError, Global};
 

@@ -2,11 +2,11 @@
 //! and attributes of a type that rules in .bzl files haven't.
 
 use bq_base::Bytes;
-use bq_value_rule_class::{Attribute, AttributeType};
 use bq_query_pattern::{PatternErr, read_pattern};
 use bq_resolve_predeclared::{Predeclared, RuleFunction};
 use bq_value::{Function, Store, Value};
 use bq_value_compare::equal;
+use bq_value_rule_class::{Attribute, AttributeType};
 use bq_value_seed::Seed;
 use bq_value_text::text;
 use std::alloc::{AllocError, Global};

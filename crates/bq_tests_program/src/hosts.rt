@@ -7,13 +7,13 @@ use crate::program::{Setting, run_chunk};
 use crate::workspace::no_packages;
 use bq_base::{Bytes, FaultKind};
 use bq_builtin_machine::{Args, Machine};
-use bq_package_host::Host;
 use bq_label::PackageId;
-use bq_value_rule_class::{AttributeValue, RuleClass};
+use bq_package_host::Host;
 use bq_package_typed_value::Written;
 use bq_parse_grammar::FileKind;
 use bq_resolve_predeclared::HostFunction;
 use bq_value::{EvalErr, Value};
+use bq_value_rule_class::{AttributeValue, RuleClass};
 use std::alloc::{AllocError, Global};
 use std::fmt::Write;
 

@@ -3,10 +3,10 @@
 use crate::chunks::add_line;
 use bq_base::{Bytes, Fault, SourceErr};
 use bq_eval::{EvaluatedFile, FileOutcome, ResolvedModule, eval_module};
-use bq_package_host::{BuiltIns, Host};
 use bq_label::{PackageId, Packages};
 use bq_load_front::code_of;
 use bq_package::BuildHost;
+use bq_package_host::{BuiltIns, Host};
 use bq_parse_grammar::FileKind;
 use bq_resolve_scope::{LoadStmt, Resolved, Universe};
 use bq_value::{Frozen, Value};

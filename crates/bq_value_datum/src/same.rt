@@ -7,8 +7,8 @@ ghost use Rattle.bq_value_datum.specs.Same.{same, same_all, feed, feed_all};
 
 use crate::range::Range;
 use crate::value::{Cell, Function, Node, Value};
-use bq_value_rule_class::Attribute;
 use bq_resolve_predeclared::{HostFunction, Predeclared, RuleFunction};
+use bq_value_rule_class::Attribute;
 use std::hash::{Hash, Hasher};
 
 impl Value {

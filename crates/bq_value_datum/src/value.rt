@@ -5,8 +5,8 @@ ghost use Rattle.bq_value_datum.specs.Datum.{Datum, none, boolean, int, string, 
 
 use crate::range::Range;
 use bq_base::Bytes;
-use bq_value_rule_class::Attribute;
 use bq_resolve_predeclared::{Predeclared, RuleFunction};
+use bq_value_rule_class::Attribute;
 use std::alloc::{AllocError, Global};
 use std::marker::Model;
 use std::mem;
