@@ -1,89 +1,60 @@
 -- The lines that are put are those of the labels that name no target.
-use Rattle.std.proofs.Common.{◌≡◌, ◌<◌, ◌+◌, ◌||◌, ◌∙◌, ◌↔◌, ℕ, Bool, true, false, List, [], ◌∷◌, ◌++◌, length, take, get_or, refl, sym, ap, subst, inl, inr, arith, append-nil, if◌then◌else◌}
-use Rattle.std.specs.List.{flat_map, Contains}
-use Rattle.std.proofs.lemmas.Bool.{cases_Bool}
-use Rattle.std.proofs.lemmas.List.{map-append}
+use Rattle.std.proofs.Common.{◌≡◌, ◌<◌, ◌+◌, ◌∙◌, ◌↔◌, ℕ, Bool, true, false, cond, nat_lt, List, [], ◌∷◌, ◌++◌, Option, Some, None, length, take, get_or, position, refl, sym, ap, subst, inl, inr, arith, append-nil, if◌then◌else◌}
+use Rattle.std.specs.List.{flat_map, find, position_or_len, Contains, All}
+use Rattle.std.specs.List.Sorted.{IsPermutation}
+use Rattle.std.specs.Option.{unwrap_or}
+use Rattle.std.specs.Ordering.{is_eq}
+use Rattle.std.specs.declared.cmp.Ordering.{Ordering}
+use Rattle.std.specs.declared.cmp.Ordering.TheVariants.{Less, Equal}
+use Rattle.std.proofs.lemmas.Bool.Decides.{nat_tests}
+use Rattle.std.proofs.lemmas.Cmp.{tied_itself}
 use Rattle.std.proofs.lemmas.List.Concat.{flat_map-append}
-use Rattle.std.proofs.lemmas.List.Folds.{list_any-append}
-use Rattle.bq_label.specs.Label.{LabelParts, package_of}
+use Rattle.std.proofs.lemmas.List.Elements.{All-contains, All-from_recursion}
+use Rattle.std.proofs.lemmas.List.Folds.{list_any_at, list_any_none}
+use Rattle.std.proofs.lemmas.List.Quantifiers.{position-Some}
+use Rattle.std.proofs.lemmas.List.Sorted.{Contains-permutation, IsPermutation-map, IsPermutation-sym, list_any-IsPermutation}
+use Rattle.std.proofs.lemmas.List.Sums.{AllPass-from_list_all, fails_before_first}
+use Rattle.std.proofs.lemmas.Map.Keys.{sorted_head, sorted_tail}
+use Rattle.bq_label.specs.Label.{LabelParts, PackageParts, package_of}
+use Rattle.bq_label.specs.Packages.{id_cmp}
+use Rattle.bq_label.proofs.BuildFiles.{by_id}
 use Rattle.bq_label.proofs.Orders.{at_head, head_or_tail}
 use Rattle.bq_base_fault_line.specs.declared.fault_line.FaultLine.{FaultLine}
 use Rattle.std.specs.BTreeSet.{insert_key}
-use Rattle.bq_base_fault_line.specs.FaultLine.{line_cmp, put_lines}
+use Rattle.bq_base_fault_line.specs.FaultLine.{line_cmp, put_lines, sorted_lines}
+use Rattle.bq_base_fault_line.proofs.LineOrder.{ascending, one_order, same_lines}
 use Rattle.bq_package_target.specs.declared.target.Target.{Target}
 use Rattle.bq_package_target.specs.Target.{is_of, dependencies}
-use Rattle.bq_package_target.specs.Package.{PackageTargets}
-use Rattle.bq_label_set.specs.Labels.{same_label, same_label-Decides, has_label, with_label, with_labels}
-use Rattle.bq_label_set.proofs.Added.{with_labels-append}
+use Rattle.bq_package_target.specs.Package.{PackageTargets, AreTargetsOf}
+use Rattle.bq_package_list.specs.Order.{id_of, PackagesAscend}
+use Rattle.bq_label_set.specs.Labels.{same_label, has_label}
 use Rattle.bq_query_target_graph.specs.Order.{all_targets, labels_of}
-use Rattle.bq_query_target_graph.specs.Dangling.{dangling_line, line_by, dangling, dangling_in, dangling_of, all_dangling, IsDangling}
+use Rattle.bq_query_target_graph.specs.BuildFiles.{build_files, file_of}
+use Rattle.bq_query_target_graph.specs.Dangling.{dangling_line, line_by, dangling, dangling_in, dangling_of, all_dangling, dangling_lines, dangling_to, dangling_at, dangling_from, IsDangling}
+use Rattle.bq_query_target_graph.proofs.Ascends.{own_package}
+use Rattle.bq_query_target_graph.proofs.Files.{of_package}
 use Rattle.bq_query_target_graph.proofs.Lists.{next_taken}
 use Rattle.bq_query_target_graph.proofs.Depends.{in_flat, flat_in}
 
--- ---- the labels that are known
+-- ---- whether a label is known
 
-or_false : (b : Bool) → (b || false) ≡ b
-or_false true = refl
-or_false false = refl
+-- a label that has a number is one of them
+pub has_number : (ls : List LabelParts) (l : LabelParts) (n : ℕ) → position (same_label l) ls ≡ Some n → has_label ls l ≡ true
+has_number ls l n h = let p = position-Some (same_label l) ls n l h in list_any_at (same_label l) ls n l p.0 p.1
 
-or_assoc : (a b c : Bool) → ((a || b) || c) ≡ (a || (b || c))
-or_assoc true b c = refl
-or_assoc false b c = refl
+past_by : (b : Bool) (n : ℕ) → cond b (Some n) None ≡ None → b ≡ false
+past_by true n h = absurd cc
+past_by false n h = refl
 
-or_true : (a b : Bool) → a ≡ true → (a || b) ≡ a
-or_true true b e = refl
-or_true false b e = cc
+-- a label that has none isn't
+pub has_no_number : (ls : List LabelParts) (l : LabelParts) → position (same_label l) ls ≡ None → has_label ls l ≡ false
+has_no_number ls l h =
+    let past : nat_lt (position_or_len (same_label l) ls) (length ls) ≡ false = past_by (nat_lt (position_or_len (same_label l) ls) (length ls)) (position_or_len (same_label l) ls) h in
+    list_any_none (same_label l) ls (λ k d within. let before : k < position_or_len (same_label l) ls = grind (arith, nat_tests) in fails_before_first (same_label l) ls k d before)
 
--- a label that is there adds nothing
-there_already : (ls : List LabelParts) (m l : LabelParts) → has_label ls m ≡ true → has_label ls l ≡ (has_label ls l || same_label l m)
-there_already ls m l h = elim (cases_Bool (same_label l m)) [
-  | inl e ↦
-      let one : l ≡ m = (same_label-Decides l m).0 e in
-      let there : has_label ls l ≡ true = ap (has_label ls) one ∙ h in
-      sym (or_true (has_label ls l) (same_label l m) there)
-  | inr e ↦ sym (ap (λ (b : Bool). has_label ls l || b) e ∙ or_false (has_label ls l))
-]
-
-has_with : (ls : List LabelParts) (m l : LabelParts) → has_label (with_label ls m) l ≡ (has_label ls l || same_label l m)
-unfolding with_label
-has_with ls m l = elim (cases_Bool (has_label ls m)) [
-  | inl h ↦ rw h (there_already ls m l h)
-  | inr h ↦ rw h (list_any-append (same_label l) ls (m ∷ []) ∙ ap (λ (b : Bool). has_label ls l || b) (or_false (same_label l m)))
-]
-
-has_all : (ls ms : List LabelParts) (l : LabelParts) → has_label (with_labels ls ms) l ≡ (has_label ls l || has_label ms l)
-unfolding with_labels
-has_all ls [] l = sym (or_false (has_label ls l))
-has_all ls (m ∷ ms) l = has_all (with_label ls m) ms l ∙ (ap (λ (b : Bool). b || has_label ms l) (has_with ls m l) ∙ or_assoc (has_label ls l) (same_label l m) (has_label ms l))
-
-known_is : (ms : List LabelParts) → has_label (with_labels [] ms) ≡ has_label ms
-known_is ms = λ i l. has_all [] ms l i
-
-pub all_known : (ps : List PackageTargets) (ls : List LabelParts) → ls ≡ with_labels [] (labels_of (all_targets ps)) → has_label ls ≡ has_label (labels_of (all_targets ps))
-all_known ps ls e = ap has_label e ∙ known_is (labels_of (all_targets ps))
-
-pub known_next : (ts : List Target) (i : ℕ) (t : Target) (first ls now : List LabelParts) → i < length ts → t ≡ get_or ts i t → ls ≡ with_labels first (labels_of (take i ts)) → now ≡ with_label ls t.label
-    → now ≡ with_labels first (labels_of (take (i + 1) ts))
-unfolding with_labels
-known_next ts i t first ls now h e f g =
-    let last : labels_of (take (i + 1) ts) ≡ labels_of (take i ts) ++ t.label ∷ [] = ap labels_of (next_taken ts i t h e) ∙ map-append (λ (z : Target). z.label) (take i ts) (t ∷ []) in
-    g ∙ (ap (λ (z : List LabelParts). with_label z t.label) f ∙ (sym (with_labels-append first (labels_of (take i ts)) (t.label ∷ [])) ∙ ap (with_labels first) (sym last)))
-
-pub packages_next : (ps : List PackageTargets) (i : ℕ) (p : PackageTargets) (ls now : List LabelParts) → i < length ps → p ≡ get_or ps i p → ls ≡ with_labels [] (labels_of (all_targets (take i ps))) → now ≡ with_labels ls (labels_of p.targets)
-    → now ≡ with_labels [] (labels_of (all_targets (take (i + 1) ps)))
-packages_next ps i p ls now h e f g =
-    let targets : all_targets (take (i + 1) ps) ≡ all_targets (take i ps) ++ p.targets =
-    ap all_targets (next_taken ps i p h e) ∙ (flat_map-append (λ (q : PackageTargets). q.targets) (take i ps) (p ∷ []) ∙ ap (λ (z : List Target). all_targets (take i ps) ++ z) (append-nil p.targets)) in
-    let last : labels_of (all_targets (take (i + 1) ps)) ≡ labels_of (all_targets (take i ps)) ++ labels_of p.targets = ap labels_of targets ∙ map-append (λ (z : Target). z.label) (all_targets (take i ps)) p.targets in
-    g ∙ (ap (λ (z : List LabelParts). with_labels z (labels_of p.targets)) f ∙ (sym (with_labels-append [] (labels_of (all_targets (take i ps))) (labels_of p.targets)) ∙ ap (with_labels []) (sym last)))
-
-pub no_labels_yet : with_labels [] [] ≡ []
-unfolding with_labels
-no_labels_yet = refl
-
-pub none_more : (ls : List LabelParts) → with_labels ls [] ≡ ls
-unfolding with_labels
-none_more ls = refl
+-- targets in another order have the same labels
+pub same_known : (xs ys : List Target) → IsPermutation xs ys → (l : LabelParts) → has_label (labels_of xs) l ≡ has_label (labels_of ys) l
+same_known xs ys m l = list_any-IsPermutation (same_label l) (labels_of xs) (labels_of ys) (IsPermutation-map (λ (t : Target). t.label) xs ys m)
 
 -- ---- lines that are put
 
@@ -122,13 +93,37 @@ module _ (known : LabelParts → Bool) (b l : LabelParts) (n : ℕ) (s : List Fa
   unfolding put_lines dangling
   own_label h = rw h refl
 
-  pub known_label : is_of (package_of b) l ≡ false → known l ≡ true → put_lines s (dangling known b n l) ≡ s
-  unfolding put_lines dangling
-  known_label h k = rw (h, k) refl
+  known_in : (own : Bool) → put_lines s (line_by (if own then true else true) (dangling_line b n l)) ≡ s
+  unfolding put_lines
+  known_in true = refl
+  known_in false = refl
+
+  pub known_label : known l ≡ true → put_lines s (dangling known b n l) ≡ s
+  unfolding dangling
+  known_label k = rw k (known_in (is_of (package_of b) l))
 
   pub missing_label : is_of (package_of b) l ≡ false → known l ≡ false → put_lines s (dangling known b n l) ≡ put_lines s (dangling_line b n l ∷ [])
   unfolding put_lines dangling
   missing_label h k = rw (h, k) refl
+
+  -- a label that isn't known is as if none were
+  pub unknown_label : known l ≡ false → dangling (λ _. false) b n l ≡ dangling known b n l
+  unfolding dangling
+  unknown_label k = rw k refl
+
+-- ---- one label after another
+
+module _ (ls files : List LabelParts) (t : Target) (xs : List LabelParts) (i : ℕ) (x : LabelParts) (h : i < length xs) (e : x ≡ get_or xs i x) (s u : List FaultLine) (f : u ≡ put_lines s (dangling_to ls files t (take i xs))) where
+  -- one that has a number adds no line
+  pub label_found : (n : ℕ) → position (same_label x) ls ≡ Some n → u ≡ put_lines s (dangling_to ls files t (take (i + 1) xs))
+  label_found n p =
+      let b : LabelParts = file_of files t.label in
+      lines_next (dangling (has_label ls) b t.line) xs i x s u u h e f (sym (known_label (has_label ls) b x t.line u (has_number ls x n p)))
+
+  pub label_missing : (v : List FaultLine) → position (same_label x) ls ≡ None → v ≡ put_lines u (dangling (λ _. false) (file_of files t.label) t.line x) → v ≡ put_lines s (dangling_to ls files t (take (i + 1) xs))
+  label_missing v p g =
+      let b : LabelParts = file_of files t.label in
+      lines_next (dangling (has_label ls) b t.line) xs i x s u v h e f (g ∙ ap (put_lines u) (unknown_label (has_label ls) b x t.line u (has_no_number ls x p)))
 
 -- ---- in words
 
@@ -174,3 +169,84 @@ from_words ps x r =
 
 pub in_words : (ps : List PackageTargets) (x : FaultLine) → Contains (all_dangling ps) x ↔ IsDangling ps x
 in_words ps x = (to_words ps x, from_words ps x)
+
+-- ---- target by target
+
+-- the BUILD file of the package that has a target
+module _ (l : LabelParts) (p : PackageTargets) (here : package_of l ≡ id_of p) where
+  is_file : (b : Bool) (q : PackageTargets) (rest : Option LabelParts) → b ≡ is_of (package_of l) q.build_file → q ≡ p → cond b (Some q.build_file) rest ≡ Some p.build_file
+  is_file b q rest e same =
+      let one : id_of q ≡ package_of l = ap id_of same ∙ sym here in
+      let tied : id_cmp (id_of q) (package_of l) ≡ Equal = ap (λ (z : PackageParts). id_cmp z (package_of l)) one ∙ tied_itself by_id (package_of l) in
+      let yes : b ≡ true = e ∙ (of_package (package_of l) q.build_file ∙ ap is_eq tied) in
+      rw yes (ap (λ (z : PackageTargets). Some z.build_file) same)
+
+  find_file : (ps : List PackageTargets) → PackagesAscend ps → Contains ps p → find (is_of (package_of l)) (build_files ps) ≡ Some p.build_file
+  find_file [] o c = absurd (none_in p c)
+  find_file (q ∷ qs) o c = elim (head_or_tail q qs p c) [
+    | inl same ↦ is_file (is_of (package_of l) q.build_file) q (find (is_of (package_of l)) (build_files qs)) refl same
+    | inr later ↦
+        let by_package : PackageTargets → PackageTargets → Ordering = λ a b. id_cmp (id_of a) (id_of b) in
+        let less : id_cmp (id_of q) (id_of p) ≡ Less =
+        All-contains (λ (z : PackageTargets). id_cmp (id_of q) (id_of z) ≡ Less) qs p (All-from_recursion (λ (z : PackageTargets). id_cmp (id_of q) (id_of z) ≡ Less) qs (sorted_head by_package q qs o)) later in
+        let below : id_cmp (id_of q) (package_of l) ≡ Less = ap (λ (z : PackageParts). id_cmp (id_of q) z) here ∙ less in
+        let other : is_of (package_of l) q.build_file ≡ false = of_package (package_of l) q.build_file ∙ ap is_eq below in
+        rw other (find_file qs (sorted_tail by_package q qs o) later)
+  ]
+
+  pub file_is : (ps : List PackageTargets) → PackagesAscend ps → Contains ps p → file_of (build_files ps) l ≡ p.build_file
+  unfolding file_of
+  file_is ps o c = ap (λ (z : Option LabelParts). unwrap_or z l) (find_file ps o c)
+
+module _ (ps : List PackageTargets) (o : PackagesAscend ps) (v : All (λ p. AreTargetsOf (id_of p) p.targets) ps) (ts : List Target) (m : IsPermutation (all_targets ps) ts) where
+  file_at : (p : PackageTargets) → Contains ps p → (t : Target) → Contains p.targets t → file_of (build_files ps) t.label ≡ p.build_file
+  file_at p c t d =
+      let own = All-contains (λ (q : PackageTargets). AreTargetsOf (id_of q) q.targets) ps p v c in
+      let inside : is_of (id_of p) t.label ≡ true = All-contains (λ (z : Target). is_of (id_of p) z.label ≡ true) p.targets t (AllPass-from_list_all (λ (z : Target). is_of (id_of p) z.label) p.targets own.inside) d in
+      file_is t.label p (own_package (id_of p) t.label inside) ps o c
+
+  abbrev found : List FaultLine
+  found = dangling_from (labels_of ts) (build_files ps) ts
+
+  found_dangles : (x : FaultLine) → Contains found x → Contains (all_dangling ps) x
+  unfolding dangling
+  found_dangles x c =
+      let known : LabelParts → Bool = has_label (labels_of ts) in
+      let t = in_flat (dangling_at (labels_of ts) (build_files ps)) ts x c in
+      let b : LabelParts = file_of (build_files ps) t.part.label in
+      let l = in_flat (dangling known b t.part.line) (dependencies t.part) x t.inside in
+      let r = line_of known b l.part t.part.line x (is_of (package_of b) l.part) (known l.part) refl refl l.inside in
+      let p = in_flat (λ (p : PackageTargets). p.targets) ps t.part (Contains-permutation ts (all_targets ps) t.part (IsPermutation-sym (all_targets ps) ts m) t.known) in
+      let file : b ≡ p.part.build_file = file_at p.part p.known t.part p.inside in
+      from_words ps x (record {
+        owner = p.part;
+        known = p.known;
+        target = t.part;
+        declared = p.inside;
+        label = l.part;
+        named = l.known;
+        elsewhere = ap (λ (z : LabelParts). is_of (package_of z) l.part) (sym file) ∙ r.elsewhere;
+        missing = same_known (all_targets ps) ts m l.part ∙ r.missing;
+        line = r.line ∙ ap (λ (z : LabelParts). dangling_line z t.part.line l.part) file;
+      })
+
+  dangles_found : (x : FaultLine) → Contains (all_dangling ps) x → Contains found x
+  dangles_found x c =
+      let known : LabelParts → Bool = has_label (labels_of ts) in
+      let r = to_words ps x c in
+      let t : Target = r.target in
+      let b : LabelParts = file_of (build_files ps) t.label in
+      let file : b ≡ r.owner.build_file = file_at r.owner r.known t r.declared in
+      let there : Contains ts t = Contains-permutation (all_targets ps) ts t m (flat_in (λ (p : PackageTargets). p.targets) ps r.owner t r.known r.declared) in
+      let here : Contains (dangling known b t.line r.label) x = line_in known b r.label t.line x (record {
+        elsewhere = ap (λ (z : LabelParts). is_of (package_of z) r.label) file ∙ r.elsewhere;
+        missing = sym (same_known (all_targets ps) ts m r.label) ∙ r.missing;
+        line = r.line ∙ ap (λ (z : LabelParts). dangling_line z t.line r.label) (sym file);
+      }) in
+      flat_in (dangling_at (labels_of ts) (build_files ps)) ts t x there (flat_in (dangling known b t.line) (dependencies t) r.label x r.named here)
+
+  -- the lines that are found are those of the packages
+  pub found_lines : sorted_lines found ≡ dangling_lines ps
+  found_lines = one_order (all_dangling ps) (sorted_lines found) (ascending found) (λ x.
+      let same = same_lines found x in
+      (λ c. found_dangles x (same.0 c), λ c. same.1 (dangles_found x c)))

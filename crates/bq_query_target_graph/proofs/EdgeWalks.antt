@@ -1,15 +1,12 @@
 -- The list of edges has just the dependencies of targets.
-use Rattle.std.proofs.Common.{◌≡◌, ◌<◌, ◌≤◌, ◌+◌, ◌∙◌, ℕ, List, [], ◌∷◌, ◌++◌, Option, length, take, drop, position, get_or, refl, sym, ap, append_assoc, append-nil}
+use Rattle.std.proofs.Common.{◌≡◌, ◌<◌, ◌≤◌, ◌+◌, ◌∙◌, ℕ, List, [], ◌∷◌, ◌++◌, Option, Some, None, length, take, drop, position, get_or, sym, ap, append_assoc, append-nil}
 use Rattle.std.specs.List.{flat_map}
 use Rattle.std.proofs.lemmas.List.{drop_more, drop_all}
 use Rattle.std.proofs.lemmas.List.Concat.{flat_map-append}
 use Rattle.bq_label.specs.Label.{LabelParts}
 use Rattle.bq_query_graph.specs.declared.edge.Edge.{Edge}
 use Rattle.bq_package_target.specs.declared.target.Target.{Target}
-use Rattle.bq_package_target.specs.declared.target.TargetKind.{TargetKind}
-use Rattle.bq_package_target.specs.declared.target.TargetKind.TheVariants as k
-use Rattle.bq_package_target.specs.Value.{labels_in}
-use Rattle.bq_package_target.specs.Target.{dependencies, dependencies_by}
+use Rattle.bq_package_target.specs.Target.{dependencies}
 use Rattle.bq_label_set.specs.Labels.{same_label}
 use Rattle.bq_query_target_graph.specs.Edges.{edge_by, edges_to, edges_from}
 use Rattle.bq_query_target_graph.proofs.Lists.{next_taken}
@@ -48,12 +45,10 @@ walk_end ls ts a i es all h f = sym (append-nil es) ∙ (ap (λ (z : List Target
 pub one_edge : (ls : List LabelParts) (a : ℕ) (l : LabelParts) (o : Option ℕ) → position (same_label l) ls ≡ o → edges_to ls a (l ∷ []) ≡ edge_by a o
 one_edge ls a l o h = append-nil (edge_by a (position (same_label l) ls)) ∙ ap (edge_by a) h
 
-by_kind : (kind : TargetKind) (named : List LabelParts) → ((rule : LabelParts) → kind ≡ k.Generated rule → ⊥) → dependencies_by kind named ≡ named
-by_kind (k.Generated rule) named f = absurd (f rule refl)
-by_kind (k.Rule name class) named f = refl
-by_kind k.Source named f = refl
-by_kind k.Group named f = refl
+module _ (ls : List LabelParts) (a : ℕ) (xs : List LabelParts) (i : ℕ) (x : LabelParts) (h : i < length xs) (e : x ≡ get_or xs i x) (es fs : List Edge) (f : fs ≡ es ++ edges_to ls a (take i xs)) where
+  pub edge_found : (n : ℕ) (gs : List Edge) → position (same_label x) ls ≡ Some n → gs ≡ fs ++ record { from = a; to = n } ∷ [] → gs ≡ es ++ edges_to ls a (take (i + 1) xs)
+  edge_found n gs p g = edges_next ls a xs i x es fs gs h e f (g ∙ ap (λ (z : List Edge). fs ++ z) (sym (one_edge ls a x (Some n) p)))
 
-pub other_kind : (t : Target) → ((rule : LabelParts) → t.kind ≡ k.Generated rule → ⊥) → dependencies t ≡ labels_in t.attributes
-unfolding dependencies
-other_kind t f = by_kind t.kind (labels_in t.attributes) f
+  -- a label that has no number adds no edge
+  pub edge_missing : position (same_label x) ls ≡ None → fs ≡ es ++ edges_to ls a (take (i + 1) xs)
+  edge_missing p = edges_next ls a xs i x es fs fs h e f (sym (append-nil fs) ∙ ap (λ (z : List Edge). fs ++ z) (sym (one_edge ls a x None p)))

@@ -4,5 +4,5 @@ pub mod EdgeWalks
 pub mod Depends
 pub mod Places
 pub mod Whole
+pub mod Files
 pub mod Danglings
-pub mod Inside

@@ -1,9 +1,9 @@
 -- Lists that are walked along, and lists of which no two elements are equal.
-use Rattle.std.proofs.Common.{◌≡◌, ◌<◌, ◌+◌, ◌∙◌, ℕ, zero, suc, Bool, true, false, ◌&&◌, List, [], ◌∷◌, ◌++◌, length, take, drop, get_or, set, sym, ap, subst, arith, append_assoc}
+use Rattle.std.proofs.Common.{◌≡◌, ◌<◌, ◌+◌, ◌∙◌, ℕ, zero, suc, Bool, false, List, [], ◌∷◌, ◌++◌, length, take, get_or, set, sym, ap, subst, arith, append_assoc}
 use Rattle.std.proofs.lemmas.List.Elements.{All-cons}
-use Rattle.std.specs.List.{All, AllByRecursion, IsDistinct, flat_map, list_all, swap}
+use Rattle.std.specs.List.{All, AllByRecursion, IsDistinct, flat_map, swap}
 use Rattle.std.specs.List.Sorted.{IsPermutation}
-use Rattle.std.proofs.lemmas.List.{take_more, drop_more}
+use Rattle.std.proofs.lemmas.List.{take_more}
 use Rattle.std.proofs.lemmas.List.Sorted.{IsPermutation-refl, IsPermutation-trans, IsPermutation-keeps, IsPermutation-append_left, IsPermutation-append_right, IsPermutation-append_comm}
 use Rattle.std.proofs.lemmas.Map.Keys.{IsDistinct-head, IsDistinct-tail, IsDistinct-cons}
 
@@ -18,12 +18,6 @@ pub distinct-append : {X : Type 0} (e : X → X → Bool) (xs ys : List X) → I
 distinct-append e [] ys f g a = g
 distinct-append e (x ∷ xs) ys f g a =
     IsDistinct-cons e x (xs ++ ys) (all_recursion-append (λ y. e x y ≡ false) xs ys (IsDistinct-head e x xs f) a.0) (distinct-append e xs ys (IsDistinct-tail e x xs f) g a.1)
-
--- one that passes the test more
-pub all_pass_next : {X : Type 0} (test : X → Bool) (xs : List X) (i : ℕ) (x : X) (all : Bool) → i < length xs → x ≡ get_or xs i x → all ≡ list_all test (drop i xs) → test x ≡ true → all ≡ list_all test (drop (i + 1) xs)
-all_pass_next {X} test xs i x all h e f g =
-    let rest : drop i xs ≡ x ∷ drop (i + 1) xs = drop_more xs i x h ∙ ap (λ (z : X). z ∷ drop (i + 1) xs) (sym e) in
-    f ∙ (ap (list_all test) rest ∙ ap (λ (b : Bool). b && list_all test (drop (i + 1) xs)) g)
 
 -- ---- lists made of parts have the same elements in whatever order the parts are joined
 

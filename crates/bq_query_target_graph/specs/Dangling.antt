@@ -10,6 +10,7 @@ use Rattle.bq_package_target.specs.Target.{is_of, dependencies}
 use Rattle.bq_package_target.specs.Package.{PackageTargets}
 use Rattle.bq_label_set.specs.Labels.{has_label}
 use Rattle.bq_query_target_graph.specs.Order.{all_targets, labels_of}
+use Rattle.bq_query_target_graph.specs.BuildFiles.{file_of}
 
 -- the fault's line: the BUILD file, the line of the call that declares the target, and the label
 abbrev pub dangling_line : LabelParts → ℕ → LabelParts → FaultLine
@@ -51,3 +52,17 @@ pub record IsDangling (ps : List PackageTargets) (x : FaultLine) : Type 0 where
   pub elsewhere : is_of (package_of owner.build_file) label ≡ false
   pub missing : has_label (labels_of (all_targets ps)) label ≡ false
   pub line : x ≡ dangling_line owner.build_file target.line label
+
+-- ---- the lines as they are found: target by target, by the labels of all targets and the BUILD files of all packages
+
+-- the lines of labels that a target depends on
+abbrev pub dangling_to : List LabelParts → List LabelParts → Target → List LabelParts → List FaultLine
+dangling_to ls files t named = flat_map (dangling (has_label ls) (file_of files t.label) t.line) named
+
+-- the lines of a target
+abbrev pub dangling_at : List LabelParts → List LabelParts → Target → List FaultLine
+dangling_at ls files t = dangling_to ls files t (dependencies t)
+
+-- the lines of targets
+abbrev pub dangling_from : List LabelParts → List LabelParts → List Target → List FaultLine
+dangling_from ls files ts = flat_map (dangling_at ls files) ts

@@ -1,5 +1,5 @@
 pub mod Order
 pub mod Graph
 pub mod Edges
+pub mod BuildFiles
 pub mod Dangling
-pub mod Own

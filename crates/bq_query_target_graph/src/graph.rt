@@ -1,13 +1,21 @@
 //! The graph of the targets of a workspace.
 
-ghost use Rattle.std.specs.Prelude.{◌≡◌, IfOk};
-ghost use Rattle.bq_package_list.specs.Order.{PackagesAscend};
-ghost use Rattle.bq_query_target_graph.specs.Edges.{IsGraphOf};
+ghost use Rattle.std.specs.Prelude.{◌≡◌, length, map, IfOk};
+ghost use Rattle.std.specs.List.Sorted.{IsStrictlySortedBy};
+ghost use Rattle.bq_label.specs.Label.{package_of};
+ghost use Rattle.bq_base_fault_line.specs.FaultLine.{sorted_lines};
+ghost use Rattle.bq_query_graph.specs.Edges.{HasPairsOf};
+ghost use Rattle.bq_query_target_graph.specs.Dangling.{dangling_from, dangling_lines};
+ghost use Rattle.bq_query_target_graph.specs.Edges.{edges_from, IsGraphOf};
+ghost use Rattle.bq_query_target_graph.specs.Order.{labels_of, target_cmp};
 
+use crate::build_files::BuildFiles;
 use crate::edges::edges;
-use crate::order::{Flat, in_order};
+use crate::order::in_order;
+use bq_base_fault_line::FaultLines;
 use bq_label::PackageId;
-use bq_package_target::{Package, Target};
+use bq_package_list::PackageList;
+use bq_package_target::Target;
 use bq_query_graph::DependencyGraph;
 use sqlite_items::Items;
 use std::alloc::{AllocError, Global};
@@ -35,22 +43,6 @@ impl Model for TargetGraph {
 impl TargetGraph {
     ghost use Rattle.bq_query_target_graph.specs.Graph.{IsGraph};
 
-    /// Makes the graph of the targets of packages.
-    pub(crate) fn new(alloc: Global, packages: Vec<Package>) -> Result<TargetGraph, AllocError>
-        requires { PackagesAscend packages.items }
-        ensures { IfOk result (IsGraphOf packages.items) }
-    {
-        let Flat { packages, targets } = in_order(alloc, packages)?;
-        let all = targets.as_slice();
-        let edges = edges(alloc, all)?;
-        let graph = DependencyGraph::new(alloc, all.len(), &edges)?;
-        Ok(TargetGraph {
-            targets,
-            packages,
-            graph,
-        })
-    }
-
     /// Returns the targets in the order of the bytes of their labels' full forms. A target's number is its place here.
     pub fn targets(&self) -> &[Target]
         ensures value { result.now ≡ self.now.targets }
@@ -77,4 +69,58 @@ impl TargetGraph {
         let _targets = &self.targets; // PROOF: the invariant
         &self.graph
     }
+}
+
+/// What there is beside the targets of packages.
+#[derive(Drop)]
+struct Linked {
+    packages: Items<PackageId>,
+    graph: DependencyGraph,
+    dangling: FaultLines,
+}
+
+/// Links the targets of packages that have these BUILD files.
+fn link(alloc: Global, files: &BuildFiles, targets: &[Target]) -> Result<Linked, AllocError>
+    requires { IsStrictlySortedBy target_cmp targets.now }
+    ensures packages { IfOk result (λ l. l.packages ≡ map package_of files.now) }
+    ensures graph { IfOk result (λ l. HasPairsOf (length targets.now) (edges_from (labels_of targets.now) 0 targets.now) l.graph) }
+    ensures dangling { IfOk result (λ l. l.dangling ≡ sorted_lines (dangling_from (labels_of targets.now) files.now targets.now)) }
+{
+    let found = edges(alloc, files, targets)?;
+    Ok(Linked {
+        packages: files.packages(alloc)?,
+        graph: DependencyGraph::new(alloc, targets.len(), &found.edges)?,
+        dangling: found.dangling,
+    })
+}
+
+/// Makes the graph of the targets of packages, and a line for each label of another package that names no target (F79).
+/// The graph takes the targets over if nobody else owns the packages, else it has shares of them.
+pub fn build_graph(
+    alloc: Global,
+    packages: PackageList,
+) -> Result<(TargetGraph, FaultLines), AllocError>
+    ensures graph { IfOk result (λ made. IsGraphOf packages made.0) }
+    ensures lines { IfOk result (λ made. made.1 ≡ dangling_lines packages) }
+{
+    let Ok(files) = BuildFiles::of(alloc, packages.as_slice()) else {
+        drop(packages); // PROOF: one call lets the packages go
+        return Err(AllocError);
+    };
+    let Ok(targets) = in_order(alloc, packages.into_vec()) else {
+        drop(files); // PROOF: and the files
+        return Err(AllocError);
+    };
+    let linked = link(alloc, &files, &targets);
+    drop(files);
+    let Ok(linked) = linked else {
+        drop(targets); // PROOF: and the targets
+        return Err(AllocError);
+    };
+    let graph = TargetGraph {
+        targets,
+        packages: linked.packages,
+        graph: linked.graph,
+    };
+    Ok((graph, linked.dangling))
 }

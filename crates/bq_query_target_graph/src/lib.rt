@@ -9,22 +9,19 @@
 //! - `order`: the targets of all packages in order;
 //! - `numbers`: the number of a label;
 //! - `named`: the labels that a value names;
-//! - `edges`: which targets depend on which;
-//! - `graph`: the graph, and how it is made of packages;
-//! - `own`: targets that name labels of their own package alone;
-//! - `dangling`: the labels of other packages that name no target;
-//! - `build`: the graph, with the lines of these.
+//! - `build_files`: the BUILD files of packages;
+//! - `dangling`: the line of a label of another package that names no target;
+//! - `edges`: which targets depend on which, and which labels name none;
+//! - `graph`: the graph, and how it is made of packages.
 #![tactic(auto)]
 
-mod build;
+mod build_files;
 mod dangling;
 mod edges;
 mod graph;
 mod named;
 mod numbers;
 mod order;
-mod own;
 
-pub use build::build_graph;
 pub use dangling::dangling_in_words;
-pub use graph::TargetGraph;
+pub use graph::{TargetGraph, build_graph};

@@ -71,7 +71,9 @@ fn report_query<T: Threads + Wait + RandomSource + Sync>(
                 query,
                 form: options.output,
             };
-            report_by(rt, alloc, workspace, &schema, question, options)
+            let report = report_by(rt, alloc, workspace, &schema, question, options);
+            drop(schema); // PROOF: one call lets the schema go
+            report
         }
         Err(LoadErr::Schema(line)) => Ok(refused_report(alloc, NoAnswer::Schema(line))),
         Err(_) => Err(AllocError),

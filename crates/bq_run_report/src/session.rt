@@ -2,6 +2,7 @@
 
 ghost use Rattle.std.specs.Prelude.{◌≡◌, ◌++◌, IfOk};
 ghost use Rattle.std.specs.List.{flat_map};
+ghost use Rattle.bq_base_fault_line.specs.FaultLine.{put_lines};
 ghost use Rattle.bq_base_fault_line.specs.LineText.{line_text};
 ghost use Rattle.bq_run_report.specs.Ending.{status_by};
 ghost use Rattle.bq_run_report.specs.Report.{IsOver, inside};
@@ -35,12 +36,21 @@ pub fn status_by(lines: &FaultLines) -> Status
     }
 }
 
-/// Returns what the modules printed, and then the lines of all faults, each of which is dropped once it is appended.
-fn fault_text(alloc: Global, mut prints: Rope, lines: FaultLines) -> Result<Rope, AllocError>
-    ensures { IfOk result (λ text. text ≡ prints ++ flat_map line_text lines) }
+/// Returns what the modules printed and then the lines of all faults, each of which is dropped once it is appended, and how a run ends
+/// whose query is answered.
+fn fault_text(
+    alloc: Global,
+    mut prints: Rope,
+    mut faults: FaultLines,
+    dangling: FaultLines,
+) -> Result<(Rope, Status), AllocError>
+    ensures text { IfOk result (λ t. t.0 ≡ prints ++ flat_map line_text (put_lines faults dangling)) }
+    ensures status { IfOk result (λ t. t.1 ≡ status_by (put_lines faults dangling)) }
 {
-    lines.append_to(alloc, &mut prints)?;
-    Ok(prints)
+    faults.add_all(dangling)?;
+    let status = status_by(&faults);
+    faults.append_to(alloc, &mut prints)?;
+    Ok((prints, status))
 }
 
 /// Makes the session over a loaded workspace. A label that names no target is one more fault, F79.
@@ -50,14 +60,15 @@ pub fn session_over(alloc: Global, loaded: Loaded) -> Result<Session, AllocError
     let Loaded {
         modules,
         packages,
-        mut faults,
+        faults,
         prints,
     } = loaded;
     drop(modules); // so that the graph gets the memory of their values
     let (graph, dangling) = build_graph(alloc, packages)?;
-    faults.add_all(dangling)?;
-    let status = status_by(&faults);
-    let text = fault_text(alloc, prints, faults)?;
+    let Ok((text, status)) = fault_text(alloc, prints, faults, dangling) else {
+        drop(graph); // PROOF: one call lets the graph go
+        return Err(AllocError);
+    };
     Ok(Session {
         faults: text,
         status,

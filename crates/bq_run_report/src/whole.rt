@@ -33,7 +33,9 @@ pub fn report_on(
         status,
         graph,
     } = session_over(alloc, loaded)?;
-    let reply = reply_to(alloc, &graph, question, status)?;
+    let reply = reply_to(alloc, &graph, question, status);
+    drop(graph); // PROOF: one call lets the graph go
+    let reply = reply?;
     Ok(Report {
         faults,
         answer: reply.text,

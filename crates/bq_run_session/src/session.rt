@@ -52,7 +52,11 @@ pub fn open_session<T: Threads + Wait + RandomSource + Sync>(
     ensures { Opens workspace.now options.now.max_steps result }
 {
     match schema_of(alloc, workspace) {
-        Ok(schema) => open_with(rt, alloc, workspace, &schema, options),
+        Ok(schema) => {
+            let session = open_with(rt, alloc, workspace, &schema, options);
+            drop(schema); // PROOF: one call lets the schema go
+            session
+        }
         Err(LoadErr::Schema(line)) => Err(RunErr::Schema(line)),
         Err(_) => Err(RunErr::Memory),
     }
