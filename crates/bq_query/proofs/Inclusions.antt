@@ -3,7 +3,6 @@ use Rattle.std.proofs.Common.{◌≡◌, ℕ, ◌<◌, Bool, List, [], ◌∷◌
 use Rattle.std.specs.List.{All}
 use Rattle.std.specs.List.Sorted.{IsStrictlyIncreasing}
 use Rattle.std.proofs.lemmas.Map.Keys.{Less-from_sorted, below_from_sorted, sorted_from_strictly_increasing}
-use Rattle.regex_hir.specs.Re.{Re}
 use Rattle.bq_query_graph.specs.Marks.{Marked}
 use Rattle.bq_package_target.specs.declared.target.Target.{Target}
 use Rattle.bq_query_target_sets.specs.Order.{by_text, AreInOrder}
@@ -21,7 +20,7 @@ lie_within w a b n bound y = record {
   paths = λ e. e.reached;
 }
 
-pub keep : (w : GraphParts) (a : Formula) (name : List ℕ) (pattern : Re) (bound : Bound) (y : ℕ) → Keep w a name pattern bound y
+pub keep : (w : GraphParts) (a : Formula) (name pattern : List ℕ) (bound : Bound) (y : ℕ) → Keep w a name pattern bound y
 keep w a name pattern bound y = record { kind = λ h. h.0; filter = λ h. h.0; attr = λ h. h.0 }
 
 -- what is bound last is there

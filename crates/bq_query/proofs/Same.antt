@@ -53,9 +53,9 @@ paths_in g A C B D f h y e = record { reached = deps_in g A C f y e.reached; to 
 one_in : (w : GraphParts) (f : Unary) (P Q : ℕ → Type 0) → Within P Q → Within (OfOne w f P) (OfOne w f Q)
 one_in w unary.Deps P Q g y e = deps_in (edges_of w) P Q g y e
 one_in w (unary.DepsWithin n) P Q g y e = deps_within_in (edges_of w) n P Q g y e
-one_in w (unary.Kind re) P Q g y e = (g y e.0, e.1)
-one_in w (unary.Filter re) P Q g y e = (g y e.0, e.1)
-one_in w (unary.Attr name re) P Q g y e = (g y e.0, e.1)
+one_in w (unary.Kind pattern) P Q g y e = (g y e.0, e.1)
+one_in w (unary.Filter pattern) P Q g y e = (g y e.0, e.1)
+one_in w (unary.Attr name pattern) P Q g y e = (g y e.0, e.1)
 one_in w (unary.Labels name) P Q g y e = (e.0, g e.0 e.1, e.2)
 
 two_in : (w : GraphParts) (f : Binary) (A C B D : ℕ → Type 0) → Within A C → Within B D → Within (OfTwo w f A B) (OfTwo w f C D)

@@ -17,9 +17,9 @@ use Rattle.bq_query.specs.Graph.{edges_of, targets_of}
 abbrev pub OfOne : GraphParts → Unary → (ℕ → Type 0) → ℕ → Type 0
 OfOne w unary.Deps X y = Deps (edges_of w) X y
 OfOne w (unary.DepsWithin n) X y = DepsWithin (edges_of w) X n y
-OfOne w (unary.Kind re) X y = X y × Those (has_kind re) (targets_of w) y
-OfOne w (unary.Filter re) X y = X y × Those (has_text re) (targets_of w) y
-OfOne w (unary.Attr name re) X y = X y × Those (has_attribute name re) (targets_of w) y
+OfOne w (unary.Kind pattern) X y = X y × Those (has_kind pattern) (targets_of w) y
+OfOne w (unary.Filter pattern) X y = X y × Those (has_text pattern) (targets_of w) y
+OfOne w (unary.Attr name pattern) X y = X y × Those (has_attribute name pattern) (targets_of w) y
 OfOne w (unary.Labels name) X y = Labels name (targets_of w) X y
 
 -- what a function of two sets gives

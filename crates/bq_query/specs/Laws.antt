@@ -1,7 +1,6 @@
 -- What the definitions of queries say together.
 use Rattle.std.specs.Prelude.{◌≡◌, ◌↔◌, ◌⊎◌, ℕ, ◌<◌, Bool, List, length, slice_index_or}
 use Rattle.std.specs.declared.cmp.Ordering.TheVariants.{Less}
-use Rattle.regex_hir.specs.Re.{Re}
 use Rattle.bq_query_graph.specs.Marks.{IsSet}
 use Rattle.bq_query_tree.specs.declared.tree.SetOperator.TheVariants as op
 use Rattle.bq_query_check.specs.declared.formula.Unary.TheVariants as unary
@@ -28,7 +27,7 @@ pub record LieWithin (w : GraphParts) (a b : Formula) (n : ℕ) (bound : Bound) 
   pub paths : Stands w (two binary.Allpaths a b) bound y → Stands w (one unary.Deps a) bound y
 
 -- `kind`, `filter` and `attr` keep members of their argument
-pub record Keep (w : GraphParts) (a : Formula) (name : List ℕ) (pattern : Re) (bound : Bound) (y : ℕ) : Type 0 where
+pub record Keep (w : GraphParts) (a : Formula) (name pattern : List ℕ) (bound : Bound) (y : ℕ) : Type 0 where
   pub kind : Stands w (one (unary.Kind pattern) a) bound y → Stands w a bound y
   pub filter : Stands w (one (unary.Filter pattern) a) bound y → Stands w a bound y
   pub attr : Stands w (one (unary.Attr name pattern) a) bound y → Stands w a bound y

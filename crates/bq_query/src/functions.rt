@@ -34,9 +34,9 @@ pub fn of_one(
     match function {
         Unary::Deps => deps(alloc, edges, x),
         Unary::DepsWithin(limit) => deps_within(alloc, edges, x, *limit),
-        Unary::Kind(pattern) => kind(alloc, targets, pattern.regex(), x),
-        Unary::Filter(pattern) => filter(alloc, targets, pattern.regex(), x),
-        Unary::Attr(name, pattern) => { attr(alloc, targets, name.as_slice(), pattern.regex(), x) }
+        Unary::Kind(pattern) => kind(alloc, targets, pattern, x),
+        Unary::Filter(pattern) => filter(alloc, targets, pattern, x),
+        Unary::Attr(name, pattern) => attr(alloc, targets, name.as_slice(), pattern, x),
         Unary::Labels(name) => labels(alloc, targets, name.as_slice(), x),
     }
 }

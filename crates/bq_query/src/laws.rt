@@ -3,7 +3,6 @@
 ghost use Rattle.std.specs.Prelude.{ℕ, ◌<◌, List, length};
 ghost use Rattle.std.specs.List.{All};
 ghost use Rattle.std.specs.List.Sorted.{IsStrictlyIncreasing};
-ghost use Rattle.regex_hir.specs.Re.{Re};
 ghost use Rattle.bq_query_check.specs.Formula.{Formula};
 ghost use Rattle.bq_package_target.specs.declared.target.Target.{Target};
 ghost use Rattle.bq_query_target_sets.specs.Order.{AreInOrder};
@@ -24,7 +23,7 @@ pub fn dependents_lie_within_dependencies()
 
 /// `kind`, `filter` and `attr` keep members of their argument.
 pub fn patterns_keep_members()
-    ensures { (w : GraphParts) (a : Formula) (name : List ℕ) (pattern : Re) (bound : Bound) (y : ℕ) → Keep w a name pattern bound y }
+    ensures { (w : GraphParts) (a : Formula) (name pattern : List ℕ) (bound : Bound) (y : ℕ) → Keep w a name pattern bound y }
 {}
 
 /// `let v = x in $v` is `x`.

@@ -117,7 +117,7 @@ mutual
   call_closed (IsCallOf.rdeps_within {ns = ns} {y = y} {a = a} {b = b} {k = n} e h k l f) =
       as_said (length ns) y (two (binary.RdepsWithin n) a b) f (formula_closed h, formula_closed k)
   call_closed (IsCallOf.allpaths {ns = ns} {y = y} {a = a} {b = b} e h k f) = as_said (length ns) y (two binary.Allpaths a b) f (formula_closed h, formula_closed k)
-  call_closed (IsCallOf.kind {ns = ns} {y = y} {a = a} {re = re} e r h f) = as_said (length ns) y (one (unary.Kind re) a) f (formula_closed h)
-  call_closed (IsCallOf.filter {ns = ns} {y = y} {a = a} {re = re} e r h f) = as_said (length ns) y (one (unary.Filter re) a) f (formula_closed h)
+  call_closed (IsCallOf.kind {ns = ns} {y = y} {a = a} {pattern = pattern} e r h f) = as_said (length ns) y (one (unary.Kind pattern) a) f (formula_closed h)
+  call_closed (IsCallOf.filter {ns = ns} {y = y} {a = a} {pattern = pattern} e r h f) = as_said (length ns) y (one (unary.Filter pattern) a) f (formula_closed h)
   call_closed (IsCallOf.labels {ns = ns} {y = y} {a = a} {name = name} e r h f) = as_said (length ns) y (one (unary.Labels name) a) f (formula_closed h)
-  call_closed (IsCallOf.attr {ns = ns} {y = y} {a = a} {name = name} {re = re} e q r h f) = as_said (length ns) y (one (unary.Attr name re) a) f (formula_closed h)
+  call_closed (IsCallOf.attr {ns = ns} {y = y} {a = a} {name = name} {pattern = pattern} e q r h f) = as_said (length ns) y (one (unary.Attr name pattern) a) f (formula_closed h)

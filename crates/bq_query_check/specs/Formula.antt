@@ -1,5 +1,5 @@
 -- What a query that was checked says: sets made of sets. Contracts see this of a `SetExpr`: a chain of operators is done from left to
--- right, and a regular expression is what it means.
+-- right, and a regular expression is its bytes.
 use Rattle.std.specs.Prelude.{ℕ, ◌+◌, ◌<◌, List, [], ◌∷◌}
 use Rattle.std.specs.Coded.{×_prop, Unit-prop, le_prop}
 use Rattle.bq_query_target_pattern.specs.declared.pattern.TargetPattern.{TargetPattern}

@@ -1,6 +1,5 @@
 -- Which tree has which formula: a case for each form of query (Bazel query reference, "Expressions" and "Functions").
 use Rattle.std.specs.Prelude.{◌≡◌, ◌≢◌, ℕ, ◌+◌, ◌*◌, ◌-◌, ◌^◌, ◌<◌, min, List, [], ◌∷◌, ◌++◌, Some, slice_get}
-use Rattle.regex_hir.specs.Re.{Re}
 use Rattle.bq_query_lex.specs.declared.function.QueryFunction.{QueryFunction}
 use Rattle.bq_query_lex.specs.declared.function.QueryFunction.TheVariants as fn
 use Rattle.bq_query_lex.specs.Functions.{function_named}
@@ -13,7 +12,6 @@ use Rattle.bq_query_check.specs.declared.formula.Unary.{Unary}
 use Rattle.bq_query_check.specs.declared.formula.Unary.TheVariants as unary
 use Rattle.bq_query_check.specs.declared.formula.Binary.TheVariants as binary
 use Rattle.bq_query_check.specs.Formula.{Formula, Step, named, variable, let_in, one, two, chained}
-use Rattle.bq_query_check.specs.Patterns.{IsPatternOf}
 
 -- ---- arguments that are words
 
@@ -30,13 +28,9 @@ number word = more_digits 0 word
 abbrev pub IsNumber : Query → ℕ → Type 0
 IsNumber x n = (word : List ℕ) × (x ≡ tree.Word word) × (n ≡ number word)
 
--- a regular expression, which means this
-abbrev pub IsPattern : Query → Re → Type 0
-IsPattern x re = (word : List ℕ) × (x ≡ tree.Word word) × IsPatternOf word re
-
--- the name of an attribute
-abbrev pub IsName : Query → List ℕ → Type 0
-IsName x name = x ≡ tree.Word name
+-- a regular expression, or the name of an attribute
+abbrev pub IsWord : Query → List ℕ → Type 0
+IsWord x word = x ≡ tree.Word word
 
 -- ---- variables
 
@@ -102,17 +96,17 @@ mutual
     allpaths : {ns : List (List ℕ)} {xs : List Query} {x z : Query} {y a b : Formula} → xs ≡ x ∷ z ∷ [] → IsFormulaOf ns x a
         → IsFormulaOf ns z b → y ≡ two binary.Allpaths a b → IsCallOf fn.Allpaths ns xs y
     -- `kind(pattern, x)`
-    kind : {ns : List (List ℕ)} {xs : List Query} {p x : Query} {y a : Formula} {re : Re} → xs ≡ p ∷ x ∷ [] → IsPattern p re
-        → IsFormulaOf ns x a → y ≡ one (unary.Kind re) a → IsCallOf fn.Kind ns xs y
+    kind : {ns : List (List ℕ)} {xs : List Query} {p x : Query} {y a : Formula} {pattern : List ℕ} → xs ≡ p ∷ x ∷ [] → IsWord p pattern
+        → IsFormulaOf ns x a → y ≡ one (unary.Kind pattern) a → IsCallOf fn.Kind ns xs y
     -- `filter(pattern, x)`
-    filter : {ns : List (List ℕ)} {xs : List Query} {p x : Query} {y a : Formula} {re : Re} → xs ≡ p ∷ x ∷ [] → IsPattern p re
-        → IsFormulaOf ns x a → y ≡ one (unary.Filter re) a → IsCallOf fn.Filter ns xs y
+    filter : {ns : List (List ℕ)} {xs : List Query} {p x : Query} {y a : Formula} {pattern : List ℕ} → xs ≡ p ∷ x ∷ [] → IsWord p pattern
+        → IsFormulaOf ns x a → y ≡ one (unary.Filter pattern) a → IsCallOf fn.Filter ns xs y
     -- `labels(name, x)`
-    labels : {ns : List (List ℕ)} {xs : List Query} {n x : Query} {y a : Formula} {name : List ℕ} → xs ≡ n ∷ x ∷ [] → IsName n name
+    labels : {ns : List (List ℕ)} {xs : List Query} {n x : Query} {y a : Formula} {name : List ℕ} → xs ≡ n ∷ x ∷ [] → IsWord n name
         → IsFormulaOf ns x a → y ≡ one (unary.Labels name) a → IsCallOf fn.Labels ns xs y
     -- `attr(name, pattern, x)`
-    attr : {ns : List (List ℕ)} {xs : List Query} {n p x : Query} {y a : Formula} {name : List ℕ} {re : Re} → xs ≡ n ∷ p ∷ x ∷ []
-        → IsName n name → IsPattern p re → IsFormulaOf ns x a → y ≡ one (unary.Attr name re) a → IsCallOf fn.Attr ns xs y
+    attr : {ns : List (List ℕ)} {xs : List Query} {n p x : Query} {y a : Formula} {name pattern : List ℕ} → xs ≡ n ∷ p ∷ x ∷ []
+        → IsWord n name → IsWord p pattern → IsFormulaOf ns x a → y ≡ one (unary.Attr name pattern) a → IsCallOf fn.Attr ns xs y
 
 -- the function of this name with these arguments
 abbrev pub IsCallNamed : List ℕ → List (List ℕ) → List Query → Formula → Type 0

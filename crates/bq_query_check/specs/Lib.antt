@@ -1,5 +1,3 @@
-pub mod Codes
-pub mod Patterns
 pub mod Formula
 pub mod FormulaOf
 pub mod Checked

@@ -4,29 +4,33 @@ ghost use Rattle.std.specs.Prelude.{Some, None};
 ghost use Rattle.bq_query_lex.specs.declared.function.QueryArgumentKind.TheVariants as kind;
 ghost use Rattle.bq_query_verdict.specs.Verdict.{argument, part_of};
 ghost use Rattle.bq_query_check.specs.Checked.{Reads};
-ghost use Rattle.bq_query_check.specs.FormulaOf.{IsName, IsNumber, IsPattern};
+ghost use Rattle.bq_query_check.specs.FormulaOf.{IsNumber, IsWord};
 
 use crate::number::number;
-use crate::pattern::QueryPattern;
 use bq_base::Bytes;
 use bq_query_lex::QueryErr;
+use bq_query_pattern::{PatternErr, QueryPattern};
 use bq_query_tree::Query;
 use bq_query_verdict::{is_number, no_word};
 use std::alloc::Global;
 
 /// Reads a regular expression: Q4 if it is refused.
 pub fn pattern(alloc: Global, names: &[Bytes], query: &Query) -> Result<QueryPattern, QueryErr>
-    ensures { Reads (argument (Some kind.Pattern) (part_of query.now) names.now) (IsPattern query.now) result }
+    ensures { Reads (argument (Some kind.Pattern) (part_of query.now) names.now) (IsWord query.now) result }
 {
     match query {
-        Query::Word(text) => QueryPattern::read(alloc, text.as_slice()),
+        Query::Word(text) => match QueryPattern::new(alloc, text) {
+            Ok(pattern) => Ok(pattern),
+            Err(PatternErr::BadRegex) => Err(QueryErr::BadRegex),
+            Err(PatternErr::Memory) => Err(QueryErr::Memory),
+        },
         _ => Err(no_word(alloc, names, query)),
     }
 }
 
 /// Reads the name of an attribute.
 pub fn attribute(alloc: Global, names: &[Bytes], query: &Query) -> Result<Bytes, QueryErr>
-    ensures { Reads (argument (Some kind.Attribute) (part_of query.now) names.now) (IsName query.now) result }
+    ensures { Reads (argument (Some kind.Attribute) (part_of query.now) names.now) (IsWord query.now) result }
 {
     match query {
         Query::Word(text) => Ok(text.share()?),

@@ -1,8 +1,7 @@
-//! What a checked query says, with its words and numbers read, its variables and functions known and its patterns
-//! compiled.
+//! What a checked query says, with its words and numbers read, and its variables and functions known.
 
-use crate::pattern::QueryPattern;
 use bq_base::Bytes;
+use bq_query_pattern::QueryPattern;
 use bq_query_target_pattern::TargetPattern;
 use bq_query_tree::SetOperator;
 use sqlite_items::{Boxed, Items};

@@ -1,7 +1,6 @@
 //! What holds of the targets that queries stand for. The functions do nothing: their contracts are the laws.
 
 ghost use Rattle.std.specs.Prelude.{◌≡◌, ◌∷◌, ◌++◌, [], ℕ, List};
-ghost use Rattle.regex_hir.specs.Re.{Re};
 ghost use Rattle.bq_query_check.specs.Formula.{Formula, Step, chained, combined};
 ghost use Rattle.bq_query.specs.Stands.{Bound};
 ghost use Rattle.bq_query_target_graph.specs.Graph.{GraphParts};
@@ -21,7 +20,7 @@ pub fn functions_go_along_edges()
 /// `kind` looks at how a target's kind is written, `filter` at its label in full, and `attr` and `labels` at an attribute of rules alone:
 /// `attr` at how its value is written, or what the type that the target's own rule declares for it has by default.
 pub fn functions_look_at_targets()
-    ensures { (w : GraphParts) (a : Formula) (pattern : Re) (name : List ℕ) (bound : Bound) (y : ℕ) → Choose w a pattern name bound y }
+    ensures { (w : GraphParts) (a : Formula) (pattern name : List ℕ) (bound : Bound) (y : ℕ) → Choose w a pattern name bound y }
 {}
 
 /// A query fails for the first of its words that names what isn't there (Q5, Q6), and is answered if there is none.

@@ -1,17 +1,17 @@
 -- When bytes are taken as a pattern, and when a pattern is found in a text.
-use Rattle.std.specs.Prelude.{◌≢◌, ◌⊎◌, ℕ, List, false, IsUtf8, is_some, Bool}
+use Rattle.std.specs.Prelude.{◌≢◌, ◌⊎◌, ℕ, List, false, IsUtf8, is_some, Bool, chars}
+use Rattle.std.specs.Option.{option_and_then}
 use Rattle.regex_syntax.specs.Verdict.{default_config, Reads, Refuses}
-use Rattle.regex_syntax.specs.Grammar.{Names}
+use Rattle.regex_syntax.specs.Grammar.{Names, read}
 use Rattle.regex_syntax.specs.declared.Config.{Config}
 use Rattle.regex_syntax.specs.declared.error.ErrorKind.{ErrorKind}
 use Rattle.regex_syntax.specs.declared.error.ErrorKind.TheVariants.{OutOfMemory}
 use Rattle.regex_hir.specs.declared.hir.Hir.{Hir}
-use Rattle.regex_hir.specs.Re.{Re}
 use Rattle.regex_hir.specs.Find.{find}
 use Rattle.regex.specs.declared.error.Error.{Error}
 use Rattle.regex.specs.declared.error.Error.TheVariants.{Syntax, CompiledTooBig, Internal, OutOfMemory as OutOfMem}
-use Rattle.bq_query_pattern.specs.declared.PatternErr.{PatternErr}
-use Rattle.bq_query_pattern.specs.declared.PatternErr.TheVariants.{BadRegex, Memory}
+use Rattle.bq_query_pattern.specs.declared.pattern.PatternErr.{PatternErr}
+use Rattle.bq_query_pattern.specs.declared.pattern.PatternErr.TheVariants.{BadRegex, Memory}
 
 -- the default options of the form for bytes
 abbrev pub options : Config
@@ -30,9 +30,9 @@ abbrev pub IsCause : List ℕ → PatternErr → Type 0
 IsCause bytes BadRegex = (IsUtf8 bytes → ⊥) ⊎ (IsRefused bytes ⊎ IsRead bytes)
 IsCause bytes Memory = Unit {0}
 
--- whether the pattern is found anywhere in the text
-abbrev pub is_found : Re → List ℕ → Bool
-is_found pattern text = is_some (find pattern text 0)
+-- whether what the grammar reads in these bytes is found anywhere in the text
+unfoldable pub is_found : List ℕ → List ℕ → Bool
+is_found bytes text = is_some (option_and_then (λ (re, _). find re.value text 0) (read options (chars bytes)))
 
 abbrev pub cause_of : Error → PatternErr
 cause_of OutOfMem = Memory

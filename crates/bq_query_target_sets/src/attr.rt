@@ -3,7 +3,6 @@
 //! v2]`, so `[\[ ]v[,\]]` finds the item `v`.
 
 ghost use Rattle.std.specs.Prelude.{◌≡◌, length, IfOk};
-ghost use Rattle.regex.specs.Bytes.{regex_pattern};
 ghost use Rattle.bq_query_graph.specs.Marks.{IsSet, Marked};
 ghost use Rattle.bq_query_target_sets.specs.Words.{Those};
 ghost use Rattle.bq_query_target_sets.specs.Matching.{has_attribute};
@@ -11,18 +10,18 @@ ghost use Rattle.bq_query_target_sets.specs.Matching.{has_attribute};
 use crate::matching::matching;
 use crate::text::Subject;
 use bq_package_target::Target;
-use regex::bytes::Regex;
+use bq_query_pattern::QueryPattern;
 use std::alloc::{AllocError, Global};
 
 pub fn attr(
     alloc: Global,
     targets: &[Target],
     name: &[u8],
-    pattern: &Regex,
+    pattern: &QueryPattern,
     x: &[bool],
 ) -> Result<Vec<bool>, AllocError>
     requires { length x.now ≡ length targets.now }
-    ensures { IfOk result (λ r. IsSet (length targets.now) r.items (λ y. Marked x.now y × Those (has_attribute name.now (regex_pattern pattern.now)) targets.now y)) }
+    ensures { IfOk result (λ r. IsSet (length targets.now) r.items (λ y. Marked x.now y × Those (has_attribute name.now pattern.now) targets.now y)) }
 {
     matching(alloc, targets, Subject::Attribute(name), pattern, x)
 }

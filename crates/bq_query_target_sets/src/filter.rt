@@ -1,7 +1,6 @@
 //! `filter(pattern, x)`: the targets of `x` whose label in full has a match of the pattern.
 
 ghost use Rattle.std.specs.Prelude.{◌≡◌, length, IfOk};
-ghost use Rattle.regex.specs.Bytes.{regex_pattern};
 ghost use Rattle.bq_query_graph.specs.Marks.{IsSet, Marked};
 ghost use Rattle.bq_query_target_sets.specs.Words.{Those};
 ghost use Rattle.bq_query_target_sets.specs.Matching.{has_text};
@@ -9,17 +8,17 @@ ghost use Rattle.bq_query_target_sets.specs.Matching.{has_text};
 use crate::matching::matching;
 use crate::text::Subject;
 use bq_package_target::Target;
-use regex::bytes::Regex;
+use bq_query_pattern::QueryPattern;
 use std::alloc::{AllocError, Global};
 
 pub fn filter(
     alloc: Global,
     targets: &[Target],
-    pattern: &Regex,
+    pattern: &QueryPattern,
     x: &[bool],
 ) -> Result<Vec<bool>, AllocError>
     requires { length x.now ≡ length targets.now }
-    ensures { IfOk result (λ r. IsSet (length targets.now) r.items (λ y. Marked x.now y × Those (has_text (regex_pattern pattern.now)) targets.now y)) }
+    ensures { IfOk result (λ r. IsSet (length targets.now) r.items (λ y. Marked x.now y × Those (has_text pattern.now) targets.now y)) }
 {
     matching(alloc, targets, Subject::Label, pattern, x)
 }

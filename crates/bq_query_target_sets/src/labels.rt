@@ -1,7 +1,7 @@
 //! `labels(name, x)`: the targets that the attribute of rules of `x` names, if it is of type label, label_list, output
 //! or output_list.
 
-ghost use Rattle.std.specs.Prelude.{◌≡◌, length, IfOk, OnOk};
+ghost use Rattle.std.specs.Prelude.{◌≡◌, length, IfOk};
 ghost use Rattle.bq_query_graph.specs.Marks.{IsSet, Marked};
 ghost use Rattle.bq_query_target_sets.specs.Order.{AreInOrder};
 ghost use Rattle.bq_query_target_sets.specs.Words.{Adds};
@@ -15,60 +15,43 @@ use bq_package_target::{Target, TargetKind};
 use bq_value_rule_class::AttributeValue;
 use std::alloc::{AllocError, Global};
 
-fn add_labels(
-    alloc: Global,
-    targets: &[Target],
-    labels: &[Label],
-    marks: &mut Vec<bool>,
-) -> Result<(), AllocError>
+fn add_labels(targets: &[Target], labels: &[Label], marks: &mut Vec<bool>)
     requires order { AreInOrder targets.now }
     requires long { length marks.old.items ≡ length targets.now }
-    ensures { OnOk result (Adds (is_among labels.now) targets.now marks.old.items marks.new.items) }
+    ensures { Adds (is_among labels.now) targets.now marks.old.items marks.new.items }
 {
     for label in labels {
-        add_label(alloc, targets, label, marks)?;
+        add_label(targets, label, marks);
     }
-    Ok(())
 }
 
-fn add_value(
-    alloc: Global,
-    targets: &[Target],
-    value: &AttributeValue,
-    marks: &mut Vec<bool>,
-) -> Result<(), AllocError>
+fn add_value(targets: &[Target], value: &AttributeValue, marks: &mut Vec<bool>)
     requires order { AreInOrder targets.now }
     requires long { length marks.old.items ≡ length targets.now }
-    ensures { OnOk result (Adds (is_among (labels_in value.now)) targets.now marks.old.items marks.new.items) }
+    ensures { Adds (is_among (labels_in value.now)) targets.now marks.old.items marks.new.items }
 {
     match value {
-        AttributeValue::Label(label) => add_label(alloc, targets, label, marks),
-        AttributeValue::Output(label) => add_label(alloc, targets, label, marks),
-        AttributeValue::LabelList(labels) => add_labels(alloc, targets, labels.as_slice(), marks),
-        AttributeValue::OutputList(labels) => add_labels(alloc, targets, labels.as_slice(), marks),
-        _ => Ok(()),
+        AttributeValue::Label(label) => add_label(targets, label, marks),
+        AttributeValue::Output(label) => add_label(targets, label, marks),
+        AttributeValue::LabelList(labels) => add_labels(targets, labels.as_slice(), marks),
+        AttributeValue::OutputList(labels) => add_labels(targets, labels.as_slice(), marks),
+        _ => {}
     }
 }
 
 /// Adds the targets that the attribute of a rule names.
 #[tactic(auto, unfolding(crate::specs::Labels::labels_named))]
-fn add_named(
-    alloc: Global,
-    targets: &[Target],
-    name: &[u8],
-    target: &Target,
-    marks: &mut Vec<bool>,
-) -> Result<(), AllocError>
+fn add_named(targets: &[Target], name: &[u8], target: &Target, marks: &mut Vec<bool>)
     requires order { AreInOrder targets.now }
     requires long { length marks.old.items ≡ length targets.now }
-    ensures { OnOk result (Adds (is_among (labels_named name.now target.now)) targets.now marks.old.items marks.new.items) }
+    ensures { Adds (is_among (labels_named name.now target.now)) targets.now marks.old.items marks.new.items }
 {
     match &target.kind {
         TargetKind::Rule(_, _) => match given(name, target) {
-            Some(attribute) => add_value(alloc, targets, &attribute.value, marks),
-            None => Ok(()),
+            Some(attribute) => add_value(targets, &attribute.value, marks),
+            None => {}
         },
-        _ => Ok(()),
+        _ => {}
     }
 }
 
@@ -87,7 +70,7 @@ pub fn labels(
         if !x[at] {
             continue;
         }
-        add_named(alloc, targets, name, &targets[at], &mut marks)?;
+        add_named(targets, name, &targets[at], &mut marks);
     }
     Ok(marks)
 }

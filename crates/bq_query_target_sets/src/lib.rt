@@ -6,7 +6,7 @@
 //!
 //! In reading order:
 //!
-//! - `order`: the place of a text among the labels of the targets;
+//! - `order`: the place of a text, or of a label, among the labels of the targets;
 //! - `pattern`, `set`: the targets that patterns name;
 //! - `missing`: what a pattern names that isn't there (Q5, Q6);
 //! - `text`: the texts of kinds, labels and attributes;

@@ -1,24 +1,23 @@
 //! The members of a set whose text has a match of a pattern.
 
 ghost use Rattle.std.specs.Prelude.{◌≡◌, ◌&&◌, length, IfOk};
-ghost use Rattle.regex.specs.Bytes.{regex_pattern, matcher_pattern};
 ghost use Rattle.bq_query_target_sets.specs.Texts.{subject_text};
 ghost use Rattle.bq_query_target_sets.specs.Matching.{is_match, Keeps};
 
 use crate::text::{Subject, write_subject};
 use bq_package_target::Target;
-use regex::bytes::{Matcher, Regex};
+use bq_query_pattern::{PatternMatcher, QueryPattern};
 use std::alloc::{AllocError, Global};
 
 /// Returns whether the pattern is found in the text of the target.
 fn is_match(
-    matcher: &mut Matcher<'_>,
+    matcher: &mut PatternMatcher<'_>,
     subject: Subject<'_>,
     target: &Target,
     text: &mut Vec<u8>,
 ) -> Result<bool, AllocError>
-    ensures found { IfOk result (λ b. b ≡ is_match (matcher_pattern matcher.old) (subject_text subject.entry target.now)) }
-    ensures same { matcher_pattern matcher.new ≡ matcher_pattern matcher.old }
+    ensures found { IfOk result (λ b. b ≡ is_match matcher.old (subject_text subject.entry target.now)) }
+    ensures same { matcher.new ≡ matcher.old }
 {
     text.clear();
     if !write_subject(subject, target, text)? {
@@ -29,14 +28,14 @@ fn is_match(
 
 /// Returns whether a target is in the set, and the pattern is found in its text.
 fn keeps(
-    matcher: &mut Matcher<'_>,
+    matcher: &mut PatternMatcher<'_>,
     subject: Subject<'_>,
     target: &Target,
     text: &mut Vec<u8>,
     is_member: bool,
 ) -> Result<bool, AllocError>
-    ensures found { IfOk result (λ b. b ≡ (is_member && is_match (matcher_pattern matcher.old) (subject_text subject.entry target.now))) }
-    ensures same { matcher_pattern matcher.new ≡ matcher_pattern matcher.old }
+    ensures found { IfOk result (λ b. b ≡ (is_member && is_match matcher.old (subject_text subject.entry target.now))) }
+    ensures same { matcher.new ≡ matcher.old }
 {
     if !is_member {
         return Ok(false);
@@ -48,13 +47,13 @@ fn keeps(
 /// once.
 fn matching_by(
     alloc: Global,
-    matcher: &mut Matcher<'_>,
+    matcher: &mut PatternMatcher<'_>,
     targets: &[Target],
     subject: Subject<'_>,
     x: &[bool],
 ) -> Result<Vec<bool>, AllocError>
     requires { length x.now ≡ length targets.now }
-    ensures { IfOk result (λ r. Keeps (λ t. is_match (matcher_pattern matcher.old) (subject_text subject.entry t)) targets.now x.now r.items) }
+    ensures { IfOk result (λ r. Keeps (λ t. is_match matcher.old (subject_text subject.entry t)) targets.now x.now r.items) }
 {
     let mut text = Vec::new(alloc);
     let mut found = Vec::with_capacity(alloc, targets.len())?;
@@ -65,17 +64,18 @@ fn matching_by(
     Ok(found)
 }
 
-/// Returns the targets of a set whose text has a match of the pattern. The pattern's tables are made once.
+/// Returns the targets of a set whose text has a match of the pattern, which is compiled for this set alone.
 pub fn matching(
     alloc: Global,
     targets: &[Target],
     subject: Subject<'_>,
-    pattern: &Regex,
+    pattern: &QueryPattern,
     x: &[bool],
 ) -> Result<Vec<bool>, AllocError>
     requires { length x.now ≡ length targets.now }
-    ensures { IfOk result (λ r. Keeps (λ t. is_match (regex_pattern pattern.now) (subject_text subject.entry t)) targets.now x.now r.items) }
+    ensures { IfOk result (λ r. Keeps (λ t. is_match pattern.now (subject_text subject.entry t)) targets.now x.now r.items) }
 {
-    let mut matcher = pattern.matcher(alloc)?;
+    let compiled = pattern.compiled(alloc)?;
+    let mut matcher = compiled.matcher(alloc)?;
     matching_by(alloc, &mut matcher, targets, subject, x)
 }

@@ -47,13 +47,13 @@ fn missing_label(
     requires targets { AreInOrder targets.now }
     ensures { IfOk result (λ r. r ≡ missing_label packages.now targets.now label.now) }
 {
-    let text = print_label(alloc, label)?;
     if !has_package(packages, label.package_id()) {
-        return no_package(alloc, text);
+        return no_package(alloc, print_label(alloc, label)?);
     }
-    if target_of(targets, &text).is_some() {
+    if target_of(targets, label).is_some() {
         return Ok(None);
     }
+    let text = print_label(alloc, label)?;
     Ok(Some(QueryErr::NoSuchTarget(Bytes::from_vec(alloc, text)?)))
 }
 

@@ -1,4 +1,4 @@
-//! The place of a text among the labels of the targets.
+//! The place of a text, or of a label, among the labels of the targets.
 
 ghost use Rattle.std.specs.Prelude.{◌≡◌, ◌<◌, length, slice_index_or, [], None, is_some, IfSome, IfNone};
 ghost use Rattle.std.specs.List.{find, flat_map};
@@ -30,7 +30,7 @@ fn cmp_parts(mut parts: &[&[u8]], mut text: &[u8]) -> Ordering
 
 /// Compares the label in full with a text. Nothing is written for it.
 #[tactic(auto, unfolding(bq_label::specs::Label::full_form))]
-pub fn cmp_text(label: &Label, text: &[u8]) -> Ordering
+fn cmp_text(label: &Label, text: &[u8]) -> Ordering
     ensures { result ≡ slice_cmp nat_cmp (full_form label.now) text.now }
 {
     let package = label.package().as_slice();
@@ -62,14 +62,14 @@ pub fn place_of(targets: &[Target], text: &[u8]) -> usize
     low
 }
 
-/// Returns the target whose label this is in full, by binary search.
-pub fn target_of(targets: &[Target], text: &[u8]) -> Option<usize>
+/// Returns the target with this label, by binary search.
+pub fn target_of(targets: &[Target], label: &Label) -> Option<usize>
     requires { AreInOrder targets.now }
-    ensures found { IfSome result (λ at. (at < length targets.now) × (slice_index_or (texts_of targets.now) at [] ≡ text.now)) }
-    ensures value { is_some result ≡ is_some (find (is_text text.now) targets.now) }
-    ensures none { IfNone result (find (is_text text.now) targets.now ≡ None) }
+    ensures found { IfSome result (λ at. (at < length targets.now) × (slice_index_or (texts_of targets.now) at [] ≡ full_form label.now)) }
+    ensures value { is_some result ≡ is_some (find (is_text (full_form label.now)) targets.now) }
+    ensures none { IfNone result (find (is_text (full_form label.now)) targets.now ≡ None) }
 {
-    match targets.binary_search_by(|target| cmp_text(&target.label, text)) {
+    match targets.binary_search_by(|target| target.label.cmp(label)) {
         Ok(at) => Some(at),
         Err(_) => None,
     }

@@ -6,7 +6,7 @@ ghost use Rattle.bq_query_target_sets.specs.Order.{texts_of, AreInOrder, IsPlace
 ghost use Rattle.bq_query_target_sets.specs.Words.{Adds, Range, is_wanted, begins, own, beneath, package_text, has_label, names, names_in};
 
 use crate::order::{place_of, target_of};
-use bq_label::{Label, PackageId, print_label};
+use bq_label::{Label, PackageId};
 use bq_package_target::{Target, TargetKind};
 use bq_query_target_pattern::TargetPattern;
 use std::alloc::{AllocError, Global};
@@ -155,23 +155,14 @@ fn add_package(
 }
 
 /// Adds the target with this label.
-pub fn add_label(
-    alloc: Global,
-    targets: &[Target],
-    label: &Label,
-    marks: &mut Vec<bool>,
-) -> Result<(), AllocError>
+pub fn add_label(targets: &[Target], label: &Label, marks: &mut Vec<bool>)
     requires order { AreInOrder targets.now }
     requires long { length marks.old.items ≡ length targets.now }
-    ensures { OnOk result (Adds (has_label label.now) targets.now marks.old.items marks.new.items) }
+    ensures { Adds (has_label label.now) targets.now marks.old.items marks.new.items }
 {
-    let text = print_label(alloc, label)?;
-    match target_of(targets, &text) {
-        Some(at) => {
-            marks[at] = true;
-            Ok(())
-        }
-        None => Ok(()),
+    match target_of(targets, label) {
+        Some(at) => marks[at] = true,
+        None => {}
     }
 }
 
@@ -187,7 +178,10 @@ pub fn add_pattern(
     ensures { OnOk result (Adds (names pattern.now) targets.now marks.old.items marks.new.items) }
 {
     match pattern {
-        TargetPattern::Target(label) => add_label(alloc, targets, label, marks),
+        TargetPattern::Target(label) => {
+            add_label(targets, label, marks);
+            Ok(())
+        }
         TargetPattern::Rules(id) => add_package(alloc, targets, id, false, true, marks),
         TargetPattern::All(id) => add_package(alloc, targets, id, false, false, marks),
         TargetPattern::RulesBeneath(id) => add_package(alloc, targets, id, true, true, marks),

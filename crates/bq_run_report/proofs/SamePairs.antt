@@ -80,9 +80,9 @@ module _ (ts : List Target) (ps : List PackageParts) (g h : List (List ℕ)) (to
   one_in : (f : Unary) (P Q : ℕ → Type 0) → Within P Q → Within (OfOne (graph ts ps g) f P) (OfOne (graph ts ps h) f Q)
   one_in unary.Deps P Q k y e = deps_in g h to P Q k y e
   one_in (unary.DepsWithin n) P Q k y e = deps_within_in g h to n P Q k y e
-  one_in (unary.Kind re) P Q k y e = (k y e.0, e.1)
-  one_in (unary.Filter re) P Q k y e = (k y e.0, e.1)
-  one_in (unary.Attr name re) P Q k y e = (k y e.0, e.1)
+  one_in (unary.Kind pattern) P Q k y e = (k y e.0, e.1)
+  one_in (unary.Filter pattern) P Q k y e = (k y e.0, e.1)
+  one_in (unary.Attr name pattern) P Q k y e = (k y e.0, e.1)
   one_in (unary.Labels name) P Q k y e = (e.0, k e.0 e.1, e.2)
 
   two_in : (f : Binary) (A C B D : ℕ → Type 0) → Within A C → Within B D → Within (OfTwo (graph ts ps g) f A B) (OfTwo (graph ts ps h) f C D)

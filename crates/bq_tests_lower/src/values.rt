@@ -2,7 +2,7 @@
 //! and attributes of a type that rules in .bzl files haven't.
 
 use bq_base::Bytes;
-use bq_query_pattern::{PatternErr, read_pattern};
+use bq_query_pattern::{PatternErr, QueryPattern};
 use bq_resolve_predeclared::{Predeclared, RuleFunction};
 use bq_value::{Function, Store, Value};
 use bq_value_compare::equal;
@@ -170,7 +170,12 @@ fn text_of_an_output_attribute(rt: HostRuntime) -> Result<(), AllocError> {
 
 /// A pattern of bytes that are no text: an argument of the program can't have them.
 #[test]
-fn a_pattern_that_is_no_text(rt: HostRuntime) {
-    let refused = matches!(read_pattern(rt.alloc(), b"\xff"), Err(PatternErr::BadRegex));
+fn a_pattern_that_is_no_text(rt: HostRuntime) -> Result<(), AllocError> {
+    let bytes = Bytes::from_slice(rt.alloc(), b"\xff")?;
+    let refused = matches!(
+        QueryPattern::new(rt.alloc(), &bytes),
+        Err(PatternErr::BadRegex)
+    );
     assert!(rt; refused);
+    Ok(())
 }

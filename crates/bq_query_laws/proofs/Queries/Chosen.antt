@@ -3,7 +3,6 @@ use Rattle.std.proofs.Common.{◌≡◌, ◌≢◌, ◌∙◌, ◌↔◌, ◌⊎
 use Rattle.std.specs.List.{AllByRecursion, Contains, find}
 use Rattle.std.proofs.lemmas.Bool.{false≢true}
 use Rattle.std.proofs.lemmas.Slice.Eq.{bytes_eq-Decides}
-use Rattle.regex_hir.specs.Re.{Re}
 use Rattle.bq_label.specs.Label.{LabelParts, full_form}
 use Rattle.bq_label.proofs.Orders.{at_head, in_tail, head_or_tail}
 use Rattle.bq_query_pattern.specs.Patterns.{is_found}
@@ -79,8 +78,8 @@ one_kind t text (IsKind.source e f) = ap kind_text e ∙ sym f
 one_kind t text (IsKind.generated rule e f) = ap kind_text e ∙ sym f
 one_kind t text (IsKind.group e f) = ap kind_text e ∙ sym f
 
-kind_matches : (re : Re) (t : Target) → (has_kind re t ≡ true) ↔ KindMatches re t
-kind_matches re t = (λ h. (kind_text t.kind, kind_is t, h), λ h. subst (λ (x : List ℕ). is_found re x ≡ true) (sym (one_kind t h.0 h.1)) h.2)
+kind_matches : (pattern : List ℕ) (t : Target) → (has_kind pattern t ≡ true) ↔ KindMatches pattern t
+kind_matches pattern t = (λ h. (kind_text t.kind, kind_is t, h), λ h. subst (λ (x : List ℕ). is_found pattern x ≡ true) (sym (one_kind t h.0 h.1)) h.2)
 
 -- ---- labels of attributes
 
@@ -189,10 +188,10 @@ one_attribute name t text (IsAttributeText.valued kind_name class a e g f) =
 one_attribute name t text (IsAttributeText.blank kind_name class e h d) =
     ap (λ kind. attribute_by kind name t) e ∙ (ap (λ (o : Option GivenAttribute). text_by o class name) (finds_none name t.attributes h) ∙ d)
 
-attribute_matches : (re : Re) (name : List ℕ) (t : Target) → (has_attribute name re t ≡ true) ↔ AttributeMatches re name t
-attribute_matches re name t = (λ h. matched (attribute_text name t) refl h, λ h. ap (is_match re) (one_attribute name t h.0 h.1) ∙ h.2)
+attribute_matches : (pattern name : List ℕ) (t : Target) → (has_attribute name pattern t ≡ true) ↔ AttributeMatches pattern name t
+attribute_matches pattern name t = (λ h. matched (attribute_text name t) refl h, λ h. ap (is_match pattern) (one_attribute name t h.0 h.1) ∙ h.2)
   where
-    matched : (o : Option (List ℕ)) → attribute_text name t ≡ o → is_match re o ≡ true → AttributeMatches re name t
+    matched : (o : Option (List ℕ)) → attribute_text name t ≡ o → is_match pattern o ≡ true → AttributeMatches pattern name t
     matched None e h = absurd (false≢true h)
     matched (Some text) e h = (text, attribute_is name t text e, h)
 
@@ -283,12 +282,12 @@ rule_names name r t = (
 
 -- ---- the functions
 
-pub choose : (w : GraphParts) (a : Formula) (re : Re) (name : List ℕ) (bound : Bound) (y : ℕ) → Choose w a re name bound y
-choose w a re name bound y =
+pub choose : (w : GraphParts) (a : Formula) (pattern name : List ℕ) (bound : Bound) (y : ℕ) → Choose w a pattern name bound y
+choose w a pattern name bound y =
     let ts = targets_of w in
-    let kinds = those_with (has_kind re) (KindMatches re) (kind_matches re) ts y in
-    let texts = those_with (has_text re) (λ t. is_found re (full_form t.label) ≡ true) (λ t. (λ h. h, λ h. h)) ts y in
-    let attributes = those_with (has_attribute name re) (AttributeMatches re name) (attribute_matches re name) ts y in
+    let kinds = those_with (has_kind pattern) (KindMatches pattern) (kind_matches pattern) ts y in
+    let texts = those_with (has_text pattern) (λ t. is_found pattern (full_form t.label) ≡ true) (λ t. (λ h. h, λ h. h)) ts y in
+    let attributes = those_with (has_attribute name pattern) (AttributeMatches pattern name) (attribute_matches pattern name) ts y in
     let of : (r : Target) → Those (is_among (labels_named name r)) ts y ↔ IsTargetWith ts y (RuleNames name r) =
     λ r. those_with (is_among (labels_named name r)) (RuleNames name r) (rule_names name r) ts y in
     let by : (z : ℕ) → IsSomeAnd (slice_get ts z) (λ r. Those (is_among (labels_named name r)) ts y) ↔ IsTargetWith ts z (λ r. Those (is_among (labels_named name r)) ts y) =

@@ -1,7 +1,6 @@
 -- What `kind`, `filter`, `attr` and `labels` choose, in words of targets (Bazel query reference, "kind", "filter", "attr", "labels").
 use Rattle.std.specs.Prelude.{◌≡◌, ◌≢◌, ◌↔◌, ℕ, ◌++◌, ◌∷◌, true, List, Some, slice_get, codes}
 use Rattle.std.specs.List.{AllByRecursion, Contains}
-use Rattle.regex_hir.specs.Re.{Re}
 use Rattle.bq_label.specs.Label.{LabelParts, full_form}
 use Rattle.bq_query_pattern.specs.Patterns.{is_found}
 use Rattle.bq_query_check.specs.declared.formula.Unary.TheVariants as unary
@@ -32,8 +31,8 @@ pub data IsKind (t : Target) (text : List ℕ) : Type 0 where
   group : t.kind ≡ k.Group → text ≡ codes "package group" → IsKind t text
 
 -- the pattern has a match in the target's kind
-abbrev pub KindMatches : Re → Target → Type 0
-KindMatches re t = (text : List ℕ) × IsKind t text × (is_found re text ≡ true)
+abbrev pub KindMatches : List ℕ → Target → Type 0
+KindMatches pattern t = (text : List ℕ) × IsKind t text × (is_found pattern text ≡ true)
 
 -- ---- labels of attributes
 
@@ -62,8 +61,8 @@ pub data IsAttributeText (t : Target) (name text : List ℕ) : Type 0 where
       → default_text (attribute_type class name) ≡ Some text → IsAttributeText t name text
 
 -- the pattern has a match in the attribute
-abbrev pub AttributeMatches : Re → List ℕ → Target → Type 0
-AttributeMatches re name t = (text : List ℕ) × IsAttributeText t name text × (is_found re text ≡ true)
+abbrev pub AttributeMatches : List ℕ → List ℕ → Target → Type 0
+AttributeMatches pattern name t = (text : List ℕ) × IsAttributeText t name text × (is_found pattern text ≡ true)
 
 -- ---- labels of attributes, by target
 
@@ -80,12 +79,12 @@ pub record RuleNames (name : List ℕ) (r t : Target) : Type 0 where
 
 -- ---- what they stand for
 
-pub record Choose (w : GraphParts) (a : Formula) (re : Re) (name : List ℕ) (bound : Bound) (y : ℕ) : Type 0 where
-  -- kind(re, a)
-  pub kind : Stands w (one (unary.Kind re) a) bound y ↔ (Stands w a bound y × IsTargetWith (targets_of w) y (KindMatches re))
-  -- filter(re, a)
-  pub filter : Stands w (one (unary.Filter re) a) bound y ↔ (Stands w a bound y × IsTargetWith (targets_of w) y (λ t. is_found re (full_form t.label) ≡ true))
-  -- attr(name, re, a)
-  pub attr : Stands w (one (unary.Attr name re) a) bound y ↔ (Stands w a bound y × IsTargetWith (targets_of w) y (AttributeMatches re name))
+pub record Choose (w : GraphParts) (a : Formula) (pattern name : List ℕ) (bound : Bound) (y : ℕ) : Type 0 where
+  -- kind(pattern, a)
+  pub kind : Stands w (one (unary.Kind pattern) a) bound y ↔ (Stands w a bound y × IsTargetWith (targets_of w) y (KindMatches pattern))
+  -- filter(pattern, a)
+  pub filter : Stands w (one (unary.Filter pattern) a) bound y ↔ (Stands w a bound y × IsTargetWith (targets_of w) y (λ t. is_found pattern (full_form t.label) ≡ true))
+  -- attr(name, pattern, a)
+  pub attr : Stands w (one (unary.Attr name pattern) a) bound y ↔ (Stands w a bound y × IsTargetWith (targets_of w) y (AttributeMatches pattern name))
   -- labels(name, a)
   pub labels : Stands w (one (unary.Labels name) a) bound y ↔ ((z : ℕ) × Stands w a bound z × IsTargetWith (targets_of w) z (λ r. IsTargetWith (targets_of w) y (RuleNames name r)))

@@ -17,4 +17,4 @@ loop-label-preserved c =
     adds_next (λ l t. is_text (full_form l) t) c.args.labels.now i (get_or c.args.labels.now i d) c.args.targets.now c.args.marks.now.items c.loop-label.marks.items c.add_label.new.marks.items
     (take_more c.args.labels.now i d c.loop-label-test.true) c.loop-label.invariant
     (subst (λ (m : LabelParts). Adds (is_text (full_form m)) c.args.targets.now c.loop-label.marks.items c.add_label.new.marks.items)
-    (get_or_read c.args.labels.now i c.label-item.result c.loop-label-test.true c.label-item.is d) c.in_ok-add_label.ensures)
+    (get_or_read c.args.labels.now i c.label-item.result c.loop-label-test.true c.label-item.is d) c.add_label.ensures)

@@ -25,7 +25,7 @@ loop-at-preserved c =
     let t = c.index-targets-at.result in
     let is : t ≡ get_or targets at no_one = get_or_read targets at t c.loop-at-test.true c.index-targets-at.is no_one in
     let adds : Target → Type 0 = λ u. Adds (is_among (labels_named c.args.name.now u)) targets c.loop-at.marks.items c.add_named.new.marks.items in
-    take_one at c.args.name.now targets c.args.x.now c.loop-at.marks.items c.add_named.new.marks.items c.loop-at-test.true c.if-not-x-at.false c.loop-at.invariant (subst adds is c.in_ok-add_named.ensures)
+    take_one at c.args.name.now targets c.args.x.now c.loop-at.marks.items c.add_named.new.marks.items c.loop-at-test.true c.if-not-x-at.false c.loop-at.invariant (subst adds is c.add_named.ensures)
 
 pub returns : goal.returns
 returns c =

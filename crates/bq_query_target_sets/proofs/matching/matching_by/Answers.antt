@@ -1,7 +1,6 @@
 use Rattle.std.proofs.Common.{◌≡◌, ◌∙◌, ◌+◌, length, false, sym, ap, subst, ℕ, get_or, arith}
 use Rattle.std.specs.Prelude.{◌&&◌, Bool}
 use Rattle.std.proofs.lemmas.List.{length_push}
-use Rattle.regex.specs.Bytes.{matcher_pattern}
 use Rattle.bq_package_target.specs.declared.target.Target.{Target}
 use Rattle.bq_query_target_sets.specs.Texts.{subject_text}
 use Rattle.bq_query_target_sets.specs.Matching.{is_match}
@@ -10,14 +9,14 @@ use Rattle.bq_query_target_sets.proofs.matching.matching_by.Goals as goal
 
 pub loop-at-preserved : goal.loop-at-preserved
 loop-at-preserved c =
-    let test : Target → Bool = λ t. is_match (matcher_pattern c.args.matcher.now) (subject_text c.args.subject t) in
+    let test : Target → Bool = λ t. is_match c.args.matcher.now (subject_text c.args.subject t) in
     let t = c.index-targets-at.result in
     let at = c.loop-at.at in
     let b = c.in_ok-kept.kept in
     let member = get_or c.args.x.now at false in
     let found : b ≡ (member && passes test c.args.targets.now at) =
     c.in_ok-kept.ensures.found
-    ∙ (ap (λ re. member && is_match re (subject_text c.args.subject t)) c.loop-at.invariant.same
+    ∙ (ap (λ pattern. member && is_match pattern (subject_text c.args.subject t)) c.loop-at.invariant.same
     ∙ ap (λ p. member && p) (sym (passes_at test c.args.targets.now at t c.loop-at-test.true c.index-targets-at.is))) in
     record {
       long = ap length c.in_ok-push.ensures.items ∙ (length_push c.loop-at.found.items b ∙ ap (λ n. n + 1) c.loop-at.invariant.long);
@@ -27,7 +26,7 @@ loop-at-preserved c =
 
 pub returns : goal.returns
 returns c =
-    let test : Target → Bool = λ t. is_match (matcher_pattern c.args.matcher.now) (subject_text c.args.subject t) in
+    let test : Target → Bool = λ t. is_match c.args.matcher.now (subject_text c.args.subject t) in
     let targets = c.args.targets.now in
     let end : c.loop-at.at ≡ length targets = omega arith in
     kept_all test targets c.args.x.now c.loop-at.found.items (c.loop-at.invariant.long ∙ end)

@@ -1,6 +1,5 @@
 use Rattle.std.proofs.Common.{◌≡◌, ◌<◌, ℕ, false, get_or, length}
 use Rattle.std.specs.Prelude.{◌&&◌}
-use Rattle.regex.specs.Bytes.{matcher_pattern}
 use Rattle.bq_query_target_sets.specs.Texts.{subject_text}
 use Rattle.bq_query_target_sets.specs.Matching.{is_match}
 use Rattle.bq_query_target_sets.proofs.Tests.{passes}
@@ -9,6 +8,6 @@ use Rattle.bq_query_target_sets.proofs.matching.matching_by.Given as goal
 abbrev pub invariant-loop-at : goal.invariant-loop-at
 invariant-loop-at l = record {
   long : length l.found.items ≡ l.at;
-  each : (k : ℕ) → k < l.at → get_or l.found.items k false ≡ (get_or l.x k false && passes (λ t. is_match (matcher_pattern l.fn.matcher) (subject_text l.subject t)) l.targets k);
-  same : matcher_pattern l.matcher ≡ matcher_pattern l.fn.matcher;
+  each : (k : ℕ) → k < l.at → get_or l.found.items k false ≡ (get_or l.x k false && passes (λ t. is_match l.fn.matcher (subject_text l.subject t)) l.targets k);
+  same : l.matcher ≡ l.fn.matcher;
 }

@@ -1,7 +1,7 @@
 use Rattle.std.proofs.Common.{List, ℕ, subst}
 use Rattle.bq_query_pattern.specs.Patterns.{IsCause, cause_of}
 use Rattle.bq_query_pattern.proofs.Causes.{cause_right}
-use Rattle.bq_query_pattern.proofs.read_pattern.Goals as goal
+use Rattle.bq_query_pattern.proofs.compiled.CompiledPattern.read.Goals as goal
 
 pub returns-in-Err-new-clause-refused : goal.returns-in-Err-new-clause-refused
 returns-in-Err-new-clause-refused c =
