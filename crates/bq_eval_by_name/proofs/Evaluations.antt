@@ -16,9 +16,11 @@ use Rattle.bq_eval.specs.Calling.{HostCalls}
 use Rattle.bq_eval.specs.Runtime.{primitives}
 use Rattle.bq_eval.specs.Module as by_slots
 use Rattle.bq_eval.specs.Module.{Ended, evaluated, failed, first_store, fault_of}
-use Rattle.bq_eval_by_name.specs.Agreement.{IsCodeOf, AreCodesOf, EvaluationsAgree}
-use Rattle.bq_eval_by_name.specs.Evaluation.{ParsedFile, frozen_units, frozen_values, ended, kept_after, module_run}
-use Rattle.bq_eval_by_name.proofs.Units.{fits, globals_are, units_agree}
+use Rattle.bq_resolve_by_name.specs.Files.{ParsedFile, IsCodeOf}
+use Rattle.bq_resolve_by_name.proofs.Loads.{globals_kept}
+use Rattle.bq_eval_by_name.specs.Agreement.{AreCodesOf, EvaluationsAgree}
+use Rattle.bq_eval_by_name.specs.Evaluation.{frozen_units, frozen_values, ended, kept_after, module_run}
+use Rattle.bq_eval_by_name.proofs.Units.{fits, units_agree}
 use Rattle.bq_eval_by_name.proofs.Values.{frozen_same}
 
 module _ {W : Type 0} (file : ParsedFile) (code : Resolved) (imports : List Datum) (globals : code.globals ≡ global_names file.statements) where
@@ -54,6 +56,6 @@ module _ {W : Type 0} (rules : List Name) (host : HostCalls W) where
       let p = module_run rules host files number file loaded imports limit kept in
       let q = by_slots.module_run rules host codes number code loaded imports limit kept in
       let alike = runs_alike files codes are number file code is loaded imports limit kept in (
-        ends_same file code imports (globals_are file code is) p q alike,
-        kept_same file code imports (globals_are file code is) p q alike,
+        ends_same file code imports (globals_kept file code is) p q alike,
+        kept_same file code imports (globals_kept file code is) p q alike,
       )

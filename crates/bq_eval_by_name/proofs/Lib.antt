@@ -6,5 +6,3 @@ pub mod Units
 pub mod Evaluations
 -- what is bound at the end
 pub mod Bound
--- loads
-pub mod Loads

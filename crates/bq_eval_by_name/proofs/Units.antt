@@ -1,10 +1,10 @@
 -- Frozen modules, read by names, are what they are by slots.
-use Rattle.std.proofs.Common.{◌≡◌, ℕ, zero, suc, List, [], ◌∷◌, length, drop, Option, Some, None, Ok, slice_get, refl, ap, subst}
+use Rattle.std.proofs.Common.{ℕ, zero, suc, List, [], ◌∷◌, length, drop, Option, Some, None, Ok, slice_get, refl, ap, subst}
 use Rattle.bq_parse_grammar.specs.Pieces.{pieces}
 use Rattle.bq_resolve_scope.specs.declared.code.Resolved.{Resolved}
 use Rattle.bq_resolve_scope.specs.Names.{global_names}
-use Rattle.bq_resolve_scope_laws.specs.Resolution.{InOrder, Maybe}
-use Rattle.bq_resolve_scope_laws.proofs.ResolvedFiles.{to_themselves}
+use Rattle.bq_resolve_by_name.specs.Resolution.{InOrder, Maybe}
+use Rattle.bq_resolve_by_name.proofs.Loads.{globals_kept}
 use Rattle.bq_value.specs.Cells.{FrozenView}
 use Rattle.bq_value.specs.Datum.{Datum}
 use Rattle.bq_eval_depth_laws.specs.Fits.{FileFits}
@@ -15,16 +15,14 @@ use Rattle.bq_eval_meaning_spec.specs.Module.{globals_among}
 use Rattle.bq_eval_by_name_spec.specs.Module as names
 use Rattle.bq_eval_by_name_module_laws.specs.Units.{UnitIs, UnitsAgree}
 use Rattle.bq_eval_by_name_module_laws.proofs.Agreement.{frozen_is}
-use Rattle.bq_eval_by_name.specs.Agreement.{IsCodeOf, AreCodesOf}
-use Rattle.bq_eval_by_name.specs.Evaluation.{ParsedFile, values_named, frozen_by, frozen_unit, frozen_units}
+use Rattle.bq_resolve_by_name.specs.Files.{ParsedFile, IsCodeOf}
+use Rattle.bq_eval_by_name.specs.Agreement.{AreCodesOf}
+use Rattle.bq_eval_by_name.specs.Evaluation.{values_named, frozen_by, frozen_unit, frozen_units}
 use Rattle.bq_eval_by_name.proofs.Values.{named_reads}
 
 pub fits : (file : ParsedFile) (code : Resolved) → IsCodeOf file code → FileFits code
 fits file code is =
     file_fits file.universe file.statements code (file_within file.universe.kind (pieces is.lexemes) file.statements (Ok file.statements) refl is.parses) is.names
-
-pub globals_are : (file : ParsedFile) (code : Resolved) → IsCodeOf file code → code.globals ≡ global_names file.statements
-globals_are file code is = (to_themselves file.universe file.statements code is.names).1
 
 -- those of one place are related, as all are
 pub in_place : {A B : Type 0} (R : A → B → Type 0) (xs : List A) (ys : List B) (n : ℕ) → InOrder R xs ys → Maybe R (slice_get xs n) (slice_get ys n)
@@ -37,7 +35,7 @@ in_place R (x ∷ xs) (y ∷ ys) (suc n) h = in_place R xs ys n h.1
 frozen_of : (file : ParsedFile) (code : Resolved) → IsCodeOf file code → (values : List Datum) → Maybe UnitIs (Some (frozen_by file values)) (slots.frozen_unit (Some (Some code)) (Some values))
 frozen_of file code is values =
     subst (λ n. Maybe UnitIs (Some (names.frozen_unit file.universe file.statements (drop n values) (values_named (global_names file.statements) values))) (slots.frozen_unit (Some (Some code)) (Some values)))
-    (ap length (globals_are file code is))
+    (ap length (globals_kept file code is))
     (frozen_is file.universe file.statements code is.names (fits file code is) (values_named (global_names file.statements) values) (λ k. slice_get values k) values
     (named_reads (global_names file.statements) values) (λ k within. refl))
 

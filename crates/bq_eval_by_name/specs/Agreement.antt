@@ -1,11 +1,10 @@
 -- The law of names for evaluations: on the machine and the host of a program a file ends by names in what it ends in by slots.
-use Rattle.std.specs.Prelude.{◌≡◌, ℕ, true, List, length, drop, map, Option, Ok}
-use Rattle.bq_parse_grammar.specs.Lexeme.{Lexeme}
-use Rattle.bq_parse_grammar.specs.Parses.{Parses}
+use Rattle.std.specs.Prelude.{◌≡◌, ℕ, true, List, length, drop, Option, Ok}
 use Rattle.bq_resolve_scope.specs.declared.code.Resolved.{Resolved}
 use Rattle.bq_resolve_scope.specs.Files.{resolved}
 use Rattle.bq_resolve_scope.specs.Names.{Name, has, global_names}
-use Rattle.bq_resolve_scope_laws.specs.Resolution.{InOrder, Maybe}
+use Rattle.bq_resolve_by_name.specs.Files.{ParsedFile, IsCodeOf}
+use Rattle.bq_resolve_by_name.specs.Resolution.{InOrder, Maybe}
 use Rattle.bq_value.specs.Cells.{FrozenView}
 use Rattle.bq_value.specs.Datum.{Datum}
 use Rattle.bq_eval_meaning_spec.specs.Module as slots
@@ -15,25 +14,11 @@ use Rattle.bq_eval_by_name_module_laws.specs.Units.{UnitsAgree}
 use Rattle.bq_eval.specs.Calling.{HostCalls}
 use Rattle.bq_eval.specs.Runtime.{primitives}
 use Rattle.bq_eval.specs.Module as by_slots
-use Rattle.bq_eval_by_name.specs.Evaluation.{ParsedFile, values_named, frozen_units, frozen_values, ended, kept_after, module_run}
-use Rattle.bq_eval_by_name.specs.Loads.{load_line, file_loads}
-
--- the code is what the file resolves to, which some tokens read as
-pub record IsCodeOf (file : ParsedFile) (code : Resolved) : Type 0 where
-  pub lexemes : List Lexeme
-  pub parses : Parses file.universe.kind lexemes (Ok file.statements)
-  pub names : resolved file.universe file.statements ≡ Ok code
+use Rattle.bq_eval_by_name.specs.Evaluation.{values_named, frozen_units, frozen_values, ended, kept_after, module_run}
 
 -- of each module the code is that of its file, or it has neither
 abbrev pub AreCodesOf : List (Option ParsedFile) → List (Option Resolved) → Type 0
 AreCodesOf files codes = InOrder (Maybe IsCodeOf) files codes
-
--- what is known of a module's code without its slots: its loads and its globals are those of its file
-abbrev pub LoadsAreKept : Type 0
-LoadsAreKept = (file : ParsedFile) (code : Resolved) → IsCodeOf file code → map load_line code.loads ≡ file_loads file.statements
-
-abbrev pub GlobalsAreKept : Type 0
-GlobalsAreKept = (file : ParsedFile) (code : Resolved) → IsCodeOf file code → code.globals ≡ global_names file.statements
 
 -- A frozen module is read as it ended: each global that was bound has its value, and what its loads bind has the values that they gave.
 abbrev pub FrozenModulesKeepTheirGlobals : Type 0

@@ -1,9 +1,8 @@
 -- What the evaluation of a file ends in, by names: what bq_eval says, over the file as it is parsed (Starlark specification, "Module
 -- execution", "Freezing a value"). Nothing here speaks of slots.
 use Rattle.std.specs.Prelude.{ℕ, List, [], ◌∷◌, ◌++◌, length, drop, map, Option, Some, None, slice_get, bytes_eq, if◌then◌else◌}
-use Rattle.bq_parse_grammar.specs.declared.tree.TopLevel.{TopLevel}
 use Rattle.bq_resolve_scope.specs.Names.{Name, global_names}
-use Rattle.bq_resolve_scope.specs.Universe.{UniverseParts}
+use Rattle.bq_resolve_by_name.specs.Files.{ParsedFile}
 use Rattle.bq_value.specs.Cells.{FrozenView, frozen}
 use Rattle.bq_value.specs.Datum.{Datum, none}
 use Rattle.bq_builtin_machine.specs.Action.{Run, done, stopped}
@@ -15,11 +14,6 @@ use Rattle.bq_eval_by_name_spec.specs.Names.{Env}
 use Rattle.bq_eval.specs.Calling.{HostCalls}
 use Rattle.bq_eval.specs.Runtime.{primitives}
 use Rattle.bq_eval.specs.Module.{Ended, evaluated, failed, first_store, or_none, fault_of}
-
--- a file as it is parsed: the names that every file of its kind has, and its statements
-pub record ParsedFile : Type 0 where
-  pub universe : UniverseParts
-  pub statements : List TopLevel
 
 -- ---- before
 

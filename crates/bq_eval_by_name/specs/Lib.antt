@@ -1,4 +1,3 @@
 pub use Rattle.bq_eval.specs.Module
 pub mod Evaluation
-pub mod Loads
 pub mod Agreement

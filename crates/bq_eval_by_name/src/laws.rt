@@ -3,13 +3,7 @@
 ghost use Rattle.std.specs.Prelude.{List};
 ghost use Rattle.bq_resolve_scope.specs.Names.{Name};
 ghost use Rattle.bq_eval.specs.Calling.{HostCalls};
-ghost use Rattle.bq_eval_by_name.specs.Agreement.{LoadsAreKept, GlobalsAreKept, FrozenModulesKeepTheirGlobals, FrozenUnitsAgree, EvaluationsAgree, GlobalsAreBound, UnpackingCounts};
-
-/// A resolved file has the loads and the globals of the file that was parsed.
-pub fn loads_and_globals_are_kept()
-    ensures loads { LoadsAreKept }
-    ensures globals { GlobalsAreKept }
-{}
+ghost use Rattle.bq_eval_by_name.specs.Agreement.{FrozenModulesKeepTheirGlobals, FrozenUnitsAgree, EvaluationsAgree, GlobalsAreBound, UnpackingCounts};
 
 /// A frozen module is read as it ended: its globals have the values that they had, and the names that its loads bind
 /// have theirs.

@@ -11,11 +11,11 @@ use Rattle.bq_resolve_scope.specs.Scope.{FileParts}
 use Rattle.bq_resolve_scope.specs.Statements as scope
 use Rattle.bq_resolve_scope.specs.Universe.{UniverseParts}
 use Rattle.bq_resolve_scope.specs.Visit.{Passed, each, nothing_passed}
-use Rattle.bq_resolve_scope_laws.specs.Resolution.{InOrder, Maybe}
-use Rattle.bq_resolve_scope_laws.specs.Violations.{nothing_before, violations}
-use Rattle.bq_resolve_scope_laws.proofs.FaultyFiles.{without_violations}
-use Rattle.bq_resolve_scope_laws.proofs.ResolvedFiles.{to_themselves}
-use Rattle.bq_resolve_scope_laws.proofs.Uses.{place_within}
+use Rattle.bq_resolve_by_name.specs.Resolution.{InOrder, Maybe}
+use Rattle.bq_resolve_by_name.specs.Violations.{nothing_before, violations}
+use Rattle.bq_resolve_by_name.proofs.FaultyFiles.{without_violations}
+use Rattle.bq_resolve_by_name.proofs.ResolvedFiles.{to_themselves}
+use Rattle.bq_resolve_by_name.proofs.Uses.{place_within}
 use Rattle.bq_value.specs.Datum.{Datum}
 use Rattle.bq_eval_depth_laws.specs.Fits.{FileFits}
 use Rattle.bq_eval_depth_laws.proofs.Within.{code_within}

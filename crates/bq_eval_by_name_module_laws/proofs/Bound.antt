@@ -15,8 +15,8 @@ use Rattle.bq_parse_grammar.specs.declared.tree.TopLevel.{TopLevel}
 use Rattle.bq_resolve_scope.specs.Files.{file_names}
 use Rattle.bq_resolve_scope.specs.Names.{Name, TargetLayer, max_layers, has, with_name, with_each, with_target_by, with_target_to, with_target, with_small_by, with_small, with_stmt_by, with_stmt_to, with_stmt, global_names}
 use Rattle.bq_resolve_scope.specs.Scope.{FileParts}
-use Rattle.bq_resolve_scope_laws.specs.Violations.{in_turn, Before, nothing_before, in_file_small_by, in_file_small, after_small, in_top_level_by, in_top_level, after, violations}
-use Rattle.bq_resolve_scope_laws.proofs.FaultyFiles.{without_violations}
+use Rattle.bq_resolve_by_name.specs.Violations.{in_turn, Before, nothing_before, in_file_small_by, in_file_small, after_small, in_top_level_by, in_top_level, after, violations}
+use Rattle.bq_resolve_by_name.proofs.FaultyFiles.{without_violations}
 use Rattle.bq_value.specs.Datum.{Datum, function, data_of}
 use Rattle.bq_builtin_machine.specs.Action.{Action, Run, done, stopped, following}
 use Rattle.bq_eval_meaning_spec.specs.Primitives.{Primitives}

@@ -3,7 +3,7 @@ use Rattle.std.proofs.Common.{ℕ, zero, suc, List, [], ◌∷◌, Option, Some,
 use Rattle.std.specs.List.{AllByRecursion}
 use Rattle.bq_resolve_scope.specs.declared.code.CodeFunction.{CodeFunction}
 use Rattle.bq_resolve_scope.specs.Scope.{FileParts}
-use Rattle.bq_resolve_scope_laws.specs.Resolution.{InOrder, Maybe}
+use Rattle.bq_resolve_by_name.specs.Resolution.{InOrder, Maybe}
 use Rattle.bq_value.specs.Datum.{Datum, none, boolean, int, string, tuple, range, cell, function, function_of, built_in, rule_function, attribute, list_of}
 use Rattle.bq_builtin_machine.specs.Args.{Passed}
 use Rattle.bq_eval_depth_laws.specs.Fits.{FunctionFits}

@@ -8,7 +8,7 @@ use Rattle.bq_resolve_scope.specs.declared.code.CodeParameter.{CodeParameter}
 use Rattle.bq_resolve_scope.specs.Names.{Name, place_among, function_names}
 use Rattle.bq_resolve_scope.specs.Scope.{BlockParts, FileParts, or_else, slot_in, slot_of}
 use Rattle.bq_resolve_scope.specs.Statements.{no_parameters, parameters}
-use Rattle.bq_resolve_scope_laws.specs.Resolution.{InOrder}
+use Rattle.bq_resolve_by_name.specs.Resolution.{InOrder}
 use Rattle.bq_value.specs.Datum.{Datum, tuple, data_of}
 use Rattle.bq_builtin_machine.specs.Args.{Passed}
 use Rattle.bq_builtin_machine.specs.Binding.{bind}

@@ -30,10 +30,10 @@ use Rattle.bq_resolve_scope.specs.Expressions.{place_of, is_bzl, name_target}
 use Rattle.bq_resolve_scope.specs.Statements as st
 use Rattle.bq_resolve_scope.specs.Statements.{ParameterParts, no_parameters, expr, load_clause, small_stmt, stmt_to, parameters, statements_in, with_function, function}
 use Rattle.bq_resolve_scope.specs.Visit.{Passed, Visit, ◌>>=◌, pure, fault_of, each}
-use Rattle.bq_resolve_scope_laws.specs.Resolution.{InOrder, ExprIs, kind_is, StmtTo}
-use Rattle.bq_resolve_scope_laws.proofs.Makes.{append_none, append_one, append_all, makes_all}
-use Rattle.bq_resolve_scope_laws.proofs.ResolvedExpressions.{name_makes}
-use Rattle.bq_resolve_scope_laws.proofs.ResolvedStatements.{an_expr_makes, assign_makes, augment_makes, returned_makes, in_loop_makes, stmt_makes}
+use Rattle.bq_resolve_by_name.specs.Resolution.{InOrder, ExprIs, kind_is, StmtTo}
+use Rattle.bq_resolve_by_name.proofs.Makes.{append_none, append_one, append_all, makes_all}
+use Rattle.bq_resolve_by_name.proofs.ResolvedExpressions.{name_makes}
+use Rattle.bq_resolve_by_name.proofs.ResolvedStatements.{an_expr_makes, assign_makes, augment_makes, returned_makes, in_loop_makes, stmt_makes}
 use Rattle.bq_eval_by_name_spec.specs.Calls.{Def}
 use Rattle.bq_eval_by_name_spec.specs.Module.{defs_by, defs, defaults_of}
 use Rattle.bq_eval_by_name_module_laws.specs.Units.{FunctionIs}

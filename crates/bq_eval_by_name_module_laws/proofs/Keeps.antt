@@ -2,8 +2,8 @@
 use Rattle.std.proofs.Common.{◌≡◌, List, [], ◌∷◌, ◌++◌, Result, Ok, Err, refl, ap, ◌∙◌, subst}
 use Rattle.bq_base.specs.declared.fault.Fault.{Fault}
 use Rattle.bq_resolve_scope.specs.Visit.{Passed, Visit, following, ◌>>=◌, each}
-use Rattle.bq_resolve_scope_laws.specs.Resolution.{InOrder}
-use Rattle.bq_resolve_scope_laws.proofs.Makes.{Making, Makes}
+use Rattle.bq_resolve_by_name.specs.Resolution.{InOrder}
+use Rattle.bq_resolve_by_name.proofs.Makes.{Making, Makes}
 
 -- it made this, from somewhere
 abbrev pub Made : {A : Type 0} → Visit A → A → Type 0

@@ -6,7 +6,7 @@ use Rattle.bq_parse_grammar.specs.declared.tree.LoadClause.{LoadClause}
 use Rattle.bq_resolve_scope.specs.declared.code.LoadStmt.{LoadStmt}
 use Rattle.bq_resolve_scope.specs.declared.code.LoadedSymbol.{LoadedSymbol}
 use Rattle.bq_resolve_scope.specs.Names.{Name, has, place_among}
-use Rattle.bq_resolve_scope_laws.proofs.Uses.{place_within}
+use Rattle.bq_resolve_by_name.proofs.Uses.{place_within}
 use Rattle.bq_value.specs.Datum.{Datum}
 use Rattle.bq_eval_meaning_spec.specs.Frame.{Frame, empty, fill}
 use Rattle.bq_eval_meaning_spec.specs.Module as slots

@@ -24,7 +24,7 @@ use Rattle.bq_resolve_scope.specs.Scope.{FileParts, or_else, slot_of, file_has, 
 use Rattle.bq_resolve_scope.specs.Universe.{universe_has}
 use Rattle.bq_resolve_scope.specs.Expressions.{place_of}
 use Rattle.bq_resolve_scope.specs.Visit.{Passed}
-use Rattle.bq_resolve_scope_laws.specs.Resolution.{InOrder}
+use Rattle.bq_resolve_by_name.specs.Resolution.{InOrder}
 use Rattle.bq_value.specs.Datum.{Datum, function, data_of}
 use Rattle.bq_builtin_machine.specs.Action.{Action, done, following, ◌>>=◌, pure}
 use Rattle.bq_eval_depth_laws.specs.Fits.{ExprFits, FileStmtFits, TopLevelFits}

@@ -15,9 +15,9 @@ use Rattle.bq_resolve_scope.specs.Names.{Name, has, place_among, with_name, with
 use Rattle.bq_resolve_scope.specs.Scope.{FileParts}
 use Rattle.bq_resolve_scope.specs.Visit.{Passed, Visit, ◌>>=◌, pure, stop, fault_of}
 use Rattle.bq_resolve_scope.specs.Statements.{ParameterParts, expr, named_parameter, default_parameter, next_parameter, parameters}
-use Rattle.bq_resolve_scope_laws.specs.Resolution.{InOrder, ExprIs}
-use Rattle.bq_resolve_scope_laws.proofs.Makes.{append_none, append_one, append_all}
-use Rattle.bq_resolve_scope_laws.proofs.ResolvedStatements.{an_expr_makes}
+use Rattle.bq_resolve_by_name.specs.Resolution.{InOrder, ExprIs}
+use Rattle.bq_resolve_by_name.proofs.Makes.{append_none, append_one, append_all}
+use Rattle.bq_resolve_by_name.proofs.ResolvedStatements.{an_expr_makes}
 use Rattle.bq_eval_by_name_spec.specs.Module.{defaults_of}
 use Rattle.bq_eval_by_name_module_laws.proofs.Keeps.{Made, Kept, Keeps, Anything, keeps_bind, keeps_made, keeps_weaker, keeps_makes, both}
 use Rattle.bq_eval_by_name_module_laws.proofs.Places.{Stays, new_place, each_stays, parameter_stays}

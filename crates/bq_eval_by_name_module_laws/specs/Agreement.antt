@@ -10,7 +10,7 @@ use Rattle.bq_resolve_scope.specs.Files.{resolved}
 use Rattle.bq_resolve_scope.specs.Names.{place_among, function_names, global_names}
 use Rattle.bq_resolve_scope.specs.Scope.{FileParts}
 use Rattle.bq_resolve_scope.specs.Universe.{UniverseParts}
-use Rattle.bq_resolve_scope_laws.specs.Resolution.{Maybe}
+use Rattle.bq_resolve_by_name.specs.Resolution.{Maybe}
 use Rattle.bq_value.specs.Datum.{Datum}
 use Rattle.bq_builtin_machine.specs.Args.{Passed}
 use Rattle.bq_eval_depth_laws.specs.Fits.{FileFits}

@@ -6,7 +6,7 @@ use Rattle.bq_resolve_scope.specs.Names.{function_names}
 use Rattle.bq_resolve_scope.specs.Scope.{FileParts}
 use Rattle.bq_resolve_scope.specs.Statements.{ParameterParts, no_parameters, parameters, statements_in}
 use Rattle.bq_resolve_scope.specs.Visit.{Passed}
-use Rattle.bq_resolve_scope_laws.specs.Resolution.{InOrder, Maybe}
+use Rattle.bq_resolve_by_name.specs.Resolution.{InOrder, Maybe}
 use Rattle.bq_eval_depth_laws.specs.Fits.{FunctionFits}
 use Rattle.bq_eval_meaning_spec.specs.Calls as slots
 use Rattle.bq_eval_meaning_spec.specs.Calls.{CodeUnit}

@@ -10,8 +10,8 @@ use Rattle.bq_resolve_scope.specs.Names.{Name, max_layers, has, function_names}
 use Rattle.bq_resolve_scope.specs.Scope.{BlockParts, FileParts}
 use Rattle.bq_resolve_scope.specs.Statements as scope
 use Rattle.bq_resolve_scope.specs.Visit.{Passed}
-use Rattle.bq_resolve_scope_laws.specs.Binds.{AnyOf, StmtBinds, StmtBindsTo}
-use Rattle.bq_resolve_scope_laws.proofs.Binds.{function_binds}
+use Rattle.bq_resolve_by_name.specs.Binds.{AnyOf, StmtBinds, StmtBindsTo}
+use Rattle.bq_resolve_by_name.proofs.Binds.{function_binds}
 use Rattle.bq_eval_meaning_spec.specs.Expressions as codes
 use Rattle.bq_eval_meaning_spec.specs.Frame.{Frame, Surroundings}
 use Rattle.bq_eval_meaning_spec.specs.Primitives.{Primitives}

@@ -28,7 +28,7 @@ use Rattle.bq_resolve_scope.specs.Names.{Name, max_layers, has, with_name, place
 use Rattle.bq_resolve_scope.specs.Scope.{BlockParts, FileParts}
 use Rattle.bq_resolve_scope.specs.Statements as scope
 use Rattle.bq_resolve_scope.specs.Visit.{Passed, Visit, ◌>>=◌, pure, fault_of, each, optional}
-use Rattle.bq_resolve_scope_laws.specs.Binds.{AnyOf, TargetBinds, kind_binds, SmallBinds, stmt_binds_by, StmtBindsTo}
+use Rattle.bq_resolve_by_name.specs.Binds.{AnyOf, TargetBinds, kind_binds, SmallBinds, stmt_binds_by, StmtBindsTo}
 use Rattle.bq_eval_meaning_spec.specs.Frame.{Frame}
 use Rattle.bq_eval_meaning_spec.specs.Primitives.{Primitives}
 use Rattle.bq_eval_meaning_spec.specs.Statements as slots

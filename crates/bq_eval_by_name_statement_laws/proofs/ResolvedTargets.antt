@@ -19,7 +19,7 @@ use Rattle.bq_resolve_scope.specs.Expressions as scope
 use Rattle.bq_resolve_scope.specs.Names.{Name, TargetLayer, has, with_name}
 use Rattle.bq_resolve_scope.specs.Scope.{BlockParts, FileParts, use_of}
 use Rattle.bq_resolve_scope.specs.Visit.{Passed, Visit, given, fault_of, each}
-use Rattle.bq_resolve_scope_laws.specs.Binds.{AnyOf, target_binds_by, TargetBindsTo}
+use Rattle.bq_resolve_by_name.specs.Binds.{AnyOf, target_binds_by, TargetBindsTo}
 use Rattle.bq_eval_meaning_spec.specs.Frame.{Frame}
 use Rattle.bq_eval_meaning_spec.specs.Primitives.{Primitives}
 use Rattle.bq_eval_meaning_spec.specs.Trees as trees

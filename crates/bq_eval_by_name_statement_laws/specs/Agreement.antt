@@ -12,7 +12,7 @@ use Rattle.bq_resolve_scope.specs.Names.{Name, max_layers, has, place_among, fun
 use Rattle.bq_resolve_scope.specs.Scope.{BlockParts, FileParts}
 use Rattle.bq_resolve_scope.specs.Statements as scope
 use Rattle.bq_resolve_scope.specs.Visit.{Passed, each}
-use Rattle.bq_resolve_scope_laws.specs.Binds.{StmtBindsTo}
+use Rattle.bq_resolve_by_name.specs.Binds.{StmtBindsTo}
 use Rattle.bq_eval_meaning_spec.specs.Expressions as codes
 use Rattle.bq_eval_meaning_spec.specs.Frame.{Frame, Surroundings}
 use Rattle.bq_eval_meaning_spec.specs.Primitives.{Primitives}

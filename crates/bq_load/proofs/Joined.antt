@@ -9,7 +9,7 @@ use Rattle.bq_resolve_scope.specs.declared.code.Resolved.{Resolved}
 use Rattle.bq_package_schema.specs.Schema.{Rules}
 use Rattle.bq_board.specs.Graph.{Loads}
 use Rattle.bq_load_discover.specs.declared.modules.Module.{Module}
-use Rattle.bq_load_discover.specs.LoadGraph.{GraphParts, IsNumbered, IsLoadGraph, inputs_of}
+use Rattle.bq_load_discover.specs.LoadGraph.{GraphParts, IsNumbered, IsReadGraph, inputs_of}
 use Rattle.bq_load.specs.declared.source.Source.{Source}
 use Rattle.bq_load.specs.declared.loaded.Loaded.{Loaded}
 use Rattle.bq_load.specs.Sources.{LoadingParts, source_of, code_of, loading_in}
@@ -21,7 +21,7 @@ abbrev parts : List Source → List (Option Resolved) → List File → List Bui
 parts sources code files packages rules names limit = record { sources = sources; code = code; files = files; packages = packages; rules = rules; names = names; limit = limit }
 
 module _ (files : List File) (rules : Rules) (limit : ℕ) where
-  pub decided : (g : GraphParts) → IsLoadGraph (inputs_of files rules) g → (sources : List Source) (code : List (Option Resolved)) (packages : List BuildFile) (names : List Name)
+  pub decided : (g : GraphParts) → IsReadGraph (inputs_of files rules) g → (sources : List Source) (code : List (Option Resolved)) (packages : List BuildFile) (names : List Name)
       → sources ≡ map source_of g.modules → code ≡ map code_of g.modules → packages ≡ g.packages → names ≡ with_each with_name [] rules.names
       → parts sources code files packages rules names limit ≡ loading_in files rules limit g
   decided g is sources code packages names a b c d = let known : packages ≡ packages_of files = c ∙ is.packages in λ i. parts (a i) (b i) files (known i) rules (d i) limit
@@ -29,7 +29,7 @@ module _ (files : List File) (rules : Rules) (limit : ℕ) where
   pub as_wide : (g : GraphParts) → IsNumbered g → (sources : List Source) (p : Loads) → sources ≡ map source_of g.modules → p ≡ g.edges → length p ≡ length sources
   as_wide g n sources p a e = ap length e ∙ (n.long ∙ (sym (ap length n.named) ∙ (length-map g.modules (λ (m : Module). m.label) ∙ (sym (length-map g.modules source_of) ∙ sym (ap length a)))))
 
-  pub loaded_is : (g : GraphParts) → IsLoadGraph (inputs_of files rules) g → (x : LoadingParts) (p : Loads) (l : Loaded) → x ≡ loading_in files rules limit g → p ≡ g.edges → IsLoaded x p l → LoadsWorkspace files rules limit (Ok l)
+  pub loaded_is : (g : GraphParts) → IsReadGraph (inputs_of files rules) g → (x : LoadingParts) (p : Loads) (l : Loaded) → x ≡ loading_in files rules limit g → p ≡ g.edges → IsLoaded x p l → LoadsWorkspace files rules limit (Ok l)
   loaded_is g found x p l is e h = (g, found, subst (λ (q : Loads). IsLoaded (loading_in files rules limit g) q l) e (subst (λ (y : LoadingParts). IsLoaded y p l) is h))
 
 -- what modules give in a workspace with these packages, where they are those of the load graph

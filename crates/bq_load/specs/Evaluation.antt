@@ -18,7 +18,7 @@ use Rattle.bq_load_module.specs.Outcomes.{run_of}
 use Rattle.bq_load_module.specs.Module.{module_run}
 use Rattle.bq_package_target.specs.Package.{no_targets}
 use Rattle.bq_load_module.specs.Calls.{HeldPackage, outside, declaring, meaning}
-use Rattle.bq_load_front.specs.Front.{kind_of}
+use Rattle.bq_load_front.specs.Parsed.{kind_of}
 pub use Rattle.bq_load_module.specs.Run.{package_left, module_with, module_by}
 unfoldable pub use Rattle.bq_load_module.specs.Run.{module_after}
 use Rattle.bq_load.specs.declared.loading.Loading.{Loading}
@@ -74,6 +74,7 @@ abbrev pub by_code : LoadingParts → ℕ → Source → List ModuleView → Opt
 by_code x m s modules None = Err (not_evaluated (or_no_file s.fault))
 by_code x m s modules (Some file) = file_means x m s file modules
 
+-- the outcome of a module, by what it loads
 abbrev pub by_source : LoadingParts → ℕ → List ModuleView → Option Source → Result ModuleView FailedView
 by_source x m modules None = Err (not_evaluated (or_no_file None))
 by_source x m modules (Some s) = by_code x m s modules (code_in (slice_get x.code m))

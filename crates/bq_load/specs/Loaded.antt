@@ -16,7 +16,7 @@ use Rattle.bq_load_discover.specs.declared.load_err.LoadErr.{LoadErr}
 use Rattle.bq_load_discover.specs.declared.load_err.LoadErr.TheVariants as e
 use Rattle.bq_load_discover.specs.Edges.{number_in}
 use Rattle.bq_load_discover.specs.Modules.{AreTooMany}
-use Rattle.bq_load_discover.specs.LoadGraph.{GraphParts, IsLoadGraph, inputs_of}
+use Rattle.bq_load_discover.specs.LoadGraph.{GraphParts, IsReadGraph, inputs_of}
 use Rattle.bq_load.specs.declared.loaded.Loaded.{Loaded}
 use Rattle.bq_load.specs.Views.{ModuleView, FailedView, OutcomeView, outcome_view}
 use Rattle.bq_load.specs.Sources.{LoadingParts, loading_in}
@@ -105,5 +105,5 @@ HasNoGraph files rules why = (why ≡ e.TooManyModules → AreTooMany (inputs_of
 
 -- what loading the workspace returns, with `limit` steps for each module
 abbrev pub LoadsWorkspace : List File → Rules → ℕ → Result Loaded LoadErr → Type 0
-LoadsWorkspace files rules limit (Ok l) = (g : GraphParts) × IsLoadGraph (inputs_of files rules) g × IsLoaded (loading_in files rules limit g) g.edges l
+LoadsWorkspace files rules limit (Ok l) = (g : GraphParts) × IsReadGraph (inputs_of files rules) g × IsLoaded (loading_in files rules limit g) g.edges l
 LoadsWorkspace files rules limit (Err why) = HasNoGraph files rules why

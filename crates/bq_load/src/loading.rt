@@ -32,7 +32,7 @@ pub struct Loading<'a> {
 impl<'a> Loading<'a> {
     ghost use Rattle.std.specs.Prelude.{◌≡◌, None, Some, slice_get, length, IfOk};
     ghost use Rattle.std.specs.Option.{option_copied};
-    ghost use Rattle.bq_load_discover.specs.LoadGraph.{IsLoadGraph, inputs_of};
+    ghost use Rattle.bq_load_discover.specs.LoadGraph.{IsReadGraph, inputs_of};
     ghost use Rattle.bq_load.specs.Evaluation.{code_in};
     ghost use Rattle.bq_load.specs.Sources.{loading_of, loading_in};
 
@@ -46,7 +46,7 @@ impl<'a> Loading<'a> {
         seed: Seed,
         graph: LoadGraph,
     ) -> Result<(Loading<'a>, Graph), AllocError>
-        requires { IsLoadGraph (inputs_of workspace.now schema.now) graph }
+        requires { IsReadGraph (inputs_of workspace.now schema.now) graph }
         ensures decides { IfOk result (λ r. loading_of r.0 ≡ loading_in workspace.now schema.now limit graph) }
         ensures edges { IfOk result (λ r. r.1 ≡ graph.edges) }
         ensures wide { IfOk result (λ r. length r.1 ≡ length r.0.sources.items) }

@@ -3,7 +3,7 @@
 ghost use Rattle.std.specs.Prelude.{◌≡◌, ◌<◌, ◌≤◌, length, All, IfOk, vec_len};
 ghost use Rattle.bq_board.specs.Board.{blank};
 ghost use Rattle.bq_board.specs.Seats.{IsSeatOf, base_of, view_of};
-ghost use Rattle.bq_load_discover.specs.LoadGraph.{IsLoadGraph, inputs_of};
+ghost use Rattle.bq_load_discover.specs.LoadGraph.{IsReadGraph, inputs_of};
 ghost use Rattle.bq_load_outcome_spec.specs.Outcome.{outcome};
 ghost use Rattle.bq_load_workers.specs.Closing.{ClosesWith};
 ghost use Rattle.bq_load_workers.specs.Work.{IsImport};
@@ -33,7 +33,7 @@ impl<'a> Pool<'a> {
         graph: LoadGraph,
         seats: usize,
     ) -> Result<(Pool<'a>, Vec<PoolSeat<'a>>), AllocError>
-        requires graph { IsLoadGraph (inputs_of workspace.now schema.now) graph }
+        requires graph { IsReadGraph (inputs_of workspace.now schema.now) graph }
         requires seats { (0 < seats) × (seats ≤ MAX_SEATS) }
         ensures decides { IfOk result (λ r. parts_of r.0 ≡ loading_in workspace.now schema.now limit graph) }
         ensures edges { IfOk result (λ r. loads_of r.0 ≡ graph.edges) }

@@ -7,16 +7,17 @@ use Rattle.bq_resolve_scope.specs.Names.{Name}
 use Rattle.bq_resolve_scope.specs.declared.code.LoadStmt.{LoadStmt}
 use Rattle.bq_resolve_scope.specs.declared.code.LoadedSymbol.{LoadedSymbol}
 use Rattle.bq_resolve_scope.specs.declared.code.Resolved.{Resolved}
-use Rattle.bq_resolve_scope_laws.specs.Resolution.{Maybe}
+use Rattle.bq_resolve_by_name.specs.Files.{ParsedFile, IsCodeOf}
+use Rattle.bq_resolve_by_name.specs.Loads.{written_load}
+use Rattle.bq_resolve_by_name.specs.Resolution.{Maybe}
+use Rattle.bq_resolve_by_name.proofs.Loads.{globals_kept}
 use Rattle.bq_value.specs.Datum.{Datum}
 use Rattle.bq_load_front.specs.Code.{◌>>=◌}
 use Rattle.bq_load.specs.Imports as slots
 use Rattle.bq_load.specs.Imports.{value_named, is_private, or_no_symbol, at_symbol}
 use Rattle.bq_load.specs.Views.{ModuleView}
-use Rattle.bq_eval_by_name.specs.Agreement.{IsCodeOf, AreCodesOf}
-use Rattle.bq_eval_by_name.specs.Evaluation.{ParsedFile}
-use Rattle.bq_eval_by_name.specs.Loads.{load_line}
-use Rattle.bq_eval_by_name.proofs.Units.{globals_are, in_place}
+use Rattle.bq_eval_by_name.specs.Agreement.{AreCodesOf}
+use Rattle.bq_eval_by_name.proofs.Units.{in_place}
 use Rattle.bq_load_by_name.specs.Imports.{LoadedParts, module_named, globals_by, global_by, exported, symbol_values, imports}
 
 globals_same : (x : Option (Option ParsedFile)) (c : Option (Option Resolved)) → Maybe (Maybe IsCodeOf) x c → globals_by x ≡ slots.globals_by c
@@ -26,7 +27,7 @@ globals_same (Some x) None h = absurd h
 globals_same (Some None) (Some None) h = refl
 globals_same (Some None) (Some (Some c)) h = absurd h
 globals_same (Some (Some x)) (Some None) h = absurd h
-globals_same (Some (Some x)) (Some (Some c)) h = sym (globals_are x c h)
+globals_same (Some (Some x)) (Some (Some c)) h = sym (globals_kept x c h)
 
 module _ (parsed : List (Option ParsedFile)) (codes : List (Option Resolved)) (are : AreCodesOf parsed codes) where
   global_same : (m : Option ModuleView) (name : Name) → global_by parsed m name ≡ slots.global_by codes m name
@@ -53,7 +54,7 @@ module _ (parsed : List (Option ParsedFile)) (codes : List (Option Resolved)) (a
   by_slots files modules = record { files = files; modules = modules; code = codes }
 
   pub imports_same : (files : List LabelParts) (modules : List ModuleView) (done : List Datum) (ss : List LoadStmt) (ls : List LabelParts)
-      → imports (by_names files modules) done (map load_line ss) ls ≡ slots.imports (by_slots files modules) done ss ls
+      → imports (by_names files modules) done (map written_load ss) ls ≡ slots.imports (by_slots files modules) done ss ls
   unfolding imports slots.imports module_named slots.module_named
   imports_same files modules done [] ls = refl
   imports_same files modules done (s ∷ ss) [] = refl

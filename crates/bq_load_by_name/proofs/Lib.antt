@@ -1,5 +1,5 @@
 -- what is read of files
-pub mod Codes
+pub mod Read
 -- a module, by what it loads
 pub mod Imports
 pub mod Modules

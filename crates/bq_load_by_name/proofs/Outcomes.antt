@@ -1,5 +1,5 @@
 -- The recursion along loads gives the same outcomes by names and by slots.
-use Rattle.std.proofs.Common.{◌≡◌, ◌∙◌, ℕ, ◌+◌, List, [], ◌∷◌, map, Option, Some, None, Ok, Err, slice_get, refl, sym, ap, subst, bytes_eq}
+use Rattle.std.proofs.Common.{◌≡◌, ◌∙◌, ℕ, zero, suc, ◌+◌, List, [], ◌∷◌, map, Option, Some, None, Result, Ok, Err, option_map, slice_get, refl, sym, ap, subst, arith, bytes_eq}
 use Rattle.std.specs.Prelude.{if◌then◌else◌}
 use Rattle.bq_base.specs.declared.fault.Fault.{Fault}
 use Rattle.bq_base.specs.declared.fault.FaultKind.{FaultKind}
@@ -8,9 +8,15 @@ use Rattle.bq_label.specs.Label.{LabelParts, full_form}
 use Rattle.bq_label.specs.Packages.{packages_of}
 use Rattle.bq_resolve_scope.specs.declared.code.LoadStmt.{LoadStmt}
 use Rattle.bq_resolve_scope.specs.declared.code.Resolved.{Resolved}
-use Rattle.bq_resolve_scope_laws.specs.Resolution.{Maybe}
+use Rattle.bq_resolve_by_name.specs.Files.{IsCodeOf}
+use Rattle.bq_resolve_by_name.specs.Loads.{written_load}
+use Rattle.bq_resolve_by_name.specs.Resolution.{Maybe}
+use Rattle.bq_resolve_by_name.proofs.Loads.{loads_kept}
 use Rattle.bq_board.specs.Graph.{Loads}
-use Rattle.bq_load_discover.specs.LoadGraph.{inputs_of}
+use Rattle.bq_load_front.specs.Inputs.{InputParts}
+use Rattle.bq_load_front.specs.Parsed.{ParsedFront}
+use Rattle.bq_load_discover.specs.LoadGraph.{GraphParts, IsLoadGraph, IsReadGraph, inputs_of}
+use Rattle.bq_load_discover.specs.Module.{module_of}
 use Rattle.bq_load_outcome_spec.specs.Outcome.{outcome}
 use Rattle.bq_load_outcome_spec.specs.declared.outcome.Outcome.{Outcome}
 use Rattle.bq_load_outcome_spec.specs.declared.outcome.Outcome.TheVariants as o
@@ -20,78 +26,96 @@ use Rattle.bq_load.specs.Loaded.{IsGathered}
 use Rattle.bq_load.specs.Results as slots
 use Rattle.bq_load.specs.Sources.{LoadingParts, loading_in}
 use Rattle.bq_load.specs.Views.{ModuleView, FailedView, not_evaluated}
-use Rattle.bq_load.specs.declared.source.Source.{Source}
-use Rattle.bq_eval_by_name.specs.Agreement.{IsCodeOf, AreCodesOf}
-use Rattle.bq_eval_by_name.specs.Evaluation.{ParsedFile}
-use Rattle.bq_eval_by_name.specs.Loads.{load_line}
-use Rattle.bq_eval_by_name.proofs.Loads.{loads_kept}
-use Rattle.bq_load_by_name.specs.Agreement.{with_parsed, OutcomesAgree, WorkspacesAgree}
-use Rattle.bq_load_by_name.specs.Evaluation.{means, file_in}
-use Rattle.bq_load_by_name.specs.Parsed.{ParsedParts, parsed_module}
+use Rattle.bq_load_by_name.specs.Agreement.{source_of, AreReadAs, with_modules, OutcomesAgree, WorkspacesAgree}
+use Rattle.bq_load_by_name.specs.Evaluation.{means}
+use Rattle.bq_load_by_name.specs.Parsed.{ParsedModule, ParsedParts, file_by, parsed_module}
 use Rattle.bq_load_by_name.specs.Results.{line_of_load, line_by, load_fault_by, load_fault, result_of, outcomes_from, outcomes}
-use Rattle.bq_load_by_name.proofs.Codes.{code_is_resolved}
-use Rattle.bq_load_by_name.proofs.Modules.{code_there, means_same}
+use Rattle.bq_load_by_name.proofs.Modules.{code_at, source_at, means_same}
+use Rattle.bq_load_by_name.proofs.Read.{modules_are_read}
 
 -- ---- the faults of loads
 
-line_same : (l : LabelParts) (ss : List LoadStmt) (ls : List LabelParts) → line_of_load l (map load_line ss) ls ≡ slots.line_of_load l ss ls
+line_same : (l : LabelParts) (ss : List LoadStmt) (ls : List LabelParts) → line_of_load l (map written_load ss) ls ≡ slots.line_of_load l ss ls
 unfolding line_of_load slots.line_of_load
 line_same l [] ls = refl
 line_same l (s ∷ ss) [] = refl
 line_same l (s ∷ ss) (k ∷ ks) = ap (λ n. if bytes_eq (full_form l) (full_form k) then s.line else n) (line_same l ss ks)
 
-line_is : (l : LabelParts) (s : Source) (file : Option ParsedFile) (code : Option Resolved) → Maybe IsCodeOf file code → line_by l s file ≡ slots.line_by l s code
-line_is l s None None h = refl
-line_is l s None (Some code) h = absurd h
-line_is l s (Some file) None h = absurd h
-line_is l s (Some file) (Some code) h = ap (λ ns. line_of_load l ns s.loads) (sym (loads_kept file code h)) ∙ line_same l code.loads s.loads
+line_is : (l : LabelParts) (s : ParsedModule) (r : Result ParsedFront Fault) (code : Option Resolved) → Maybe IsCodeOf (file_by r) code
+    → line_by l r ≡ slots.line_by l (source_of (record { label = s.label; front = r })) code
+line_is l s (Err why) None h = refl
+line_is l s (Err why) (Some code) h = absurd h
+line_is l s (Ok front) None h = absurd h
+line_is l s (Ok front) (Some code) h = ap (λ ns. line_of_load l ns front.loads) (sym (loads_kept front.file code h)) ∙ line_same l code.loads front.loads
 
 abbrev fault_on : FaultKind → List ℕ → ℕ → Fault
 fault_on kind detail line = record { kind = kind; line = line; detail = detail }
 
-fault_is : (kind : FaultKind) (s : Source) (file : Option ParsedFile) (code : Option Resolved) → Maybe IsCodeOf file code → (loaded : Option Source)
-    → load_fault_by kind s file loaded ≡ slots.load_fault_by kind s code loaded
-fault_is kind s file code h None = refl
-fault_is kind s file code h (Some loaded) = ap (fault_on kind (full_form loaded.label)) (line_is loaded.label s file code h)
+fault_is : (kind : FaultKind) (s : ParsedModule) (code : Option Resolved) → Maybe IsCodeOf (file_by s.front) code → (loaded : Option ParsedModule)
+    → load_fault_by kind s.front loaded ≡ slots.load_fault_by kind (source_of s) code (option_map source_of loaded)
+fault_is kind s code h None = refl
+fault_is kind s code h (Some loaded) = ap (fault_on kind (full_form loaded.label)) (line_is loaded.label s s.front code h)
 
-module _ (x : LoadingParts) (parsed : List (Option ParsedFile)) (are : AreCodesOf parsed x.code) where
+module _ (x : LoadingParts) (all : List ParsedModule) (are : AreReadAs all x) where
   abbrev named : ParsedParts
-  named = with_parsed x parsed
+  named = with_modules x all
 
-  fault_same : (m : ℕ) (s : Source) (kind : FaultKind) (k : ℕ) → load_fault named m s kind k ≡ slots.load_fault x m s kind k
-  unfolding load_fault slots.load_fault
-  fault_same m s kind k = fault_is kind s (file_in (slice_get parsed m)) (code_in (slice_get x.code m)) (code_there x parsed are m) (slice_get x.sources k)
+  module _ (m : ℕ) (s : ParsedModule) (at : slice_get all m ≡ Some s) where
+    fault_same : (kind : FaultKind) (k : ℕ) → load_fault named s.front kind k ≡ slots.load_fault x m (source_of s) kind k
+    unfolding load_fault slots.load_fault
+    fault_same kind k =
+        fault_is kind s (code_in (slice_get x.code m)) (code_at x all are m s at) (slice_get all k)
+        ∙ ap (slots.load_fault_by kind (source_of s) (code_in (slice_get x.code m))) (sym (source_at x all are k))
 
-  result_same : (m : ℕ) (s : Source) (r : Outcome ModuleView FailedView) → result_of named m s r ≡ slots.result_of x m s r
-  result_same m s (o.Loaded v) = refl
-  result_same m s (o.Faulty e) = refl
-  result_same m s (o.Cyclic k) = ap (λ why. Err (not_evaluated why)) (fault_same m s f.CycleReached k)
-  result_same m s (o.TooDeep k) = ap (λ why. Err (not_evaluated why)) (fault_same m s f.LoadDepth k)
-  result_same m s (o.LoadFailed k) = ap (λ why. Err (not_evaluated why)) (fault_same m s f.LoadFailed k)
+    result_same : (r : Outcome ModuleView FailedView) → result_of named s.front r ≡ slots.result_of x m (source_of s) r
+    result_same (o.Loaded v) = refl
+    result_same (o.Faulty e) = refl
+    result_same (o.Cyclic k) = ap (λ why. Err (not_evaluated why)) (fault_same f.CycleReached k)
+    result_same (o.TooDeep k) = ap (λ why. Err (not_evaluated why)) (fault_same f.LoadDepth k)
+    result_same (o.LoadFailed k) = ap (λ why. Err (not_evaluated why)) (fault_same f.LoadFailed k)
 
   -- the recursion along loads is a word over what modules evaluate to
   outcome_same : (p : Loads) (m : ℕ) → outcome (means named) p m ≡ outcome (evaluation.means x) p m
-  outcome_same p m = λ i. outcome (λ l vs. means_same x parsed are l vs i) p m
+  outcome_same p m = λ i. outcome (λ l vs. means_same x all are l vs i) p m
 
-  from_same : (p : Loads) (m : ℕ) (ss : List Source) → outcomes_from named p m ss ≡ slots.outcomes_from x p m ss
-  from_same p m [] = refl
-  from_same p m (s ∷ ss) =
-      let one = ap (result_of named m s) (outcome_same p m) ∙ result_same m s (outcome (evaluation.means x) p m) in
-      λ i. record { label = s.label; result = one i } ∷ from_same p (m + 1) ss i
+  -- these modules are those from this number on
+  abbrev AreFrom : ℕ → List ParsedModule → Type 0
+  AreFrom m ss = (i n : ℕ) → n ≡ m + i → slice_get ss i ≡ slice_get all n
+
+  from_same : (p : Loads) (m : ℕ) (ss : List ParsedModule) → AreFrom m ss → outcomes_from named p m ss ≡ slots.outcomes_from x p m (map source_of ss)
+  from_same p m [] from = refl
+  from_same p m (s ∷ ss) from =
+      let at : slice_get all m ≡ Some s = sym (from zero m (omega arith)) in
+      let one = ap (result_of named s.front) (outcome_same p m) ∙ result_same m s at (outcome (evaluation.means x) p m) in
+      let rest = from_same p (m + 1) ss (λ i n e. from (suc i) n (omega (arith, e))) in
+      λ i. record { label = s.label; result = one i } ∷ rest i
+
+  all_from : AreFrom 0 all
+  all_from i n e = let same : i ≡ n = omega (arith, e) in ap (slice_get all) same
 
   pub outcomes_same : (p : Loads) → outcomes named p ≡ slots.outcomes x p
   unfolding outcomes slots.outcomes
-  outcomes_same p = from_same p 0 x.sources
+  outcomes_same p = from_same p 0 all all_from ∙ ap (slots.outcomes_from x p 0) (sym are.sources)
 
 -- ---- a workspace
 
 pub outcomes_agree : OutcomesAgree
 outcomes_agree files rules limit g is =
-    outcomes_same (loading_in files rules limit g) (map (parsed_module (inputs_of files rules)) g.modules) (code_is_resolved files rules g is) g.edges
+    outcomes_same (loading_in files rules limit g) (map (parsed_module (inputs_of files rules)) g.labels) (modules_are_read files rules limit g is) g.edges
+
+-- the load graph, with what the code gives for each file
+abbrev pub read_graph : InputParts → List LabelParts → Loads → GraphParts
+read_graph inputs labels edges = record { labels = labels; modules = map (module_of inputs) labels; edges = edges; packages = inputs.packages }
+
+pub is_read_graph : (inputs : InputParts) (labels : List LabelParts) (edges : Loads) → IsLoadGraph inputs labels edges → IsReadGraph inputs (read_graph inputs labels edges)
+is_read_graph inputs labels edges is = record { graph = is; read = refl; packages = refl }
 
 pub workspaces_agree : WorkspacesAgree
 workspaces_agree files rules limit (Ok l) = (
-  λ h. (h.0, h.1, subst (λ os. IsGathered (packages_of files) os l) (outcomes_agree files rules limit h.0 h.1) h.2),
-  λ h. (h.0, h.1, subst (λ os. IsGathered (packages_of files) os l) (sym (outcomes_agree files rules limit h.0 h.1)) h.2),
+  λ h.
+      let g : GraphParts = read_graph (inputs_of files rules) h.0 h.1 in
+      let is : IsReadGraph (inputs_of files rules) g = is_read_graph (inputs_of files rules) h.0 h.1 h.2 in
+      (g, is, subst (λ os. IsGathered (packages_of files) os l) (outcomes_agree files rules limit g is) h.3),
+  λ h. (h.0.labels, h.0.edges, h.1.graph, subst (λ os. IsGathered (packages_of files) os l) (sym (outcomes_agree files rules limit h.0 h.1)) h.2),
 )
 workspaces_agree files rules limit (Err why) = (λ h. h, λ h. h)

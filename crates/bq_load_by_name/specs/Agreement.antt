@@ -1,40 +1,55 @@
 -- The law of names for load graphs: the outcomes by names are the outcomes by slots.
-use Rattle.std.specs.Prelude.{◌≡◌, ◌↔◌, ℕ, List, map, Option, Result}
+use Rattle.std.specs.Prelude.{◌≡◌, ◌↔◌, ℕ, List, map, Option, Some, None, Result, Ok, Err}
+use Rattle.bq_base.specs.declared.fault.Fault.{Fault}
 use Rattle.bq_label.specs.declared.workspace.File.{File}
 use Rattle.bq_package_schema.specs.Schema.{Rules}
-use Rattle.bq_load_discover.specs.LoadGraph.{GraphParts, IsLoadGraph, inputs_of}
+use Rattle.bq_load_front.specs.Parsed.{ParsedFront, loads_in}
+use Rattle.bq_load_discover.specs.LoadGraph.{GraphParts, IsReadGraph, inputs_of}
 use Rattle.bq_load_discover.specs.declared.load_err.LoadErr.{LoadErr}
 use Rattle.bq_load.specs.Evaluation as slots
 use Rattle.bq_load.specs.Loaded.{LoadsWorkspace}
 use Rattle.bq_load.specs.Results as results
-use Rattle.bq_load.specs.Sources.{LoadingParts, loading_in, code_of}
+use Rattle.bq_load.specs.Sources.{LoadingParts, loading_in}
 use Rattle.bq_load.specs.Views.{ModuleView}
 use Rattle.bq_load.specs.declared.loaded.Loaded.{Loaded}
+use Rattle.bq_load.specs.declared.source.Source.{Source}
 use Rattle.bq_eval_by_name.specs.Agreement.{AreCodesOf}
-use Rattle.bq_eval_by_name.specs.Evaluation.{ParsedFile}
 use Rattle.bq_load_by_name.specs.Evaluation.{means}
-use Rattle.bq_load_by_name.specs.Parsed.{ParsedParts, parsed_module, parsed_in}
+use Rattle.bq_load_by_name.specs.Parsed.{ParsedModule, ParsedParts, parsed_files, parsed_module, parsed_in}
 use Rattle.bq_load_by_name.specs.Results.{outcomes, LoadsByNames}
 
--- what is read of a load graph, with these files in place of their code
-abbrev pub with_parsed : LoadingParts → List (Option ParsedFile) → ParsedParts
-with_parsed x parsed = record { sources = x.sources; parsed = parsed; files = x.files; packages = x.packages; rules = x.rules; names = x.names; limit = x.limit }
+abbrev pub own_fault : Result ParsedFront Fault → Option Fault
+own_fault (Err why) = Some why
+own_fault (Ok front) = None
 
--- the code of each module of a load graph is what its file resolves to
-abbrev pub CodeIsResolved : Type 0
-CodeIsResolved =
-    (files : List File) (rules : Rules) (g : GraphParts) → IsLoadGraph (inputs_of files rules) g → AreCodesOf (map (parsed_module (inputs_of files rules)) g.modules) (map code_of g.modules)
+-- what the code reads of a module before it is evaluated
+abbrev pub source_of : ParsedModule → Source
+source_of m = record { label = m.label; loads = loads_in m.front; fault = own_fault m.front }
+
+-- the code reads these modules so: each has the same loads, or the same fault, and its code is what its file resolves to
+pub record AreReadAs (modules : List ParsedModule) (x : LoadingParts) : Type 0 where
+  pub sources : x.sources ≡ map source_of modules
+  pub codes : AreCodesOf (parsed_files modules) x.code
+
+-- what is read of a load graph, with these modules in place of sources and code
+abbrev pub with_modules : LoadingParts → List ParsedModule → ParsedParts
+with_modules x modules = record { modules = modules; files = x.files; packages = x.packages; rules = x.rules; names = x.names; limit = x.limit }
+
+-- the modules of a load graph are read as what their files are
+abbrev pub ModulesAreRead : Type 0
+ModulesAreRead =
+    (files : List File) (rules : Rules) (limit : ℕ) (g : GraphParts) → IsReadGraph (inputs_of files rules) g
+    → AreReadAs (map (parsed_module (inputs_of files rules)) g.labels) (loading_in files rules limit g)
 
 -- A module evaluates by names to what it evaluates to by slots: whatever modules it loads, the same value, or the same fault.
 abbrev pub ModulesAgree : Type 0
-ModulesAgree =
-    (x : LoadingParts) (parsed : List (Option ParsedFile)) → AreCodesOf parsed x.code → (m : ℕ) (modules : List ModuleView) → means (with_parsed x parsed) m modules ≡ slots.means x m modules
+ModulesAgree = (x : LoadingParts) (all : List ParsedModule) → AreReadAs all x → (m : ℕ) (modules : List ModuleView) → means (with_modules x all) m modules ≡ slots.means x m modules
 
 -- The outcomes of the modules of a workspace, by the recursion along loads: their globals, cells, prints, faults and packages.
 abbrev pub OutcomesAgree : Type 0
 OutcomesAgree =
-    (files : List File) (rules : Rules) (limit : ℕ) (g : GraphParts) → IsLoadGraph (inputs_of files rules) g
-    → outcomes (parsed_in files rules limit g) g.edges ≡ results.outcomes (loading_in files rules limit g) g.edges
+    (files : List File) (rules : Rules) (limit : ℕ) (g : GraphParts) → IsReadGraph (inputs_of files rules) g
+    → outcomes (parsed_in files rules limit g.labels) g.edges ≡ results.outcomes (loading_in files rules limit g) g.edges
 
 -- a workspace loads by names as by slots
 abbrev pub WorkspacesAgree : Type 0

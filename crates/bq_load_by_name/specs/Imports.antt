@@ -6,13 +6,13 @@ use Rattle.bq_base.specs.declared.fault.FaultKind.{FaultKind}
 use Rattle.bq_base.specs.declared.fault.FaultKind.TheVariants as f
 use Rattle.bq_label.specs.Label.{LabelParts}
 use Rattle.bq_resolve_scope.specs.Names.{Name, global_names}
+use Rattle.bq_resolve_by_name.specs.Files.{ParsedFile}
+use Rattle.bq_resolve_by_name.specs.Loads.{WrittenLoad}
 use Rattle.bq_value.specs.Datum.{Datum}
 use Rattle.bq_load_front.specs.Code.{◌>>=◌}
 use Rattle.bq_load_discover.specs.Edges.{number_in}
 use Rattle.bq_load.specs.Imports.{value_named, is_private, or_no_symbol, at_symbol}
 use Rattle.bq_load.specs.Views.{ModuleView}
-use Rattle.bq_eval_by_name.specs.Evaluation.{ParsedFile}
-use Rattle.bq_eval_by_name.specs.Loads.{LoadLine}
 
 -- what a file loads: the files that its loads name, each once, in the order in which they are first named; a module for each of them; and
 -- the files of all modules by their numbers, as they are parsed
@@ -50,7 +50,7 @@ symbol_values parsed m line done [] = Ok done
 symbol_values parsed m line done (n ∷ ns) = at_symbol line n (exported parsed m n) >>= λ v. symbol_values parsed m line (done ++ v ∷ []) ns
 
 -- the values so far, and those of the symbols of these loads, which name these files
-unfoldable pub imports : LoadedParts → List Datum → List LoadLine → List LabelParts → Result (List Datum) Fault
+unfoldable pub imports : LoadedParts → List Datum → List WrittenLoad → List LabelParts → Result (List Datum) Fault
 imports x done [] ls = Ok done
 imports x done (s ∷ ss) [] = Ok done
 imports x done (s ∷ ss) (l ∷ ls) = symbol_values x.parsed (module_named x l) s.line done s.symbols >>= λ vs. imports x vs ss ls

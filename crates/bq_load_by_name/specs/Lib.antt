@@ -1,6 +1,9 @@
 pub use Rattle.bq_load.specs.Loaded
 pub use Rattle.bq_load.specs.Sources
 pub use Rattle.bq_load.specs.Views
+pub use Rattle.bq_load_discover.specs.LoadGraph
+pub use Rattle.bq_load_discover.specs.Modules
+pub use Rattle.bq_load_discover.specs.Schema
 pub mod Parsed
 pub mod Imports
 pub mod Evaluation

@@ -9,64 +9,64 @@ use Rattle.bq_base.specs.Fault.{fault_at}
 use Rattle.bq_label.specs.declared.workspace.File.{File}
 use Rattle.bq_label.specs.Label.{LabelParts, full_form}
 use Rattle.bq_label.specs.Packages.{packages_of}
+use Rattle.bq_resolve_by_name.specs.Loads.{WrittenLoad, file_loads}
 use Rattle.bq_package_schema.specs.Schema.{Rules}
 use Rattle.bq_board.specs.Graph.{Loads}
-use Rattle.bq_load_discover.specs.LoadGraph.{GraphParts, IsLoadGraph, inputs_of}
+use Rattle.bq_load_front.specs.Parsed.{ParsedFront}
+use Rattle.bq_load_discover.specs.LoadGraph.{IsLoadGraph, inputs_of}
 use Rattle.bq_load_discover.specs.declared.load_err.LoadErr.{LoadErr}
 use Rattle.bq_load_outcome_spec.specs.Outcome.{outcome}
 use Rattle.bq_load_outcome_spec.specs.declared.outcome.Outcome.{Outcome}
 use Rattle.bq_load_outcome_spec.specs.declared.outcome.Outcome.TheVariants as o
 pub use Rattle.bq_load.specs.declared.loaded.Loaded.{Loaded}
-use Rattle.bq_load.specs.declared.source.Source.{Source}
 use Rattle.bq_load.specs.Loaded.{IsGathered, HasNoGraph}
 use Rattle.bq_load.specs.Views.{ModuleView, FailedView, OutcomeView, not_evaluated}
-use Rattle.bq_eval_by_name.specs.Evaluation.{ParsedFile}
-use Rattle.bq_eval_by_name.specs.Loads.{LoadLine, file_loads}
-use Rattle.bq_load_by_name.specs.Evaluation.{means, file_in}
-use Rattle.bq_load_by_name.specs.Parsed.{ParsedParts, parsed_in}
+use Rattle.bq_load_by_name.specs.Evaluation.{means}
+use Rattle.bq_load_by_name.specs.Parsed.{ParsedModule, ParsedParts, parsed_in}
 
 -- the line of the first of these loads, which name these files, that names this one
-unfoldable pub line_of_load : LabelParts → List LoadLine → List LabelParts → ℕ
+unfoldable pub line_of_load : LabelParts → List WrittenLoad → List LabelParts → ℕ
 line_of_load l [] ls = 0
 line_of_load l (s ∷ ss) [] = 0
 line_of_load l (s ∷ ss) (k ∷ ks) = if bytes_eq (full_form l) (full_form k) then s.line else line_of_load l ss ks
 
--- the line that loads a label first, in a parsed file
-abbrev pub line_by : LabelParts → Source → Option ParsedFile → ℕ
-line_by l s None = 0
-line_by l s (Some file) = line_of_load l (file_loads file.statements) s.loads
+-- a file with a fault of its own loads nothing
+abbrev pub line_by : LabelParts → Result ParsedFront Fault → ℕ
+line_by l (Err why) = 0
+line_by l (Ok front) = line_of_load l (file_loads front.file.statements) front.loads
 
 -- the fault of a loader, by the module that it loads
-abbrev pub load_fault_by : FaultKind → Source → Option ParsedFile → Option Source → Fault
-load_fault_by kind s file None = fault_at kind 0
-load_fault_by kind s file (Some loaded) = record { kind = kind; line = line_by loaded.label s file; detail = full_form loaded.label }
+abbrev pub load_fault_by : FaultKind → Result ParsedFront Fault → Option ParsedModule → Fault
+load_fault_by kind front None = fault_at kind 0
+load_fault_by kind front (Some loaded) = record { kind = kind; line = line_by loaded.label front; detail = full_form loaded.label }
 
--- the fault of module m, which is read from this source, for its load of module k
-unfoldable pub load_fault : ParsedParts → ℕ → Source → FaultKind → ℕ → Fault
-load_fault x m s kind k = load_fault_by kind s (file_in (slice_get x.parsed m)) (slice_get x.sources k)
+-- the fault of a module whose file is this, for its load of module k
+unfoldable pub load_fault : ParsedParts → Result ParsedFront Fault → FaultKind → ℕ → Fault
+load_fault x front kind k = load_fault_by kind front (slice_get x.modules k)
 
 -- the outcome of a module, with the fault that a load gave it
-abbrev pub result_of : ParsedParts → ℕ → Source → Outcome ModuleView FailedView → Result ModuleView FailedView
-result_of x m s (o.Loaded v) = Ok v
-result_of x m s (o.Faulty e) = Err e
-result_of x m s (o.Cyclic k) = Err (not_evaluated (load_fault x m s f.CycleReached k))
-result_of x m s (o.TooDeep k) = Err (not_evaluated (load_fault x m s f.LoadDepth k))
-result_of x m s (o.LoadFailed k) = Err (not_evaluated (load_fault x m s f.LoadFailed k))
+abbrev pub result_of : ParsedParts → Result ParsedFront Fault → Outcome ModuleView FailedView → Result ModuleView FailedView
+result_of x front (o.Loaded v) = Ok v
+result_of x front (o.Faulty e) = Err e
+result_of x front (o.Cyclic k) = Err (not_evaluated (load_fault x front f.CycleReached k))
+result_of x front (o.TooDeep k) = Err (not_evaluated (load_fault x front f.LoadDepth k))
+result_of x front (o.LoadFailed k) = Err (not_evaluated (load_fault x front f.LoadFailed k))
 
 -- a module's outcome by the recursion along loads
-abbrev pub outcome_of : ParsedParts → Loads → ℕ → Source → OutcomeView
-outcome_of x p m s = record { label = s.label; result = result_of x m s (outcome (means x) p m) }
+abbrev pub outcome_of : ParsedParts → Loads → ℕ → ParsedModule → OutcomeView
+outcome_of x p m s = record { label = s.label; result = result_of x s.front (outcome (means x) p m) }
 
 -- those of these modules, the first of which has this number
-abbrev pub outcomes_from : ParsedParts → Loads → ℕ → List Source → List OutcomeView
+abbrev pub outcomes_from : ParsedParts → Loads → ℕ → List ParsedModule → List OutcomeView
 outcomes_from x p m [] = []
 outcomes_from x p m (s ∷ ss) = outcome_of x p m s ∷ outcomes_from x p (m + 1) ss
 
 -- each module with its outcome
 unfoldable pub outcomes : ParsedParts → Loads → List OutcomeView
-outcomes x p = outcomes_from x p 0 x.sources
+outcomes x p = outcomes_from x p 0 x.modules
 
 -- what loading the workspace returns by names, with `limit` steps for each module
 abbrev pub LoadsByNames : List File → Rules → ℕ → Result Loaded LoadErr → Type 0
-LoadsByNames files rules limit (Ok l) = (g : GraphParts) × IsLoadGraph (inputs_of files rules) g × IsGathered (packages_of files) (outcomes (parsed_in files rules limit g) g.edges) l
+LoadsByNames files rules limit (Ok l) =
+    (labels : List LabelParts) × (edges : Loads) × IsLoadGraph (inputs_of files rules) labels edges × IsGathered (packages_of files) (outcomes (parsed_in files rules limit labels) edges) l
 LoadsByNames files rules limit (Err why) = HasNoGraph files rules why

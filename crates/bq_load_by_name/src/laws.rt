@@ -1,10 +1,11 @@
 //! What holds of names and slots in the loading of a workspace. The functions do nothing: their contracts are the laws.
 
-ghost use Rattle.bq_load_by_name.specs.Agreement.{CodeIsResolved, ModulesAgree, OutcomesAgree, WorkspacesAgree};
+ghost use Rattle.bq_load_by_name.specs.Agreement.{ModulesAreRead, ModulesAgree, OutcomesAgree, WorkspacesAgree};
 
-/// The code of each module of a load graph is what its file resolves to.
-pub fn code_is_resolved()
-    ensures { CodeIsResolved }
+/// The modules of a load graph are read by the code as what their files are: the same loads and the code that the file
+/// resolves to, or the same fault.
+pub fn modules_are_read()
+    ensures { ModulesAreRead }
 {}
 
 /// A module evaluates by names to what it evaluates to by slots, whatever modules it loads.

@@ -4,15 +4,16 @@
 //! limit and load graph each module has by names the outcome that it has in bq_load: the same globals and cells,
 //! prints, fault and package.
 //!
-//! The definitions are those of bq_load, over files as they are parsed: `specs/Parsed.antt` (what is read of a load
-//! graph), `Imports` (what a file gets of what it loads), `Evaluation` (what a module evaluates to) and `Results` (the
-//! recursion along loads). The proofs: the code of each module is what its file resolves to (`proofs/Codes.antt`), so a
-//! file gets the same values by its loads (`proofs/Imports.antt`) and each module evaluates to the same, whatever it
-//! loads (`proofs/Modules.antt`). The recursion along loads is one definition over what modules evaluate to, so the
+//! The definitions say by names what bq_load says by slots: `specs/Parsed.antt` (each module with what its file is),
+//! `Imports` (what a file gets of what it loads), `Evaluation` (what a module evaluates to) and `Results` (the recursion
+//! along loads). The proofs: the code reads each module as what its file is (`proofs/Read.antt`), so a file gets the same
+//! values by its loads (`proofs/Imports.antt`) and each module evaluates to the same, whatever it loads
+//! (`proofs/Modules.antt`). The recursion along loads is one definition over what modules evaluate to, so the
 //! outcomes are the same (`proofs/Outcomes.antt`).
 #![tactic(auto)]
 
 mod laws;
 
 pub use bq_load::{Loaded, OpenGate, Pool, load_with};
-pub use laws::{code_is_resolved, evaluated_modules_agree, outcomes_agree};
+pub use bq_load_discover::{LoadErr, LoadGraph, schema_of};
+pub use laws::{evaluated_modules_agree, modules_are_read, outcomes_agree};

@@ -11,7 +11,9 @@ use Rattle.bq_label_set.specs.Labels.{same_label, with_labels}
 use Rattle.bq_label_set.proofs.Added.{numbers_stay, the_labels_added, each_label_once, still_distinct}
 use Rattle.bq_board_plan.specs.Graph.{max_modules}
 use Rattle.bq_load_front.specs.Inputs.{InputParts}
-use Rattle.bq_load_front.specs.Front.{loads_by, loads_of}
+use Rattle.bq_load_front.specs.Front.{loads_by}
+use Rattle.bq_load_front.specs.Parsed.{loads_of}
+use Rattle.bq_load_front.proofs.ByName.{loads_agree}
 use Rattle.bq_load_discover.specs.declared.modules.Module.{Module}
 use Rattle.bq_load_discover.specs.Module.{module_of, labels_of, IsRead}
 use Rattle.bq_load_discover.specs.Modules.{IsModule, AreTooMany, build_labels}
@@ -46,8 +48,7 @@ module _ (inputs : InputParts) (ls : List LabelParts) (ms : List Module) (x : Ex
   known = (length ms, room, get_or_from_slice_get ls (length ms) l l at)
 
   loads : loads_by next.front ≡ loads_of inputs l
-  unfolding loads_of
-  loads = ap (λ (z : Module). loads_by z.front) is
+  loads = ap (λ (z : Module). loads_by z.front) is ∙ loads_agree inputs l
 
   more : (rest : List LabelParts) × (now ≡ ls ++ rest)
   more = let g = numbers_stay ls (loads_by next.front) in (g.0, added ∙ g.1)

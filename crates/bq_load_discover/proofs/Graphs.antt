@@ -11,13 +11,14 @@ use Rattle.bq_label_set.specs.Labels.{same_label, with_labels}
 use Rattle.bq_label_set.proofs.Added.{those_that_differ}
 use Rattle.bq_board_plan.specs.Graph.{Loads, edges, max_modules, max_edges, Fits, IsGraph}
 use Rattle.bq_load_front.specs.Inputs.{InputParts}
-use Rattle.bq_load_front.specs.Front.{loads_by, loads_of}
+use Rattle.bq_load_front.specs.Front.{loads_by}
+use Rattle.bq_load_front.specs.Parsed.{loads_of}
 use Rattle.bq_load_discover.specs.declared.modules.Module.{Module}
 use Rattle.bq_load_discover.specs.Module.{labels_of, AreValid, label_cmp, module_cmp}
 use Rattle.bq_load_discover.specs.Modules.{IsModule, AreTooMany, edges_from}
 use Rattle.bq_load_discover.specs.Exploring.{AreFound}
 use Rattle.bq_load_discover.specs.Edges.{row_of, rows_of}
-use Rattle.bq_load_discover.specs.LoadGraph.{GraphParts, IsNumbered, IsLoadGraph}
+use Rattle.bq_load_discover.specs.LoadGraph.{GraphParts, IsNumbered, IsReadGraph}
 use Rattle.bq_load_discover.proofs.Ordered.{differ, modules_ascend, are_modules, still_read}
 use Rattle.bq_load_discover.proofs.Rows.{all_rows, edges_count}
 
@@ -50,8 +51,12 @@ module _ (inputs : InputParts) (found : List Module) (f : AreFound inputs found)
   rows : map (map (slice_get (labels_of ms))) (rows_of (labels_of ms) ms) ≡ map (λ m. map (λ l. Some l) (edges_from inputs m)) (labels_of ms)
   rows = all_rows inputs (labels_of ms) (differ (labels_of ms) (modules_ascend found f.distinct ms p s v)) ms (still_read inputs found f ms p s v) all_loaded
 
-  pub is_load_graph : (bs : List BuildFile) → bs ≡ inputs.packages → IsGraph (rows_of (labels_of ms) ms) → IsLoadGraph inputs (record { labels = labels_of ms; modules = ms; edges = rows_of (labels_of ms) ms; packages = bs })
-  is_load_graph bs b g = record { modules = are_modules inputs found f ms p s v; read = still_read inputs found f ms p s v; edges = rows; valid = g; packages = b }
+  pub is_read_graph : (bs : List BuildFile) → bs ≡ inputs.packages → IsGraph (rows_of (labels_of ms) ms) → IsReadGraph inputs (record { labels = labels_of ms; modules = ms; edges = rows_of (labels_of ms) ms; packages = bs })
+  is_read_graph bs b g = record {
+    graph = record { modules = are_modules inputs found f ms p s v; edges = rows; valid = g };
+    read = still_read inputs found f ms p s v;
+    packages = b;
+  }
 
   pub too_many_edges : ¬ Fits (rows_of (labels_of ms) ms) → AreTooMany inputs
   too_many_edges n =
@@ -84,8 +89,8 @@ module _ (found : List Module) (d : IsDistinct same_label (labels_of found)) (sm
   pub held_numbered : IsGraph (rows_of seen again) → IsNumbered (record { labels = ls; modules = ms; edges = es; packages = bs })
   held_numbered g = subst (λ (z : GraphParts). IsNumbered z) whole (is_numbered found d small ms p s valid bs (subst (λ (z : Loads). IsGraph z) same g))
 
-  pub held_graph : IsGraph (rows_of seen again) → (inputs : InputParts) → AreFound inputs found → bs ≡ inputs.packages → IsLoadGraph inputs (record { labels = ls; modules = ms; edges = es; packages = bs })
-  held_graph g inputs f b = subst (λ (z : GraphParts). IsLoadGraph inputs z) whole (is_load_graph inputs found f ms p s valid bs b (subst (λ (z : Loads). IsGraph z) same g))
+  pub held_graph : IsGraph (rows_of seen again) → (inputs : InputParts) → AreFound inputs found → bs ≡ inputs.packages → IsReadGraph inputs (record { labels = ls; modules = ms; edges = es; packages = bs })
+  held_graph g inputs f b = subst (λ (z : GraphParts). IsReadGraph inputs z) whole (is_read_graph inputs found f ms p s valid bs b (subst (λ (z : Loads). IsGraph z) same g))
 
 module _ (found ms : List Module) (p : IsPermutation found ms) (s : IsSorted module_cmp ms) (held again : List Module) (h : held ≡ ms) (a : again ≡ ms) (v : AreValid held) (ls seen : List LabelParts) (n : ls ≡ labels_of held) (k : seen ≡ ls) where
   pub held_too_many : ¬ Fits (rows_of seen again) → (inputs : InputParts) → AreFound inputs found → AreTooMany inputs

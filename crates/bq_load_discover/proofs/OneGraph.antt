@@ -4,17 +4,14 @@ use Rattle.std.specs.List.{Contains, IsDistinct, flat_map}
 use Rattle.std.proofs.lemmas.List.{length-map}
 use Rattle.std.proofs.lemmas.Map.Made.{length-le_from_is_member}
 use Rattle.std.proofs.lemmas.Map.Views.{Contains-from_any, list_any-from_Contains}
-use Rattle.bq_label.specs.declared.packages.BuildFile.{BuildFile}
 use Rattle.bq_label.specs.Label.{LabelParts}
 use Rattle.bq_label.proofs.Orders.{same_ascending}
 use Rattle.bq_label_set.specs.Labels.{same_label, same_label-Decides, same_label-equiv}
 use Rattle.bq_label_set.proofs.Numbers.{the_number}
 use Rattle.bq_board_plan.specs.Graph.{Loads, edges}
 use Rattle.bq_load_front.specs.Inputs.{InputParts}
-use Rattle.bq_load_discover.specs.declared.modules.Module.{Module}
-use Rattle.bq_load_discover.specs.Module.{module_of, label_cmp, label_cmp_total}
+use Rattle.bq_load_discover.specs.Module.{label_cmp, label_cmp_total}
 use Rattle.bq_load_discover.specs.Modules.{AreModules, AreTooMany, edges_from}
-use Rattle.bq_load_discover.specs.LoadGraph.{GraphParts}
 use Rattle.bq_load_discover.specs.Laws.{OneLoadGraph, TooManyForALoadGraph}
 use Rattle.bq_load_discover.proofs.Ordered.{differ}
 use Rattle.bq_load_discover.proofs.Rows.{edges_count}
@@ -71,33 +68,24 @@ module _ (ls : List LabelParts) (d : IsDistinct same_label ls) where
 
 -- ---- the graph
 
-abbrev parts : List LabelParts → List Module → Loads → List BuildFile → GraphParts
-parts ls ms p bs = record { labels = ls; modules = ms; edges = p; packages = bs }
-
 pub one_load_graph : OneLoadGraph
-one_load_graph inputs g h a b =
-    let labels : g.labels ≡ h.labels = same_modules inputs g.labels h.labels a.modules b.modules in
-    let modules : g.modules ≡ h.modules = a.read ∙ (ap (map (module_of inputs)) labels ∙ sym b.read) in
-    let rows : map (map (slice_get h.labels)) g.edges ≡ map (λ l. map (λ k. Some k) (edges_from inputs l)) h.labels =
-    subst (λ (z : List LabelParts). map (map (slice_get z)) g.edges ≡ map (λ l. map (λ k. Some k) (edges_from inputs l)) z) labels a.edges in
-    let edges : g.edges ≡ h.edges = same_rows h.labels (differ h.labels b.modules.ascending) g.edges h.edges (edges_from inputs) h.labels rows b.edges in
-    let packages : g.packages ≡ h.packages = a.packages ∙ sym b.packages in
-    ap (λ (z : List LabelParts). parts z g.modules g.edges g.packages) labels
-    ∙ (ap (λ (z : List Module). parts h.labels z g.edges g.packages) modules
-    ∙ (ap (λ (z : Loads). parts h.labels h.modules z g.packages) edges ∙ ap (λ (z : List BuildFile). parts h.labels h.modules h.edges z) packages))
+one_load_graph inputs ls ms p q a b =
+    let labels : ls ≡ ms = same_modules inputs ls ms a.modules b.modules in
+    let rows : map (map (slice_get ms)) p ≡ map (λ l. map (λ k. Some k) (edges_from inputs l)) ms =
+    subst (λ (z : List LabelParts). map (map (slice_get z)) p ≡ map (λ l. map (λ k. Some k) (edges_from inputs l)) z) labels a.edges in
+    (labels, same_rows ms (differ ms b.modules.ascending) p q (edges_from inputs) ms rows b.edges)
 
 among : (some ls : List LabelParts) → ((l : LabelParts) → Contains some l → Contains ls l) → IsDistinct same_label some → length some ≤ length ls
 among some ls f d = length-le_from_is_member same_label-equiv some ls d (λ q h.
     list_any-from_Contains same_label-equiv q ls (f q (Contains-from_any (λ x y e. (same_label-Decides x y).0 e) q some h)))
 
 pub too_many_for_a_load_graph : TooManyForALoadGraph
-too_many_for_a_load_graph inputs g (AreTooMany.modules some d many only) x =
-    let few : length some ≤ length g.labels = among some g.labels (λ l c. x.modules.all l (only l c)) d in
-    let rows : length g.edges ≡ length g.labels =
-    sym (length-map g.edges (map (slice_get g.labels))) ∙ (ap length x.edges ∙ length-map g.labels (λ l. map (λ k. Some k) (edges_from inputs l))) in
+too_many_for_a_load_graph inputs labels p (AreTooMany.modules some d many only) x =
+    let few : length some ≤ length labels = among some labels (λ l c. x.modules.all l (only l c)) d in
+    let rows : length p ≡ length labels = sym (length-map p (map (slice_get labels))) ∙ (ap length x.edges ∙ length-map labels (λ l. map (λ k. Some k) (edges_from inputs l))) in
     omega (arith, few, rows, many, x.valid.0.0)
-too_many_for_a_load_graph inputs g (AreTooMany.edges ls a many) x =
-    let same : ls ≡ g.labels = same_modules inputs ls g.labels a x.modules in
-    let counted : edges g.edges ≡ length (flat_map (edges_from inputs) g.labels) = edges_count (slice_get g.labels) (edges_from inputs) g.edges g.labels x.edges in
-    let here : length (flat_map (edges_from inputs) ls) ≡ length (flat_map (edges_from inputs) g.labels) = ap (λ (z : List LabelParts). length (flat_map (edges_from inputs) z)) same in
+too_many_for_a_load_graph inputs labels p (AreTooMany.edges ls a many) x =
+    let same : ls ≡ labels = same_modules inputs ls labels a x.modules in
+    let counted : edges p ≡ length (flat_map (edges_from inputs) labels) = edges_count (slice_get labels) (edges_from inputs) p labels x.edges in
+    let here : length (flat_map (edges_from inputs) ls) ≡ length (flat_map (edges_from inputs) labels) = ap (λ (z : List LabelParts). length (flat_map (edges_from inputs) z)) same in
     omega (arith, counted, here, many, x.valid.0.1)

@@ -11,7 +11,9 @@ use Rattle.bq_label_set.proofs.Added.{the_labels_added}
 use Rattle.bq_label_set.proofs.Numbers.{the_number}
 use Rattle.bq_board_plan.specs.Graph.{Loads, sources, edges}
 use Rattle.bq_load_front.specs.Inputs.{InputParts}
-use Rattle.bq_load_front.specs.Front.{loads_by, loads_of}
+use Rattle.bq_load_front.specs.Front.{loads_by}
+use Rattle.bq_load_front.specs.Parsed.{loads_of}
+use Rattle.bq_load_front.proofs.ByName.{loads_agree}
 use Rattle.bq_load_discover.specs.declared.modules.Module.{Module}
 use Rattle.bq_load_discover.specs.Module.{module_of}
 use Rattle.bq_load_discover.specs.Modules.{edges_from}
@@ -47,8 +49,7 @@ row_is ls loads d f = named ls (with_labels [] loads) d (λ l c. elim ((the_labe
 -- ---- the rows of modules
 
 loads_are : (inputs : InputParts) (l : LabelParts) → loads_by ((module_of inputs l).front) ≡ loads_of inputs l
-unfolding loads_of
-loads_are inputs l = refl
+loads_are inputs l = loads_agree inputs l
 
 module _ (inputs : InputParts) (ls : List LabelParts) (d : IsDistinct same_label ls) where
   AreKnown : List LabelParts → Type 0

@@ -9,7 +9,7 @@ use Rattle.bq_board_plan.specs.Graph.{max_modules}
 use Rattle.std.specs.Prelude.{Vec}
 use Rattle.std.specs.Global.{Global}
 use Rattle.bq_load_front.specs.Inputs.{InputParts}
-use Rattle.bq_load_front.specs.Front.{loads_of}
+use Rattle.bq_load_front.specs.Parsed.{loads_of}
 use Rattle.bq_load_discover.specs.declared.modules.Module.{Module}
 use Rattle.bq_load_discover.specs.Module.{module_of, labels_of, IsRead}
 use Rattle.bq_load_discover.specs.Modules.{IsModule, AreTooMany}

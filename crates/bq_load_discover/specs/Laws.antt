@@ -5,17 +5,18 @@ use Rattle.bq_label.specs.Label.{LabelParts}
 use Rattle.bq_label.specs.Packages.{IsFileOf}
 use Rattle.bq_label.specs.Workspace.{IsWorkspace}
 use Rattle.bq_package_schema.specs.Schema.{Rules}
+use Rattle.bq_board.specs.Graph.{Loads}
 use Rattle.bq_load_front.specs.Inputs.{InputParts}
 use Rattle.bq_load_discover.specs.Modules.{IsModule, AreTooMany}
-use Rattle.bq_load_discover.specs.LoadGraph.{GraphParts, IsLoadGraph, inputs_of}
+use Rattle.bq_load_discover.specs.LoadGraph.{IsLoadGraph, inputs_of}
 
 -- two load graphs of one workspace are one
 abbrev pub OneLoadGraph : Type 0
-OneLoadGraph = (inputs : InputParts) (g h : GraphParts) → IsLoadGraph inputs g → IsLoadGraph inputs h → g ≡ h
+OneLoadGraph = (inputs : InputParts) (ls ms : List LabelParts) (p q : Loads) → IsLoadGraph inputs ls p → IsLoadGraph inputs ms q → (ls ≡ ms) × (p ≡ q)
 
 -- where there are too many modules or edges there is no load graph
 abbrev pub TooManyForALoadGraph : Type 0
-TooManyForALoadGraph = (inputs : InputParts) (g : GraphParts) → AreTooMany inputs → ¬ IsLoadGraph inputs g
+TooManyForALoadGraph = (inputs : InputParts) (labels : List LabelParts) (p : Loads) → AreTooMany inputs → ¬ IsLoadGraph inputs labels p
 
 -- each module has a file, the one that its label names in its repository
 abbrev pub ModulesHaveFiles : Type 0

@@ -33,16 +33,20 @@ pub record IsNumbered (g : GraphParts) : Type 0 where
 abbrev pub inputs_of : List File → Rules → InputParts
 inputs_of files rules = record { files = files; packages = packages_of files; rules = with_each with_name [] rules.names }
 
--- the load graph of a workspace: its modules in order, each with what its file gives, and with the numbers of the modules that it
--- loads, each once, in the order in which it first loads them; and its packages
-pub record IsLoadGraph (inputs : InputParts) (g : GraphParts) : Type 0 where
-  pub modules : AreModules inputs g.labels
+-- the load graph of a workspace: the labels of its modules in order, and for each the numbers of the modules that it loads, each once, in the
+-- order in which it first loads them
+pub record IsLoadGraph (inputs : InputParts) (labels : List LabelParts) (loads : Loads) : Type 0 where
+  pub modules : AreModules inputs labels
+  pub edges : map (map (slice_get labels)) loads ≡ map (λ l. map Some (edges_from inputs l)) labels
+  pub valid : IsGraph loads
+
+-- the load graph, with what the code gives for each file, and the packages
+pub record IsReadGraph (inputs : InputParts) (g : GraphParts) : Type 0 where
+  pub graph : IsLoadGraph inputs g.labels g.edges
   pub read : g.modules ≡ map (module_of inputs) g.labels
-  pub edges : map (map (slice_get g.labels)) g.edges ≡ map (λ l. map Some (edges_from inputs l)) g.labels
-  pub valid : IsGraph g.edges
   pub packages : g.packages ≡ inputs.packages
 
 -- the load graph, or there are too many modules or edges; memory aside
 abbrev pub Discovers : InputParts → Result GraphParts LoadErr → Type 0
-Discovers inputs (Ok g) = IsLoadGraph inputs g
+Discovers inputs (Ok g) = IsReadGraph inputs g
 Discovers inputs (Err why) = (why ≡ e.TooManyModules → AreTooMany inputs) × ((line : ℕ) → ¬ (why ≡ e.Schema line))

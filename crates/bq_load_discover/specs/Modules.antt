@@ -8,7 +8,7 @@ use Rattle.bq_label.specs.Packages.{build_label}
 use Rattle.bq_label_set.specs.Labels.{same_label, with_labels}
 use Rattle.bq_board_plan.specs.Graph.{max_modules, max_edges}
 use Rattle.bq_load_front.specs.Inputs.{InputParts}
-use Rattle.bq_load_front.specs.Front.{loads_of}
+use Rattle.bq_load_front.specs.Parsed.{loads_of}
 use Rattle.bq_load_discover.specs.Module.{label_cmp}
 
 -- the label is that of a module

@@ -1,4 +1,6 @@
 pub mod Tokens
 pub mod Codes
+pub mod Texts
 pub mod Loads
+pub mod ByName
 pub mod Places

@@ -1,5 +1,5 @@
 -- Words of the laws.
-use Rattle.std.specs.Prelude.{◌≡◌, ◌↔◌, ℕ, List, [], ◌∷◌, ◌++◌, map, Result, Ok, Err}
+use Rattle.std.specs.Prelude.{◌≡◌, ◌↔◌, ℕ, List, [], ◌∷◌, ◌++◌, map, Some, Result, Ok, Err}
 use Rattle.std.specs.List.{Contains}
 use Rattle.bq_base.specs.declared.fault.Fault.{Fault}
 use Rattle.bq_source.specs.declared.token.Token.{Token}
@@ -8,13 +8,15 @@ use Rattle.bq_parse_grammar.specs.declared.tree.TopLevel.{TopLevel}
 use Rattle.bq_parse_grammar.specs.Lexeme.{lexemes}
 use Rattle.bq_parse_grammar.specs.Parses.{Parses}
 use Rattle.bq_label.specs.Label.{PackageParts, LabelParts, package_of}
-use Rattle.bq_resolve_scope.specs.declared.code.LoadStmt.{LoadStmt}
 use Rattle.bq_resolve_scope.specs.declared.code.Resolved.{Resolved}
 use Rattle.bq_resolve_scope.specs.Universe.{UniverseParts}
 use Rattle.bq_resolve_scope.specs.Files.{resolved}
+use Rattle.bq_resolve_by_name.specs.Files.{ParsedFile}
+use Rattle.bq_resolve_by_name.specs.Loads.{WrittenLoad}
+use Rattle.bq_resolve_by_name.specs.Violations.{first, violations}
 use Rattle.bq_load_front.specs.Code.{code_of}
 use Rattle.bq_load_front.specs.Inputs.{InputParts}
-use Rattle.bq_load_front.specs.Front.{load_of, labels_of, loads_of}
+use Rattle.bq_load_front.specs.Parsed.{file_of_text, file_named, labels_of, loads_of}
 
 -- the text reads as tokens, these as statements, and the names of these stand for what the code says
 pub record HasCode (universe : UniverseParts) (text : List ℕ) (code : Resolved) : Type 0 where
@@ -30,6 +32,26 @@ pub data HasFault (universe : UniverseParts) (text : List ℕ) (why : Fault) : T
   of_statements : (tokens : List Token) → Lexes text (Ok tokens) → Parses universe.kind (lexemes text tokens) (Err why) → HasFault universe text why
   of_names : (tokens : List Token) (trees : List TopLevel) → Lexes text (Ok tokens) → Parses universe.kind (lexemes text tokens) (Ok trees) → resolved universe trees ≡ Err why → HasFault universe text why
 
+-- the text reads as tokens, these as the statements of this file, and no rule of names and flow is broken
+pub record IsTextOf (universe : UniverseParts) (text : List ℕ) (file : ParsedFile) : Type 0 where
+  pub tokens : List Token
+  pub reads : Lexes text (Ok tokens)
+  pub parses : Parses universe.kind (lexemes text tokens) (Ok file.statements)
+  pub known : file.universe ≡ universe
+  pub keeps : violations universe file.statements ≡ []
+
+-- the text has this fault: of its tokens, else of its statements, else the first rule of names and flow that is broken
+pub data BreaksFirst (universe : UniverseParts) (text : List ℕ) (why : Fault) : Type 0 where
+  in_tokens : Lexes text (Err why) → BreaksFirst universe text why
+  in_statements : (tokens : List Token) → Lexes text (Ok tokens) → Parses universe.kind (lexemes text tokens) (Err why) → BreaksFirst universe text why
+  in_names : (tokens : List Token) (trees : List TopLevel) → Lexes text (Ok tokens) → Parses universe.kind (lexemes text tokens) (Ok trees) → first (violations universe trees) ≡ Some why → BreaksFirst universe text why
+
+abbrev pub FilesOfTexts : Type 0
+FilesOfTexts =
+    (universe : UniverseParts) (text : List ℕ)
+    → ((file : ParsedFile) → (file_of_text universe text ≡ Ok file) ↔ IsTextOf universe text file)
+    × ((why : Fault) → (file_of_text universe text ≡ Err why) ↔ BreaksFirst universe text why)
+
 abbrev pub CodesOfFiles : Type 0
 CodesOfFiles = (universe : UniverseParts) (text : List ℕ) (code : Resolved) → (code_of universe text ≡ Ok code) ↔ HasCode universe text code
 
@@ -39,31 +61,35 @@ FaultsOfFiles = (universe : UniverseParts) (text : List ℕ) (why : Fault) → (
 abbrev pub named : LabelParts → Result LabelParts Fault
 named l = Ok l
 
--- each of these loads names the file of the label in its place
-abbrev pub NameFiles : InputParts → PackageParts → List LoadStmt → List LabelParts → Type 0
-NameFiles inputs own loads ls = map (load_of inputs own) loads ≡ map named ls
+module _ {A : Type 0} (read : A → Result LabelParts Fault) where
+  -- each of these loads, which are read so, names the file of the label in its place
+  abbrev pub NameFiles : List A → List LabelParts → Type 0
+  NameFiles loads ls = map read loads ≡ map named ls
 
--- the first load that names no file has this fault
-pub record IsFirstBadLoad (inputs : InputParts) (own : PackageParts) (loads : List LoadStmt) (why : Fault) : Type 0 where
-  pub before : List LoadStmt
-  pub load : LoadStmt
-  pub after : List LoadStmt
-  pub split : loads ≡ before ++ load ∷ after
-  pub labels : List LabelParts
-  pub earlier : NameFiles inputs own before labels
-  pub bad : load_of inputs own load ≡ Err why
+  -- the first load that names no file has this fault
+  pub record IsFirstBadLoad (loads : List A) (why : Fault) : Type 0 where
+    pub before : List A
+    pub load : A
+    pub after : List A
+    pub split : loads ≡ before ++ load ∷ after
+    pub labels : List LabelParts
+    pub earlier : NameFiles before labels
+    pub bad : read load ≡ Err why
 
 -- a load in this package names the file of this label
 pub record IsNamed (inputs : InputParts) (own : PackageParts) (l : LabelParts) : Type 0 where
-  pub load : LoadStmt
-  pub names : load_of inputs own load ≡ Ok l
+  pub load : WrittenLoad
+  pub names : file_named inputs own load ≡ Ok l
 
 -- what a module loads is named by a load in its package
 abbrev pub LoadedFiles : Type 0
 LoadedFiles = (inputs : InputParts) (m l : LabelParts) → Contains (loads_of inputs m) l → IsNamed inputs (package_of m) l
 
+-- the labels of these loads are those of the files that they name, or the fault is that of the first bad one
+abbrev pub AreRead : {A : Type 0} → (A → Result LabelParts Fault) → List A → Type 0
+AreRead read loads =
+    ((ls : List LabelParts) → (labels_of read [] loads ≡ Ok ls) ↔ NameFiles read loads ls)
+    × ((why : Fault) → (labels_of read [] loads ≡ Err why) ↔ IsFirstBadLoad read loads why)
+
 abbrev pub LoadsOfFiles : Type 0
-LoadsOfFiles =
-    (inputs : InputParts) (own : PackageParts) (loads : List LoadStmt)
-    → ((ls : List LabelParts) → (labels_of inputs own [] loads ≡ Ok ls) ↔ NameFiles inputs own loads ls)
-    × ((why : Fault) → (labels_of inputs own [] loads ≡ Err why) ↔ IsFirstBadLoad inputs own loads why)
+LoadsOfFiles = (inputs : InputParts) (own : PackageParts) (loads : List WrittenLoad) → AreRead (file_named inputs own) loads

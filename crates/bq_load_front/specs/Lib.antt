@@ -1,5 +1,7 @@
 pub mod Code
 pub mod Inputs
 pub mod NamedFiles
+pub mod Parsed
 pub mod Front
+pub mod Agreement
 pub mod Laws

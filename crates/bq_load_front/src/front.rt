@@ -4,7 +4,8 @@ ghost use Rattle.std.specs.Prelude.{◌≡◌, []};
 ghost use Rattle.bq_base.specs.Gives.{Gives};
 ghost use Rattle.bq_base.specs.declared.fault.SourceErr.TheVariants.{Bad};
 ghost use Rattle.bq_load_front.specs.Code.{itself};
-ghost use Rattle.bq_load_front.specs.Front.{labels_of, kind_of, front_of};
+ghost use Rattle.bq_load_front.specs.Front.{front_of, load_of};
+ghost use Rattle.bq_load_front.specs.Parsed.{labels_of, kind_of};
 
 use crate::code::code_of;
 use crate::inputs::Inputs;
@@ -25,14 +26,14 @@ pub struct Front {
 }
 
 /// Returns the files that loads in this package name, or the fault of the first bad load (F30, F31, F32, F37).
-#[tactic(auto, unfolding(crate::specs::Front::labels_of))]
+#[tactic(auto, unfolding(crate::specs::Parsed::labels_of))]
 fn named_files(
     alloc: Global,
     inputs: &Inputs<'_>,
     own: &PackageId,
     loads: &[LoadStmt],
 ) -> Result<NamedFiles, SourceErr>
-    ensures { Gives itself Bad result (labels_of inputs.now own.now [] loads.now) }
+    ensures { Gives itself Bad result (labels_of (load_of inputs.now own.now) [] loads.now) }
 {
     let mut labels = Items::new(alloc);
     for load in loads {
@@ -49,7 +50,7 @@ fn named_files(
 }
 
 /// Returns the kind of the file of this label: a .bzl file if its name ends so, a BUILD file otherwise.
-#[tactic(auto, unfolding(crate::specs::Front::kind_of))]
+#[tactic(auto, unfolding(crate::specs::Parsed::kind_of))]
 pub fn kind_of(label: &Label) -> FileKind
     ensures { result ≡ kind_of label.now }
 {

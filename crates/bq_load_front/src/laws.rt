@@ -1,7 +1,14 @@
 //! What fronts are, said of the texts, statements and labels of files. The functions do nothing: their contracts are
 //! the laws.
 
-ghost use Rattle.bq_load_front.specs.Laws.{CodesOfFiles, FaultsOfFiles, LoadsOfFiles, LoadedFiles};
+ghost use Rattle.bq_load_front.specs.Laws.{CodesOfFiles, FaultsOfFiles, FilesOfTexts, LoadsOfFiles, LoadedFiles};
+ghost use Rattle.bq_load_front.specs.Agreement.{FrontsAgree, LoadsAgree};
+
+/// A text is that of a file exactly if it reads as tokens, these as the file's statements, and no rule of names and flow is broken;
+/// its fault is that of its tokens, else that of its statements, else the first of these rules that it breaks.
+pub fn files_of_texts()
+    ensures { FilesOfTexts }
+{}
 
 /// A file has a code exactly if its text reads as tokens, these as statements, and the names of these stand for
 /// something; the code is what they resolve to.
@@ -23,4 +30,11 @@ pub fn loads_of_files()
 /// Each file that a module loads is named by a load in the module's package.
 pub fn loaded_files()
     ensures { LoadedFiles }
+{}
+
+/// What the code gives for a file is what the file is, said by names: its statements' code and the files that its loads
+/// name, or the same fault.
+pub fn fronts_agree()
+    ensures fronts { FrontsAgree }
+    ensures loads { LoadsAgree }
 {}

@@ -1,8 +1,9 @@
 //! A module of a workspace comes in, by its label; what its file is on its own goes out: its code and the files that it
 //! loads, or the first fault of its text (F1 to F24) or of its loads (F30, F31, F32, F37).
 //!
-//! The promise: [`front_of`] returns exactly what its definition says of the file (`specs/Front.antt`): its tokens, the
-//! trees of its statements, what their names stand for, and then its loads in the order in which they are written.
+//! The promise: [`front_of`] returns exactly what its definition says of the file: its tokens, the trees of its
+//! statements, what their names stand for, and then its loads in the order in which they are written. `specs/Parsed.antt`
+//! says by names what the file of a module is, `specs/Front.antt` the code's part, by slots; they agree ([`fronts_agree`]).
 //!
 //! In reading order:
 //!
@@ -22,5 +23,7 @@ mod named_files;
 pub use code::code_of;
 pub use front::{Front, front_of, kind_of};
 pub use inputs::Inputs;
-pub use laws::{codes_of_files, faults_of_files, loaded_files, loads_of_files};
+pub use laws::{
+    codes_of_files, faults_of_files, files_of_texts, fronts_agree, loaded_files, loads_of_files,
+};
 pub use named_files::NamedFiles;

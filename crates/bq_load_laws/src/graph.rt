@@ -7,7 +7,7 @@ ghost use Rattle.bq_label.specs.declared.packages.BuildFile.{BuildFile};
 ghost use Rattle.bq_label.specs.Label.{LabelParts, PackageParts};
 ghost use Rattle.bq_load_front.specs.Front.{front_of};
 ghost use Rattle.bq_load_front.specs.Inputs.{InputParts};
-ghost use Rattle.bq_load_discover.specs.LoadGraph.{GraphParts, IsLoadGraph};
+ghost use Rattle.bq_load_discover.specs.LoadGraph.{GraphParts, IsReadGraph};
 ghost use Rattle.bq_load_label.specs.NamedFile.{load_label};
 ghost use Rattle.bq_load_laws.specs.Graphs.Orders.{LoadFailsForFirst, loading};
 
@@ -19,5 +19,5 @@ pub fn loads_are_refused_in_order()
 /// In the load graph of a workspace, a module whose file has a fault of its own, or a bad load, loads nothing, not even
 /// by its good loads.
 pub fn faulty_files_load_nothing()
-    ensures { (inputs : InputParts) (g : GraphParts) (m : ℕ) (l : LabelParts) (why : Fault) → IsLoadGraph inputs g → slice_get g.labels m ≡ Some l → front_of inputs l ≡ Err why → slice_get g.edges m ≡ Some [] }
+    ensures { (inputs : InputParts) (g : GraphParts) (m : ℕ) (l : LabelParts) (why : Fault) → IsReadGraph inputs g → slice_get g.labels m ≡ Some l → front_of inputs l ≡ Err why → slice_get g.edges m ≡ Some [] }
 {}

@@ -7,8 +7,8 @@ use Rattle.bq_label.specs.Packages.{packages_of}
 use Rattle.bq_package_schema.specs.Schema.{Rules}
 use Rattle.bq_package_target.specs.Package.{PackageTargets}
 use Rattle.bq_board.specs.Graph.{Loads}
-use Rattle.bq_load_discover.specs.LoadGraph.{GraphParts, IsLoadGraph, inputs_of}
-use Rattle.bq_load_discover.specs.Schema.{schema_in}
+use Rattle.bq_load_by_name.specs.LoadGraph.{GraphParts, IsReadGraph, inputs_of}
+use Rattle.bq_load_by_name.specs.Schema.{schema_in}
 use Rattle.bq_load_by_name.specs.Sources.{LoadingParts, loading_in}
 use Rattle.bq_load_by_name.specs.Loaded.{IsGathered, IsLoaded}
 use Rattle.bq_load_by_name.specs.Views.{OutcomeView}
@@ -32,11 +32,11 @@ loaded_inside bs os l is =
 pub loaded_report : (o : Options) (files : List File) (query : CheckedQuery) (rules : Rules) (l : Loaded) (r : ReportView) → IsChecked o.query.items query → schema_in files ≡ Ok rules
     → LoadsByNames files rules o.max_steps (Ok l) → Reports (inside l) query o.output r → IsReportOn o files r
 loaded_report o files query rules l r checked schema loads reports =
-    IsReportOn.loaded query rules loads.0 checked schema loads.1 (subst (λ (i : Inside). Reports i query o.output r) (loaded_inside _ _ l loads.2) reports)
+    IsReportOn.loaded query rules loads.0 loads.1 checked schema loads.2 (subst (λ (i : Inside). Reports i query o.output r) (loaded_inside _ _ l loads.3) reports)
 
 -- what is inside a workspace whose modules gave this by slots is what they give by names
-module _ (files : List File) (rules : Rules) (limit : ℕ) (g : GraphParts) (is : IsLoadGraph (inputs_of files rules) g) where
-  pub inside_by_names : (x : LoadingParts) (p : Loads) (l : Loaded) → x ≡ loading_in files rules limit g → p ≡ g.edges → IsLoaded x p l → inside l ≡ loaded_in files rules limit g
+module _ (files : List File) (rules : Rules) (limit : ℕ) (g : GraphParts) (is : IsReadGraph (inputs_of files rules) g) where
+  pub inside_by_names : (x : LoadingParts) (p : Loads) (l : Loaded) → x ≡ loading_in files rules limit g → p ≡ g.edges → IsLoaded x p l → inside l ≡ loaded_in files rules limit g.labels g.edges
   inside_by_names x p l e d loaded =
       let by_slots : IsLoaded (loading_in files rules limit g) g.edges l = subst (λ (q : Loads). IsLoaded (loading_in files rules limit g) q l) d (subst (λ (y : LoadingParts). IsLoaded y p l) e loaded) in
       loaded_inside (packages_of files) _ l by_slots

@@ -4,11 +4,13 @@ use Rattle.std.specs.Prelude.{◌≡◌, ℕ, List, [], Ok, Err}
 use Rattle.bq_base_fault_line.specs.FaultLine.{sorted_lines}
 use Rattle.bq_label.specs.declared.packages.BuildFile.{BuildFile}
 use Rattle.bq_label.specs.declared.workspace.File.{File}
+use Rattle.bq_label.specs.Label.{LabelParts}
 use Rattle.bq_label.specs.Packages.{packages_of}
 use Rattle.bq_package_schema.specs.Schema.{Rules}
-use Rattle.bq_load_discover.specs.LoadGraph.{GraphParts, IsLoadGraph, inputs_of}
-use Rattle.bq_load_discover.specs.Modules.{AreTooMany}
-use Rattle.bq_load_discover.specs.Schema.{schema_in}
+pub use Rattle.bq_board.specs.Graph.{Loads}
+use Rattle.bq_load_by_name.specs.LoadGraph.{IsLoadGraph, inputs_of}
+use Rattle.bq_load_by_name.specs.Modules.{AreTooMany}
+use Rattle.bq_load_by_name.specs.Schema.{schema_in}
 use Rattle.bq_load_by_name.specs.Loaded.{fault_lines, packages_in, print_lines}
 use Rattle.bq_load_by_name.specs.Views.{OutcomeView}
 use Rattle.bq_load_by_name.specs.Parsed.{parsed_in}
@@ -30,8 +32,8 @@ abbrev pub inside_by : List BuildFile → List OutcomeView → Inside
 inside_by bs os = record { prints = print_lines os; faults = sorted_lines (fault_lines os); packages = packages_in bs os }
 
 -- what is in the workspace once the modules of its load graph are evaluated by names, each with `limit` steps
-abbrev pub loaded_in : List File → Rules → ℕ → GraphParts → Inside
-loaded_in files rules limit g = inside_by (packages_of files) (outcomes (parsed_in files rules limit g) g.edges)
+abbrev pub loaded_in : List File → Rules → ℕ → List LabelParts → Loads → Inside
+loaded_in files rules limit labels edges = inside_by (packages_of files) (outcomes (parsed_in files rules limit labels) edges)
 
 -- a report on these files: the first error there is, in this order, or the report of the loaded workspace
 pub data IsReportOn (o : Options) (files : List File) (r : ReportView) : Type 0 where
@@ -42,5 +44,5 @@ pub data IsReportOn (o : Options) (files : List File) (r : ReportView) : Type 0 
   -- E7
   too_many : (query : CheckedQuery) (rules : Rules) → IsChecked o.query.items query → schema_in files ≡ Ok rules → AreTooMany (inputs_of files rules)
       → r ≡ refused TooManyModules → IsReportOn o files r
-  loaded : (query : CheckedQuery) (rules : Rules) (g : GraphParts) → IsChecked o.query.items query → schema_in files ≡ Ok rules
-      → IsLoadGraph (inputs_of files rules) g → Reports (loaded_in files rules o.max_steps g) query o.output r → IsReportOn o files r
+  loaded : (query : CheckedQuery) (rules : Rules) (labels : List LabelParts) (edges : Loads) → IsChecked o.query.items query → schema_in files ≡ Ok rules
+      → IsLoadGraph (inputs_of files rules) labels edges → Reports (loaded_in files rules o.max_steps labels edges) query o.output r → IsReportOn o files r

@@ -1,7 +1,7 @@
 //! What a workspace loads to, said by names.
 
 ghost use Rattle.std.specs.Prelude.{◌≡◌, IfOk};
-ghost use Rattle.bq_load_discover.specs.LoadGraph.{IsLoadGraph, inputs_of};
+ghost use Rattle.bq_load_by_name.specs.LoadGraph.{IsReadGraph, inputs_of};
 ghost use Rattle.bq_load_by_name.specs.Results.{LoadsByNames};
 ghost use Rattle.bq_run_report.specs.Report.{inside};
 ghost use Rattle.bq_run.specs.Run.{IsInRange};
@@ -9,8 +9,7 @@ ghost use Rattle.bq_run.specs.WorkspaceRun.{loaded_in};
 
 use crate::options::Options;
 use bq_label::Workspace;
-use bq_load_by_name::{Loaded, OpenGate, Pool, load_with};
-use bq_load_discover::{LoadErr, LoadGraph};
+use bq_load_by_name::{LoadErr, LoadGraph, Loaded, OpenGate, Pool, load_with};
 use bq_package_schema::Schema;
 use bq_value_seed::Seed;
 use std::alloc::{AllocError, Global};
@@ -42,8 +41,8 @@ pub fn load_workspace<T: Threads + Wait + RandomSource + Sync>(
     )
 }
 
-/// Loads the modules of a load graph by as many workers as there are jobs. What is inside the workspace then is what its files evaluate
-/// to by names.
+/// Loads the modules of a load graph by as many workers as there are jobs. What is inside the workspace then is what the modules of
+/// these labels, with these edges, evaluate to by names.
 #[tactic(auto, using(crate::proofs::Loads::inside_by_names))]
 pub fn load_graph<T: Threads + Wait + RandomSource + Sync>(
     rt: &T,
@@ -54,8 +53,8 @@ pub fn load_graph<T: Threads + Wait + RandomSource + Sync>(
     options: &Options,
 ) -> Result<Loaded, AllocError>
     requires in_range { IsInRange options.now }
-    requires graph { IsLoadGraph (inputs_of workspace.now schema.now) graph }
-    ensures { IfOk result (λ l. inside l ≡ loaded_in workspace.now schema.now options.now.max_steps graph) }
+    requires graph { IsReadGraph (inputs_of workspace.now schema.now) graph }
+    ensures { IfOk result (λ l. inside l ≡ loaded_in workspace.now schema.now options.now.max_steps graph.labels graph.edges) }
 {
     let (pool, seats) = Pool::open(
         alloc,

@@ -1,7 +1,7 @@
 //! The report on a workspace.
 
 ghost use Rattle.std.specs.Prelude.{◌≡◌, Ok, IfOk};
-ghost use Rattle.bq_load_discover.specs.Schema.{schema_in};
+ghost use Rattle.bq_load_by_name.specs.Schema.{schema_in};
 ghost use Rattle.bq_query_check.specs.Checked.{IsChecked};
 ghost use Rattle.bq_run_report.specs.Report.{report_view};
 ghost use Rattle.bq_run.specs.Run.{IsInRange};
@@ -11,7 +11,7 @@ use crate::loading::load_workspace;
 use crate::options::Options;
 use bq_base_rope::Rope;
 use bq_label::Workspace;
-use bq_load_discover::{LoadErr, schema_of};
+use bq_load_by_name::{LoadErr, schema_of};
 use bq_package_schema::Schema;
 use bq_query_check::{CheckedQuery, parse_query};
 use bq_run_report::{NoAnswer, Question, Report, refusal_of, report_on};

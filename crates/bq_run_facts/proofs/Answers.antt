@@ -52,8 +52,8 @@ by_query : (o : Options) (files : List File) (query : CheckedQuery) (r : ReportV
 by_query o files query r checked (IsFactsBy.wrong_schema line e is) = ([], IsReportOn.wrong_schema query line checked e (refusal r _ is))
 by_query o files query r checked (IsFactsBy.too_many rules e many is) = ([], IsReportOn.too_many query rules checked e many (refusal r _ is))
 by_query o files query r checked (IsFactsBy.loaded rules g e found tells) =
-    let answered = reports _ _ (loaded_in files rules o.max_steps g) query o.output r tells in
-    (answered.0, IsReportOn.loaded query rules g checked e found answered.1)
+    let answered = reports _ _ (loaded_in files rules o.max_steps g.labels g.edges) query o.output r tells in
+    (answered.0, IsReportOn.loaded query rules g.labels g.edges checked e found.graph answered.1)
 
 same_text : (a b : List ℕ) → Some a ≡ Some b → a ≡ b
 same_text a b e = cc

@@ -6,7 +6,7 @@ use Rattle.bq_label.specs.declared.packages.BuildFile.{BuildFile}
 use Rattle.bq_label.specs.declared.workspace.File.{File}
 use Rattle.bq_label.specs.Packages.{packages_of}
 use Rattle.bq_package_schema.specs.Schema.{Rules}
-use Rattle.bq_load_discover.specs.LoadGraph.{GraphParts as LoadParts, IsLoadGraph, inputs_of}
+use Rattle.bq_load_discover.specs.LoadGraph.{GraphParts as LoadParts, IsReadGraph, inputs_of}
 use Rattle.bq_load_discover.specs.Modules.{AreTooMany}
 use Rattle.bq_load_discover.specs.Schema.{schema_in}
 use Rattle.bq_base_fault_line.specs.declared.fault_line.FaultLine.{FaultLine}
@@ -75,8 +75,8 @@ pub data IsFactsBy (limit : ℕ) (files : List File) (asked : Option CheckedQuer
   wrong_schema : (line : ℕ) → schema_in files ≡ Err line → r ≡ refused (Schema line) → IsFactsBy limit files asked r
   -- E7
   too_many : (rules : Rules) → schema_in files ≡ Ok rules → AreTooMany (inputs_of files rules) → r ≡ refused TooManyModules → IsFactsBy limit files asked r
-  loaded : (rules : Rules) (g : LoadParts) → schema_in files ≡ Ok rules → IsLoadGraph (inputs_of files rules) g
-      → TellsFacts (packages_of files) (module_lines g.modules) (loaded_in files rules limit g) asked r → IsFactsBy limit files asked r
+  loaded : (rules : Rules) (g : LoadParts) → schema_in files ≡ Ok rules → IsReadGraph (inputs_of files rules) g
+      → TellsFacts (packages_of files) (module_lines g.modules) (loaded_in files rules limit g.labels g.edges) asked r → IsFactsBy limit files asked r
 
 -- the report of a run with the query of this text, if there is one
 pub data IsFactsOn (limit : ℕ) (files : List File) (text : Option (List ℕ)) (r : ReportView) : Type 0 where

@@ -3,7 +3,7 @@
 ghost use Rattle.std.specs.Prelude.{◌≡◌, ◌++◌, ℕ, Ok, IfOk};
 ghost use Rattle.std.specs.List.{flat_map};
 ghost use Rattle.std.specs.Option.{option_copied};
-ghost use Rattle.bq_load_discover.specs.LoadGraph.{IsLoadGraph, inputs_of};
+ghost use Rattle.bq_load_discover.specs.LoadGraph.{IsReadGraph, inputs_of};
 ghost use Rattle.bq_load_discover.specs.Schema.{schema_in};
 ghost use Rattle.bq_label.specs.Packages.{packages_of};
 ghost use Rattle.bq_base_fault_line.specs.FaultLine.{put_lines};
@@ -136,8 +136,8 @@ fn report_graph<T: Threads + Wait + RandomSource + Sync>(
     options: &Options,
 ) -> Result<Report, AllocError>
     requires in_range { IsInRange options.now }
-    requires graph { IsLoadGraph (inputs_of workspace.now schema.now) graph }
-    ensures { IfOk result (λ r. TellsFacts (packages_of workspace.now) (module_lines graph.modules) (loaded_in workspace.now schema.now options.now.max_steps graph) (option_copied asked.entry) (report_view r)) }
+    requires graph { IsReadGraph (inputs_of workspace.now schema.now) graph }
+    ensures { IfOk result (λ r. TellsFacts (packages_of workspace.now) (module_lines graph.modules) (loaded_in workspace.now schema.now options.now.max_steps graph.labels graph.edges) (option_copied asked.entry) (report_view r)) }
 {
     let Ok(before) = read_before(alloc, workspace, graph.modules()) else {
         drop(graph); // PROOF: one call lets the graph go

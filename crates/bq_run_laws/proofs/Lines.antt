@@ -19,11 +19,11 @@ use Rattle.bq_base_fault_line.specs.declared.fault_line.FaultLine.{FaultLine}
 use Rattle.bq_base_fault_line.specs.FaultLine.{line_cmp, put_lines}
 use Rattle.bq_base_fault_line.proofs.LineOrder.{same_lines}
 use Rattle.bq_load_front.specs.Inputs.{InputParts}
-use Rattle.bq_load_discover.specs.LoadGraph.{GraphParts, IsLoadGraph, inputs_of}
+use Rattle.bq_load_discover.specs.LoadGraph.{GraphParts, IsReadGraph, inputs_of}
 use Rattle.bq_load_discover.proofs.Lists.{none_in}
 use Rattle.bq_load.specs.Results.{outcomes}
 use Rattle.bq_load.specs.Sources.{loading_in}
-use Rattle.bq_load_by_name.proofs.Outcomes.{outcomes_agree}
+use Rattle.bq_load_by_name.proofs.Outcomes.{outcomes_agree, read_graph, is_read_graph}
 use Rattle.bq_load_laws.specs.Packages.Declared.{IsLineOf, IsFile, DeclaresIn}
 use Rattle.bq_load_laws.proofs.Faults.Lines.{lines_in_graph}
 use Rattle.bq_load_laws.proofs.Faults.Numbered.{each_of, faults_stand, code_numbered, by_statements}
@@ -86,10 +86,10 @@ by_owner inputs p t label line known c e (inr d) = record {
 abbrev by_slots : List File → Rules → ℕ → GraphParts → Inside
 by_slots files rules limit g = inside_by (packages_of files) (outcomes (loading_in files rules limit g) g.edges)
 
-same_inside : (files : List File) (rules : Rules) (limit : ℕ) (g : GraphParts) → IsLoadGraph (inputs_of files rules) g → loaded_in files rules limit g ≡ by_slots files rules limit g
+same_inside : (files : List File) (rules : Rules) (limit : ℕ) (g : GraphParts) → IsReadGraph (inputs_of files rules) g → loaded_in files rules limit g.labels g.edges ≡ by_slots files rules limit g
 same_inside files rules limit g is = ap (inside_by (packages_of files)) (outcomes_agree files rules limit g is)
 
-dangling_by_slots : (files : List File) (rules : Rules) (limit : ℕ) (g : GraphParts) → IsWorkspace files → IsLoadGraph (inputs_of files rules) g → (line : FaultLine)
+dangling_by_slots : (files : List File) (rules : Rules) (limit : ℕ) (g : GraphParts) → IsWorkspace files → IsReadGraph (inputs_of files rules) g → (line : FaultLine)
     → Contains (dangling_lines (by_slots files rules limit g).packages) line → IsOfStatement (inputs_of files rules) line
 dangling_by_slots files rules limit g w is line c =
     let packages = (by_slots files rules limit g).packages in
@@ -97,7 +97,9 @@ dangling_by_slots files rules limit g w is line c =
     by_owner (inputs_of files rules) d.owner d.target d.label line d.declared d.named d.line (declared_in_graph files rules limit g w is d.owner d.known)
 
 pub dangling_told : DanglingLinesAreOfStatements
-dangling_told files rules limit g w is line c =
+dangling_told files rules limit labels edges w graph line c =
+    let g : GraphParts = read_graph (inputs_of files rules) labels edges in
+    let is : IsReadGraph (inputs_of files rules) g = is_read_graph (inputs_of files rules) labels edges graph in
     dangling_by_slots files rules limit g w is line (subst (λ (i : Inside). Contains (dangling_lines i.packages) line) (same_inside files rules limit g is) c)
 
 -- ---- all fault lines
@@ -111,7 +113,9 @@ statement_stands inputs line s =
     subst (λ n. 1 ≤ n) (sym s.at.same) (each_of (λ (x : CodeTopLevel). 1 ≤ x.line) s.code.statements all s.at.statement s.at.among)
 
 pub lines_stand : FaultLinesStandOnLines
-lines_stand files rules limit g w is line c =
+lines_stand files rules limit labels edges w graph line c =
+    let g : GraphParts = read_graph (inputs_of files rules) labels edges in
+    let is : IsReadGraph (inputs_of files rules) g = is_read_graph (inputs_of files rules) labels edges graph in
     let i = by_slots files rules limit g in
     let modules = by_each Stands i.faults (λ x d. lines_in_graph (λ kind n. 1 ≤ n) faults_stand files rules limit g w is x d) in
     let labels = by_each Stands (dangling_lines i.packages) (λ x d. statement_stands (inputs_of files rules) x (dangling_by_slots files rules limit g w is x d)) in

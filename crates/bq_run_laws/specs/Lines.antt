@@ -10,18 +10,18 @@ use Rattle.bq_package_schema.specs.Schema.{Rules}
 use Rattle.bq_base_fault_line.specs.declared.fault_line.FaultLine.{FaultLine}
 use Rattle.bq_load_front.specs.Inputs.{InputParts}
 use Rattle.bq_load_front.specs.Laws.{HasCode}
-use Rattle.bq_load_discover.specs.LoadGraph.{GraphParts, IsLoadGraph, inputs_of}
+use Rattle.bq_load_discover.specs.LoadGraph.{IsLoadGraph, inputs_of}
 use Rattle.bq_load_laws.specs.Faults.Parts.{universe_at}
 use Rattle.bq_load_laws.specs.Packages.Declared.{IsLineOf}
 use Rattle.bq_query_target_graph.specs.Dangling.{dangling_lines}
 use Rattle.bq_run_report.specs.Report.{all_faults}
-use Rattle.bq_run.specs.WorkspaceRun.{loaded_in}
+use Rattle.bq_run.specs.WorkspaceRun.{Loads, loaded_in}
 
 -- Lines are counted from 1: so no fault line of a run names line 0, be it of a module or of a label that names no target.
 abbrev pub FaultLinesStandOnLines : Type 0
 FaultLinesStandOnLines =
-    (files : List File) (rules : Rules) (limit : ℕ) (g : GraphParts) → IsWorkspace files → IsLoadGraph (inputs_of files rules) g
-    → (line : FaultLine) → Contains (all_faults (loaded_in files rules limit g)) line → 1 ≤ line.line
+    (files : List File) (rules : Rules) (limit : ℕ) (labels : List LabelParts) (edges : Loads) → IsWorkspace files → IsLoadGraph (inputs_of files rules) labels edges
+    → (line : FaultLine) → Contains (all_faults (loaded_in files rules limit labels edges)) line → 1 ≤ line.line
 
 -- the line names a BUILD file, and the line of one of its top-level statements
 pub record IsOfStatement (inputs : InputParts) (line : FaultLine) : Type 0 where
@@ -36,5 +36,5 @@ pub record IsOfStatement (inputs : InputParts) (line : FaultLine) : Type 0 where
 -- F79, of a label that names no target: its line is that of the target that depends on the label (`IsDangling`)
 abbrev pub DanglingLinesAreOfStatements : Type 0
 DanglingLinesAreOfStatements =
-    (files : List File) (rules : Rules) (limit : ℕ) (g : GraphParts) → IsWorkspace files → IsLoadGraph (inputs_of files rules) g
-    → (line : FaultLine) → Contains (dangling_lines (loaded_in files rules limit g).packages) line → IsOfStatement (inputs_of files rules) line
+    (files : List File) (rules : Rules) (limit : ℕ) (labels : List LabelParts) (edges : Loads) → IsWorkspace files → IsLoadGraph (inputs_of files rules) labels edges
+    → (line : FaultLine) → Contains (dangling_lines (loaded_in files rules limit labels edges).packages) line → IsOfStatement (inputs_of files rules) line

@@ -28,9 +28,9 @@ answered s form text query reply fits checked replies files limit i loaded over 
       faults = refl;
       reply = subst (λ (f : OutputForm). Replies s.graph (formula_of query.set) f (status_by (all_faults i)) reply) (sym asks.output) inside;
     } in
-    let over_files : Reports (loaded_in files loaded.rules limit loaded.graph) query o.output report = subst (λ (j : Inside). Reports j query o.output report) loaded.inside reports in
-    IsReportOn.loaded query loaded.rules loaded.graph (subst (λ t. IsChecked t query) (sym asks.text) checked) loaded.schema loaded.discovered
-    (subst (λ (n : ℕ). Reports (loaded_in files loaded.rules n loaded.graph) query o.output report) (sym asks.steps) over_files))
+    let over_files : Reports (loaded_in files loaded.rules limit loaded.labels loaded.edges) query o.output report = subst (λ (j : Inside). Reports j query o.output report) loaded.inside reports in
+    IsReportOn.loaded query loaded.rules loaded.labels loaded.edges (subst (λ t. IsChecked t query) (sym asks.text) checked) loaded.schema loaded.discovered
+    (subst (λ (n : ℕ). Reports (loaded_in files loaded.rules n loaded.labels loaded.edges) query o.output report) (sym asks.steps) over_files))
 
 -- the reply to a query that is refused
 abbrev pub refused_view : NoAnswer → ReplyView

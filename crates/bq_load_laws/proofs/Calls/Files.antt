@@ -9,10 +9,10 @@ use Rattle.bq_board.specs.Counts.{Has}
 use Rattle.bq_board.specs.Graph.{row}
 use Rattle.bq_board.proofs.Lemmas.{cons_has}
 use Rattle.bq_load_label.proofs.Loads.{named}
-use Rattle.bq_load_front.specs.Front.{kind_of, loads_of}
+use Rattle.bq_load_front.specs.Parsed.{kind_of, loads_of}
 use Rattle.bq_load_front.specs.Inputs.{InputParts}
 use Rattle.bq_load_front.proofs.Loads.{loaded_files}
-use Rattle.bq_load_discover.specs.LoadGraph.{GraphParts, IsLoadGraph}
+use Rattle.bq_load_discover.specs.LoadGraph.{GraphParts, IsReadGraph}
 use Rattle.bq_load_discover.specs.Modules.{edges_from}
 
 -- a load names a .bzl file
@@ -46,7 +46,7 @@ labelled labels (n ∷ row) (l ∷ ls) e k h =
       | inr later ↦ let r = labelled labels row ls rest k later in record { label = r.label; at = r.at; among = in_tail l ls r.label r.among }
     ]
 
-module _ (inputs : InputParts) (g : GraphParts) (is : IsLoadGraph inputs g) where
+module _ (inputs : InputParts) (g : GraphParts) (is : IsReadGraph inputs g) where
   -- a module that is loaded has a label, of a .bzl file
   pub record IsBzl (k : ℕ) : Type 0 where
     pub label : LabelParts
@@ -65,7 +65,7 @@ module _ (inputs : InputParts) (g : GraphParts) (is : IsLoadGraph inputs g) wher
   pub row_of : (m : ℕ) (l : LabelParts) → slice_get g.labels m ≡ Some l → map (slice_get g.labels) (row g.edges m) ≡ edges_of l
   row_of m l at =
       by_row m (edges_of l) (slice_get g.edges m) refl
-      (sym (slice_get-map (map (slice_get g.labels)) g.edges m) ∙ ap (λ (z : List (List (Option LabelParts))). slice_get z m) is.edges ∙ slice_get-map edges_of g.labels m ∙ ap (option_map edges_of) at)
+      (sym (slice_get-map (map (slice_get g.labels)) g.edges m) ∙ ap (λ (z : List (List (Option LabelParts))). slice_get z m) is.graph.edges ∙ slice_get-map edges_of g.labels m ∙ ap (option_map edges_of) at)
 
   pub loaded_is_bzl : (m : ℕ) (l : LabelParts) → slice_get g.labels m ≡ Some l → (k : ℕ) → Has (row g.edges m) k → IsBzl k
   loaded_is_bzl m l at k h =

@@ -20,10 +20,11 @@ use Rattle.bq_eval_laws.proofs.Evaluations.Callable.{stay_callable}
 use Rattle.bq_package.specs.Calls.{meaning}
 use Rattle.bq_eval_package_laws.proofs.BuildFiles.Calls.{calls_own}
 use Rattle.bq_package_target.specs.Package.{PackageTargets, finished}
-use Rattle.bq_load_front.specs.Front.{kind_of, front_of}
+use Rattle.bq_load_front.specs.Front.{front_of}
+use Rattle.bq_load_front.specs.Parsed.{kind_of}
 use Rattle.bq_load_front.specs.Inputs.{InputParts}
 use Rattle.bq_load_front.specs.declared.front.Front.{Front}
-use Rattle.bq_load_discover.specs.LoadGraph.{GraphParts, IsLoadGraph, inputs_of}
+use Rattle.bq_load_discover.specs.LoadGraph.{GraphParts, IsReadGraph, inputs_of}
 use Rattle.bq_load_discover.specs.Module.{module_of}
 use Rattle.bq_load_outcome_spec.specs.Outcome.{outcome}
 use Rattle.bq_load.specs.declared.source.Source.{Source}
@@ -116,7 +117,7 @@ module _ (x : LoadingParts) (k : ℕ) (modules : List ModuleView) (v : ModuleVie
 
 -- ---- paths
 
-module _ (inputs : InputParts) (g : GraphParts) (is : IsLoadGraph inputs g) (x : LoadingParts) (sources : x.sources ≡ map source_of (map (module_of inputs) g.labels))
+module _ (inputs : InputParts) (g : GraphParts) (is : IsReadGraph inputs g) (x : LoadingParts) (sources : x.sources ≡ map source_of (map (module_of inputs) g.labels))
     (codes : x.code ≡ map code_of (map (module_of inputs) g.labels)) (home : ℕ) where
   source_at : (k : ℕ) (l : LabelParts) → slice_get g.labels k ≡ Some l → slice_get x.sources k ≡ Some (source_by l (front_of inputs l))
   source_at k l at =

@@ -17,7 +17,7 @@ use Rattle.bq_load.specs.Loaded.{line_of, lines_by, lines_of, fault_lines, Loads
 use Rattle.bq_load.specs.Results.{outcomes}
 use Rattle.bq_load.specs.Sources.{loading_in}
 use Rattle.bq_load.specs.Views.{ModuleView, FailedView, OutcomeView}
-use Rattle.bq_load_discover.specs.LoadGraph.{GraphParts, IsLoadGraph, inputs_of}
+use Rattle.bq_load_discover.specs.LoadGraph.{GraphParts, IsReadGraph, inputs_of}
 use Rattle.bq_load_front.specs.Inputs.{InputParts}
 use Rattle.bq_package_schema.specs.Schema.{Rules}
 use Rattle.bq_resolve_laws.specs.Depths.Nesting.{is_of_names}
@@ -78,7 +78,7 @@ module _ (Q : FaultKind → ℕ → Type 0) (holds : (inputs : InputParts) (l : 
       | inr later ↦ by_outcomes os all.1 later
     ]
 
-  pub lines_in_graph : (files : List File) (rules : Rules) (limit : ℕ) (g : GraphParts) → IsWorkspace files → IsLoadGraph (inputs_of files rules) g → (line : FaultLine)
+  pub lines_in_graph : (files : List File) (rules : Rules) (limit : ℕ) (g : GraphParts) → IsWorkspace files → IsReadGraph (inputs_of files rules) g → (line : FaultLine)
       → Contains (sorted_lines (fault_lines (outcomes (loading_in files rules limit g) g.edges))) line → Q line.kind line.line
   lines_in_graph files rules limit g w is line c =
       let os = outcomes (loading_in files rules limit g) g.edges in

@@ -12,7 +12,7 @@ use Rattle.bq_resolve_scope.specs.declared.code.LoadStmt.{LoadStmt}
 use Rattle.bq_resolve_scope.specs.declared.code.Resolved.{Resolved}
 use Rattle.bq_package_target.specs.declared.target.Target.{Target}
 use Rattle.bq_package_target.specs.Package.{PackageTargets}
-use Rattle.bq_load_front.specs.Front.{kind_of}
+use Rattle.bq_load_front.specs.Parsed.{kind_of}
 use Rattle.bq_load_front.specs.Inputs.{InputParts}
 use Rattle.bq_load_front.specs.Laws.{HasCode}
 use Rattle.bq_load_discover.specs.LoadGraph.{inputs_of}

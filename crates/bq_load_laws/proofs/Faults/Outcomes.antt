@@ -20,10 +20,11 @@ use Rattle.bq_load.specs.Imports.{is_private, global_by, or_no_symbol, exported,
 use Rattle.bq_load.specs.Results.{load_fault, result_of, outcomes_from, outcomes}
 use Rattle.bq_load.specs.Sources.{LoadingParts, source_by, source_of, code_by, code_of, loading_in}
 use Rattle.bq_load.specs.Views.{ModuleView, FailedView, OutcomeView}
-use Rattle.bq_load_discover.specs.LoadGraph.{GraphParts, IsLoadGraph, inputs_of}
+use Rattle.bq_load_discover.specs.LoadGraph.{GraphParts, IsReadGraph, inputs_of}
 use Rattle.bq_load_discover.specs.Module.{module_of}
 use Rattle.bq_load_front.specs.Code.{◌>>=◌}
-use Rattle.bq_load_front.specs.Front.{kind_of, front_of}
+use Rattle.bq_load_front.specs.Front.{front_of}
+use Rattle.bq_load_front.specs.Parsed.{kind_of}
 use Rattle.bq_load_front.specs.Inputs.{InputParts}
 use Rattle.bq_load_front.specs.declared.front.Front.{Front}
 use Rattle.bq_load_outcome_spec.specs.Outcome.{first, values, own, evaluated, by_loads, outcome}
@@ -295,7 +296,7 @@ module _ (inputs : InputParts) (x : LoadingParts) (labels : List LabelParts) (so
 from_zero : (i : ℕ) → 0 + i ≡ i
 from_zero i = omega arith
 
-pub outcomes_come : (files : List File) (rules : Rules) (limit : ℕ) (g : GraphParts) → IsWorkspace files → IsLoadGraph (inputs_of files rules) g
+pub outcomes_come : (files : List File) (rules : Rules) (limit : ℕ) (g : GraphParts) → IsWorkspace files → IsReadGraph (inputs_of files rules) g
     → AllByRecursion (IsComeTo (inputs_of files rules)) (outcomes (loading_in files rules limit g) g.edges)
 unfolding outcomes
 outcomes_come files rules limit g w is =
@@ -304,9 +305,9 @@ outcomes_come files rules limit g w is =
     let read : g.modules ≡ map (module_of inputs) g.labels = is.read in
     let sources : x.sources ≡ map source_of (map (module_of inputs) g.labels) = ap (map source_of) read in
     let codes : x.code ≡ map code_of (map (module_of inputs) g.labels) = ap (map code_of) read in
-    let there : AreThere inputs g.labels = λ l c. let h = modules_have_files files rules l w (is.modules.only l c) in there_is_file files l h.0 h.1 in
+    let there : AreThere inputs g.labels = λ l c. let h = modules_have_files files rules l w (is.graph.modules.only l c) in there_is_file files l h.0 h.1 in
     subst (λ ss. AllByRecursion (IsComeTo inputs) (outcomes_from x g.edges 0 ss)) (sym sources)
-    (from inputs x g.labels sources codes g.edges (λ m l why at bad. get_or_from_slice_get g.edges m [] [] (loads_nothing inputs g m l why is at bad)) is.valid.1 (λ m l at front read. at_load files rules limit g is m l front at read) there 0 g.labels (λ i. ap (slice_get g.labels) (from_zero i)) there)
+    (from inputs x g.labels sources codes g.edges (λ m l why at bad. get_or_from_slice_get g.edges m [] [] (loads_nothing inputs g m l why is at bad)) is.graph.valid.1 (λ m l at front read. at_load files rules limit g is m l front at read) there 0 g.labels (λ i. ap (slice_get g.labels) (from_zero i)) there)
 
 -- ---- so it fails in a part of its file, or its file declares what is in its package
 

@@ -31,12 +31,13 @@ use Rattle.bq_label.specs.Packages.{package_named, label_file}
 use Rattle.bq_load_label.specs.Crossing.{crosses}
 use Rattle.bq_load_label.specs.NamedFile.{bzl_label, fault_of_file, unless_fault, file_named, load_label}
 use Rattle.bq_load_front.specs.Code.{code_of, ◌>>=◌}
-use Rattle.bq_load_front.specs.Front.{labels_of, kind_of, front_at, front_of}
+use Rattle.bq_load_front.specs.Front.{front_at, front_of, load_of}
+use Rattle.bq_load_front.specs.Parsed.{labels_of, kind_of}
 use Rattle.bq_load_front.specs.Inputs.{InputParts}
 use Rattle.bq_load_front.specs.Laws.{HasCode, HasFault}
 use Rattle.bq_load_front.specs.declared.front.Front.{Front}
 use Rattle.bq_load_front.proofs.Codes.{codes_of_files, faults_of_files}
-use Rattle.bq_load_front.proofs.Loads.{loads_of_files}
+use Rattle.bq_load_front.proofs.Loads.{are_read}
 use Rattle.bq_load_laws.specs.Faults.Parts.{is_of_tokens, is_of_statements, is_of_loads, universe_at, IsAtLoad, FailsIn}
 
 -- ---- tokens
@@ -146,7 +147,7 @@ module _ (inputs : InputParts) (l : LabelParts) where
       (all_of_names (universe_at inputs l) trees why (file_within (kind_of l) (pieces (lexemes x.content tokens)) trees (Ok trees) refl parses) names)
 
   abbrev labels : Resolved → Result (List LabelParts) Fault
-  labels code = labels_of inputs (package_of l) [] code.loads
+  labels code = labels_of (load_of inputs (package_of l)) [] code.loads
 
   abbrev front_in : Resolved → Result (List LabelParts) Fault → Result Front Fault
   front_in code r = r >>= λ ls. Ok (record { code = code; loads = ls })
@@ -163,7 +164,7 @@ module _ (inputs : InputParts) (l : LabelParts) where
       → IsFront (front_in code r)
   by_labels x is code has (Ok ls) e = (x, is, has)
   by_labels x is code has (Err why) e =
-      let bad = ((loads_of_files inputs (package_of l) code.loads).1 why).0 e in
+      let bad = ((are_read (load_of inputs (package_of l)) code.loads).1 why).0 e in
       let at : IsAtLoad code.loads why = record {
         load = bad.load;
         among = subst (λ (z : List LoadStmt). Contains z bad.load) (sym bad.split) (among_all bad.before bad.load bad.after);

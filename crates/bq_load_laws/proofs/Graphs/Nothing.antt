@@ -1,16 +1,17 @@
 -- A file with a fault loads nothing.
-use Rattle.std.proofs.Common.{◌≡◌, ◌∙◌, ap, refl, ℕ, zero, suc, List, [], ◌∷◌, map, slice_get, Some, Err}
+use Rattle.std.proofs.Common.{◌≡◌, ◌∙◌, ap, refl, sym, ℕ, zero, suc, List, [], ◌∷◌, map, slice_get, Some, Err}
 use Rattle.bq_base.specs.declared.fault.Fault.{Fault}
 use Rattle.bq_label.specs.Label.{LabelParts}
 use Rattle.bq_label_set.specs.Labels.{with_labels}
-use Rattle.bq_load_front.specs.Front.{front_of, loads_by, loads_of}
+use Rattle.bq_load_front.specs.Front.{front_of, loads_by}
+use Rattle.bq_load_front.specs.Parsed.{loads_of}
 use Rattle.bq_load_front.specs.Inputs.{InputParts}
-use Rattle.bq_load_discover.specs.LoadGraph.{GraphParts, IsLoadGraph}
+use Rattle.bq_load_front.proofs.ByName.{loads_agree}
+use Rattle.bq_load_discover.specs.LoadGraph.{GraphParts, IsReadGraph}
 use Rattle.bq_load_discover.specs.Modules.{edges_from}
 
 no_loads : (inputs : InputParts) (l : LabelParts) (why : Fault) → front_of inputs l ≡ Err why → loads_of inputs l ≡ []
-unfolding loads_of
-no_loads inputs l why h = ap loads_by h
+no_loads inputs l why h = sym (loads_agree inputs l) ∙ ap loads_by h
 
 pub record At {A : Type 0} (xs : List A) (n : ℕ) (Q : A → Type 0) : Type 0 where
   pub element : A
@@ -35,9 +36,9 @@ no_edge : (labels : List LabelParts) (row : List ℕ) → map (slice_get labels)
 no_edge labels [] e = refl
 no_edge labels (n ∷ row) e = absurd (cc)
 
-pub loads_nothing : (inputs : InputParts) (g : GraphParts) (m : ℕ) (l : LabelParts) (why : Fault) → IsLoadGraph inputs g → slice_get g.labels m ≡ Some l → front_of inputs l ≡ Err why → slice_get g.edges m ≡ Some []
+pub loads_nothing : (inputs : InputParts) (g : GraphParts) (m : ℕ) (l : LabelParts) (why : Fault) → IsReadGraph inputs g → slice_get g.labels m ≡ Some l → front_of inputs l ≡ Err why → slice_get g.edges m ≡ Some []
 unfolding with_labels
 loads_nothing inputs g m l why graph at bad =
-    let r = both (map (slice_get g.labels)) (λ k. map Some (edges_from inputs k)) g.edges g.labels m l graph.edges at in
+    let r = both (map (slice_get g.labels)) (λ k. map Some (edges_from inputs k)) g.edges g.labels m l graph.graph.edges at in
     let none : map Some (edges_from inputs l) ≡ [] = ap (λ ls. map Some (with_labels [] ls)) (no_loads inputs l why bad) in
     r.there ∙ ap Some (no_edge g.labels r.element (r.holds ∙ none))

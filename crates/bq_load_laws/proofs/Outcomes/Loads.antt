@@ -23,13 +23,15 @@ use Rattle.bq_load_outcome_spec.specs.declared.outcome.Outcome.TheVariants as o
 use Rattle.bq_load_outcome_spec.proofs.Solution.{cond_true, cond_false, outcome_is}
 use Rattle.bq_load_front.specs.Code as text
 use Rattle.bq_load_front.specs.Code.{◌>>=◌}
-use Rattle.bq_load_front.specs.Front.{load_of, labels_of, kind_of, front_at, front_of, loads_by, loads_of}
+use Rattle.bq_load_front.specs.Front.{load_of, front_at, front_of, loads_by}
+use Rattle.bq_load_front.specs.Parsed.{labels_of, kind_of, loads_of}
 use Rattle.bq_load_front.specs.Inputs.{InputParts, universe_of}
 use Rattle.bq_load_front.specs.Laws.{named, NameFiles}
 use Rattle.bq_load_front.specs.declared.front.Front.{Front}
-use Rattle.bq_load_front.proofs.Loads.{loads_of_files}
+use Rattle.bq_load_front.proofs.ByName.{loads_agree}
+use Rattle.bq_load_front.proofs.Loads.{are_read}
 use Rattle.bq_package_schema.specs.Schema.{Rules}
-use Rattle.bq_load_discover.specs.LoadGraph.{GraphParts, IsLoadGraph, inputs_of}
+use Rattle.bq_load_discover.specs.LoadGraph.{GraphParts, IsReadGraph, inputs_of}
 use Rattle.bq_load_discover.specs.Module.{module_of}
 use Rattle.bq_load_discover.specs.Modules.{edges_from}
 use Rattle.bq_load.specs.declared.source.Source.{Source}
@@ -119,14 +121,14 @@ module _ (inputs : InputParts) (l : LabelParts) (front : Front) where
   same_front : (x y : Front) → ok x ≡ ok y → x ≡ y
   same_front x y e = cc
 
-  wide_labels : (code : Resolved) (r : Result (List LabelParts) Fault) → labels_of inputs (package_of l) [] code.loads ≡ r → (r >>= λ ls. ok (made code ls)) ≡ ok front → Wide front
+  wide_labels : (code : Resolved) (r : Result (List LabelParts) Fault) → labels_of (load_of inputs (package_of l)) [] code.loads ≡ r → (r >>= λ ls. ok (made code ls)) ≡ ok front → Wide front
   wide_labels code (Ok ls) is e =
-      let names : NameFiles inputs (package_of l) code.loads ls = ((loads_of_files inputs (package_of l) code.loads).0 ls).0 is in
+      let names : NameFiles (load_of inputs (package_of l)) code.loads ls = ((are_read (load_of inputs (package_of l)) code.loads).0 ls).0 is in
       subst Wide (same_front (made code ls) front e) (sym (length-map code.loads (load_of inputs (package_of l))) ∙ ap length names ∙ length-map ls named)
   wide_labels code (Err why) is e = absurd (cc)
 
-  wide_code : (r : Result Resolved Fault) → (r >>= λ code. labels_of inputs (package_of l) [] code.loads >>= λ ls. ok (made code ls)) ≡ ok front → Wide front
-  wide_code (Ok code) e = wide_labels code (labels_of inputs (package_of l) [] code.loads) refl e
+  wide_code : (r : Result Resolved Fault) → (r >>= λ code. labels_of (load_of inputs (package_of l)) [] code.loads >>= λ ls. ok (made code ls)) ≡ ok front → Wide front
+  wide_code (Ok code) e = wide_labels code (labels_of (load_of inputs (package_of l)) [] code.loads) refl e
   wide_code (Err why) e = absurd (cc)
 
   wide_file : (o : Option File) → front_at inputs l o ≡ ok front → Wide front
@@ -139,7 +141,7 @@ module _ (inputs : InputParts) (l : LabelParts) (front : Front) where
 
 -- ---- a module of a load graph
 
-module _ (files : List File) (rules : Rules) (limit : ℕ) (g : GraphParts) (is : IsLoadGraph (inputs_of files rules) g) where
+module _ (files : List File) (rules : Rules) (limit : ℕ) (g : GraphParts) (is : IsReadGraph (inputs_of files rules) g) where
   abbrev inputs : InputParts
   inputs = inputs_of files rules
 
@@ -157,13 +159,12 @@ module _ (files : List File) (rules : Rules) (limit : ℕ) (g : GraphParts) (is 
 
   -- its fault for a load is at the first load of that module in its file
   pub at_load : (m : ℕ) (l : LabelParts) (front : Front) → slice_get g.labels m ≡ Some l → front_of inputs l ≡ Ok front → (kind : FaultKind) (k : ℕ) → Has (row g.edges m) k → IsAtItsLoad x m k (read_from l) kind
-  unfolding loads_of
   at_load m l front at e kind k h =
       let r = labelled g.labels (row g.edges m) (edges_from inputs l) (row_of inputs g is m l at) k h in
       let loaded = read_from r.label in
       let loads_are : (read_from l).loads ≡ front.loads = ap (λ (z : Result Front Fault). (source_by l z).loads) e in
       let there : Contains (loads_of inputs l) r.label = elim ((the_labels_added [] (loads_of inputs l) r.label).0 r.among) [ inl nothing ↦ absurd (none_in r.label nothing) | inr one ↦ one ] in
-      let among : Contains (read_from l).loads r.label = subst (λ (z : List LabelParts). Contains z r.label) (ap loads_by e ∙ sym loads_are) there in
+      let among : Contains (read_from l).loads r.label = subst (λ (z : List LabelParts). Contains z r.label) (sym (loads_agree inputs l) ∙ ap loads_by e ∙ sym loads_are) there in
       let among_them : Contains (read_from l).loads loaded.label = subst (Contains (read_from l).loads) (sym (its_label r.label (front_of inputs r.label))) among in
       let first = has_first loaded.label front.code.loads (read_from l).loads (wide inputs l front e ∙ ap length (sym loads_are)) among_them in
       let code : slice_get x.code m ≡ Some (Some front.code) = code_at inputs x g.labels sources codes m l at ∙ ap (λ (z : Result Front Fault). Some (code_by z)) e in
@@ -171,7 +172,7 @@ module _ (files : List File) (rules : Rules) (limit : ℕ) (g : GraphParts) (is 
       record { loaded = loaded; load = first.load; first = is_first; fault = names_the_first x m k (read_from l) loaded kind first.load is_first }
 
   module _ (m : ℕ) (l : LabelParts) (at : slice_get g.labels m ≡ Some l) where
-    by_outcome : (one : Outcome ModuleView FailedView) → NamesOne (means x) g.edges is.valid.1 m one → ((kind : FaultKind) (k : ℕ) → Has (row g.edges m) k → IsAtItsLoad x m k (read_from l) kind)
+    by_outcome : (one : Outcome ModuleView FailedView) → NamesOne (means x) g.edges is.graph.valid.1 m one → ((kind : FaultKind) (k : ℕ) → Has (row g.edges m) k → IsAtItsLoad x m k (read_from l) kind)
         → NamesItsLoad x m (read_from l) one
     by_outcome (o.Loaded v) h told = tt
     by_outcome (o.Faulty e) h told = tt
@@ -188,7 +189,7 @@ module _ (files : List File) (rules : Rules) (limit : ℕ) (g : GraphParts) (is 
         absurd (omega (arith, never))
 
     told_at_its_load : NamesItsLoad x m (read_from l) (outcome (means x) g.edges m)
-    told_at_its_load = by_outcome (outcome (means x) g.edges m) (names_one (means x) g.edges is.valid.1 m) (by_front (front_of inputs l) refl)
+    told_at_its_load = by_outcome (outcome (means x) g.edges m) (names_one (means x) g.edges is.graph.valid.1 m) (by_front (front_of inputs l) refl)
 
   abbrev some_source : Source → Option Source
   some_source s = Some s

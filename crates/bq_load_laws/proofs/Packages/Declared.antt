@@ -14,7 +14,7 @@ use Rattle.bq_package_target.specs.Package.{PackageTargets, no_targets}
 use Rattle.bq_package_target.specs.Target.{is_of}
 use Rattle.bq_load_front.specs.Inputs.{InputParts}
 use Rattle.bq_load_discover.specs.Edges.{number_in}
-use Rattle.bq_load_discover.specs.LoadGraph.{GraphParts, IsLoadGraph, inputs_of}
+use Rattle.bq_load_discover.specs.LoadGraph.{GraphParts, IsReadGraph, inputs_of}
 use Rattle.bq_load_discover.proofs.Lists.{in_filter_map}
 use Rattle.bq_load.specs.Loaded.{labels_of, own_package, package_by, package_at, package_in, packages_in}
 use Rattle.bq_load.specs.Results.{outcomes}
@@ -66,7 +66,7 @@ module _ (inputs : InputParts) where
     each_has : (bs : List BuildFile) (p : PackageTargets) → Contains (packages_in bs os) p → HasItsTargets p
     each_has bs p c = let g = in_filter_map (package_in os) bs p c in by_label (build_label g.by) p g.gives
 
-pub declared_in_graph : (files : List File) (rules : Rules) (limit : ℕ) (g : GraphParts) → IsWorkspace files → IsLoadGraph (inputs_of files rules) g → (p : PackageTargets)
+pub declared_in_graph : (files : List File) (rules : Rules) (limit : ℕ) (g : GraphParts) → IsWorkspace files → IsReadGraph (inputs_of files rules) g → (p : PackageTargets)
     → Contains (packages_in (loading_in files rules limit g).packages (outcomes (loading_in files rules limit g) g.edges)) p
     → (p.targets ≡ []) ⊎ DeclaresIn (inputs_of files rules) p.build_file p
 declared_in_graph files rules limit g w is p c =

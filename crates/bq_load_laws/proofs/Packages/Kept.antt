@@ -12,9 +12,10 @@ use Rattle.bq_board.specs.Counts.{Has}
 use Rattle.bq_board.specs.Cycles.{is_cyclic, starts_path}
 use Rattle.bq_board.specs.Depth.{max_load_depth, is_too_deep}
 use Rattle.bq_board.specs.Graph.{Loads, row}
-use Rattle.bq_load_front.specs.Front.{kind_of, front_of}
+use Rattle.bq_load_front.specs.Front.{front_of}
+use Rattle.bq_load_front.specs.Parsed.{kind_of}
 use Rattle.bq_load_front.specs.Inputs.{InputParts}
-use Rattle.bq_load_discover.specs.LoadGraph.{GraphParts, IsLoadGraph, inputs_of}
+use Rattle.bq_load_discover.specs.LoadGraph.{GraphParts, IsReadGraph, inputs_of}
 use Rattle.bq_load_discover.specs.Module.{module_of}
 use Rattle.bq_load_discover.specs.Modules.{edges_from}
 use Rattle.bq_load_outcome_spec.specs.Outcome.{first, values, own, evaluated, by_loads, outcome, IsByLoads}
@@ -40,7 +41,7 @@ no_row [] m e = refl
 no_row (r ∷ p) zero e = absurd (cc)
 no_row (r ∷ p) (suc m) e = no_row p m e
 
-module _ (files : List File) (rules : Rules) (limit : ℕ) (g : GraphParts) (is : IsLoadGraph (inputs_of files rules) g) where
+module _ (files : List File) (rules : Rules) (limit : ℕ) (g : GraphParts) (is : IsReadGraph (inputs_of files rules) g) where
   abbrev inputs : InputParts
   inputs = inputs_of files rules
 
@@ -55,7 +56,7 @@ module _ (files : List File) (rules : Rules) (limit : ℕ) (g : GraphParts) (is 
   loader : (m k : ℕ) → Has (row g.edges m) k → (r : Option (List ℕ)) → slice_get g.edges m ≡ r → At g.labels m (λ _. Unit {0})
   loader m k h None e = let never : Has [] k = subst (λ (z : List ℕ). Has z k) (no_row g.edges m e) h in absurd (omega (arith, never))
   loader m k h (Some r) e =
-      let l = both (λ (l : LabelParts). map Some (edges_from inputs l)) (map (slice_get g.labels)) g.labels g.edges m r (sym is.edges) e in
+      let l = both (λ (l : LabelParts). map Some (edges_from inputs l)) (map (slice_get g.labels)) g.labels g.edges m r (sym is.graph.edges) e in
       record { element = l.element; there = l.there; holds = tt }
 
   no_package : (m k : ℕ) → Has (row g.edges m) k → (v : ModuleView) → at k ≡ o.Loaded v → v.package ≡ None

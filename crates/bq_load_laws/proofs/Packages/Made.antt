@@ -17,7 +17,7 @@ use Rattle.bq_package_target.specs.Target.{is_of}
 use Rattle.bq_package_target.specs.declared.target.Target.{Target}
 use Rattle.bq_package_target.specs.Package.{PackageTargets, no_targets, files, own_labels, finished}
 use Rattle.bq_package.specs.Calls.{Declaring, HeldPackage, outside, declaring, package_in}
-use Rattle.bq_load_front.specs.Front.{kind_of}
+use Rattle.bq_load_front.specs.Parsed.{kind_of}
 use Rattle.bq_load.specs.declared.source.Source.{Source}
 use Rattle.bq_load.specs.Views.{ModuleView, FailedView}
 use Rattle.bq_load.specs.Sources.{LoadingParts}

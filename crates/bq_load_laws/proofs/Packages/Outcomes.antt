@@ -8,7 +8,7 @@ use Rattle.bq_load_outcome_spec.specs.Outcome.{first, values, own, evaluated, by
 use Rattle.bq_load_outcome_spec.specs.declared.outcome.Outcome.{Outcome}
 use Rattle.bq_load_outcome_spec.specs.declared.outcome.Outcome.TheVariants as o
 use Rattle.bq_load_outcome_spec.proofs.Solution.{outcome_is}
-use Rattle.bq_load_front.specs.Front.{kind_of}
+use Rattle.bq_load_front.specs.Parsed.{kind_of}
 use Rattle.bq_load.specs.declared.source.Source.{Source}
 use Rattle.bq_load.specs.Views.{ModuleView, FailedView}
 use Rattle.bq_load.specs.Sources.{LoadingParts}

@@ -6,7 +6,7 @@ use Rattle.bq_package_schema.specs.Schema.{Rules}
 use Rattle.bq_board.specs.Cycles.{Reaches}
 use Rattle.bq_board.specs.Graph.{Loads, row}
 use Rattle.bq_eval_laws.specs.Evaluations.Callable.{IsCallable}
-use Rattle.bq_load_discover.specs.LoadGraph.{GraphParts, IsLoadGraph, inputs_of}
+use Rattle.bq_load_discover.specs.LoadGraph.{GraphParts, IsReadGraph, inputs_of}
 use Rattle.bq_load_outcome_spec.specs.Outcome.{outcome, values}
 use Rattle.bq_load.specs.Evaluation.{means}
 use Rattle.bq_load.specs.Sources.{LoadingParts, loading_in}
@@ -19,5 +19,5 @@ AreLoaded x p m modules = values (outcome (means x) p) (row p m) ≡ Ok modules
 -- A module of a load graph that is evaluated can call the functions of each module that loads lead to from it.
 abbrev pub FunctionsOfLoadsAreCallable : Type 0
 FunctionsOfLoadsAreCallable =
-    (files : List File) (rules : Rules) (limit : ℕ) (g : GraphParts) → IsLoadGraph (inputs_of files rules) g → (m home : ℕ) (l : LabelParts) (modules : List ModuleView)
+    (files : List File) (rules : Rules) (limit : ℕ) (g : GraphParts) → IsReadGraph (inputs_of files rules) g → (m home : ℕ) (l : LabelParts) (modules : List ModuleView)
     → slice_get g.labels m ≡ Some l → AreLoaded (loading_in files rules limit g) g.edges m modules → Reaches g.edges m home → IsCallable (loading_in files rules limit g).code m (map (λ v. v.frozen) modules) home

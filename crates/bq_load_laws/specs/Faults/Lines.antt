@@ -11,7 +11,7 @@ use Rattle.bq_package_target.specs.Package.{PackageTargets}
 use Rattle.bq_package_target.specs.Target.{source}
 use Rattle.bq_base_fault_line.specs.declared.fault_line.FaultLine.{FaultLine}
 use Rattle.bq_load_front.specs.Inputs.{InputParts}
-use Rattle.bq_load_discover.specs.LoadGraph.{GraphParts, IsLoadGraph, inputs_of}
+use Rattle.bq_load_discover.specs.LoadGraph.{GraphParts, IsReadGraph, inputs_of}
 use Rattle.bq_load.specs.declared.loaded.Loaded.{Loaded}
 use Rattle.bq_load.specs.Loaded.{LoadsWorkspace}
 use Rattle.bq_load.specs.Results.{outcomes}
@@ -29,7 +29,7 @@ StandsOnALine o = IfErr o.result (λ m. 1 ≤ m.fault.line)
 -- each module of a load graph that fails
 abbrev pub OutcomesStandOnLines : Type 0
 OutcomesStandOnLines =
-    (files : List File) (rules : Rules) (limit : ℕ) (g : GraphParts) → IsWorkspace files → IsLoadGraph (inputs_of files rules) g
+    (files : List File) (rules : Rules) (limit : ℕ) (g : GraphParts) → IsWorkspace files → IsReadGraph (inputs_of files rules) g
     → AllByRecursion StandsOnALine (outcomes (loading_in files rules limit g) g.edges)
 
 -- each fault line of a workspace that is loaded

@@ -22,10 +22,10 @@ use Rattle.bq_package_schema.specs.Schema.{Rules}
 use Rattle.bq_package_host.specs.Refusals.{is_from, is_refusal}
 use Rattle.bq_eval_laws.specs.Evaluations.Files.{IsAtStatement}
 use Rattle.bq_base_fault_line.specs.declared.fault_line.FaultLine.{FaultLine}
-use Rattle.bq_load_front.specs.Front.{kind_of}
+use Rattle.bq_load_front.specs.Parsed.{kind_of}
 use Rattle.bq_load_front.specs.Inputs.{InputParts, universe_of}
 use Rattle.bq_load_front.specs.Laws.{HasCode}
-use Rattle.bq_load_discover.specs.LoadGraph.{GraphParts, IsLoadGraph, inputs_of}
+use Rattle.bq_load_discover.specs.LoadGraph.{GraphParts, IsReadGraph, inputs_of}
 use Rattle.bq_load.specs.declared.loaded.Loaded.{Loaded}
 use Rattle.bq_load.specs.Loaded.{LoadsWorkspace}
 use Rattle.bq_load.specs.Results.{outcomes}
@@ -82,7 +82,7 @@ FailsInItsPart inputs o = IfErr o.result (λ m. FailsIn inputs o.label m.fault)
 -- each outcome of the modules of a load graph
 abbrev pub OutcomesFailInTheirParts : Type 0
 OutcomesFailInTheirParts =
-    (files : List File) (rules : Rules) (limit : ℕ) (g : GraphParts) → IsWorkspace files → IsLoadGraph (inputs_of files rules) g
+    (files : List File) (rules : Rules) (limit : ℕ) (g : GraphParts) → IsWorkspace files → IsReadGraph (inputs_of files rules) g
     → AllByRecursion (FailsInItsPart (inputs_of files rules)) (outcomes (loading_in files rules limit g) g.edges)
 
 -- each module of a workspace that is loaded

@@ -9,7 +9,7 @@ use Rattle.bq_label.specs.Label.{LabelParts, full_form}
 use Rattle.bq_resolve_scope.specs.declared.code.LoadStmt.{LoadStmt}
 use Rattle.bq_resolve_scope.specs.declared.code.Resolved.{Resolved}
 use Rattle.bq_package_schema.specs.Schema.{Rules}
-use Rattle.bq_load_discover.specs.LoadGraph.{GraphParts, IsLoadGraph, inputs_of}
+use Rattle.bq_load_discover.specs.LoadGraph.{GraphParts, IsReadGraph, inputs_of}
 use Rattle.bq_load_outcome_spec.specs.Outcome.{outcome}
 use Rattle.bq_load_outcome_spec.specs.declared.outcome.Outcome.{Outcome}
 use Rattle.bq_load_outcome_spec.specs.declared.outcome.Outcome.TheVariants as o
@@ -61,5 +61,5 @@ NamesItsLoad x m s (o.LoadFailed k) = IsAtItsLoad x m k s f.LoadFailed
 -- each module of a load graph
 abbrev pub ModulesNameTheirLoads : Type 0
 ModulesNameTheirLoads =
-    (files : List File) (rules : Rules) (limit : ℕ) (g : GraphParts) → IsLoadGraph (inputs_of files rules) g → (m : ℕ) (s : Source) → slice_get (loading_in files rules limit g).sources m ≡ Some s
+    (files : List File) (rules : Rules) (limit : ℕ) (g : GraphParts) → IsReadGraph (inputs_of files rules) g → (m : ℕ) (s : Source) → slice_get (loading_in files rules limit g).sources m ≡ Some s
     → NamesItsLoad (loading_in files rules limit g) m s (outcome (means (loading_in files rules limit g)) g.edges m)

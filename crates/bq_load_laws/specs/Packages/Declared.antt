@@ -14,7 +14,7 @@ use Rattle.bq_package_target.specs.Package.{PackageTargets}
 use Rattle.bq_package_target.specs.Target.{source}
 use Rattle.bq_load_front.specs.Inputs.{InputParts}
 use Rattle.bq_load_front.specs.Laws.{HasCode}
-use Rattle.bq_load_discover.specs.LoadGraph.{GraphParts, IsLoadGraph, inputs_of}
+use Rattle.bq_load_discover.specs.LoadGraph.{GraphParts, IsReadGraph, inputs_of}
 use Rattle.bq_load.specs.declared.loaded.Loaded.{Loaded}
 use Rattle.bq_load.specs.Loaded.{LoadsWorkspace}
 use Rattle.bq_load.specs.Results.{outcomes}
@@ -69,7 +69,7 @@ DeclaresItsTargets inputs o = IfOk o.result (λ v. DeclaresAllIn inputs o.label 
 -- each module of a load graph
 abbrev pub OutcomesDeclareTheirTargets : Type 0
 OutcomesDeclareTheirTargets =
-    (files : List File) (rules : Rules) (limit : ℕ) (g : GraphParts) → IsWorkspace files → IsLoadGraph (inputs_of files rules) g
+    (files : List File) (rules : Rules) (limit : ℕ) (g : GraphParts) → IsWorkspace files → IsReadGraph (inputs_of files rules) g
     → AllByRecursion (DeclaresItsTargets (inputs_of files rules)) (outcomes (loading_in files rules limit g) g.edges)
 
 -- each package of a workspace that is loaded, if it has targets: it has none where its BUILD file failed

@@ -5,7 +5,7 @@ use Rattle.bq_label.specs.Label.{LabelParts}
 use Rattle.bq_package_schema.specs.Schema.{Rules}
 use Rattle.bq_package_target.specs.Package.{PackageTargets}
 use Rattle.bq_value.specs.Cells.{FrozenView}
-use Rattle.bq_load_discover.specs.LoadGraph.{GraphParts, IsLoadGraph, inputs_of}
+use Rattle.bq_load_discover.specs.LoadGraph.{GraphParts, IsReadGraph, inputs_of}
 use Rattle.bq_load_outcome_spec.specs.Outcome.{outcome}
 use Rattle.bq_load_outcome_spec.specs.declared.outcome.Outcome.{Outcome}
 use Rattle.bq_load_outcome_spec.specs.declared.outcome.Outcome.TheVariants as o
@@ -41,7 +41,7 @@ outcome_with made (o.LoadFailed k) = o.LoadFailed k
 -- nothing in it, and what it keeps itself is all that differs.
 abbrev pub OutcomesStay : Type 0
 OutcomesStay =
-    (files : List File) (rules : Rules) (limit : ℕ) (g : GraphParts) → IsLoadGraph (inputs_of files rules) g → (kept : ℕ → FrozenView) (m : ℕ)
+    (files : List File) (rules : Rules) (limit : ℕ) (g : GraphParts) → IsReadGraph (inputs_of files rules) g → (kept : ℕ → FrozenView) (m : ℕ)
     → outcome (keeping kept (means (loading_in files rules limit g))) g.edges m ≡ outcome_with (kept m) (outcome (means (loading_in files rules limit g)) g.edges m)
 
 -- what a workspace that is loaded has of a module beside its globals and cells: its package, its fault line, and what it printed

@@ -5,7 +5,7 @@ use Rattle.bq_parse_grammar.specs.declared.tree.FileKind.TheVariants as kinds
 use Rattle.bq_label.specs.Label.{LabelParts}
 use Rattle.bq_board.specs.Graph.{Loads}
 use Rattle.bq_package_target.specs.Package.{PackageTargets}
-use Rattle.bq_load_front.specs.Front.{kind_of}
+use Rattle.bq_load_front.specs.Parsed.{kind_of}
 use Rattle.bq_load.specs.declared.source.Source.{Source}
 use Rattle.bq_load.specs.Views.{ModuleView}
 use Rattle.bq_load.specs.Sources.{LoadingParts}

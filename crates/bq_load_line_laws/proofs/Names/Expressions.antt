@@ -24,7 +24,7 @@ use Rattle.bq_parse_tree_laws.proofs.Layers.{out-Tuple, out-target_Tuple}
 use Rattle.bq_resolve_scope.specs.declared.universe.Namespace.{Namespace}
 use Rattle.bq_resolve_scope.specs.Names.{comprehension_names}
 use Rattle.bq_resolve_scope.specs.Scope.{FileParts}
-use Rattle.bq_resolve_scope_laws.specs.Violations.{Around, Before, of_all, of_part, in_use, in_member, in_binding, as_namespace, in_pair, in_operation, in_choice, in_argument_by, in_arguments, in_suffix_by, in_suffixes, in_operand, in_method, in_primary_by, in_primary, in_clause_by, in_clauses, in_comprehension, in_target_to, in_expr}
+use Rattle.bq_resolve_by_name.specs.Violations.{Around, Before, of_all, of_part, in_use, in_member, in_binding, as_namespace, in_pair, in_operation, in_choice, in_argument_by, in_arguments, in_suffix_by, in_suffixes, in_operand, in_method, in_primary_by, in_primary, in_clause_by, in_clauses, in_comprehension, in_target_to, in_expr}
 use Rattle.bq_load_line_laws.proofs.Names.Fine.{Fine, Maybe, two_fine, when_fine, unless_fine, all_fine, turn_fine, part_fine}
 use Rattle.bq_load_line_laws.proofs.Names.Parts.{ExprFine, Inner, Sound, expr_sound, ExprLayerFine, expr_of_layer, TargetFine, TargetLayerFine, target_of_layer, PairFine, OperationFine, ChoiceFine, ArgumentFine, SuffixLayerFine, SuffixFine, ClauseFine, AllFine, row_fine, listed_fine}
 

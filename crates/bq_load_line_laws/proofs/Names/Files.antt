@@ -25,10 +25,10 @@ use Rattle.bq_resolve_scope.specs.declared.code.Resolved.{Resolved}
 use Rattle.bq_resolve_scope.specs.Files.{file_names, resolved}
 use Rattle.bq_resolve_scope.specs.Scope.{FileParts}
 use Rattle.bq_resolve_scope.specs.Universe.{UniverseParts}
-use Rattle.bq_resolve_scope_laws.specs.Resolution.{InTurn, LoadIs, loads_are, OuterIs, file_stmt_is, TopLevelIs}
-use Rattle.bq_resolve_scope_laws.specs.Violations.{Before, first, nothing_before, after, in_top_level, violations}
-use Rattle.bq_resolve_scope_laws.proofs.FaultyFiles.{first_violation}
-use Rattle.bq_resolve_scope_laws.proofs.ResolvedFiles.{to_themselves}
+use Rattle.bq_resolve_by_name.specs.Resolution.{InTurn, LoadIs, loads_are, OuterIs, file_stmt_is, TopLevelIs}
+use Rattle.bq_resolve_by_name.specs.Violations.{Before, first, nothing_before, after, in_top_level, violations}
+use Rattle.bq_resolve_by_name.proofs.FaultyFiles.{first_violation}
+use Rattle.bq_resolve_by_name.proofs.ResolvedFiles.{to_themselves}
 use Rattle.bq_resolve_laws.proofs.Depths.Files.{none_too_deep}
 use Rattle.bq_load_line_laws.proofs.Tokens.{all_append}
 use Rattle.bq_load_line_laws.proofs.Pieces.{Numbered, IsOf, trees_are}

@@ -3,7 +3,7 @@ use Rattle.std.proofs.Common.{◌≡◌, ◌≤◌, List, [], ◌∷◌, ◌++�
 use Rattle.std.specs.List.{AllByRecursion}
 use Rattle.bq_base.specs.declared.fault.Fault.{Fault}
 use Rattle.bq_base.specs.declared.fault.FaultKind.TheVariants as f
-use Rattle.bq_resolve_scope_laws.specs.Violations.{of_all, of_part, in_turn, when, unless, too_deep}
+use Rattle.bq_resolve_by_name.specs.Violations.{of_all, of_part, in_turn, when, unless, too_deep}
 use Rattle.bq_load_line_laws.proofs.Tokens.{all_append}
 
 abbrev pub OnLine : Fault → Type 0

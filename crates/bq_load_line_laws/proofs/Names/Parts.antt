@@ -25,7 +25,7 @@ use Rattle.bq_parse_tree_laws.specs.Parts as parts
 use Rattle.bq_parse_tree_laws.specs.Parts.{Part, row, listed, commas, ExprLayer, SuffixLayer, TargetLayer}
 use Rattle.bq_resolve_scope.specs.Names.{Name}
 use Rattle.bq_resolve_scope.specs.Scope.{FileParts}
-use Rattle.bq_resolve_scope_laws.specs.Violations.{Around, Before, in_target_by, in_target_to, in_pair, in_operation, in_choice, in_argument_by, in_suffix_by, in_clause_by, in_expr_by, in_expr_to, in_expr, in_small_by, in_branch, in_stmt_by, in_stmt_to, in_parameter, in_file_target_by, in_file_target_to, in_file_small_by, in_top_level_by}
+use Rattle.bq_resolve_by_name.specs.Violations.{Around, Before, in_target_by, in_target_to, in_pair, in_operation, in_choice, in_argument_by, in_suffix_by, in_clause_by, in_expr_by, in_expr_to, in_expr, in_small_by, in_branch, in_stmt_by, in_stmt_to, in_parameter, in_file_target_by, in_file_target_to, in_file_small_by, in_top_level_by}
 use Rattle.bq_load_line_laws.proofs.Names.Fine.{Fine, deep_fine}
 
 -- the name of a method, which a namespace may lack

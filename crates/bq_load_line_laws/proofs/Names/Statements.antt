@@ -22,7 +22,7 @@ use Rattle.bq_parse_tree_laws.specs.Parts.{Part, assignment_kind, token_of, para
 use Rattle.bq_resolve_scope.specs.Visit.{fault_of}
 use Rattle.bq_resolve_scope.specs.Names.{Name, has, function_names, with_parameter, with_load_clause}
 use Rattle.bq_resolve_scope.specs.Scope.{FileParts}
-use Rattle.bq_resolve_scope_laws.specs.Violations.{Around, Before, of_all, in_turn, misplaced_at, after_small, in_binding, in_load_clause, in_expr, in_target, in_small, in_branch, in_stmt_to, in_parameter_name, in_parameter, in_function, in_file_target, in_file_small}
+use Rattle.bq_resolve_by_name.specs.Violations.{Around, Before, of_all, in_turn, misplaced_at, after_small, in_binding, in_load_clause, in_expr, in_target, in_small, in_branch, in_stmt_to, in_parameter_name, in_parameter, in_function, in_file_target, in_file_small}
 use Rattle.bq_load_line_laws.proofs.Names.Fine.{Fine, two_fine, when_fine, unless_fine, all_fine, turn_fine}
 use Rattle.bq_load_line_laws.proofs.Names.Parts.{ExprFine, expr_sound, TargetFine, ParameterFine, LoadClauseFine, LoadFine, SmallKindFine, SmallFine, StmtFine, StmtLayerFine, stmt_of_layer, BranchFine, AllFine, row_fine, listed_fine}
 use Rattle.bq_load_line_laws.proofs.Names.Expressions.{binding_fine}

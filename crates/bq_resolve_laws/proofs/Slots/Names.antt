@@ -18,7 +18,7 @@ use Rattle.bq_resolve_scope.specs.Scope.{BlockParts, FileParts, file_has, or_els
 use Rattle.bq_resolve_scope.specs.Universe.{namespace_named, universe_has}
 use Rattle.bq_resolve_scope.specs.Visit.{Visit, fault_of}
 use Rattle.bq_resolve_scope.specs.Expressions.{is_bzl, is_unbound, namespace_at, name_target, place_of, use_at}
-use Rattle.bq_resolve_scope_laws.specs.Resolution.{InOrder}
+use Rattle.bq_resolve_by_name.specs.Resolution.{InOrder}
 use Rattle.bq_resolve_laws.specs.Slots.Slots.{binding_slots, target_slots}
 use Rattle.bq_resolve_laws.specs.Slots.Uses.{Block, Part, Use, name_use, use_among}
 use Rattle.bq_resolve_laws.proofs.Slots.Lists.{Listed, Lists, lists_given}

@@ -6,7 +6,7 @@ use Rattle.bq_board_plan.specs.Graph.{max_modules}
 use Rattle.bq_load_discover.specs.declared.modules.Module.{Module}
 use Rattle.bq_load_discover.specs.declared.load_err.LoadErr.{LoadErr}
 use Rattle.bq_load_discover.specs.Module.{labels_of, AreValid}
-use Rattle.bq_load_discover.specs.LoadGraph.{GraphParts, IsLoadGraph, Discovers}
+use Rattle.bq_load_discover.specs.LoadGraph.{GraphParts, IsReadGraph, Discovers}
 use Rattle.bq_load_discover.proofs.Graphs.{few, numbered, held_numbered, held_graph, held_too_many}
 use Rattle.bq_load_discover.proofs.discovery.load_graph.Goals as goal
 
@@ -33,7 +33,7 @@ of-requires c =
 
 pub returns : goal.returns
 returns c = λ inputs f b.
-    subst (λ (z : GraphParts). IsLoadGraph inputs z) (sym c.of.ensures)
+    subst (λ (z : GraphParts). IsReadGraph inputs z) (sym c.of.ensures)
     (held_graph c.args.modules.items c.requires.distinct c.requires.few c.sorted-modules.result.items c.sorted-modules.ensures.moved c.sorted-modules.ensures.ascending c.deref.result.now c.deref-3.result.now c.deref.ensures.value c.deref-3.ensures.value c.in_ok-labels.ensures.valid
     c.in_ok-labels.labels.items c.deref-2.result.now c.in_ok-labels.ensures.labels c.deref-2.ensures.value c.in_ok-edges.edges c.in_ok-edges.ensures.edges c.args.packages c.in_ok-edges.ensures.valid inputs f b)
 

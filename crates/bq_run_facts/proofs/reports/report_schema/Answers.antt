@@ -22,7 +22,7 @@ returns-in-Ok g c =
     let limit = c.args.options.now.max_steps in
     let graph = c.in-Ok.graph in
     let asked = option_copied c.args.asked in
-    IfOk-weaker c.report_graph.result (λ r. TellsFacts (packages_of files) (module_lines graph.modules) (loaded_in files rules limit graph) asked (report_view r))
+    IfOk-weaker c.report_graph.result (λ r. TellsFacts (packages_of files) (module_lines graph.modules) (loaded_in files rules limit graph.labels graph.edges) asked (report_view r))
     (λ r. IsFactsBy limit files asked (report_view r))
     (λ r h. IsFactsBy.loaded rules graph c.requires.schema c.in-Ok.ensures h) c.report_graph.ensures
 

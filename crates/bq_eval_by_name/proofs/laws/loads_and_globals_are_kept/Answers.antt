@@ -1,9 +1,0 @@
-use Rattle.bq_eval_by_name.proofs.Loads.{loads_kept}
-use Rattle.bq_eval_by_name.proofs.Units.{globals_are}
-use Rattle.bq_eval_by_name.proofs.laws.loads_and_globals_are_kept.Goals as goal
-
-pub returns-clause-loads : goal.returns-clause-loads
-returns-clause-loads c file code is = loads_kept file code is
-
-pub returns-clause-globals : goal.returns-clause-globals
-returns-clause-globals c file code is = globals_are file code is

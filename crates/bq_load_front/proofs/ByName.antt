@@ -1,0 +1,125 @@
+-- What the code gives for a file is what the file is: the fault of its names is the first rule that it breaks, and its code has its loads.
+use Rattle.std.proofs.Common.{◌≡◌, ◌∙◌, ℕ, List, [], ◌∷◌, ◌++◌, map, Option, None, Some, Result, Ok, Err, refl, sym, ap, subst}
+use Rattle.bq_base.specs.declared.fault.Fault.{Fault}
+use Rattle.bq_source.specs.declared.token.Token.{Token}
+use Rattle.bq_source_lexer.specs.Tokens.{tokens_of}
+use Rattle.bq_parse_grammar.specs.declared.tree.TopLevel.{TopLevel}
+use Rattle.bq_parse_grammar.specs.Lexeme.{Lexeme, lexemes}
+use Rattle.bq_parse_grammar.specs.Parses.{Parses, statements_of}
+use Rattle.bq_parse_statement_laws.proofs.Verdicts.{file_reads}
+use Rattle.bq_resolve_scope.specs.Files.{resolved}
+use Rattle.bq_resolve_scope.specs.Universe.{UniverseParts}
+use Rattle.bq_resolve_scope.specs.declared.code.LoadStmt.{LoadStmt}
+use Rattle.bq_resolve_scope.specs.declared.code.Resolved.{Resolved}
+use Rattle.bq_resolve_by_name.specs.Files.{ParsedFile, IsCodeOf}
+use Rattle.bq_resolve_by_name.specs.Loads.{written_load, file_loads}
+use Rattle.bq_resolve_by_name.specs.Violations.{first, violations}
+use Rattle.bq_resolve_by_name.proofs.FaultyFiles.{first_violation, without_violations}
+use Rattle.bq_resolve_by_name.proofs.Loads.{loads_kept}
+use Rattle.bq_label.specs.declared.workspace.File.{File}
+use Rattle.bq_label.specs.Label.{PackageParts, LabelParts, package_of}
+use Rattle.bq_label.specs.Packages.{label_file}
+use Rattle.bq_load_front.specs.declared.front.Front.{Front}
+use Rattle.bq_load_front.specs.Agreement.{IsFrontOf, FrontsAgree, LoadsAgree}
+use Rattle.bq_load_front.specs.Code.{code_of, ◌>>=◌}
+use Rattle.bq_load_front.specs.Front.{load_of, front_at, front_of, loads_by}
+use Rattle.bq_load_front.specs.Inputs.{InputParts, universe_of}
+use Rattle.bq_load_front.specs.Parsed.{ParsedFront, trees_of, unless_broken, file_from, file_of_text, file_named, labels_of, kind_of, front_from, parsed_at, parsed_of, loads_in, loads_of}
+
+-- ---- the text
+
+-- the code of the file, or the same fault
+abbrev IsCode : Result ParsedFile Fault → Result Resolved Fault → Type 0
+IsCode (Ok file) (Ok code) = IsCodeOf file code
+IsCode (Err why) (Err told) = told ≡ why
+IsCode _ _ = ⊥
+
+no_first : (why : Fault) (vs : List Fault) → vs ≡ [] → first vs ≡ Some why → ⊥
+no_first why vs none e =
+    let no : None ≡ Some why = sym (ap (λ (z : List Fault). first z) none) ∙ e in
+    cc
+
+is_first : (v why : Fault) (more vs : List Fault) → vs ≡ v ∷ more → first vs ≡ Some why → why ≡ v
+is_first v why more vs is e =
+    let same : Some v ≡ Some why = sym (ap (λ (z : List Fault). first z) is) ∙ e in
+    cc
+
+not_none : (v : Fault) (more vs : List Fault) → vs ≡ v ∷ more → vs ≡ [] → ⊥
+not_none v more vs is none =
+    let no : [] ≡ v ∷ more = sym none ∙ is in
+    cc
+
+module _ (universe : UniverseParts) where
+  abbrev parsed_file : List TopLevel → ParsedFile
+  parsed_file trees = record { universe = universe; statements = trees }
+
+  by_names : (ts : List Lexeme) (trees : List TopLevel) → Parses universe.kind ts (Ok trees) → (vs : List Fault) → violations universe trees ≡ vs
+      → (r : Result Resolved Fault) → resolved universe trees ≡ r → IsCode (unless_broken (parsed_file trees) vs) r
+  by_names ts trees p [] is (Ok code) e = record { lexemes = ts; parses = p; names = e }
+  by_names ts trees p [] is (Err told) e = absurd (no_first told (violations universe trees) is ((first_violation universe trees told).0 e))
+  by_names ts trees p (v ∷ more) is (Ok code) e = absurd (not_none v more (violations universe trees) is ((without_violations universe trees).0 (code, e)))
+  by_names ts trees p (v ∷ more) is (Err told) e = is_first v told more (violations universe trees) is ((first_violation universe trees told).0 e)
+
+  by_trees : (ts : List Lexeme) (r : Result (List TopLevel) Fault) → Parses universe.kind ts r → IsCode (r >>= file_from universe) (r >>= λ trees. resolved universe trees)
+  by_trees ts (Ok trees) p = by_names ts trees p (violations universe trees) refl (resolved universe trees) refl
+  by_trees ts (Err why) p = refl
+
+  by_tokens : (text : List ℕ) (r : Result (List Token) Fault)
+      → IsCode ((r >>= λ ts. statements_of universe.kind (lexemes text ts)) >>= file_from universe) (r >>= λ ts. statements_of universe.kind (lexemes text ts) >>= λ trees. resolved universe trees)
+  by_tokens text (Ok ts) = by_trees (lexemes text ts) (statements_of universe.kind (lexemes text ts)) (file_reads universe.kind (lexemes text ts))
+  by_tokens text (Err why) = refl
+
+  pub of_text : (text : List ℕ) → IsCode (file_of_text universe text) (code_of universe text)
+  unfolding file_of_text trees_of code_of
+  of_text text = by_tokens text (tokens_of text)
+
+-- ---- its loads
+
+module _ (inputs : InputParts) (own : PackageParts) where
+  as_written : (done : List LabelParts) (xs : List LoadStmt) → labels_of (load_of inputs own) done xs ≡ labels_of (file_named inputs own) done (map written_load xs)
+  unfolding labels_of
+  as_written done [] = refl
+  as_written done (x ∷ xs) = λ i. file_named inputs own (written_load x) >>= λ l. as_written (done ++ l ∷ []) xs i
+
+module _ (inputs : InputParts) (l : LabelParts) where
+  abbrev front_with : Resolved → Result (List LabelParts) Fault → Result Front Fault
+  front_with code r = r >>= λ ls. Ok (record { code = code; loads = ls })
+
+  abbrev parsed_with : ParsedFile → Result (List LabelParts) Fault → Result ParsedFront Fault
+  parsed_with file r = r >>= λ ls. Ok (record { file = file; loads = ls })
+
+  by_labels : (file : ParsedFile) (code : Resolved) → IsCodeOf file code → (r : Result (List LabelParts) Fault) → IsFrontOf (parsed_with file r) (front_with code r)
+  by_labels file code is (Ok ls) = (is, refl)
+  by_labels file code is (Err why) = refl
+
+  same_labels : (file : ParsedFile) (code : Resolved) → IsCodeOf file code
+      → labels_of (load_of inputs (package_of l)) [] code.loads ≡ labels_of (file_named inputs (package_of l)) [] (file_loads file.statements)
+  same_labels file code is = as_written inputs (package_of l) [] code.loads ∙ ap (labels_of (file_named inputs (package_of l)) []) (loads_kept file code is)
+
+  by_file : (x : Result ParsedFile Fault) (r : Result Resolved Fault) → IsCode x r → IsFrontOf (x >>= front_from inputs l) (r >>= λ code. front_with code (labels_of (load_of inputs (package_of l)) [] code.loads))
+  by_file (Ok file) (Ok code) is =
+      let ls : Result (List LabelParts) Fault = labels_of (file_named inputs (package_of l)) [] (file_loads file.statements) in
+      subst (λ (z : Result (List LabelParts) Fault). IsFrontOf (parsed_with file ls) (front_with code z)) (sym (same_labels file code is)) (by_labels file code is ls)
+  by_file (Ok file) (Err told) is = absurd is
+  by_file (Err why) (Ok code) is = absurd is
+  by_file (Err why) (Err told) is = is
+
+  at_file : (o : Option File) → IsFrontOf (parsed_at inputs l o) (front_at inputs l o)
+  at_file None = refl
+  at_file (Some x) =
+      let universe : UniverseParts = universe_of inputs (kind_of l) in
+      by_file (file_of_text universe x.content) (code_of universe x.content) (of_text universe x.content)
+
+pub fronts_agree : FrontsAgree
+unfolding parsed_of front_of
+fronts_agree inputs l = at_file inputs l (label_file inputs.files l)
+
+same_loads : (x : Result ParsedFront Fault) (r : Result Front Fault) → IsFrontOf x r → loads_by r ≡ loads_in x
+same_loads (Ok x) (Ok front) h = h.1
+same_loads (Ok x) (Err told) h = absurd h
+same_loads (Err why) (Ok front) h = absurd h
+same_loads (Err why) (Err told) h = refl
+
+pub loads_agree : LoadsAgree
+unfolding loads_of
+loads_agree inputs l = same_loads (parsed_of inputs l) (front_of inputs l) (fronts_agree inputs l)

@@ -1,0 +1,234 @@
+-- What expressions resolve to is what the relation says.
+use Rattle.std.proofs.Common.{◌≡◌, ℕ, zero, suc, ◌+◌, Bool, true, false, ◌&&◌, ◌||◌, List, [], ◌∷◌, ◌++◌, length, Option, Some, None, Result, Ok, Err, refl, sym, ap, ◌∙◌, subst}
+use Rattle.std.specs.Prelude.{if◌then◌else◌}
+use Rattle.bq_base.specs.declared.fault.Fault.{Fault}
+use Rattle.bq_base.specs.declared.fault.FaultKind.TheVariants as f
+use Rattle.bq_parse_grammar.specs.declared.tree.Argument.TheOpen.{Expr-F, Suffix-F, Argument-F, Clause-F, TargetExpr-F}
+use Rattle.bq_parse_grammar.specs.declared.tree.Argument.{Argument, out-Argument}
+use Rattle.bq_parse_grammar.specs.declared.tree.Choice.{Choice, out-Choice}
+use Rattle.bq_parse_grammar.specs.declared.tree.Clause.{Clause, out-Clause}
+use Rattle.bq_parse_grammar.specs.declared.tree.Expr.{Expr, out-Expr}
+use Rattle.bq_parse_grammar.specs.declared.tree.Identifier.{Identifier}
+use Rattle.bq_parse_grammar.specs.declared.tree.Operation.{Operation, out-Operation}
+use Rattle.bq_parse_grammar.specs.declared.tree.Pair.{Pair, out-Pair}
+use Rattle.bq_parse_grammar.specs.declared.tree.Suffix.{Suffix, out-Suffix}
+use Rattle.bq_parse_grammar.specs.declared.tree.TargetExpr.{TargetExpr, out-TargetExpr}
+use Rattle.bq_parse_grammar.specs.Targets.{ExprLayer, SuffixLayer}
+use Rattle.bq_resolve_scope.specs.declared.code.Code.{Code}
+use Rattle.bq_resolve_scope.specs.declared.code.Binding.{Binding}
+use Rattle.bq_resolve_scope.specs.declared.code.Code.TheVariants as c
+use Rattle.bq_resolve_scope.specs.declared.code.CodeArgument.TheVariants as a
+use Rattle.bq_resolve_scope.specs.declared.code.CodeChoice.{roll-CodeChoice}
+use Rattle.bq_resolve_scope.specs.declared.code.CodeClause.{CodeClause}
+use Rattle.bq_resolve_scope.specs.declared.code.CodeClause.TheVariants as cl
+use Rattle.bq_resolve_scope.specs.declared.code.CodeOperation.{roll-CodeOperation}
+use Rattle.bq_resolve_scope.specs.declared.code.CodePair.{roll-CodePair}
+use Rattle.bq_resolve_scope.specs.declared.code.CodeSuffix.{CodeSuffix}
+use Rattle.bq_resolve_scope.specs.declared.code.CodeSuffix.TheVariants as s
+use Rattle.bq_resolve_scope.specs.declared.code.CodeTarget.{CodeTarget}
+use Rattle.bq_resolve_scope.specs.declared.code.CodeTarget.TheVariants as t
+use Rattle.bq_resolve_scope.specs.Names.{Name, TargetLayer, ClauseLayer, max_layers, comprehension_names}
+use Rattle.bq_resolve_scope.specs.Scope.{BlockParts, FileParts, use_of}
+use Rattle.bq_resolve_scope.specs.declared.universe.Namespace.{Namespace}
+use Rattle.bq_resolve_scope.specs.Universe.{member_named}
+use Rattle.bq_resolve_scope.specs.Visit.{Passed, Visit, ◌>>=◌, pure, given, fault_of, each, optional}
+use Rattle.bq_parse_grammar.specs.declared.tree.FileKind.{FileKind}
+use Rattle.bq_resolve_scope.specs.Names.{has, with_name}
+use Rattle.bq_resolve_scope.specs.Expressions.{place_of, is_bzl, bind_global, bind_in, name_target, framed, MemberCall, member_call, namespace_at, use_at, target_by, target_to, pair, operation, choice, argument_by, arguments, suffix_by, suffixes, operand, call_member, primary_by, primary, clause_by, clauses, in_block, comprehension, expr_by, expr_to}
+use Rattle.bq_resolve_by_name.specs.Resolution.{InOrder, Maybe, target_is_by, TargetTo, PairIs, OperationIs, ChoiceIs, argument_is_by, ArgumentsAre, suffix_is_by, SuffixesAre, primary_is_by, clause_is_by, ClausesAre, in_block_is, comprehension_is, expr_is_by, ExprTo}
+use Rattle.bq_resolve_by_name.proofs.Makes.{Making, Makes, After, from, makes_bind, makes_weaker, makes_map, makes_two, makes_three, makes_given, makes_each, makes_all, makes_optional}
+
+-- ---- names
+
+global_by : (t : Bool) (why : Fault) (names : List Name) (u : Passed) → Making {A = Unit {0}} (λ _. Unit {0}) u (if t then Err why else Ok (tt, record u { bound = names }))
+global_by true why names u = tt
+global_by false why names u = (tt, refl, refl)
+
+bind_makes : (kind : FileKind) (blocks : List BlockParts) (n : Identifier) → Makes {A = Unit {0}} (λ _. Unit {0}) (bind_in kind blocks n)
+unfolding bind_global
+bind_makes kind [] n = λ u. global_by (is_bzl kind && (has u.bound n.name || has u.loaded n.name)) (fault_of f.Rebound n) (with_name u.bound n.name) u
+bind_makes kind (b ∷ bs) n = λ u. (tt, refl, refl)
+
+pub name_makes : (file : FileParts) (blocks : List BlockParts) (n : Identifier) → Makes {A = CodeTarget} (λ z. place_of (use_of file blocks n.name) ≡ Some z) (name_target file blocks n)
+unfolding name_target
+name_makes file blocks n =
+    makes_bind {A = Unit {0}} {B = CodeTarget} (λ _. Unit {0}) (λ z. place_of (use_of file blocks n.name) ≡ Some z) (bind_in file.universe.kind blocks n) (λ _. given (fault_of f.UnknownName n) (place_of (use_of file blocks n.name)))
+    (bind_makes file.universe.kind blocks n) (λ _ _. makes_given (fault_of f.UnknownName n) (place_of (use_of file blocks n.name)))
+
+use_makes : (file : FileParts) (blocks : List BlockParts) (n : Identifier) → Makes {A = Binding} (λ x. use_of file blocks n.name ≡ Some x) (use_at file blocks n)
+unfolding use_at
+use_makes file blocks n = makes_given (fault_of f.UnknownName n) (use_of file blocks n.name)
+
+-- ---- frames
+
+framed_by : (P : Code → Type 0) (u old : Passed) (r : Result (Code × Passed) Fault) → u.functions ≡ old.functions → u.loads ≡ old.loads → Making {A = Code} P u r
+    → Making {A = Code} (λ z. (slots : ℕ) × (w : Code) × P w × (z ≡ c.Framed slots w)) old (framed old.slots r)
+framed_by P u old (Err why) g l h = tt
+framed_by P u old (Ok p) g l h = ((p.1.slots, p.0, h.0, refl), h.1 ∙ g, h.2 ∙ l)
+
+module _ (file : FileParts) (visit : List BlockParts → Expr → Visit Code) (Is : List BlockParts → Expr → Code → Type 0) (visits : (blocks : List BlockParts) (x : Expr) → Makes (Is blocks x) (visit blocks x)) where
+  -- ---- targets
+
+  target_by_makes : (go : TargetExpr → Visit CodeTarget) (R : TargetExpr → CodeTarget → Type 0) (blocks : List BlockParts) → ((u : TargetExpr) → Makes (R u) (go u)) → (o : TargetLayer)
+      → Makes (target_is_by file Is R blocks o) (target_by file visit go blocks o)
+  target_by_makes go R blocks goes (TargetExpr-F.TargetExpr::Name n) = name_makes file blocks n
+  target_by_makes go R blocks goes (TargetExpr-F.TargetExpr::Index x i) = makes_two (Is blocks x) (Is blocks i) (visit blocks x) (visit blocks i) (λ y j. t.Index y j) (visits blocks x) (visits blocks i)
+  target_by_makes go R blocks goes (TargetExpr-F.TargetExpr::Tuple us) = makes_map (λ vs. InOrder R us vs) (each go [] us) (λ vs. t.Tuple vs) (makes_all R go goes us)
+  target_by_makes go R blocks goes (TargetExpr-F.TargetExpr::List us) = makes_map (λ vs. InOrder R us vs) (each go [] us) (λ vs. t.List vs) (makes_all R go goes us)
+
+  pub target_makes : (layers : ℕ) (blocks : List BlockParts) (u : TargetExpr) → Makes (TargetTo file Is layers blocks u) (target_to file visit layers blocks u)
+  unfolding TargetTo target_to
+  target_makes zero blocks u = λ z. tt
+  target_makes (suc layers) blocks u = target_by_makes (target_to file visit layers blocks) (TargetTo file Is layers blocks) blocks (target_makes layers blocks) (out-TargetExpr u)
+
+  -- ---- what stands in an expression
+
+  pair_makes : (blocks : List BlockParts) (p : Pair) → Makes (PairIs file Is blocks p) (pair file visit blocks p)
+  unfolding pair
+  pair_makes blocks p =
+      makes_two (Is blocks (out-Pair p).key) (Is blocks (out-Pair p).value) (visit blocks (out-Pair p).key) (visit blocks (out-Pair p).value) (λ k v. roll-CodePair (record { key = k; value = v }))
+      (visits blocks (out-Pair p).key) (visits blocks (out-Pair p).value)
+
+  operation_makes : (blocks : List BlockParts) (o : Operation) → Makes (OperationIs file Is blocks o) (operation file visit blocks o)
+  unfolding operation
+  operation_makes blocks o =
+      makes_map (Is blocks (out-Operation o).operand) (visit blocks (out-Operation o).operand) (λ x. roll-CodeOperation (record { operator = (out-Operation o).operator; operand = x })) (visits blocks (out-Operation o).operand)
+
+  choice_makes : (blocks : List BlockParts) (o : Choice) → Makes (ChoiceIs file Is blocks o) (choice file visit blocks o)
+  unfolding choice
+  choice_makes blocks o =
+      makes_two (Is blocks (out-Choice o).value) (Is blocks (out-Choice o).condition) (visit blocks (out-Choice o).value) (visit blocks (out-Choice o).condition)
+      (λ v x. roll-CodeChoice (record { value = v; condition = x })) (visits blocks (out-Choice o).value) (visits blocks (out-Choice o).condition)
+
+  argument_by_makes : (blocks : List BlockParts) (o : Argument-F Argument Clause Expr Suffix TargetExpr Choice Operation Pair) → Makes (argument_is_by file Is blocks o) (argument_by file visit blocks o)
+  argument_by_makes blocks (Argument-F.Positional x) = makes_map (Is blocks x) (visit blocks x) (λ y. a.Positional y) (visits blocks x)
+  argument_by_makes blocks (Argument-F.Named n x) = makes_map (Is blocks x) (visit blocks x) (λ y. a.Named n y) (visits blocks x)
+  argument_by_makes blocks (Argument-F.Star x) = makes_map (Is blocks x) (visit blocks x) (λ y. a.Star y) (visits blocks x)
+  argument_by_makes blocks (Argument-F.StarStar x) = makes_map (Is blocks x) (visit blocks x) (λ y. a.StarStar y) (visits blocks x)
+
+  arguments_make : (blocks : List BlockParts) (xs : List Argument) → Makes (ArgumentsAre file Is blocks xs) (arguments file visit blocks xs)
+  unfolding arguments
+  arguments_make blocks xs =
+      makes_all (λ x y. argument_is_by file Is blocks (out-Argument x) y) (λ x. argument_by file visit blocks (out-Argument x)) (λ x. argument_by_makes blocks (out-Argument x)) xs
+
+  optional_makes : (blocks : List BlockParts) (o : Option Expr) → Makes (λ y. Maybe (Is blocks) o y) (optional (visit blocks) o)
+  optional_makes blocks o = makes_optional (Is blocks) (visit blocks) (visits blocks) o
+
+  suffix_by_makes : (blocks : List BlockParts) (o : SuffixLayer) → Makes (suffix_is_by file Is blocks o) (suffix_by file visit blocks o)
+  suffix_by_makes blocks (Suffix-F.Call xs) = makes_map (ArgumentsAre file Is blocks xs) (arguments file visit blocks xs) (λ ys. s.Call ys) (arguments_make blocks xs)
+  suffix_by_makes blocks (Suffix-F.Method m xs) = makes_map (ArgumentsAre file Is blocks xs) (arguments file visit blocks xs) (λ ys. s.Method m.name ys) (arguments_make blocks xs)
+  suffix_by_makes blocks (Suffix-F.Attribute m) = λ u. (refl, refl, refl)
+  suffix_by_makes blocks (Suffix-F.Suffix::Index i) = makes_map (Is blocks i) (visit blocks i) (λ j. s.Index j) (visits blocks i)
+  suffix_by_makes blocks (Suffix-F.Slice i j k) =
+      makes_three (λ x. Maybe (Is blocks) i x) (λ x. Maybe (Is blocks) j x) (λ x. Maybe (Is blocks) k x) (optional (visit blocks) i) (optional (visit blocks) j) (optional (visit blocks) k)
+      (λ x y z. s.Slice x y z) (optional_makes blocks i) (optional_makes blocks j) (optional_makes blocks k)
+
+  suffixes_make : (blocks : List BlockParts) (done : List CodeSuffix) (ss : List Suffix) → Makes (λ zs. (ts : List CodeSuffix) × SuffixesAre file Is blocks ss ts × (zs ≡ done ++ ts)) (suffixes file visit blocks done ss)
+  unfolding suffixes
+  suffixes_make blocks done ss =
+      makes_each (λ x y. suffix_is_by file Is blocks (out-Suffix x) y) (λ x. suffix_by file visit blocks (out-Suffix x)) (λ x. suffix_by_makes blocks (out-Suffix x)) done ss
+
+  -- ---- operands
+
+  operand_makes : (blocks : List BlockParts) (x : Expr) (ss : List Suffix) → Makes (primary_is_by file Is blocks x ss None) (operand file visit blocks x ss)
+  unfolding operand
+  operand_makes blocks x ss =
+      let More : List CodeSuffix → Type 0 = λ zs. (ts : List CodeSuffix) × SuffixesAre file Is blocks ss ts × (zs ≡ [] ++ ts) in
+      makes_weaker (λ z. (y : Code) × (zs : List CodeSuffix) × Is blocks x y × More zs × (z ≡ c.Primary y zs)) (primary_is_by file Is blocks x ss None)
+      (visit blocks x >>= λ y. suffixes file visit blocks [] ss >>= λ ts. pure (c.Primary y ts))
+      (λ z g. (g.0, g.3.0, g.2, g.3.1, g.4 ∙ ap (λ ts. c.Primary g.0 ts) g.3.2))
+      (makes_two (Is blocks x) More (visit blocks x) (suffixes file visit blocks [] ss) (λ y ts. c.Primary y ts) (visits blocks x) (suffixes_make blocks [] ss))
+
+  member_makes : (blocks : List BlockParts) (x : Expr) (all : List Suffix) (space : Namespace) (m : Identifier) (xs : List Argument) (ss : List Suffix)
+      → Makes (primary_is_by file Is blocks x all (Some (space, m, xs, ss))) (call_member file visit blocks space m xs ss)
+  unfolding call_member
+  member_makes blocks x all space m xs ss =
+      let P : Code → Type 0 = primary_is_by file Is blocks x all (Some (space, m, xs, ss)) in
+      makes_bind (λ p. member_named space file.universe.rules m.name ≡ Some p) P (given (fault_of f.UnknownName m) (member_named space file.universe.rules m.name))
+      (λ p. arguments file visit blocks xs >>= λ ys. suffixes file visit blocks (s.Call ys ∷ []) ss >>= λ ts. pure (c.Primary (c.Member p) ts))
+      (makes_given (fault_of f.UnknownName m) (member_named space file.universe.rules m.name))
+      (λ p e. makes_bind (ArgumentsAre file Is blocks xs) P (arguments file visit blocks xs) (λ ys. suffixes file visit blocks (s.Call ys ∷ []) ss >>= λ ts. pure (c.Primary (c.Member p) ts)) (arguments_make blocks xs)
+      (λ ys r. makes_bind (λ zs. (ts : List CodeSuffix) × SuffixesAre file Is blocks ss ts × (zs ≡ (s.Call ys ∷ []) ++ ts)) P (suffixes file visit blocks (s.Call ys ∷ []) ss) (λ ts. pure (c.Primary (c.Member p) ts))
+      (suffixes_make blocks (s.Call ys ∷ []) ss) (λ zs g u. ((p, ys, g.0, e, r, g.1, ap (λ ts. c.Primary (c.Member p) ts) g.2), refl, refl))))
+
+  primary_by_makes : (blocks : List BlockParts) (x : Expr) (ss : List Suffix) (o : Option MemberCall) → Makes (primary_is_by file Is blocks x ss o) (primary_by file visit blocks x ss o)
+  primary_by_makes blocks x ss None = operand_makes blocks x ss
+  primary_by_makes blocks x ss (Some (space, m, xs, rest)) = member_makes blocks x ss space m xs rest
+
+  primary_makes : (blocks : List BlockParts) (x : Expr) (ss : List Suffix) → Makes (primary_is_by file Is blocks x ss (member_call (namespace_at file blocks (out-Expr x)) ss)) (primary file visit blocks x ss)
+  unfolding primary
+  primary_makes blocks x ss = primary_by_makes blocks x ss (member_call (namespace_at file blocks (out-Expr x)) ss)
+
+  -- ---- comprehensions
+
+  clause_by_makes : (round blocks : List BlockParts) (o : ClauseLayer) → Makes (clause_is_by file Is round blocks o) (clause_by file visit round blocks o)
+  clause_by_makes round blocks (Clause-F.For u x) =
+      makes_two (TargetTo file Is max_layers blocks u) (Is round x) (target_to file visit max_layers blocks u) (visit round x) (λ v y. cl.For v y) (target_makes max_layers blocks u) (visits round x)
+  clause_by_makes round blocks (Clause-F.If x) = makes_map (Is blocks x) (visit blocks x) (λ y. cl.If y) (visits blocks x)
+
+  clauses_make : (round blocks : List BlockParts) (xs : List Clause) → Makes (ClausesAre file Is round blocks xs) (clauses file visit round blocks xs)
+  unfolding clauses
+  clauses_make round blocks [] = λ u. (tt, refl, refl)
+  clauses_make round blocks (x ∷ xs) =
+      makes_bind (clause_is_by file Is round blocks (out-Clause x)) (ClausesAre file Is round blocks (x ∷ xs)) (clause_by file visit round blocks (out-Clause x))
+      (λ y. each (λ z. clause_by file visit blocks blocks (out-Clause z)) (y ∷ []) xs) (clause_by_makes round blocks (out-Clause x))
+      (λ y r. makes_weaker (After (λ z w. clause_is_by file Is blocks blocks (out-Clause z) w) (y ∷ []) xs) (ClausesAre file Is round blocks (x ∷ xs)) (each (λ z. clause_by file visit blocks blocks (out-Clause z)) (y ∷ []) xs)
+      (λ zs g. subst (λ ws. ClausesAre file Is round blocks (x ∷ xs) ws) (sym g.2) (r, g.1))
+      (makes_each (λ z w. clause_is_by file Is blocks blocks (out-Clause z) w) (λ z. clause_by file visit blocks blocks (out-Clause z)) (λ z. clause_by_makes blocks blocks (out-Clause z)) (y ∷ []) xs))
+
+  block_makes : {A : Type 0} (element : List BlockParts → Visit A) (E : List BlockParts → A → Type 0) (make : A → List CodeClause → Code) → ((bs : List BlockParts) → Makes {A = A} (E bs) (element bs))
+      → (blocks : List BlockParts) (xs : List Clause) (u : Passed)
+      → Making {A = Code} (in_block_is file Is E make (record { base = u.slots; names = comprehension_names xs }) blocks xs) u (in_block file visit element make blocks xs u)
+  unfolding in_block
+  block_makes element E make elements blocks xs u =
+      let names : List Name = comprehension_names xs in
+      let block : BlockParts = record { base = u.slots; names = names } in
+      let opened : Passed = record u { slots = u.slots + length names } in
+      from (in_block_is file Is E make block blocks xs) u opened ((element (block ∷ blocks) >>= λ x. clauses file visit blocks (block ∷ blocks) xs >>= λ ys. pure (make x ys)) opened) refl refl
+      (makes_two (E (block ∷ blocks)) (ClausesAre file Is blocks (block ∷ blocks) xs) (element (block ∷ blocks)) (clauses file visit blocks (block ∷ blocks) xs) make
+      (elements (block ∷ blocks)) (clauses_make blocks (block ∷ blocks) xs) opened)
+
+  based_by : {A : Type 0} (E : List BlockParts → A → Type 0) (make : A → List CodeClause → Code) (b : BlockParts) (bs : List BlockParts) (xs : List Clause) (u : Passed) (r : Result (Code × Passed) Fault)
+      → Making {A = Code} (in_block_is file Is E make (record { base = u.slots; names = comprehension_names xs }) (b ∷ bs) xs) u r → Making {A = Code} (comprehension_is file Is E make (b ∷ bs) xs) u r
+  based_by E make b bs xs u (Err why) h = tt
+  based_by E make b bs xs u (Ok p) h = ((u.slots, h.0), h.1, h.2)
+
+  comprehension_makes : {A : Type 0} (element : List BlockParts → Visit A) (E : List BlockParts → A → Type 0) (make : A → List CodeClause → Code) → ((bs : List BlockParts) → Makes {A = A} (E bs) (element bs))
+      → (blocks : List BlockParts) (xs : List Clause) → Makes {A = Code} (comprehension_is file Is E make blocks xs) (comprehension file visit element make blocks xs)
+  unfolding comprehension
+  comprehension_makes element E make elements [] xs = λ u.
+      framed_by (in_block_is file Is E make (record { base = 0; names = comprehension_names xs }) [] xs) (record u { slots = 0 }) u (in_block file visit element make [] xs (record u { slots = 0 })) refl refl
+      (block_makes element E make elements [] xs (record u { slots = 0 }))
+  comprehension_makes element E make elements (b ∷ bs) xs = λ u. based_by E make b bs xs u (in_block file visit element make (b ∷ bs) xs u) (block_makes element E make elements (b ∷ bs) xs u)
+
+  -- ---- expressions
+
+  all_make : (blocks : List BlockParts) (xs : List Expr) → Makes (λ ys. InOrder (Is blocks) xs ys) (each (visit blocks) [] xs)
+  all_make blocks xs = makes_all (Is blocks) (visit blocks) (visits blocks) xs
+
+  expr_by_makes : (blocks : List BlockParts) (o : ExprLayer) → Makes (expr_is_by file Is blocks o) (expr_by file visit blocks o)
+  expr_by_makes blocks (Expr-F.Expr::Name n) = makes_map (λ x. use_of file blocks n.name ≡ Some x) (use_at file blocks n) (λ x. c.Use x) (use_makes file blocks n)
+  expr_by_makes blocks (Expr-F.Int i) = λ u. (refl, refl, refl)
+  expr_by_makes blocks (Expr-F.String b) = λ u. (refl, refl, refl)
+  expr_by_makes blocks (Expr-F.Expr::List xs) = makes_map (λ ys. InOrder (Is blocks) xs ys) (each (visit blocks) [] xs) (λ ys. c.List ys) (all_make blocks xs)
+  expr_by_makes blocks (Expr-F.Expr::Tuple xs) = makes_map (λ ys. InOrder (Is blocks) xs ys) (each (visit blocks) [] xs) (λ ys. c.Tuple ys) (all_make blocks xs)
+  expr_by_makes blocks (Expr-F.Dict ps) =
+      makes_map (λ qs. InOrder (PairIs file Is blocks) ps qs) (each (pair file visit blocks) [] ps) (λ qs. c.Dict qs) (makes_all (PairIs file Is blocks) (pair file visit blocks) (pair_makes blocks) ps)
+  expr_by_makes blocks (Expr-F.ListComprehension x xs) = comprehension_makes (λ bs. visit bs x) (λ bs y. Is bs x y) (λ y ys. c.ListComprehension y ys) (λ bs. visits bs x) blocks xs
+  expr_by_makes blocks (Expr-F.DictComprehension p xs) =
+      comprehension_makes (λ bs. pair file visit bs p) (λ bs q. PairIs file Is bs p q) (λ y ys. c.DictComprehension y ys) (λ bs. pair_makes bs p) blocks xs
+  expr_by_makes blocks (Expr-F.Primary x ss) = primary_makes blocks x ss
+  expr_by_makes blocks (Expr-F.Unary os x) = makes_map (Is blocks x) (visit blocks x) (λ y. c.Unary os y) (visits blocks x)
+  expr_by_makes blocks (Expr-F.Binary x os) =
+      makes_two (Is blocks x) (λ ps. InOrder (OperationIs file Is blocks) os ps) (visit blocks x) (each (operation file visit blocks) [] os) (λ y ps. c.Binary y ps)
+      (visits blocks x) (makes_all (OperationIs file Is blocks) (operation file visit blocks) (operation_makes blocks) os)
+  expr_by_makes blocks (Expr-F.Compare x o z) = makes_two (Is blocks x) (Is blocks z) (visit blocks x) (visit blocks z) (λ y w. c.Compare y o w) (visits blocks x) (visits blocks z)
+  expr_by_makes blocks (Expr-F.Conditional xs z) =
+      makes_two (λ ys. InOrder (ChoiceIs file Is blocks) xs ys) (Is blocks z) (each (choice file visit blocks) [] xs) (visit blocks z) (λ ys w. c.Conditional ys w)
+      (makes_all (ChoiceIs file Is blocks) (choice file visit blocks) (choice_makes blocks) xs) (visits blocks z)
+  expr_by_makes blocks Expr-F.Lambda = λ u. (refl, refl, refl)
+
+pub expr_makes : (layers : ℕ) (file : FileParts) (blocks : List BlockParts) (x : Expr) → Makes (ExprTo file layers blocks x) (expr_to layers file blocks x)
+unfolding ExprTo expr_to
+expr_makes zero file blocks x = λ u. tt
+expr_makes (suc layers) file blocks x = expr_by_makes file (expr_to layers file) (ExprTo file layers) (expr_makes layers file) blocks (out-Expr x)

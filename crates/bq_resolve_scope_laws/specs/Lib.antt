@@ -1,4 +1,0 @@
-pub mod Binds
-pub mod Slots
-pub mod Violations
-pub mod Resolution
