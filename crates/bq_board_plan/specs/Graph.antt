@@ -41,5 +41,6 @@ max_edges = 262144
 abbrev pub Fits : Loads → Type 0
 Fits p = (length p ≤ max_modules) × (edges p ≤ max_edges)
 
+-- it keeps the limits, and each load names one of its modules
 abbrev pub IsGraph : Loads → Type 0
 IsGraph p = Fits p × Known p

@@ -57,6 +57,7 @@ by_imports x m l file modules (Ok values) = module_after file values (evaluation
 unfoldable pub file_means : ParsedParts → ℕ → LabelParts → ParsedFront → List ModuleView → Result ModuleView FailedView
 file_means x m l front modules = by_imports x m l front.file modules (imports (loaded_parts x front modules) [] (file_loads front.file.statements) front.loads)
 
+-- the outcome of a module, by how its file was read
 abbrev pub by_front : ParsedParts → ℕ → LabelParts → List ModuleView → Result ParsedFront Fault → Result ModuleView FailedView
 by_front x m l modules (Err why) = Err (not_evaluated why)
 by_front x m l modules (Ok front) = file_means x m l front modules

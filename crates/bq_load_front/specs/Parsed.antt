@@ -38,6 +38,7 @@ abbrev pub unless_broken : ParsedFile → List Fault → Result ParsedFile Fault
 unless_broken file [] = Ok file
 unless_broken file (why ∷ more) = Err why
 
+-- a file of these statements, unless it breaks a rule of names and flow
 abbrev pub file_from : UniverseParts → List TopLevel → Result ParsedFile Fault
 file_from universe ts = unless_broken (record { universe = universe; statements = ts }) (violations universe ts)
 
@@ -62,6 +63,7 @@ kind_of l = if ends_with nat_eq l.name (codes ".bzl") then kinds.Bzl else kinds.
 
 -- ---- the file of a label
 
+-- a file with the labels that it loads, or the fault of the first bad one
 abbrev pub front_from : InputParts → LabelParts → ParsedFile → Result ParsedFront Fault
 front_from inputs l file = labels_of (file_named inputs (package_of l)) [] (file_loads file.statements) >>= λ ls. Ok (record { file = file; loads = ls })
 
@@ -79,5 +81,6 @@ abbrev pub loads_in : Result ParsedFront Fault → List LabelParts
 loads_in (Err why) = []
 loads_in (Ok front) = front.loads
 
+-- the labels that a file loads, in source order
 unfoldable pub loads_of : InputParts → LabelParts → List LabelParts
 loads_of inputs l = loads_in (parsed_of inputs l)

@@ -46,6 +46,7 @@ abbrev pub of_all : {A : Type 0} → (A → List Fault) → List A → List Faul
 of_all one [] = []
 of_all one (x ∷ xs) = one x ++ of_all one xs
 
+-- the faults of a part that may be missing
 abbrev pub of_part : {A : Type 0} → (A → List Fault) → Option A → List Fault
 of_part one None = []
 of_part one (Some x) = one x
@@ -55,10 +56,12 @@ abbrev pub in_turn : {A S : Type 0} → (S → A → List Fault) → (S → A �
 in_turn one add s [] = []
 in_turn one add s (x ∷ xs) = one s x ++ in_turn one add (add s x) xs
 
+-- a fault, where a rule is broken
 abbrev pub when : Bool → Fault → List Fault
 when true why = why ∷ []
 when false why = []
 
+-- a fault, unless a rule holds
 abbrev pub unless : Bool → Fault → List Fault
 unless holds why = when (not holds) why
 
@@ -66,9 +69,11 @@ unless holds why = when (not holds) why
 abbrev pub too_deep : List Fault
 too_deep = fault_at f.Nesting 0 ∷ []
 
+-- a statement that may not stand on this line
 abbrev pub misplaced_at : ℕ → List Fault
 misplaced_at line = fault_at f.BadFlow line ∷ []
 
+-- a file of this kind binds no name twice
 abbrev pub no_double : FileKind → Bool
 no_double kinds.Bzl = true
 no_double kinds.Build = false
@@ -82,6 +87,7 @@ pub record Before : Type 0 where
   pub bound : List Name
   pub loaded : List Name
 
+-- before the first statement
 abbrev pub nothing_before : Before
 nothing_before = record { bound = []; loaded = [] }
 
@@ -89,11 +95,13 @@ nothing_before = record { bound = []; loaded = [] }
 abbrev pub after_small : Before → SmallStmt → Before
 after_small before x = record { bound = with_small before.bound x; loaded = with_load before.loaded x }
 
+-- the names bound and loaded so far, behind a statement of this form
 abbrev pub after_by : Before → Stmt-F Stmt Branch → Before
 after_by before (Stmt-F.Simple xs) = record { bound = with_each with_small before.bound xs; loaded = with_each with_load before.loaded xs }
 after_by before (Stmt-F.Def n ps body) = record before { bound = with_name before.bound n.name }
 after_by before _ = before
 
+-- the names bound and loaded so far, behind a statement
 unfoldable pub after : Before → TopLevel → Before
 after before t = after_by before (out-Stmt t.statement)
 
@@ -104,6 +112,7 @@ module _ (file : FileParts) where
   unfoldable pub is_known : Around → Name → Bool
   is_known around name = list_any (λ names. has names name) around || (has file.globals name || (has file.loaded name || is_some (universe_has file.universe name)))
 
+  -- the use of a name that has no meaning
   unfoldable pub in_use : Around → Identifier → List Fault
   in_use around n = unless (is_known around n.name) (fault_of f.UnknownName n)
 
@@ -138,28 +147,35 @@ module _ (file : FileParts) where
     in_target_by of_one around (TargetExpr-F.TargetExpr::Tuple ts) = of_all of_one ts
     in_target_by of_one around (TargetExpr-F.TargetExpr::List ts) = of_all of_one ts
 
+    -- the faults in a target, down to a depth
     unfoldable pub in_target_to : ℕ → Around → TargetExpr → List Fault
     in_target_to zero around t = too_deep
     in_target_to (suc layers) around t = in_target_by (in_target_to layers around) around (out-TargetExpr t)
 
+    -- the faults in a pair of a dict
     unfoldable pub in_pair : Around → Pair → List Fault
     in_pair around p = inner around (out-Pair p).key ++ inner around (out-Pair p).value
 
+    -- the faults in a right operand
     unfoldable pub in_operation : Around → Operation → List Fault
     in_operation around o = inner around (out-Operation o).operand
 
+    -- the faults in `x if c else ..`
     unfoldable pub in_choice : Around → Choice → List Fault
     in_choice around o = inner around (out-Choice o).value ++ inner around (out-Choice o).condition
 
+    -- the faults in an argument, by its form
     abbrev pub in_argument_by : Around → Argument-F Argument Clause Expr Suffix TargetExpr Choice Operation Pair → List Fault
     in_argument_by around (Argument-F.Positional x) = inner around x
     in_argument_by around (Argument-F.Named name x) = inner around x
     in_argument_by around (Argument-F.Star x) = inner around x
     in_argument_by around (Argument-F.StarStar x) = inner around x
 
+    -- the faults in the arguments of a call
     unfoldable pub in_arguments : Around → List Argument → List Fault
     in_arguments around xs = of_all (λ x. in_argument_by around (out-Argument x)) xs
 
+    -- the faults in a suffix, by its form
     abbrev pub in_suffix_by : Around → SuffixLayer → List Fault
     in_suffix_by around (Suffix-F.Call xs) = in_arguments around xs
     in_suffix_by around (Suffix-F.Method m xs) = in_arguments around xs
@@ -167,12 +183,15 @@ module _ (file : FileParts) where
     in_suffix_by around (Suffix-F.Suffix::Index i) = inner around i
     in_suffix_by around (Suffix-F.Slice i j k) = of_part (inner around) i ++ (of_part (inner around) j ++ of_part (inner around) k)
 
+    -- the faults in suffixes
     unfoldable pub in_suffixes : Around → List Suffix → List Fault
     in_suffixes around ss = of_all (λ s. in_suffix_by around (out-Suffix s)) ss
 
+    -- the faults in an operand and its suffixes
     unfoldable pub in_operand : Around → Expr → List Suffix → List Fault
     in_operand around x ss = inner around x ++ in_suffixes around ss
 
+    -- the faults in a call of a namespace's member, and in what stands behind it
     abbrev pub in_method : Around → Namespace → Expr → List Suffix → List Suffix → SuffixLayer → List Fault
     in_method around space x ss rest (Suffix-F.Method m xs) = in_member space m ++ (in_arguments around xs ++ in_suffixes around rest)
     in_method around space x ss rest _ = in_operand around x ss
@@ -182,6 +201,7 @@ module _ (file : FileParts) where
     in_primary_by around x (Some space) (s ∷ ss) = in_method around space x (s ∷ ss) ss (out-Suffix s)
     in_primary_by around x _ ss = in_operand around x ss
 
+    -- the faults in an operand with suffixes
     unfoldable pub in_primary : Around → Expr → List Suffix → List Fault
     in_primary around x ss = in_primary_by around x (as_namespace around (out-Expr x)) ss
 
@@ -200,6 +220,7 @@ module _ (file : FileParts) where
     in_comprehension element around cs =
         let own : Around = comprehension_names cs ∷ around in element own ++ in_clauses around own cs
 
+    -- the faults in an expression, by its form
     abbrev pub in_expr_by : Around → ExprLayer → List Fault
     in_expr_by around (Expr-F.Expr::Name n) = in_use around n
     in_expr_by around (Expr-F.Int i) = []
@@ -216,13 +237,16 @@ module _ (file : FileParts) where
     in_expr_by around (Expr-F.Conditional cs x) = of_all (in_choice around) cs ++ inner around x
     in_expr_by around Expr-F.Lambda = []
 
+  -- the faults in an expression, down to a depth
   unfoldable pub in_expr_to : ℕ → Around → Expr → List Fault
   in_expr_to zero around x = too_deep
   in_expr_to (suc layers) around x = in_expr_by (in_expr_to layers) around (out-Expr x)
 
+  -- the faults in an expression
   unfoldable pub in_expr : Around → Expr → List Fault
   in_expr around x = in_expr_to max_layers around x
 
+  -- the faults in a target
   unfoldable pub in_target : Around → TargetExpr → List Fault
   in_target around t = in_target_to in_expr max_layers around t
 
@@ -239,9 +263,11 @@ module _ (file : FileParts) where
   in_small_by around looping line small.Pass = []
   in_small_by around looping line (small.Load l) = misplaced_at line
 
+  -- the faults in a small statement
   unfoldable pub in_small : Around → Bool → SmallStmt → List Fault
   in_small around looping x = in_small_by around looping x.line x.kind
 
+  -- the faults in a condition and its block
   unfoldable pub in_branch : (Stmt → List Fault) → Around → Branch → List Fault
   in_branch inner around b = in_expr around (out-Branch b).condition ++ of_all inner (out-Branch b).block
 
@@ -252,12 +278,14 @@ module _ (file : FileParts) where
   in_stmt_by inner around looping (Stmt-F.For t x body) = in_target around t ++ (in_expr around x ++ of_all (inner true) body)
   in_stmt_by inner around looping (Stmt-F.Def n ps body) = misplaced_at n.line
 
+  -- the faults in a statement of a function, down to a depth
   unfoldable pub in_stmt_to : ℕ → Around → Bool → Stmt → List Fault
   in_stmt_to zero around looping x = too_deep
   in_stmt_to (suc layers) around looping x = in_stmt_by (in_stmt_to layers around) around looping (out-Stmt x)
 
   -- ---- F24: parameters
 
+  -- a parameter whose name another one has
   abbrev pub in_parameter_name : List Name → Identifier → List Fault
   in_parameter_name names n = when (has names n.name) (fault_of f.DoubleParameter n)
 
@@ -269,6 +297,7 @@ module _ (file : FileParts) where
   in_parameter names (parameter.Star n) = in_parameter_name names n
   in_parameter names (parameter.StarStar n) = in_parameter_name names n
 
+  -- the faults in a function: in its parameters in turn, then in its body
   unfoldable pub in_function : List Parameter → List Stmt → List Fault
   in_function ps body =
       in_turn in_parameter with_parameter [] ps ++ of_all (in_stmt_to max_layers (function_names ps body ∷ []) false) body
@@ -282,10 +311,12 @@ module _ (file : FileParts) where
   in_file_target_by of_one add before (TargetExpr-F.TargetExpr::Tuple ts) = in_turn of_one (λ b t. record b { bound = add b.bound t }) before ts
   in_file_target_by of_one add before (TargetExpr-F.TargetExpr::List ts) = in_turn of_one (λ b t. record b { bound = add b.bound t }) before ts
 
+  -- the faults in a target at the top level, down to a depth
   unfoldable pub in_file_target_to : ℕ → Before → TargetExpr → List Fault
   in_file_target_to zero before t = too_deep
   in_file_target_to (suc layers) before t = in_file_target_by (in_file_target_to layers) (with_target_to layers) before (out-TargetExpr t)
 
+  -- the faults in a target at the top level
   unfoldable pub in_file_target : Before → TargetExpr → List Fault
   in_file_target before t = in_file_target_to max_layers before t
 
@@ -300,6 +331,7 @@ module _ (file : FileParts) where
   in_file_small_by before line small.Pass = []
   in_file_small_by before line (small.Load l) = in_turn in_load_clause (λ b c. record b { loaded = with_load_clause b.loaded c }) before l.clauses
 
+  -- the faults in a small statement at the top level
   unfoldable pub in_file_small : Before → SmallStmt → List Fault
   in_file_small before x = in_file_small_by before x.line x.kind
 
@@ -310,6 +342,7 @@ module _ (file : FileParts) where
   in_top_level_by before line (Stmt-F.For t x body) = misplaced_at line
   in_top_level_by before line (Stmt-F.Def n ps body) = in_binding before n ++ in_function ps body
 
+  -- the faults in a statement at the top level
   unfoldable pub in_top_level : Before → TopLevel → List Fault
   in_top_level before t = in_top_level_by before t.line (out-Stmt t.statement)
 
