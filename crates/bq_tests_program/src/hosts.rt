@@ -8,7 +8,7 @@ use crate::workspace::no_packages;
 use bq_base::{Bytes, FaultKind};
 use bq_builtin_machine::{Args, Machine};
 use bq_label::PackageId;
-use bq_package_host::Host;
+use bq_package_host::{BuiltIns, Host};
 use bq_package_typed_value::Written;
 use bq_parse_grammar::FileKind;
 use bq_resolve_predeclared::HostFunction;
@@ -115,28 +115,35 @@ fn rules(alloc: Global) -> Result<Vec<Bytes>, AllocError> {
 }
 
 /// What a chunk prints, and the calls that were accepted.
+fn answer_in(setting: Setting<'_>, text: &[u8]) -> Result<Vec<u8>, AllocError> {
+    let host = Noting {
+        calls: Vec::new(setting.alloc),
+    };
+    let mut whole = Vec::new(setting.alloc);
+    if let Some(host) = run_chunk(setting, FileKind::Build, text, host, &mut whole)? {
+        add_line(&mut whole, &calls_line(setting.alloc, &host.calls)?)?;
+    }
+    Ok(whole)
+}
+
+/// The same, over two rules and no packages.
 struct Calls;
 
 impl Subject for Calls {
     fn answer(&self, alloc: Global, text: &[u8]) -> Result<Vec<u8>, AllocError> {
         let rules = rules(alloc)?;
+        let built_ins = BuiltIns::new(alloc, &rules)?;
         let own = PackageId::root(alloc)?;
         let packages = no_packages(alloc)?;
         let setting = Setting {
             alloc,
             rules: &rules,
+            built_ins: &built_ins,
             own: &own,
             packages: &packages,
             limit: 1_000_000,
         };
-        let host = Noting {
-            calls: Vec::new(alloc),
-        };
-        let mut whole = Vec::new(alloc);
-        if let Some(evaluated) = run_chunk(setting, FileKind::Build, text, host, &mut whole)? {
-            add_line(&mut whole, &calls_line(alloc, &evaluated.host.calls)?)?;
-        }
-        Ok(whole)
+        answer_in(setting, text)
     }
 }
 

@@ -64,20 +64,35 @@ fn add_outcome(
     }
 }
 
-/// What files are evaluated with: the names of the rules, the package that they are of, all packages, and the most steps.
+/// What files are evaluated with: the names of the rules, the values of predeclared names, the package that they are of, all packages, and
+/// the most steps.
 #[derive(Clone, Copy)]
 pub struct Setting<'a> {
     pub alloc: Global,
     pub rules: &'a [Bytes],
+    pub built_ins: &'a BuiltIns,
     pub own: &'a PackageId,
     pub packages: &'a Packages,
     pub limit: u64,
 }
 
-/// The file of a text, or why it is none.
-fn file_of(setting: Setting<'_>, kind: FileKind, text: &[u8]) -> Result<Resolved, SourceErr> {
+/// The file of a text. Adds why it is none, where it is none.
+fn file_of(
+    setting: Setting<'_>,
+    kind: FileKind,
+    text: &[u8],
+    whole: &mut Vec<u8>,
+) -> Result<Option<Resolved>, AllocError> {
     let universe = Universe::new(setting.alloc, kind, setting.rules)?;
-    code_of(setting.alloc, &universe, text)
+    let found = code_of(setting.alloc, &universe, text);
+    drop(universe);
+    match found {
+        Ok(file) => Ok(Some(file)),
+        Err(error) => {
+            add_refusal(setting.alloc, whole, &error)?;
+            Ok(None)
+        }
+    }
 }
 
 /// Evaluates a file that loads nothing, as module 0.
@@ -93,10 +108,9 @@ fn alone<H: Host + Drop>(
         imports: &[],
         code: &[],
     };
-    let built_ins = BuiltIns::new(setting.alloc, setting.rules)?;
     eval_module(
         setting.alloc,
-        &built_ins,
+        setting.built_ins,
         &module,
         host,
         setting.limit,
@@ -128,18 +142,11 @@ fn add_imports(
     Ok(())
 }
 
-/// The values of the symbols of all loads, where all of them are of one file.
-fn imports_of(
-    alloc: Global,
-    file: &Resolved,
-    frozen: &Frozen,
-    loads: &[LoadStmt],
-) -> Result<Vec<Value>, AllocError> {
-    let mut imports = Vec::new(alloc);
-    for load in loads {
-        add_imports(file, frozen, load, &mut imports)?;
-    }
-    Ok(imports)
+/// A module that another file loads: its code, and what it evaluated to, each as a list of one.
+#[derive(Drop)]
+struct Below {
+    code: Vec<Option<Resolved>>,
+    modules: Vec<Arc<Frozen>>,
 }
 
 /// A list of one.
@@ -149,29 +156,43 @@ fn one<T: Drop>(alloc: Global, item: T) -> Result<Vec<T>, AllocError> {
     Ok(items)
 }
 
+impl Below {
+    fn of(alloc: Global, file: Resolved, frozen: Frozen) -> Result<Below, AllocError> {
+        let code = one(alloc, Some(file))?;
+        let modules = one(alloc, Arc::new(alloc, frozen)?)?;
+        Ok(Below { code, modules })
+    }
+
+    /// The values of the symbols of all loads, where all of them are of this module.
+    fn imports(&self, alloc: Global, loads: &[LoadStmt]) -> Result<Vec<Value>, AllocError> {
+        let mut imports = Vec::new(alloc);
+        if let ([Some(file)], [frozen]) = (self.code.as_slice(), self.modules.as_slice()) {
+            for load in loads {
+                add_imports(file, frozen, load, &mut imports)?;
+            }
+        }
+        Ok(imports)
+    }
+}
+
 /// Evaluates a file that loads this module, as module 1.
 fn above<H: Host + Drop>(
     setting: Setting<'_>,
-    loaded: (Resolved, Frozen),
+    below: &Below,
     file: &Resolved,
     host: H,
 ) -> Result<EvaluatedFile<H>, AllocError> {
-    let alloc = setting.alloc;
-    let (below, frozen) = loaded;
-    let imports = imports_of(alloc, &below, &frozen, file.loads.as_slice())?;
-    let code = one(alloc, Some(below))?;
-    let modules = one(alloc, Arc::new(alloc, frozen)?)?;
+    let imports = below.imports(setting.alloc, file.loads.as_slice())?;
     let module = ResolvedModule {
         number: 1,
         file,
-        loaded: &modules,
+        loaded: &below.modules,
         imports: &imports,
-        code: &code,
+        code: &below.code,
     };
-    let built_ins = BuiltIns::new(alloc, setting.rules)?;
     eval_module(
-        alloc,
-        &built_ins,
+        setting.alloc,
+        setting.built_ins,
         &module,
         host,
         setting.limit,
@@ -179,16 +200,17 @@ fn above<H: Host + Drop>(
     )
 }
 
-/// Evaluates a file that loads nothing, and adds what is printed of it.
-fn run_alone<H: Host + Drop>(
-    setting: Setting<'_>,
-    file: &Resolved,
-    host: H,
+/// The host of an evaluation. Adds what is printed of its outcome.
+fn host_of<H: Host + Drop>(
+    alloc: Global,
+    evaluated: EvaluatedFile<H>,
     whole: &mut Vec<u8>,
-) -> Result<EvaluatedFile<H>, AllocError> {
-    let evaluated = alone(setting, file, host)?;
-    add_outcome(setting.alloc, whole, &evaluated.outcome)?;
-    Ok(evaluated)
+) -> Result<H, AllocError> {
+    let EvaluatedFile { outcome, host } = evaluated;
+    let added = add_outcome(alloc, whole, &outcome);
+    drop(outcome);
+    added?;
+    Ok(host)
 }
 
 /// Evaluates one file, and adds what is printed of it.
@@ -198,67 +220,50 @@ fn run_one<H: Host + Drop>(
     text: &[u8],
     host: H,
     whole: &mut Vec<u8>,
-) -> Result<Option<EvaluatedFile<H>>, AllocError> {
-    match file_of(setting, kind, text) {
-        Ok(file) => Ok(Some(run_alone(setting, &file, host, whole)?)),
-        Err(error) => {
-            add_refusal(setting.alloc, whole, &error)?;
-            Ok(None)
-        }
-    }
-}
-
-/// Evaluates a file that loads this module, and adds what is printed of it.
-fn run_over<H: Host + Drop>(
-    setting: Setting<'_>,
-    loaded: (Resolved, Frozen),
-    file: &Resolved,
-    host: H,
-    whole: &mut Vec<u8>,
-) -> Result<EvaluatedFile<H>, AllocError> {
-    let evaluated = above(setting, loaded, file, host)?;
-    add_outcome(setting.alloc, whole, &evaluated.outcome)?;
-    Ok(evaluated)
+) -> Result<Option<H>, AllocError> {
+    let Some(file) = file_of(setting, kind, text, whole)? else {
+        return Ok(None);
+    };
+    let evaluated = alone(setting, &file, host);
+    drop(file);
+    Ok(Some(host_of(setting.alloc, evaluated?, whole)?))
 }
 
 /// Evaluates the BUILD file over a module, and adds what is printed of it.
 fn run_above<H: Host + Drop>(
     setting: Setting<'_>,
-    loaded: (Resolved, Frozen),
+    below: &Below,
     text: &[u8],
     host: H,
     whole: &mut Vec<u8>,
-) -> Result<Option<EvaluatedFile<H>>, AllocError> {
-    match file_of(setting, FileKind::Build, text) {
-        Ok(file) => Ok(Some(run_over(setting, loaded, &file, host, whole)?)),
-        Err(error) => {
-            add_refusal(setting.alloc, whole, &error)?;
-            Ok(None)
-        }
-    }
+) -> Result<Option<H>, AllocError> {
+    let Some(file) = file_of(setting, FileKind::Build, text, whole)? else {
+        return Ok(None);
+    };
+    let evaluated = above(setting, below, &file, host);
+    drop(file);
+    Ok(Some(host_of(setting.alloc, evaluated?, whole)?))
 }
 
-/// A file and the module that it is, if it is one.
-fn with_file(file: Resolved, outcome: FileOutcome) -> Option<(Resolved, Frozen)> {
+/// The module that an outcome is, if it is one.
+fn module_in(outcome: FileOutcome) -> Option<Frozen> {
     match outcome {
-        FileOutcome::Module(frozen, _prints) => Some((file, frozen)),
+        FileOutcome::Module(frozen, _prints) => Some(frozen),
         FileOutcome::Failed(_fault, _prints) => None,
     }
 }
 
-/// What a .bzl file ends in, in which no function of the tool may be called. Adds what is printed of it.
-fn outcome_of(
+/// What a .bzl file evaluates to, in which no function of the tool may be called. Adds what is printed of it.
+fn frozen_of(
     setting: Setting<'_>,
     file: &Resolved,
     whole: &mut Vec<u8>,
-) -> Result<FileOutcome, AllocError> {
+) -> Result<Option<Frozen>, AllocError> {
     let host = BuildHost::outside(setting.alloc, setting.own, setting.packages)?;
-    let evaluated = run_alone(setting, file, host, whole)?;
-    let EvaluatedFile {
-        outcome,
-        host: _host,
-    } = evaluated;
-    Ok(outcome)
+    let EvaluatedFile { outcome, host } = alone(setting, file, host)?;
+    drop(host);
+    add_outcome(setting.alloc, whole, &outcome)?;
+    Ok(module_in(outcome))
 }
 
 /// Evaluates a .bzl file, and adds what is printed of it.
@@ -266,16 +271,13 @@ fn run_below(
     setting: Setting<'_>,
     text: &[u8],
     whole: &mut Vec<u8>,
-) -> Result<Option<(Resolved, Frozen)>, AllocError> {
-    match file_of(setting, FileKind::Bzl, text) {
-        Ok(file) => {
-            let outcome = outcome_of(setting, &file, whole)?;
-            Ok(with_file(file, outcome))
-        }
-        Err(error) => {
-            add_refusal(setting.alloc, whole, &error)?;
-            Ok(None)
-        }
+) -> Result<Option<Below>, AllocError> {
+    let Some(file) = file_of(setting, FileKind::Bzl, text, whole)? else {
+        return Ok(None);
+    };
+    match frozen_of(setting, &file, whole)? {
+        Some(frozen) => Ok(Some(Below::of(setting.alloc, file, frozen)?)),
+        None => Ok(None),
     }
 }
 
@@ -286,9 +288,9 @@ fn run_two<H: Host + Drop>(
     build: &[u8],
     host: H,
     whole: &mut Vec<u8>,
-) -> Result<Option<EvaluatedFile<H>>, AllocError> {
+) -> Result<Option<H>, AllocError> {
     match run_below(setting, bzl, whole)? {
-        Some(loaded) => run_above(setting, loaded, build, host, whole),
+        Some(below) => run_above(setting, &below, build, host, whole),
         None => Ok(None),
     }
 }
@@ -306,14 +308,15 @@ fn files_of(chunk: &[u8]) -> (Option<&[u8]>, &[u8]) {
     (None, chunk)
 }
 
-/// Evaluates what a chunk has: one file of this kind, or a .bzl file and then a BUILD file. Adds what is printed of it.
+/// Evaluates what a chunk has: one file of this kind, or a .bzl file and then a BUILD file. Adds what is printed of it, and returns the
+/// host of the last file, if it was evaluated.
 pub fn run_chunk<H: Host + Drop>(
     setting: Setting<'_>,
     kind: FileKind,
     chunk: &[u8],
     host: H,
     whole: &mut Vec<u8>,
-) -> Result<Option<EvaluatedFile<H>>, AllocError> {
+) -> Result<Option<H>, AllocError> {
     match files_of(chunk) {
         (Some(bzl), build) => run_two(setting, bzl, build, host, whole),
         (None, text) => run_one(setting, kind, text, host, whole),

@@ -3,28 +3,14 @@ ghost use Rattle.std.specs.Prelude.{◌<◌, ◌≤◌};
 
 use super::counts::Counts;
 use super::meeting::Meeting;
-use super::{files_of, large};
-use bq_label::{File, Workspace};
+use super::{LIMIT, Property, Tree, files_have, large, text_has};
 use bq_load::{Gate, Loaded, OpenGate, load_one_thread, load_with};
 use bq_load_discover::LoadErr;
 use bq_load_workers::MAX_WORKERS;
-use bq_package_schema::Schema;
 use bq_value_seed::Seed;
 use std::alloc::{AllocError, Global};
-use std::process::Abort;
 use std::sync::Wait;
 use std::thread::Threads;
-
-/// The most steps of a module.
-const LIMIT: u64 = 1_000_000;
-
-/// What is loaded.
-#[derive(Clone, Copy)]
-struct Tree<'a> {
-    alloc: Global,
-    workspace: &'a Workspace,
-    schema: &'a Schema,
-}
 
 fn by_one_thread(tree: Tree<'_>) -> Result<Loaded, LoadErr> {
     load_one_thread(
@@ -36,7 +22,7 @@ fn by_one_thread(tree: Tree<'_>) -> Result<Loaded, LoadErr> {
     )
 }
 
-fn by_workers<R: Threads + Wait + Sync, G: Gate>(
+pub fn loaded_by<R: Threads + Wait + Sync, G: Gate>(
     rt: &R,
     tree: Tree<'_>,
     workers: usize,
@@ -86,7 +72,7 @@ fn gives_the_same<R: Threads + Wait + Sync>(
     requires { (0 < workers) × (workers ≤ MAX_WORKERS) }
 {
     let gate = Counts::new(tree.alloc)?;
-    let found = by_workers(rt, tree, workers, &gate)?;
+    let found = loaded_by(rt, tree, workers, &gate)?;
     Ok(gate.are_right(&found) && are_same(tree.alloc, wanted, &found)?)
 }
 
@@ -103,7 +89,7 @@ fn all_give_the_same<R: Threads + Wait + Sync>(
 }
 
 /// Whether a workspace is loaded alike by any number of workers.
-fn is_loaded_alike<R: Threads + Wait + Sync>(rt: &R, tree: Tree<'_>) -> Result<bool, LoadErr> {
+pub fn is_loaded_alike<R: Threads + Wait + Sync>(rt: &R, tree: Tree<'_>) -> Result<bool, LoadErr> {
     let wanted = by_one_thread(tree)?;
     if wanted.modules.len() != 401 || wanted.faults.is_empty() {
         return Ok(false);
@@ -111,30 +97,14 @@ fn is_loaded_alike<R: Threads + Wait + Sync>(rt: &R, tree: Tree<'_>) -> Result<b
     all_give_the_same(rt, tree, &wanted)
 }
 
-/// The same of the workspace of these files.
-fn loads_alike<R: Threads + Wait + Sync>(
-    rt: &R,
-    alloc: Global,
-    files: Vec<File>,
-) -> Result<bool, LoadErr> {
-    let workspace = Workspace::new(files);
-    let schema = Schema::standard(alloc);
-    let (Ok(workspace), Ok(schema)) = (&workspace, &schema) else {
-        return Ok(false);
-    };
-    let tree = Tree {
-        alloc,
-        workspace,
-        schema,
-    };
-    is_loaded_alike(rt, tree)
-}
-
 #[test]
 fn workers_load_as_one_thread(rt: HostRuntime) -> Result<(), LoadErr> {
     for seed in [1u64, 2] {
         let files = large::files(rt.alloc(), seed)?;
-        assert!(rt; loads_alike(&rt, rt.alloc(), files)?, "seed {seed}");
+        assert!(rt;
+            files_have(&rt, rt.alloc(), files, Property::LoadsAlike)?,
+            "seed {seed}"
+        );
     }
     Ok(())
 }
@@ -150,36 +120,37 @@ load(":y.bzl", "b")
 print(a + b)
 "#;
 
+/// What the modules print, by so many workers.
+fn printed<R: Threads + Wait + Sync, G: Gate>(
+    rt: &R,
+    tree: Tree<'_>,
+    workers: usize,
+    gate: &G,
+) -> Result<Vec<u8>, LoadErr>
+    requires { (0 < workers) × (workers ≤ MAX_WORKERS) }
+{
+    let loaded = loaded_by(rt, tree, workers, gate)?;
+    Ok(loaded.prints.to_vec(tree.alloc)?)
+}
+
 /// Whether the two files are in evaluation at once, and each module enters once.
-fn meet<R: Threads + Wait + Sync>(rt: &R, tree: Tree<'_>) -> Result<bool, LoadErr> {
+pub fn two_meet<R: Threads + Wait + Sync>(rt: &R, tree: Tree<'_>) -> Result<bool, LoadErr> {
     let gate = Meeting::new();
-    let loaded = by_workers(rt, tree, 2, &gate)?;
-    let prints = loaded.prints.to_vec(tree.alloc)?;
+    let prints = printed(rt, tree, 2, &gate)?;
     let is_whole = prints.as_slice() == b"//:BUILD: 3\n".as_slice();
     Ok(gate.both_met() && gate.entered_once() && is_whole)
 }
 
-fn check_meeting<R: Abort + Threads + Wait + Sync>(rt: &R, tree: Tree<'_>) -> Result<(), LoadErr> {
-    assert!(rt; meet(rt, tree)?);
-    let loaded = by_workers(rt, tree, 64, &OpenGate)?;
-    let prints = loaded.prints.to_vec(tree.alloc)?;
-    assert!(rt; prints.as_slice() == b"//:BUILD: 3\n".as_slice());
-    Ok(())
+/// Whether 64 workers print the same.
+pub fn many_print<R: Threads + Wait + Sync>(rt: &R, tree: Tree<'_>) -> Result<bool, LoadErr> {
+    let prints = printed(rt, tree, 64, &OpenGate)?;
+    Ok(prints.as_slice() == b"//:BUILD: 3\n".as_slice())
 }
 
 /// Two workers evaluate two files at once.
 #[test]
 fn two_workers_meet(rt: HostRuntime) -> Result<(), LoadErr> {
-    let alloc = rt.alloc();
-    let workspace = Workspace::new(files_of(alloc, TWO.as_bytes())?);
-    let schema = Schema::standard(alloc);
-    let (Ok(workspace), Ok(schema)) = (&workspace, &schema) else {
-        return Err(LoadErr::Memory);
-    };
-    let tree = Tree {
-        alloc,
-        workspace,
-        schema,
-    };
-    check_meeting(&rt, tree)
+    assert!(rt; text_has(&rt, rt.alloc(), TWO, Property::TwoMeet)?);
+    assert!(rt; text_has(&rt, rt.alloc(), TWO, Property::ManyPrint)?);
+    Ok(())
 }

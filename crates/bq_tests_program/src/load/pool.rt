@@ -3,21 +3,16 @@
 ghost use Rattle.std.specs.Prelude.{◌≡◌, ◌<◌, ◌≤◌, All, IfOk, vec_len};
 ghost use Rattle.bq_board.specs.Seats.{IsSeatOf};
 
-use super::files_of;
+use super::by_workers::loaded_by;
 use super::holding::Holding;
 use super::workplace::{Returned, work_at_all};
+use super::{LIMIT, Property, Tree, text_has};
 use bq_board::MAX_SEATS;
-use bq_label::Workspace;
-use bq_load::{Evaluated, OpenGate, Pool, PoolSeat, load_with};
+use bq_load::{Evaluated, OpenGate, Pool, PoolSeat};
 use bq_load_discover::{LoadErr, discover};
-use bq_package_schema::Schema;
 use bq_value_seed::Seed;
-use std::alloc::Global;
 use std::sync::{Arc, Wait};
 use std::thread::Threads;
-
-/// The most steps of a module.
-const LIMIT: u64 = 1_000_000;
 
 const FOUR: &str = r#"
 ~a.bzl
@@ -42,61 +37,16 @@ load(":a.bzl", "a")
 load(":b.bzl", "b")
 "#;
 
-/// A workspace that is written as one text, and its schema.
-#[derive(Drop)]
-struct Written {
-    workspace: Workspace,
-    schema: Schema,
-}
-
-/// What is loaded.
-#[derive(Clone, Copy)]
-struct Tree<'a> {
-    alloc: Global,
-    workspace: &'a Workspace,
-    schema: &'a Schema,
-}
-
-impl Written {
-    fn of(alloc: Global, text: &str) -> Result<Written, LoadErr> {
-        let Ok(workspace) = Workspace::new(files_of(alloc, text.as_bytes())?) else {
-            return Err(LoadErr::Memory);
-        };
-        match Schema::standard(alloc) {
-            Ok(schema) => Ok(Written { workspace, schema }),
-            Err(_) => Err(LoadErr::Memory),
-        }
-    }
-
-    fn tree(&self, alloc: Global) -> Tree<'_> {
-        Tree {
-            alloc,
-            workspace: &self.workspace,
-            schema: &self.schema,
-        }
-    }
-}
-
 /// Whether `c.bzl` enters while `b.bzl` is held, by two workers.
-fn workers_meet<R: Threads + Wait + Sync>(rt: &R, tree: Tree<'_>) -> Result<bool, LoadErr> {
+pub fn workers_meet<R: Threads + Wait + Sync>(rt: &R, tree: Tree<'_>) -> Result<bool, LoadErr> {
     let gate = Holding::new();
-    let loaded = load_with(
-        rt,
-        tree.alloc,
-        tree.workspace,
-        tree.schema,
-        LIMIT,
-        Seed::fixed(),
-        2,
-        &gate,
-    )?;
+    let loaded = loaded_by(rt, tree, 2, &gate)?;
     Ok(gate.both_met() && loaded.modules.len() == 4 && loaded.faults.is_empty())
 }
 
 #[test]
 fn nobody_waits_for_what_it_does_not_load(rt: HostRuntime) -> Result<(), LoadErr> {
-    let four = Written::of(rt.alloc(), FOUR)?;
-    assert!(rt; workers_meet(&rt, four.tree(rt.alloc()))?);
+    assert!(rt; text_has(&rt, rt.alloc(), FOUR, Property::WorkersMeet)?);
     Ok(())
 }
 
@@ -119,7 +69,7 @@ fn open(tree: Tree<'_>, seats: usize) -> Result<(Pool<'_>, Vec<PoolSeat<'_>>), L
 }
 
 /// Whether `c.bzl` enters while `b.bzl` is held, by two threads in one pool, and they return all modules, each once.
-fn threads_meet<R: Threads + Wait + Sync>(rt: &R, tree: Tree<'_>) -> Result<bool, LoadErr> {
+pub fn threads_meet<R: Threads + Wait + Sync>(rt: &R, tree: Tree<'_>) -> Result<bool, LoadErr> {
     let gate = Holding::new();
     let returned = Returned::new(tree.alloc, 4)?;
     let (pool, mut seats) = open(tree, 2)?;
@@ -129,27 +79,7 @@ fn threads_meet<R: Threads + Wait + Sync>(rt: &R, tree: Tree<'_>) -> Result<bool
 
 #[test]
 fn two_threads_share_a_pool(rt: HostRuntime) -> Result<(), LoadErr> {
-    let four = Written::of(rt.alloc(), FOUR)?;
-    assert!(rt; threads_meet(&rt, four.tree(rt.alloc()))?);
-    Ok(())
-}
-
-/// Whether one of so many seats returns all modules, while the others never work.
-fn one_returns_all<R: Wait>(rt: &R, tree: Tree<'_>, seats: usize) -> Result<bool, LoadErr>
-    requires { (0 < seats) × (seats ≤ MAX_SEATS) }
-{
-    let (pool, mut seats) = open(tree, seats)?;
-    let mut seat = seats.pop().unwrap();
-    let worked = pool.work(rt, tree.alloc, &mut seat, &OpenGate)?;
-    Ok(worked.all && worked.modules.len() == 4)
-}
-
-#[test]
-fn one_seat_returns_all(rt: HostRuntime) -> Result<(), LoadErr> {
-    let four = Written::of(rt.alloc(), FOUR)?;
-    assert!(rt; one_returns_all(&rt, four.tree(rt.alloc()), 1)?);
-    assert!(rt; one_returns_all(&rt, four.tree(rt.alloc()), 2)?);
-    assert!(rt; one_returns_all(&rt, four.tree(rt.alloc()), MAX_SEATS)?);
+    assert!(rt; text_has(&rt, rt.alloc(), FOUR, Property::ThreadsMeet)?);
     Ok(())
 }
 
@@ -168,19 +98,56 @@ fn owners(modules: &[Evaluated]) -> usize {
     owners
 }
 
-/// Whether a pool lets go of what nobody fetched when it is closed, and not before.
-fn lets_go<R: Wait>(rt: &R, tree: Tree<'_>) -> Result<bool, LoadErr> {
-    let (pool, mut seats) = open(tree, 1)?;
+/// What one seat of a pool returned, while the others never worked, and how many owned what `b.bzl` evaluated to.
+#[derive(Clone, Copy)]
+struct Seen {
+    all: bool,
+    modules: usize,
+    before_close: usize,
+    after_close: usize,
+}
+
+/// Works at one of so many seats, and closes the pool.
+fn seen<R: Wait>(rt: &R, tree: Tree<'_>, seats: usize) -> Result<Seen, LoadErr>
+    requires { (0 < seats) × (seats ≤ MAX_SEATS) }
+{
+    let (pool, mut seats) = open(tree, seats)?;
     let mut seat = seats.pop().unwrap();
     let worked = pool.work(rt, tree.alloc, &mut seat, &OpenGate)?;
-    let before = owners(worked.modules.as_slice());
+    let before_close = owners(worked.modules.as_slice());
     pool.close(seat);
-    Ok(before == 2 && owners(worked.modules.as_slice()) == 1)
+    Ok(Seen {
+        all: worked.all,
+        modules: worked.modules.len(),
+        before_close,
+        after_close: owners(worked.modules.as_slice()),
+    })
+}
+
+/// Whether one of so many seats returns all modules.
+pub fn one_returns_all<R: Wait>(rt: &R, tree: Tree<'_>, seats: usize) -> Result<bool, LoadErr>
+    requires { (0 < seats) × (seats ≤ MAX_SEATS) }
+{
+    let found = seen(rt, tree, seats)?;
+    Ok(found.all && found.modules == 4)
+}
+
+#[test]
+fn one_seat_returns_all(rt: HostRuntime) -> Result<(), LoadErr> {
+    assert!(rt; text_has(&rt, rt.alloc(), FOUR, Property::OneOfOne)?);
+    assert!(rt; text_has(&rt, rt.alloc(), FOUR, Property::OneOfTwo)?);
+    assert!(rt; text_has(&rt, rt.alloc(), FOUR, Property::OneOfMost)?);
+    Ok(())
+}
+
+/// Whether a pool lets go of what nobody fetched when it is closed, and not before.
+pub fn lets_go<R: Wait>(rt: &R, tree: Tree<'_>) -> Result<bool, LoadErr> {
+    let found = seen(rt, tree, 1)?;
+    Ok(found.before_close == 2 && found.after_close == 1)
 }
 
 #[test]
 fn a_closed_pool_lets_go_of_what_nobody_fetched(rt: HostRuntime) -> Result<(), LoadErr> {
-    let unfetched = Written::of(rt.alloc(), UNFETCHED)?;
-    assert!(rt; lets_go(&rt, unfetched.tree(rt.alloc()))?);
+    assert!(rt; text_has(&rt, rt.alloc(), UNFETCHED, Property::LetsGo)?);
     Ok(())
 }
