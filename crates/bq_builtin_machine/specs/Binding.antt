@@ -6,8 +6,7 @@ use Rattle.bq_base.specs.declared.fault.FaultKind.{FaultKind}
 use Rattle.bq_base.specs.declared.fault.FaultKind.TheVariants.{Args}
 use Rattle.bq_value.specs.Datum.{Datum, string}
 use Rattle.bq_value.specs.Codes.{coded_datum}
-use Rattle.bq_value.specs.Contents.{coded_pairs}
-use Rattle.bq_value.specs.Pairs.{found, put}
+use Rattle.bq_value.specs.Pairs.{coded_pairs, found, put}
 use Rattle.bq_builtin_machine.specs.Args.{Passed}
 use Rattle.bq_builtin_machine.specs.Parameters.{ParameterView, SignatureView, is_called, places}
 

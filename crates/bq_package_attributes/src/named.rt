@@ -38,7 +38,7 @@ pub(crate) struct Keywords {
 impl Model for Keywords {
     ghost use Rattle.std.specs.Prelude.{List};
     ghost use Rattle.bq_value.specs.Datum.{Datum};
-    ghost use Rattle.bq_value.specs.Contents.{coded_pairs};
+    ghost use Rattle.bq_value.specs.Pairs.{coded_pairs};
     ghost use Rattle.bq_package_attributes.specs.Named.{pairs_of};
 
     ghost Value = { List (Datum × Datum) };
