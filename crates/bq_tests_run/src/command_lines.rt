@@ -2,7 +2,7 @@
 
 use bq_command_line::{Asked, Place, VERSION, Wanted, Words, show, words_of};
 use bq_run::OutputForm;
-use bq_tests_rows::{is_row, row_of, wanted_of};
+use bq_tests_rows::{is_row, number_of, row_of, wanted_of};
 use std::alloc::{AllocError, Global};
 use std::process::Abort;
 
@@ -106,17 +106,32 @@ fn status(rt: &HostRuntime, line: &[u8]) -> Result<u8, AllocError> {
 
 #[test]
 fn end_with_a_text_or_a_refusal(rt: HostRuntime) -> Result<(), AllocError> {
-    assert!(rt; status(&rt, b"--help")? == 0);
-    assert!(rt; status(&rt, b"--version")? == 0);
-    assert!(rt; status(&rt, b"--jobs 0 //a:x")? == 2);
-    assert!(rt; status(&rt, b"")? == 2);
-    assert!(rt; status(&rt, b"--queries q.txt //a:x")? == 2);
-    assert!(rt; status(&rt, b"--facts --queries q.txt")? == 2);
-    assert!(rt; status(&rt, b"--facts //a:x --output label")? == 2);
-    assert!(rt; status(&rt, b"--bundle b.txt --dir d //a:x")? == 2);
-    assert!(rt; status(&rt, b"--bundle b.txt")? == 2);
+    for row in STATUSES.as_bytes().split(|byte| *byte == b'\n') {
+        if is_row(row) {
+            let wanted = wanted_of(rt.alloc(), row)?;
+            let found = status(&rt, row_of(row).word(0))?;
+            assert!(rt;
+                u64::from(found) == number_of(&wanted),
+                "{}: {found}",
+                row.escape_ascii()
+            );
+        }
+    }
     Ok(())
 }
+
+/// A line but for the program's name, and the exit status.
+const STATUSES: &str = r#"
+--help | 0
+--version | 0
+--jobs 0 //a:x | 2
+ | 2
+--queries q.txt //a:x | 2
+--facts --queries q.txt | 2
+--facts //a:x --output label | 2
+--bundle b.txt --dir d //a:x | 2
+--bundle b.txt | 2
+"#;
 
 /// A line but for the program's name, and what it asks for.
 const TAKEN: &str = r#"

@@ -5,6 +5,8 @@ ghost use Rattle.std.specs.Prelude.{◌≡◌};
 use crate::devices::{make_drip, make_sip};
 use crate::options::options;
 use crate::rows::{Row, check_answer, is_row, row_of};
+use crate::runs::shown_with_status;
+use bq_label::Workspace;
 use bq_run::{Counted, read_bundle, status_code};
 use bq_run_facts::run_facts;
 use std::alloc::{AllocError, Global};
@@ -13,14 +15,14 @@ use std::random::RandomSource;
 use std::sync::Wait;
 use std::thread::Threads;
 
-/// Returns what a run that is asked for the facts of a bundle writes, its status and how many calls failed, as
+/// Returns what a run that is asked for the facts of a workspace writes, its status and how many calls failed, as
 /// `FAULTS>FACTS>STATUS FAILURES`. An empty query is none. The writer of facts fails at this call.
-fn written<R: Threads + Wait + RandomSource + Sync>(
+fn written_over<R: Threads + Wait + RandomSource + Sync>(
     rt: &R,
     alloc: Global,
+    workspace: &Workspace,
     row: Row,
 ) -> Result<Vec<u8>, AllocError> {
-    let bundle = row.bytes(alloc, 0)?;
     let text = row.bytes(alloc, 1)?;
     let query = if text.is_empty() {
         None
@@ -28,15 +30,12 @@ fn written<R: Threads + Wait + RandomSource + Sync>(
         Some(text.as_slice())
     };
     let asked = options(alloc, b"", 4)?;
-    let Ok(workspace) = read_bundle(alloc, &mut make_drip(&bundle, 0)) else {
-        return b"no bundle".to_vec(alloc);
-    };
     let mut writer = make_sip(alloc, row.number(2), false);
     let mut faults = make_sip(alloc, 0, false);
     let ended = run_facts(
         rt,
         alloc,
-        &workspace,
+        workspace,
         query,
         &mut writer,
         &mut faults,
@@ -44,12 +43,27 @@ fn written<R: Threads + Wait + RandomSource + Sync>(
     );
     let code = status_code(&ended);
     let failures = writer.failures();
-    let mut whole = faults.device.held.as_slice().to_vec(alloc)?;
-    whole.push(b'>')?;
-    whole.extend_from_slice(&writer.device.held)?;
-    let end = format!(in alloc; ">{code} {failures}")?;
-    whole.extend_from_slice(end.as_bytes())?;
-    Ok(whole)
+    shown_with_status(
+        alloc,
+        &faults.device.held,
+        &writer.device.held,
+        code,
+        failures,
+    )
+}
+
+/// The same of the workspace of a bundle.
+fn written<R: Threads + Wait + RandomSource + Sync>(
+    rt: &R,
+    alloc: Global,
+    row: Row,
+) -> Result<Vec<u8>, AllocError> {
+    let bundle = row.bytes(alloc, 0)?;
+    let workspace = read_bundle(alloc, &mut make_drip(&bundle, 0));
+    match &workspace {
+        Ok(workspace) => written_over(rt, alloc, workspace, row),
+        Err(_) => b"no bundle".to_vec(alloc),
+    }
 }
 
 fn check_facts<R: Threads + Wait + RandomSource + Sync + Abort>(

@@ -43,6 +43,18 @@ fn shown(
     joined(alloc, &[faults, answer, &line, end.as_bytes()])
 }
 
+/// What two writers hold, a status and how many calls failed, as `FAULTS>WRITTEN>STATUS FAILURES`.
+pub fn shown_with_status(
+    alloc: Global,
+    faults: &[u8],
+    written: &[u8],
+    status: u8,
+    failures: u64,
+) -> Result<Vec<u8>, AllocError> {
+    let end = format!(in alloc; "{status} {failures}")?;
+    joined(alloc, &[faults, written, end.as_bytes()])
+}
+
 /// Texts with a `>` between them.
 fn joined(alloc: Global, texts: &[&[u8]]) -> Result<Vec<u8>, AllocError> {
     let mut whole = Vec::new(alloc);

@@ -5,6 +5,8 @@ ghost use Rattle.std.specs.Prelude.{◌≡◌};
 use crate::devices::{make_drip, make_sip};
 use crate::options::options;
 use crate::rows::{Row, check_answer, is_row, row_of};
+use crate::runs::shown_with_status;
+use bq_label::Workspace;
 use bq_run::{Counted, Metered, RunErr, read_bundle, status_code};
 use bq_run_session::{SessionStatus, run_queries, session_code};
 use std::alloc::{AllocError, Global};
@@ -23,26 +25,23 @@ fn code_of(ended: Result<SessionStatus, RunErr>) -> u8 {
     }
 }
 
-/// Returns what a session over a bundle writes, its status and how many calls failed, as `FAULTS>BLOCKS>STATUS FAILURES`. The
-/// reader of queries and the writer of blocks fail at these calls.
-fn written<R: Threads + Wait + RandomSource + Sync>(
+/// Returns what a session over a workspace writes, its status and how many calls failed, as `FAULTS>BLOCKS>STATUS FAILURES`.
+/// The reader of queries and the writer of blocks fail at these calls.
+fn written_over<R: Threads + Wait + RandomSource + Sync>(
     rt: &R,
     alloc: Global,
+    workspace: &Workspace,
     row: Row,
 ) -> Result<Vec<u8>, AllocError> {
-    let bundle = row.bytes(alloc, 0)?;
     let lines = row.bytes(alloc, 1)?;
     let asked = options(alloc, b"", 4)?;
-    let Ok(workspace) = read_bundle(alloc, &mut make_drip(&bundle, 0)) else {
-        return b"no bundle".to_vec(alloc);
-    };
     let mut queries = make_drip(&lines, row.number(2));
     let mut writer = make_sip(alloc, row.number(3), false);
     let mut faults = make_sip(alloc, 0, false);
     let ended = run_queries(
         rt,
         alloc,
-        &workspace,
+        workspace,
         &mut queries,
         &mut writer,
         &mut faults,
@@ -50,12 +49,27 @@ fn written<R: Threads + Wait + RandomSource + Sync>(
     );
     let failures = queries.failures().wrapping_add(writer.failures());
     let code = code_of(ended);
-    let mut whole = faults.device.held.as_slice().to_vec(alloc)?;
-    whole.push(b'>')?;
-    whole.extend_from_slice(&writer.device.held)?;
-    let end = format!(in alloc; ">{code} {failures}")?;
-    whole.extend_from_slice(end.as_bytes())?;
-    Ok(whole)
+    shown_with_status(
+        alloc,
+        &faults.device.held,
+        &writer.device.held,
+        code,
+        failures,
+    )
+}
+
+/// The same over the workspace of a bundle.
+fn written<R: Threads + Wait + RandomSource + Sync>(
+    rt: &R,
+    alloc: Global,
+    row: Row,
+) -> Result<Vec<u8>, AllocError> {
+    let bundle = row.bytes(alloc, 0)?;
+    let workspace = read_bundle(alloc, &mut make_drip(&bundle, 0));
+    match &workspace {
+        Ok(workspace) => written_over(rt, alloc, workspace, row),
+        Err(_) => b"no bundle".to_vec(alloc),
+    }
 }
 
 fn check_sessions<R: Threads + Wait + RandomSource + Sync + Abort>(
