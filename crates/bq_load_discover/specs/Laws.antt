@@ -5,7 +5,7 @@ use Rattle.bq_label.specs.Label.{LabelParts}
 use Rattle.bq_label.specs.Packages.{IsFileOf}
 use Rattle.bq_label.specs.Workspace.{IsWorkspace}
 use Rattle.bq_package_schema.specs.Schema.{Rules}
-use Rattle.bq_board.specs.Graph.{Loads}
+use Rattle.bq_board_plan.specs.Graph.{Loads}
 use Rattle.bq_load_front.specs.Inputs.{InputParts}
 use Rattle.bq_load_discover.specs.Modules.{IsModule, AreTooMany}
 use Rattle.bq_load_discover.specs.LoadGraph.{IsLoadGraph, inputs_of}
