@@ -28,7 +28,7 @@ pub fn augment(
 }
 
 /// Carries out `a += b`; for a list F40, F47, F48, F54.
-#[tactic(auto, unfolding(bq_builtin_in_place::specs::InPlace::augment_sum, bq_builtin_in_place::specs::Operate::binary))]
+#[tactic(auto, unfolding(bq_builtin_in_place::specs::InPlace::augment_sum, bq_builtin_operators::specs::Operate::binary))]
 fn augment_sum(alloc: Global, machine: &mut Machine, a: &Value, b: &Value) -> Result<Value, EvalErr>
     ensures { Does (λ value. value) result machine.new (augment_sum a.now b.now machine.old) }
 {
@@ -44,7 +44,7 @@ fn augment_sum(alloc: Global, machine: &mut Machine, a: &Value, b: &Value) -> Re
 }
 
 /// Carries out `a |= b`; for a dict F40, F47, F48, F54.
-#[tactic(auto, unfolding(bq_builtin_in_place::specs::InPlace::augment_union, bq_builtin_in_place::specs::Operate::binary))]
+#[tactic(auto, unfolding(bq_builtin_in_place::specs::InPlace::augment_union, bq_builtin_operators::specs::Operate::binary))]
 fn augment_union(
     alloc: Global,
     machine: &mut Machine,
