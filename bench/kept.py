@@ -155,9 +155,29 @@ class Kept:
         shutil.rmtree(crate.rlib, ignore_errors=True)
         return self.run(["build", *words, "--statements", "-o", crate.rlib], crate.folder)
 
-    def check(self, crate, flags):
+    def words_over_sources(self, crate):
+        """The prover's words for a crate over the libraries that are kept, and over the sources of those that aren't."""
+        there, missing, kit_crates = [], [], {*crate.of_kit}
+        for it in crate.below():
+            if self.is_there(it):
+                there.append(it)
+            else:
+                missing.append(it)
+                kit_crates |= {*it.of_kit, "core"}
+        root = self.lib.KIT
+        words = ["--crate-name", crate.name, f"src/{'main' if crate.is_program else 'lib'}.rt", "-L", f"dependency={root}/rlibs"]
+        words += [it for name in sorted(kit_crates) for it in ("--extern", f"{name}={root}/rlibs/{name}.rlib")]
+        for it in there:
+            words += ["--extern", f"{it.name}={it.rlib}", "-L", f"dependency={os.path.dirname(it.rlib)}"]
+        for it in missing:
+            words += ["--lib", f"{it.name}:{','.join([*it.of_kit, *(dep.name for dep in it.deps)])}={it.folder}/src/lib.rt"]
+        words += ["--antt-project", f"{root}/rattle/logic/antt-project.json", "--logic-built", f"{root}/logic_built"]
+        return [*words, "--links", f"{crate.name}=", "--jobs", "1"]
+
+    def check(self, crate, flags, over_sources=False):
         """Checks a crate over what its last check kept in out/, and prints what the prover says. Returns its status."""
-        words = ["check", *self.words(crate, False, 1), *flags, "--incremental", "out/incremental-kept"]
+        words = self.words_over_sources(crate) if over_sources else self.words(crate, False, 1)
+        words = ["check", *words, *flags, "--incremental", "out/incremental-over-sources" if over_sources else "out/incremental-kept"]
         os.makedirs(f"{crate.folder}/out", exist_ok=True)
         status, said, seconds, peak = self.run(words, crate.folder)
         print(f"{said}{seconds:.0f} s of a processor, {peak / 1e9:.1f} GB")
