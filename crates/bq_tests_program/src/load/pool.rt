@@ -108,7 +108,7 @@ struct Seen {
 }
 
 /// Works at one of so many seats, and closes the pool.
-fn seen<R: Wait>(rt: &R, tree: Tree<'_>, seats: usize) -> Result<Seen, LoadErr>
+fn work_alone<R: Wait>(rt: &R, tree: Tree<'_>, seats: usize) -> Result<Seen, LoadErr>
     requires { (0 < seats) × (seats ≤ MAX_SEATS) }
 {
     let (pool, mut seats) = open(tree, seats)?;
@@ -128,7 +128,7 @@ fn seen<R: Wait>(rt: &R, tree: Tree<'_>, seats: usize) -> Result<Seen, LoadErr>
 pub fn one_returns_all<R: Wait>(rt: &R, tree: Tree<'_>, seats: usize) -> Result<bool, LoadErr>
     requires { (0 < seats) × (seats ≤ MAX_SEATS) }
 {
-    let found = seen(rt, tree, seats)?;
+    let found = work_alone(rt, tree, seats)?;
     Ok(found.all && found.modules == 4)
 }
 
@@ -142,7 +142,7 @@ fn one_seat_returns_all(rt: HostRuntime) -> Result<(), LoadErr> {
 
 /// Whether a pool lets go of what nobody fetched when it is closed, and not before.
 pub fn lets_go<R: Wait>(rt: &R, tree: Tree<'_>) -> Result<bool, LoadErr> {
-    let found = seen(rt, tree, 1)?;
+    let found = work_alone(rt, tree, 1)?;
     Ok(found.before_close == 2 && found.after_close == 1)
 }
 
