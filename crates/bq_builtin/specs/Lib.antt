@@ -1,5 +1,6 @@
 pub mod Arguments
 pub mod Elements
+pub mod ColumnOf
 pub mod Truths
 pub mod Integers
 pub mod Order

@@ -89,7 +89,7 @@ pub(crate) fn int(args: &Args) -> Result<Value, EvalErr>
 fn content_length(content: &Content) -> Result<usize, FaultKind>
     ensures { result ≡ content_length (Some content.now) }
 {
-    match &content.body {
+    match content.body() {
         Body::List(values) => Ok(values.len()),
         Body::Dict(pairs) => Ok(pairs.len()),
         Body::Rule(_) => Err(FaultKind::WrongType),

@@ -17,7 +17,7 @@
 //! - `integers`: `int`, `len` and `range`;
 //! - `choosing`: `max`, `min` and `sorted`;
 //! - `sequences`: `list`, `tuple`, `reversed` and `enumerate`;
-//! - `zip`: `zip`;
+//! - `column`, `zip`: `zip`, over elements where they are;
 //! - `texts`: `type`, `str`, `repr`, `print` and `fail`;
 //! - `call`: the call;
 //! - `laws`: what the definitions say together.
@@ -26,6 +26,7 @@
 mod arguments;
 mod call;
 mod choosing;
+mod column;
 mod elements;
 mod integers;
 pub mod laws;

@@ -18,7 +18,7 @@ use std::alloc::Global;
 fn content_type(content: &Content) -> &'static [u8]
     ensures { Ok result.now ≡ content_type (Some content.now) }
 {
-    match &content.body {
+    match content.body() {
         Body::List(_) => b"list",
         Body::Dict(_) => b"dict",
         Body::Rule(_) => b"rule",

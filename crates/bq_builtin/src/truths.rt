@@ -65,7 +65,7 @@ fn one_counts_in(store: &Store, wanted: bool, content: Option<&Content>) -> Resu
 {
     match content {
         None => Err(EvalErr::Bad(FaultKind::WrongType)),
-        Some(content) => match &content.body {
+        Some(content) => match content.body() {
             Body::List(values) => Ok(one_counts(store, wanted, values)),
             Body::Dict(dict) => Ok(one_key_counts(store, wanted, dict)),
             Body::Rule(_) => Err(EvalErr::Bad(FaultKind::WrongType)),

@@ -7,27 +7,28 @@ ghost use Rattle.bq_value.specs.Datum.{tuple, data_of};
 ghost use Rattle.bq_builtin.specs.Sequences.{heads, rows, shortest_from, shortest, elements_of_each, zip};
 
 use crate::arguments::by_place;
-use crate::elements::{elements_in, room_for};
-use bq_builtin_machine::{Args, Elements, Machine};
-use bq_value::{EvalErr, Value};
+use crate::column::Column;
+use crate::elements::room_for;
+use bq_builtin_machine::{Args, Machine};
+use bq_value::{EvalErr, Store, Value};
 use std::alloc::{AllocError, Global};
 
 /// Returns the elements of each value (F40).
-fn elements_of_each(
+fn elements_of_each<'a>(
     alloc: Global,
-    machine: &Machine,
-    values: &[Value],
-) -> Result<Vec<Elements>, EvalErr>
-    ensures { Gives (λ xss. xss.items) Bad result (elements_of_each machine.now.store values.now) }
+    store: &'a Store,
+    values: &'a [Value],
+) -> Result<Vec<Column<'a>>, EvalErr>
+    ensures { Gives (λ xss. xss.items) Bad result (elements_of_each store.now values.now) }
 {
     let mut columns = Vec::with_capacity(alloc, values.len())?;
     for value in values {
-        columns.push(elements_in(alloc, machine, value)?)?;
+        columns.push(Column::of(store, value)?)?;
     }
     Ok(columns)
 }
 
-fn shortest_from(mut count: usize, columns: &[Elements]) -> usize
+fn shortest_from(mut count: usize, columns: &[Column<'_>]) -> usize
     ensures { result ≡ shortest_from count columns.now }
 {
     for column in columns {
@@ -37,7 +38,7 @@ fn shortest_from(mut count: usize, columns: &[Elements]) -> usize
 }
 
 /// Returns the number of elements of the column with the fewest.
-fn shortest(columns: &[Elements]) -> usize
+fn shortest(columns: &[Column<'_>]) -> usize
     ensures { result ≡ shortest columns.now }
 {
     match columns {
@@ -47,18 +48,18 @@ fn shortest(columns: &[Elements]) -> usize
 }
 
 /// Moves the next element of a column to the row.
-fn move_next(column: &mut Elements, row: &mut Vec<Value>) -> Result<(), AllocError>
+fn move_next(column: &mut Column<'_>, row: &mut Vec<Value>) -> Result<(), AllocError>
     ensures row { OnOk result (row.new.items ≡ row.old.items ++ take 1 column.old) }
-    ensures rest { column.new ≡ drop 1 column.old }
+    ensures rest { OnOk result (column.new ≡ drop 1 column.old) }
 {
-    if let Some(value) = column.next() {
+    if let Some(value) = column.next()? {
         row.push(value)?;
     }
     Ok(())
 }
 
 /// Returns the next element of each column.
-fn row(alloc: Global, columns: &mut [Elements]) -> Result<Vec<Value>, AllocError>
+fn row(alloc: Global, columns: &mut [Column<'_>]) -> Result<Vec<Value>, AllocError>
     ensures heads { IfOk result (λ values. values.items ≡ heads columns.old) }
     ensures rest { OnOk result (columns.new ≡ map (drop 1) columns.old) }
 {
@@ -69,7 +70,7 @@ fn row(alloc: Global, columns: &mut [Elements]) -> Result<Vec<Value>, AllocError
     Ok(values)
 }
 
-fn tuple_of_row(alloc: Global, columns: &mut [Elements]) -> Result<Value, AllocError>
+fn tuple_of_row(alloc: Global, columns: &mut [Column<'_>]) -> Result<Value, AllocError>
     ensures tuple { IfOk result (λ v. v ≡ tuple (data_of (heads columns.old))) }
     ensures rest { OnOk result (columns.new ≡ map (drop 1) columns.old) }
 {
@@ -78,7 +79,7 @@ fn tuple_of_row(alloc: Global, columns: &mut [Elements]) -> Result<Value, AllocE
 }
 
 /// Returns `count` tuples, one for each row.
-fn rows(alloc: Global, count: usize, columns: &mut [Elements]) -> Result<Vec<Value>, AllocError>
+fn rows(alloc: Global, count: usize, columns: &mut [Column<'_>]) -> Result<Vec<Value>, AllocError>
     ensures { IfOk result (λ vs. vs.items ≡ rows count columns.old) }
 {
     let mut tuples = Vec::with_capacity(alloc, count)?;
@@ -93,7 +94,7 @@ fn rows(alloc: Global, count: usize, columns: &mut [Elements]) -> Result<Vec<Val
 pub(crate) fn zip(alloc: Global, machine: &Machine, args: &Args) -> Result<Vec<Value>, EvalErr>
     ensures { Gives (λ vs. vs.items) Bad result (zip machine.now.store args.now) }
 {
-    let mut columns = elements_of_each(alloc, machine, by_place(args)?)?;
+    let mut columns = elements_of_each(alloc, machine.store(), by_place(args)?)?;
     let count = shortest(&columns);
     room_for(count)?;
     Ok(rows(alloc, count, &mut columns)?)

@@ -20,7 +20,7 @@ fn pairs_in(machine: &Machine, dict: Cell) -> Result<&Dict, EvalErr>
     ensures { Does (λ ps. ps.now) result machine.now (pairs_in dict.module dict.number machine.now) }
 {
     let content = machine.content(dict)?;
-    match &content.body {
+    match content.body() {
         Body::Dict(pairs) => Ok(pairs),
         Body::List(_) => Err(EvalErr::Bad(FaultKind::WrongType)),
         Body::Rule(_) => Err(EvalErr::Bad(FaultKind::WrongType)),

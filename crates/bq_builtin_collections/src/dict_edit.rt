@@ -39,7 +39,7 @@ pub(crate) fn change_dict(
 fn edit_content(alloc: Global, content: &mut Content, edit: DictEdit) -> Result<Value, EvalErr>
     ensures { Gives (λ v. (v, content.new)) Bad result (on_pairs (edited edit) content.old) }
 {
-    match &mut content.body {
+    match content.change()? {
         Body::Dict(pairs) => edit_pairs(alloc, pairs, edit),
         Body::List(_) => Err(EvalErr::Bad(FaultKind::WrongType)),
         Body::Rule(_) => Err(EvalErr::Bad(FaultKind::WrongType)),

@@ -75,7 +75,7 @@ fn list_in(machine: &Machine, list: Cell) -> Result<&[Value], EvalErr>
     ensures { Does (λ xs. xs.now) result machine.now (list_in list.module list.number machine.now) }
 {
     let content = machine.content(list)?;
-    match &content.body {
+    match content.body() {
         Body::List(values) => Ok(values),
         Body::Dict(_) => Err(EvalErr::Bad(FaultKind::WrongType)),
         Body::Rule(_) => Err(EvalErr::Bad(FaultKind::WrongType)),

@@ -41,7 +41,7 @@ pub(crate) fn change_list(
 fn edit_content(content: &mut Content, edit: ListEdit) -> Result<Value, EvalErr>
     ensures { Gives (λ v. (v, content.new)) Bad result (on_items (edited edit) content.old) }
 {
-    match &mut content.body {
+    match content.change()? {
         Body::List(values) => edit_values(values, edit),
         Body::Dict(_) => Err(EvalErr::Bad(FaultKind::WrongType)),
         Body::Rule(_) => Err(EvalErr::Bad(FaultKind::WrongType)),

@@ -150,7 +150,7 @@ fn dict_of<'s>(store: &'s Store, value: &Value) -> Option<&'s Dict>
     };
     match store.content(*cell) {
         None => None,
-        Some(content) => match &content.body {
+        Some(content) => match content.body() {
             Body::Dict(dict) => Some(dict),
             Body::List(_) => None,
             Body::Rule(_) => None,
@@ -167,7 +167,7 @@ fn pair_in(store: &Store, element: &Value) -> Result<Option<(Value, Value)>, Eva
         Node::Tuple(items) => Ok(two(items)?),
         Node::Cell(cell) => match store.content(*cell) {
             None => Err(EvalErr::Bad(FaultKind::WrongType)),
-            Some(content) => match &content.body {
+            Some(content) => match content.body() {
                 Body::List(values) => Ok(two(values)?),
                 Body::Dict(_) => Err(EvalErr::Bad(FaultKind::WrongType)),
                 Body::Rule(_) => Err(EvalErr::Bad(FaultKind::WrongType)),

@@ -30,7 +30,7 @@ pub fn extend(machine: &mut Machine, list: Cell, more: Elements) -> Result<(), E
 fn list_extended(content: &mut Content, more: Elements) -> Result<(), EvalErr>
     ensures { Gives (λ _. (tt, content.new)) Bad result (list_extended more content.old) }
 {
-    match &mut content.body {
+    match content.change()? {
         Body::List(values) => push_all(values, more),
         Body::Dict(_) => Err(EvalErr::Bad(FaultKind::WrongType)),
         Body::Rule(_) => Err(EvalErr::Bad(FaultKind::WrongType)),
@@ -69,7 +69,7 @@ pub fn unite(machine: &mut Machine, dict: Cell, more: &[(Key, Value)]) -> Result
 fn dict_united(content: &mut Content, more: &[(Key, Value)]) -> Result<(), EvalErr>
     ensures { Gives (λ _. (tt, content.new)) Bad result (dict_united more.now content.old) }
 {
-    match &mut content.body {
+    match content.change()? {
         Body::List(_) => Err(EvalErr::Bad(FaultKind::WrongType)),
         Body::Dict(dict) => put_pairs(dict, more),
         Body::Rule(_) => Err(EvalErr::Bad(FaultKind::WrongType)),
@@ -130,7 +130,7 @@ pub fn set_index(
 fn set_item(machine: &mut Machine, cell: Cell, at: &Value, value: Value) -> Result<(), EvalErr>
     ensures { Does (λ _. tt) result machine.new (set_item cell.module cell.number at.now value machine.old) }
 {
-    match &machine.content(cell)?.body {
+    match machine.content(cell)?.body() {
         Body::List(_) => {
             let index = int_of(at)?;
             set_element(machine, cell, index, value)
@@ -156,7 +156,7 @@ fn set_element(machine: &mut Machine, list: Cell, at: i64, value: Value) -> Resu
 fn element_set(content: &mut Content, at: i64, value: Value) -> Result<(), EvalErr>
     ensures { Gives (λ _. (tt, content.new)) Bad result (element_set at value content.old) }
 {
-    match &mut content.body {
+    match content.change()? {
         Body::List(values) => {
             let place = index(values.len(), at)?;
             values[place] = value;
@@ -179,7 +179,7 @@ fn set_value(machine: &mut Machine, dict: Cell, key: Key, value: Value) -> Resul
 fn pair_put(content: &mut Content, key: Key, value: Value) -> Result<(), EvalErr>
     ensures { Gives (λ _. (tt, content.new)) Bad result (pair_put key value content.old) }
 {
-    match &mut content.body {
+    match content.change()? {
         Body::List(_) => Err(EvalErr::Bad(FaultKind::WrongType)),
         Body::Dict(dict) => {
             put_pair(dict, key, value)?;

@@ -8,6 +8,7 @@ pub mod Lending
 pub mod Iteration
 pub mod Fitting
 pub mod ElementsOf
+pub mod WalkOf
 pub mod Args
 pub mod Parameters
 pub mod Binding

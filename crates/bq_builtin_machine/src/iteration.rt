@@ -1,4 +1,4 @@
-//! Walks over iterables (Starlark, "Iteration protocol").
+//! The elements of iterables (Starlark, "Iteration protocol").
 
 ghost use Rattle.std.specs.Prelude.{◌≡◌, length, IfOk, map};
 ghost use Rattle.bq_base.specs.Gives.{Gives};
@@ -6,12 +6,12 @@ ghost use Rattle.bq_value.specs.Datum.{int};
 ghost use Rattle.bq_value.specs.declared.error.EvalErr.TheVariants.{Bad};
 ghost use Rattle.bq_value.specs.Pairs.{keys};
 ghost use Rattle.bq_builtin_machine.specs.Action.{Does};
-ghost use Rattle.bq_builtin_machine.specs.Iteration.{range_integers, content_elements, elements, begin_walk, end_walk, IsNext};
+ghost use Rattle.bq_builtin_machine.specs.Iteration.{range_integers, content_elements, elements, IsNext};
 
 use crate::machine::Machine;
 use crate::range_walk::RangeWalk;
 use bq_base::FaultKind;
-use bq_value::{Body, Content, Dict, EvalErr, Node, Range, Value};
+use bq_value::{Body, Content, Dict, EvalErr, Node, Range, Value, copies};
 use std::alloc::{AllocError, Global};
 use std::marker::Model;
 
@@ -106,39 +106,6 @@ impl Machine {
             _ => Err(EvalErr::Bad(FaultKind::WrongType)),
         }
     }
-
-    /// Begins a walk over an iterable. Until it ends, nothing can change the list or dict.
-    #[tactic(auto, unfolding(crate::specs::Iteration::begin_walk))]
-    pub fn begin_walk(&mut self, alloc: Global, value: &Value) -> Result<Elements, EvalErr>
-        ensures { Does (λ xs. xs) result self.new (begin_walk value.now self.old) }
-    {
-        let elements = self.elements(alloc, value)?;
-        if let Node::Cell(cell) = &value.node {
-            self.walks.push(*cell)?;
-        }
-        Ok(elements)
-    }
-
-    /// Ends the walk that began last, which was over `value`.
-    #[tactic(auto, unfolding(crate::specs::Iteration::end_walk))]
-    pub fn end_walk(&mut self, value: &Value)
-        ensures { self.new ≡ end_walk value.now self.old }
-    {
-        if let Node::Cell(_) = &value.node {
-            let _newest = self.walks.pop();
-        }
-    }
-}
-
-/// Shares these values.
-pub fn copies(alloc: Global, values: &[Value]) -> Result<Vec<Value>, AllocError>
-    ensures { IfOk result (λ xs. xs.items ≡ values.now) }
-{
-    let mut shares = Vec::with_capacity(alloc, values.len())?;
-    for value in values {
-        shares.push(value.share()?)?;
-    }
-    Ok(shares)
 }
 
 /// Shares the keys of a dict.
@@ -153,10 +120,10 @@ pub fn keys_of(alloc: Global, dict: &Dict) -> Result<Vec<Value>, AllocError>
     Ok(shares)
 }
 
-fn content_elements(alloc: Global, content: &Content) -> Result<Vec<Value>, EvalErr>
+pub(crate) fn content_elements(alloc: Global, content: &Content) -> Result<Vec<Value>, EvalErr>
     ensures { Gives (λ xs. xs.items) Bad result (content_elements (Some content.now)) }
 {
-    match &content.body {
+    match content.body() {
         Body::List(items) => Ok(copies(alloc, items)?),
         Body::Dict(dict) => Ok(keys_of(alloc, dict)?),
         Body::Rule(_) => Err(EvalErr::Bad(FaultKind::WrongType)),

@@ -14,7 +14,7 @@
 //! - `machine`: the state; steps, prints, `fail`, the line that is running;
 //! - `walks`: equality, order, texts and keys, with the machine's steps;
 //! - `cells`: lists, dicts and rules: how they are made, what they hold, and whether they may be changed;
-//! - `range_walk`, `iteration`: the elements of an iterable, and walks over them;
+//! - `range_walk`, `iteration`, `walk`: the elements of an iterable, and walks over them;
 //! - `calls`: which functions are active;
 //! - `args`, `parameters`, `binding`: what a call passes, what a function takes, and which argument goes to which parameter;
 //! - `laws`: what the definitions say together.
@@ -29,11 +29,14 @@ pub mod laws;
 mod machine;
 mod parameters;
 mod range_walk;
+mod walk;
 mod walks;
 
 pub use args::Args;
 pub use binding::{Bound, bind};
+pub use bq_value::copies;
 pub use calls::MAX_ACTIVE;
-pub use iteration::{Elements, copies, keys_of};
+pub use iteration::{Elements, keys_of};
 pub use machine::Machine;
 pub use parameters::{Signature, SingleParameter};
+pub use walk::{Walk, next_key, next_value};

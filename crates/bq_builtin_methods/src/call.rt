@@ -56,7 +56,7 @@ fn call_of_cell(
 ) -> Result<Value, EvalErr>
     ensures { Does (λ v. v) result machine.new (call_of_cell name.now receiver.module receiver.number args machine.old) }
 {
-    match &machine.content(receiver)?.body {
+    match machine.content(receiver)?.body() {
         Body::List(_) => call_of_list(alloc, machine, name, receiver, &args),
         Body::Dict(_) => call_of_dict(alloc, machine, name, receiver, args),
         Body::Rule(_) => Err(EvalErr::Bad(FaultKind::NoMethod)),

@@ -44,7 +44,7 @@ fn in_content(
 ) -> Result<(bool, u64), EvalErr>
     ensures { Gives (λ answer. answer) Bad result (in_content store.now steps value.now (Some content.now)) }
 {
-    match &content.body {
+    match content.body() {
         Body::List(values) => Ok(in_list(store, steps, value, values)?),
         Body::Dict(dict) => in_dict(steps, value, dict),
         Body::Rule(_) => Err(EvalErr::Bad(FaultKind::WrongType)),

@@ -25,7 +25,7 @@ pub fn list_in<'s>(store: &'s Store, value: &Value) -> Result<&'s [Value], EvalE
     match &value.node {
         Node::Cell(cell) => match store.content(*cell) {
             None => Err(EvalErr::Bad(FaultKind::WrongType)),
-            Some(content) => match &content.body {
+            Some(content) => match content.body() {
                 Body::List(values) => Ok(values.as_slice()),
                 Body::Dict(_) => Err(EvalErr::Bad(FaultKind::WrongType)),
                 Body::Rule(_) => Err(EvalErr::Bad(FaultKind::WrongType)),
@@ -42,7 +42,7 @@ pub fn dict_in<'s>(store: &'s Store, value: &Value) -> Result<&'s Dict, EvalErr>
     match &value.node {
         Node::Cell(cell) => match store.content(*cell) {
             None => Err(EvalErr::Bad(FaultKind::WrongType)),
-            Some(content) => match &content.body {
+            Some(content) => match content.body() {
                 Body::List(_) => Err(EvalErr::Bad(FaultKind::WrongType)),
                 Body::Dict(dict) => Ok(dict),
                 Body::Rule(_) => Err(EvalErr::Bad(FaultKind::WrongType)),

@@ -39,7 +39,7 @@ pub(crate) fn item_of(
 fn content_item(steps: u64, content: &Content, at: &Value) -> Result<(Value, u64), EvalErr>
     ensures { Gives (λ answer. answer) Bad result (content_item steps (Some content.now) at.now) }
 {
-    match &content.body {
+    match content.body() {
         Body::List(values) => Ok((item_in(values, at)?, steps)),
         Body::Dict(dict) => value_in(steps, dict, at),
         Body::Rule(_) => Err(EvalErr::Bad(FaultKind::WrongType)),

@@ -14,7 +14,7 @@ use bq_value::{Body, Content, EvalErr, Key, Value};
 pub(crate) fn with_element(content: &mut Content, value: Value) -> Result<(), EvalErr>
     ensures { Gives (λ _. content.new) Bad result (with_element content.old value) }
 {
-    match &mut content.body {
+    match content.change()? {
         Body::List(values) => {
             if values.len() >= MAX_LEN {
                 return Err(EvalErr::Bad(FaultKind::TooLong));
@@ -31,7 +31,7 @@ pub(crate) fn with_element(content: &mut Content, value: Value) -> Result<(), Ev
 pub(crate) fn with_pair(content: &mut Content, key: Key, value: Value) -> Result<(), EvalErr>
     ensures { Gives (λ _. content.new) Bad result (with_pair content.old key value) }
 {
-    match &mut content.body {
+    match content.change()? {
         Body::Dict(dict) => {
             let _before = dict.insert(key, value)?;
             if dict.len() > MAX_LEN {
@@ -48,7 +48,7 @@ pub(crate) fn with_pair(content: &mut Content, key: Key, value: Value) -> Result
 pub(crate) fn with_new_pair(content: &mut Content, key: Key, value: Value) -> Result<(), EvalErr>
     ensures { Gives (λ _. content.new) Bad result (with_new_pair content.old key value) }
 {
-    match &content.body {
+    match content.body() {
         Body::Dict(dict) => {
             if dict.get(&key).is_some() {
                 return Err(EvalErr::Bad(FaultKind::DoubleKey));

@@ -79,7 +79,7 @@ pub(crate) fn dict_in<'s>(store: &'s Store, value: &Value) -> Result<&'s Dict, E
     match &value.node {
         Node::Cell(cell) => match store.content(*cell) {
             None => Err(EvalErr::Bad(FaultKind::WrongType)),
-            Some(content) => match &content.body {
+            Some(content) => match content.body() {
                 Body::Dict(dict) => Ok(dict),
                 _ => Err(EvalErr::Bad(FaultKind::WrongType)),
             },

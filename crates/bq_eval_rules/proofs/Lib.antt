@@ -10,3 +10,5 @@ pub mod ParameterLists
 pub mod CallSteps
 -- positional arguments go straight into the frame
 pub mod Straight
+-- what a walk says of the elements that are left
+pub mod Next

@@ -198,7 +198,7 @@ impl<
         let mut outer = Vec::new(self.rules.context.alloc);
         let mut innermost = first;
         loop {
-            let Some(value) = innermost.elements.next() else {
+            let Some(value) = innermost.elements.next()? else {
                 runtime.end_walk(&innermost.walked);
                 let Some(next) = outer.pop() else {
                     return Ok(());

@@ -1,6 +1,6 @@
 //! Open loops of comprehensions.
 
-use bq_builtin_machine::Elements;
+use bq_builtin_machine::Walk;
 use bq_resolve_scope::{CodeClause, CodeTarget};
 use bq_value::Value;
 
@@ -12,5 +12,5 @@ pub struct OpenLoop<'a> {
     pub after: &'a [CodeClause],
     pub walked: Value,
     /// The elements that are still to come.
-    pub elements: Elements,
+    pub elements: Walk,
 }

@@ -13,7 +13,7 @@ use crate::reader::Reader;
 use crate::runtime::Runtime;
 use crate::targets::{MAX_LAYERS, begin_turn};
 use bq_base::FaultKind;
-use bq_builtin_machine::{Args, Elements};
+use bq_builtin_machine::{Args, Walk};
 use bq_eval_frame::Frame;
 use bq_resolve_scope::{Code, CodeBranch, CodeStmt, CodeTarget};
 use bq_value::{EvalErr, Value};
@@ -156,12 +156,12 @@ impl<
         runtime: &mut R,
         target: &CodeTarget,
         body: &[CodeStmt],
-        elements: &mut Elements,
+        elements: &mut Walk,
     ) -> Result<Flow, EvalErr>
         requires { RunsInside R.means R.seen self.now G.pre G.post }
         ensures { Executes R.means R.seen (rule_in R.means self.now meaning.turns target.now body.now elements.old) frame.old runtime.old result frame.new runtime.new }
     {
-        while let Some(value) = elements.next() {
+        while let Some(value) = elements.next()? {
             match self.turn(frame, runtime, target, body, value)? {
                 Flow::Next => {}
                 Flow::Again => {}

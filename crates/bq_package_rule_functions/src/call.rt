@@ -97,7 +97,7 @@ fn class_in(store: &Store, cell: Cell) -> Result<RuleClass, EvalErr>
     let Some(content) = store.content(cell) else {
         return Err(EvalErr::Bad(FaultKind::WrongType));
     };
-    match &content.body {
+    match content.body() {
         Body::Rule(class) => Ok(class.share()?),
         _ => Err(EvalErr::Bad(FaultKind::WrongType)),
     }

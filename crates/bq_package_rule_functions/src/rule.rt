@@ -75,7 +75,7 @@ fn entries_in(alloc: Global, store: &Store, cell: Cell) -> Result<RuleClass, Eva
     let Some(content) = store.content(cell) else {
         return Err(EvalErr::Bad(FaultKind::WrongType));
     };
-    match &content.body {
+    match content.body() {
         Body::Dict(dict) => entries(alloc, dict),
         _ => Err(EvalErr::Bad(FaultKind::WrongType)),
     }

@@ -7,6 +7,7 @@ pub use Rattle.bq_value_datum.specs.Key
 pub use Rattle.bq_value_datum.specs.declared.value.Cell
 pub use Rattle.bq_value_content.specs.Pairs
 pub use Rattle.bq_value_content.specs.Contents
+pub use Rattle.bq_value_content.specs.ContentOf
 pub use Rattle.bq_value_content.specs.Kinds
 pub use Rattle.bq_value_content.specs.contracts.content.Content
 pub mod Cells

@@ -1,6 +1,6 @@
 //! Modules whose evaluation has ended (Starlark, "Freezing a value").
 
-ghost use Rattle.std.specs.Prelude.{◌≡◌, None, Some, MatchOption, IfOk};
+ghost use Rattle.std.specs.Prelude.{◌≡◌, None, Some, MatchOption, IfOk, OnOk};
 ghost use Rattle.bq_value.specs.Cells.{frozen_at, globals_at, frozen};
 
 use crate::modules::Modules;
@@ -72,6 +72,16 @@ impl Frozen {
     }
 }
 
+/// Has walks in other modules share the lists and dicts of many elements.
+fn share_many(alloc: Global, contents: &mut [Content]) -> Result<(), AllocError>
+    ensures { OnOk result (contents.new ≡ contents.old) }
+{
+    for content in contents.iter_mut() {
+        content.share_many(alloc)?;
+    }
+    Ok(())
+}
+
 /// Ends the evaluation of a module whose globals have these names and values: each cell stays as it is, and none is
 /// copied. `globals` has the values of the globals first, and then those that the module loads.
 pub fn freeze(
@@ -84,7 +94,8 @@ pub fn freeze(
 {
     let Store { made, loaded, .. } = store;
     let own = made.module();
-    let contents = made.into_contents();
+    let mut contents = made.into_contents();
+    share_many(alloc, &mut contents)?;
     let kinds = kinds_of(alloc, own, &contents, names, &globals)?;
     let cells = Cells {
         contents,

@@ -25,7 +25,7 @@ mod shared;
 mod store;
 mod tree;
 
-pub use bq_value_content::{Body, Content, Dict};
+pub use bq_value_content::{Body, Content, Dict, copies};
 pub use bq_value_datum::{Cell, Function, Key, Node, Range, Value};
 pub use error::EvalErr;
 pub use frozen::{Frozen, freeze};

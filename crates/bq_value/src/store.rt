@@ -91,6 +91,16 @@ impl Store {
         module.cells.contents.get(cell.number)
     }
 
+    /// Makes what `cell` holds one that walks share, if it is a cell of the running module.
+    pub fn share(&mut self, alloc: Global, cell: Cell) -> Result<(), AllocError>
+        ensures { self.new ≡ self.old }
+    {
+        if cell.module != self.module() {
+            return Ok(());
+        }
+        self.made.share(alloc, cell.number)
+    }
+
     /// Returns the kind of the rule in a cell of a frozen module. A rule of the running module has none yet.
     #[tactic(auto, unfolding(crate::specs::Cells::kind_of))]
     pub fn kind(&self, cell: Cell) -> Option<&Bytes>

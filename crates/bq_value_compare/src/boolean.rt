@@ -32,7 +32,7 @@ pub fn truth(store: &Store, value: &Value) -> bool
 fn is_filled(content: &Content) -> bool
     ensures { result ≡ content_truth (Some content.now) }
 {
-    match &content.body {
+    match content.body() {
         Body::List(items) => items.len() > 0,
         Body::Dict(dict) => dict.len() > 0,
         Body::Rule(_) => true,

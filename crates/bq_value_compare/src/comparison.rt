@@ -139,7 +139,7 @@ fn cells_ordered(
 ) -> Result<(Ordering, u64), FaultKind>
     ensures { result ≡ contents_ordered (equal_at levels store.now) (ordered_at levels store.now) steps a.now b.now }
 {
-    match (&a.body, &b.body) {
+    match (a.body(), b.body()) {
         (Body::List(xs), Body::List(ys)) => slices_ordered(store, levels, steps, xs, ys),
         _ => Err(FaultKind::WrongType),
     }

@@ -128,7 +128,7 @@ fn contents_equal(
 ) -> Result<(bool, u64), FaultKind>
     ensures { result ≡ contents_equal (equal_at levels store.now) steps one a.now b.now }
 {
-    match (&a.body, &b.body) {
+    match (a.body(), b.body()) {
         (Body::List(xs), Body::List(ys)) => slices_equal(store, levels, steps, xs, ys),
         (Body::Dict(ps), Body::Dict(qs)) => entries_equal(store, levels, steps, ps, qs),
         (Body::Rule(_), Body::Rule(_)) => Ok((one, steps)),

@@ -57,7 +57,7 @@ fn is_rule(content: Option<&Content>) -> bool
 {
     match content {
         None => false,
-        Some(content) => match &content.body {
+        Some(content) => match content.body() {
             Body::List(_) => false,
             Body::Dict(_) => false,
             Body::Rule(_) => true,

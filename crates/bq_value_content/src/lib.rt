@@ -6,7 +6,7 @@
 //!
 //! In reading order:
 //!
-//! - `content`: what a cell holds;
+//! - `content`: what a cell holds, which walks share;
 //! - `kinds`: by which names rules are called;
 //! - `made`: the cells that a running module has made.
 #![tactic(auto)]
@@ -16,6 +16,6 @@ mod kinds;
 mod made;
 
 pub use bq_value_dict::Dict;
-pub use content::{Body, Content};
+pub use content::{Body, Content, copies};
 pub use kinds::{Kinds, kinds_of};
 pub use made::Made;

@@ -69,6 +69,16 @@ impl Made {
         self.cells.get(number)
     }
 
+    /// Makes what the cell of this number holds one that walks share.
+    pub fn share(&mut self, alloc: Global, number: usize) -> Result<(), AllocError>
+        ensures { self.new ≡ self.old }
+    {
+        if number >= self.cells.len() {
+            return Ok(());
+        }
+        self.cells[number].share(alloc)
+    }
+
     /// Returns what a cell holds, to be changed.
     fn lend(&mut self, number: usize) -> &mut Content
         requires { number < length self.old.cells }

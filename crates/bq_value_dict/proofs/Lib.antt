@@ -8,3 +8,5 @@ pub mod Live
 pub mod Empty
 -- a key that gets out of an empty place
 pub mod Freed
+-- a dict that gets the pairs of another in turn
+pub mod Copies

@@ -115,6 +115,19 @@ impl Dict {
         value
     }
 
+    /// Returns a dict of the same pairs.
+    pub fn copy(&self) -> Result<Dict, AllocError>
+        ensures { IfOk result (λ copy. copy ≡ self.now) }
+    {
+        self.has_no_key_twice();
+        let mut copy = Dict::new(*self.entries.allocator(), *self.entries.hasher());
+        for i in 0..self.len() {
+            let (key, value) = self.pair(i);
+            copy.insert(key.share()?, value.share()?)?;
+        }
+        Ok(copy)
+    }
+
     /// Removes all pairs.
     pub fn clear(&mut self)
         ensures { self.new ≡ [] }

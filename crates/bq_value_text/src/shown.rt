@@ -133,7 +133,7 @@ fn show_content(
 ) -> Result<u64, EvalErr>
     ensures { Gives (λ left. (page.new, left)) Bad result (contents_shown (shown_at levels store.now) page.old steps content.now) }
 {
-    match &content.body {
+    match content.body() {
         Body::List(items) => {
             let square = Brackets {
                 open: b"[",

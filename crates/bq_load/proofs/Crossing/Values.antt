@@ -38,11 +38,16 @@ dict_send = let v = value_send in let k = key_send in search (Map.the_send, Seed
 pub dict_sync : IsSync (Dict.the_field).row
 dict_sync = let v = value_sync in let k = key_sync in search (Map.the_sync, Seed.the_sync, KeyHasher.the_sync, crosses, sendable) depth 60 fits 20000
 
+-- a content may be shared, so each needs both
 pub content_send : IsSend (Content.the_field).row
-content_send = let v = value_send in let k = dict_send in let c = class_send in search (crosses, sendable) depth 60 fits 20000
+content_send =
+    let vs = value_send in let vy = value_sync in let ds = dict_send in let dy = dict_sync in let cs = class_send in let cy = class_sync in
+    search (crosses, sendable) depth 60 fits 20000
 
 pub content_sync : IsSync (Content.the_field).row
-content_sync = let v = value_sync in let k = dict_sync in let c = class_sync in search (crosses, sendable) depth 60 fits 20000
+content_sync =
+    let vs = value_send in let vy = value_sync in let ds = dict_send in let dy = dict_sync in let cs = class_send in let cy = class_sync in
+    search (crosses, sendable) depth 60 fits 20000
 
 pub kinds_send : IsSend (Kinds.the_field).row
 kinds_send = search (Bytes.the_send, Map.the_send, Builder.the_send, Hasher.the_send, crosses, sendable) depth 60 fits 20000

@@ -5,4 +5,4 @@ use Rattle.bq_builtin.specs.Sequences.{elements_of_each}
 use Rattle.bq_builtin.proofs.zip.elements_of_each.Given as goal
 
 abbrev pub invariant-loop-value : goal.invariant-loop-value
-invariant-loop-value l = elements_of_each l.machine.store l.values ≡ and_then (elements_of_each l.machine.store (drop l.value-index l.values)) (λ xss. Ok (l.columns.items ++ xss))
+invariant-loop-value l = elements_of_each l.store l.values ≡ and_then (elements_of_each l.store (drop l.value-index l.values)) (λ xss. Ok (l.columns.items ++ xss))

@@ -6,8 +6,8 @@ use Rattle.bq_eval_rules.specs.OpenLoops.{loop_left, loop_of, loops_count, loops
 use Rattle.bq_eval_rules.proofs.comprehensions.Comprehension.turns.Given as goal
 
 -- what the loops that are open still do is what the first one does
-abbrev pub invariant-loop-value : goal.invariant-loop-value
-invariant-loop-value g l =
+abbrev pub invariant-loop-innermost : goal.invariant-loop-innermost
+invariant-loop-innermost g l =
     let h = g.R.Runtime in
     let e = nested h.means l.self.rules.now.depth l.self.rules.now.context.now in
     let b = body h.means e l.self.code.now in
@@ -15,8 +15,8 @@ invariant-loop-value g l =
     ≡ loop_left h.means e b (loop_of l.fn.first) (slots_of l.fn.frame) l.fn.content (h.seen l.fn.runtime)
 
 -- each time around, a turn begins or a loop ends
-abbrev pub decreases-loop-value : goal.decreases-loop-value
-decreases-loop-value g l =
+abbrev pub decreases-loop-innermost : goal.decreases-loop-innermost
+decreases-loop-innermost g l =
     let h = g.R.Runtime in
     let e = nested h.means l.self.rules.now.depth l.self.rules.now.context.now in
     loops_count h.means e (body h.means e l.self.code.now) (loop_of l.innermost ∷ loops_of l.outer.items) (slots_of l.frame) l.content (h.seen l.runtime)

@@ -1,0 +1,11 @@
+-- What the fields of a column stand for.
+use Rattle.std.specs.Prelude.{List, drop}
+use Rattle.bq_value.specs.Datum.{Datum}
+use Rattle.bq_value.specs.Pairs.{keys}
+use Rattle.bq_builtin.specs.declared.column.Left.{Left}
+use Rattle.bq_builtin.specs.declared.column.Left.TheVariants as left
+
+abbrev pub column_left : Left → List Datum
+column_left (left.Values values at) = drop at values.now
+column_left (left.Keys dict at) = drop at (keys dict.now)
+column_left (left.Integers integers) = integers

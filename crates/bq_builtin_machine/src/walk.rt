@@ -1,0 +1,154 @@
+//! Walks over iterables, of `for` statements and of comprehensions (Starlark, "Iteration protocol").
+
+ghost use Rattle.std.specs.Prelude.{◌≡◌, IfOk, drop, Some};
+ghost use Rattle.bq_base.specs.Gives.{Gives};
+ghost use Rattle.bq_value.specs.declared.error.EvalErr.TheVariants.{Bad};
+ghost use Rattle.bq_value.specs.Pairs.{keys};
+ghost use Rattle.bq_builtin_machine.specs.Action.{Does};
+ghost use Rattle.bq_builtin_machine.specs.Iteration.{content_elements, elements, begin_walk, end_walk, IsNext};
+
+use crate::iteration::content_elements;
+use crate::machine::Machine;
+use crate::range_walk::RangeWalk;
+use bq_base::FaultKind;
+use bq_value::{Body, Content, Dict, EvalErr, Node, Value};
+use std::alloc::{AllocError, Global};
+use std::marker::Model;
+use std::sync::Arc;
+
+/// The elements that a walk has still to go through: it has a share of what it goes over, so that beginning it takes no
+/// time. Contracts see their list.
+#[derive(Drop)]
+pub struct Walk {
+    over: Over,
+}
+
+#[derive(Drop)]
+enum Over {
+    /// These values, from this place on.
+    Values(Arc<Vec<Value>>, usize),
+    /// A list, or the keys of a dict, from this place on.
+    Content(Arc<Body>, usize),
+    Range(RangeWalk),
+}
+
+impl Model for Walk {
+    ghost use Rattle.std.specs.Prelude.{List};
+    ghost use Rattle.std.specs.Coded.{coded_list};
+    ghost use Rattle.bq_value.specs.Datum.{Datum};
+    ghost use Rattle.bq_value.specs.Codes.{coded_datum};
+
+    ghost Value = { List Datum };
+
+    ghost coded = { coded_list coded_datum };
+
+    ghost use Rattle.bq_builtin_machine.specs.WalkOf.{walk_left};
+
+    ghost view = { λ w. walk_left w.over };
+}
+
+/// Takes the value at this place, and moves the place on.
+pub fn next_value(values: &[Value], at: &mut usize) -> Result<Option<Value>, AllocError>
+    ensures { IfOk result (λ next. IsNext next (drop at.old values.now) (drop at.new values.now)) }
+{
+    if *at >= values.len() {
+        return Ok(None);
+    }
+    let value = values[*at].share()?;
+    *at += 1;
+    Ok(Some(value))
+}
+
+/// Takes the key at this place, and moves the place on.
+pub fn next_key(dict: &Dict, at: &mut usize) -> Result<Option<Value>, AllocError>
+    ensures { IfOk result (λ next. IsNext next (drop at.old (keys dict.now)) (drop at.new (keys dict.now))) }
+{
+    if *at >= dict.len() {
+        return Ok(None);
+    }
+    let (key, _) = dict.pair(*at);
+    let value = key.value().share()?;
+    *at += 1;
+    Ok(Some(value))
+}
+
+/// Begins a walk over what a cell holds. Of a few frozen elements it has copies.
+fn over_content(alloc: Global, content: &Content) -> Result<Walk, EvalErr>
+    ensures { Gives (λ xs. xs) Bad result (content_elements (Some content.now)) }
+{
+    if let Body::Rule(_) = content.body() {
+        return Err(EvalErr::Bad(FaultKind::WrongType));
+    }
+    let over = match content.shared()? {
+        Some(body) => Over::Content(body, 0),
+        None => Over::Values(Arc::new(alloc, content_elements(alloc, content)?)?, 0),
+    };
+    Ok(Walk { over })
+}
+
+impl Walk {
+    /// Takes the next one. Fails where 2^63 owners of it are alive.
+    pub fn next(&mut self) -> Result<Option<Value>, AllocError>
+        ensures { IfOk result (λ next. IsNext next self.old self.new) }
+    {
+        match &mut self.over {
+            Over::Values(values, at) => next_value(values, at),
+            Over::Content(body, at) => match &**body {
+                Body::List(values) => next_value(values, at),
+                Body::Dict(dict) => next_key(dict, at),
+                Body::Rule(_) => Ok(None),
+            },
+            Over::Range(integers) => match integers.next() {
+                Some(n) => Ok(Some(Value::int(n))),
+                None => Ok(None),
+            },
+        }
+    }
+}
+
+impl Machine {
+    /// Returns the elements that an iterable has now, to be walked while nothing changes it.
+    #[tactic(auto, using(bq_value_datum::specs::Datum::list_of_data_of), unfolding(crate::specs::Iteration::elements))]
+    fn walk(&mut self, alloc: Global, value: &Value) -> Result<Walk, EvalErr>
+        ensures { Does (λ xs. xs) result self.new (elements value.now self.old) }
+    {
+        match &value.node {
+            Node::Tuple(items) => Ok(Walk {
+                over: Over::Values(items.clone()?, 0),
+            }),
+            Node::Range(range) => Ok(Walk {
+                over: Over::Range(RangeWalk::over(*range)),
+            }),
+            Node::Cell(cell) => {
+                self.store.share(alloc, *cell)?;
+                match self.store.content(*cell) {
+                    Some(content) => over_content(alloc, content),
+                    None => Err(EvalErr::Bad(FaultKind::WrongType)),
+                }
+            }
+            _ => Err(EvalErr::Bad(FaultKind::WrongType)),
+        }
+    }
+
+    /// Begins a walk over an iterable. Until it ends, nothing can change the list or dict.
+    #[tactic(auto, unfolding(crate::specs::Iteration::begin_walk))]
+    pub fn begin_walk(&mut self, alloc: Global, value: &Value) -> Result<Walk, EvalErr>
+        ensures { Does (λ xs. xs) result self.new (begin_walk value.now self.old) }
+    {
+        let walk = self.walk(alloc, value)?;
+        if let Node::Cell(cell) = &value.node {
+            self.walks.push(*cell)?;
+        }
+        Ok(walk)
+    }
+
+    /// Ends the walk that began last, which was over `value`.
+    #[tactic(auto, unfolding(crate::specs::Iteration::end_walk))]
+    pub fn end_walk(&mut self, value: &Value)
+        ensures { self.new ≡ end_walk value.now self.old }
+    {
+        if let Node::Cell(_) = &value.node {
+            let _newest = self.walks.pop();
+        }
+    }
+}
