@@ -6,10 +6,13 @@
 //! In reading order:
 //!
 //! - `names`: the names of a package's files that some pattern matches;
+//! - `idle`: patterns that match no file of a package;
 //! - `laws`: what the definitions say together.
 #![tactic(auto)]
 
+mod idle;
 pub mod laws;
 mod names;
 
+pub use idle::any_is_idle;
 pub use names::glob;

@@ -1,8 +1,9 @@
 -- What a star and the pieces after it take: each piece may be taken where the text has it first.
-use Rattle.std.proofs.Common.{◌≡◌, ◌+◌, ◌-◌, ◌<◌, ◌≤◌, ◌++◌, ℕ, zero, suc, Bool, true, false, List, [], ◌∷◌, Some, None, length, take, drop, slice_index, nat_eq, refl, sym, ap, subst, ◌∙◌, arith, inl, inr, length-append, length-take-le}
+use Rattle.std.proofs.Common.{◌≡◌, ◌+◌, ◌-◌, ◌<◌, ◌≤◌, ◌++◌, ℕ, zero, suc, Bool, true, false, List, [], ◌∷◌, Option, Some, None, is_some, ◌||◌, length, take, drop, slice_index, nat_eq, refl, sym, ap, subst, ◌∙◌, arith, inl, inr, length-append, length-take-le}
 use Rattle.std.proofs.lemmas.Bool.{cases_Bool, cases_lt, false≢true}
 use Rattle.std.proofs.lemmas.Cmp.{nat_list_eq_equiv}
 use Rattle.std.proofs.lemmas.List.{take-append-drop}
+use Rattle.std.proofs.lemmas.List.Folds.{list_any-append}
 use Rattle.std.proofs.Math.Seq.{drop-append_seam, take-append_seam}
 use Rattle.std.specs.List.{list_any, starts_with, ends_with}
 use Rattle.std.specs.Cmp.Lexicographic.{pointwise, same_text}
@@ -168,6 +169,13 @@ star_found pattern at h =
 
 pub no_star_found : (pattern : List ℕ) → IsFirstByte (is_byte 42) pattern None → list_any is_star pattern ≡ false
 no_star_found pattern h = no_star_in pattern (λ j l. h j (omega arith) l)
+
+-- a star is there where one is found
+pub has_star_by : (text : List ℕ) (found : Option ℕ) (result : Bool) → IsFirstByte (is_byte 42) text found → result ≡ is_some found → result ≡ list_any is_star text
+has_star_by text None result h e = e ∙ sym (no_star_found text h)
+has_star_by text (Some at) result h e =
+    let cut = star_found text at h in
+    e ∙ sym (ap (list_any is_star) cut.whole ∙ (list_any-append is_star (take at text) (42 ∷ drop (at + 1) text) ∙ ap (λ (b : Bool). b || true) cut.plain))
 
 occurs : (piece text before after : List ℕ) → text ≡ before ++ (piece ++ after) → OccursAt text piece (length before)
 occurs piece text before after e =

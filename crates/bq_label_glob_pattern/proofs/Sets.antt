@@ -1,5 +1,5 @@
 -- Sets of patterns, and what is added to them.
-use Rattle.std.proofs.Common.{◌≡◌, ◌+◌, ◌<◌, ◌≤◌, ◌++◌, length, drop, get_or, ◌||◌, ℕ, Bool, true, false, List, [], ◌∷◌, refl, sym, ap, ◌∙◌, inl, inr}
+use Rattle.std.proofs.Common.{◌≡◌, ◌+◌, ◌<◌, ◌≤◌, ◌++◌, length, drop, get_or, ◌||◌, ℕ, Bool, true, false, not, List, [], ◌∷◌, refl, sym, ap, ◌∙◌, inl, inr}
 use Rattle.std.proofs.lemmas.Bool.{cases_Bool, false≢true}
 use Rattle.std.proofs.lemmas.List.{drop_more, drop_all}
 use Rattle.std.specs.Str.{bytes_eq}
@@ -58,14 +58,34 @@ module _ (f : List ℕ → Bool) (p : List ℕ) where
   ]
 
 -- a pattern without a star matches as itself
-plain_match : (p n : List ℕ) → list_any is_star p ≡ false → bytes_eq n p ≡ matches p n
-plain_match p n plain = elim (cases_Bool (bytes_eq n p)) [
-  | inl y ↦ y ∙ sym ((itself_alone p n plain).1 (sym ((bytes_decides n p).0 y)))
+equal_match : (p n : List ℕ) → list_any is_star p ≡ false → bytes_eq p n ≡ matches p n
+equal_match p n plain = elim (cases_Bool (bytes_eq p n)) [
+  | inl y ↦ y ∙ sym ((itself_alone p n plain).1 ((bytes_decides p n).0 y))
   | inr differ ↦ elim (cases_Bool (matches p n)) [
-    | inl m ↦ absurd (false≢true (sym differ ∙ (bytes_decides n p).1 (sym ((itself_alone p n plain).0 m))))
+    | inl m ↦ absurd (false≢true (sym differ ∙ (bytes_decides p n).1 ((itself_alone p n plain).0 m)))
     | inr m ↦ differ ∙ sym m
   ]
 ]
+
+bytes_swap : (a b : List ℕ) → bytes_eq a b ≡ bytes_eq b a
+bytes_swap a b = elim (cases_Bool (bytes_eq a b)) [
+  | inl y ↦ y ∙ sym ((bytes_decides b a).1 (sym ((bytes_decides a b).0 y)))
+  | inr differ ↦ elim (cases_Bool (bytes_eq b a)) [
+    | inl y ↦ absurd (false≢true (sym differ ∙ (bytes_decides a b).1 (sym ((bytes_decides b a).0 y))))
+    | inr n ↦ differ ∙ sym n
+  ]
+]
+
+plain_match : (p n : List ℕ) → list_any is_star p ≡ false → bytes_eq n p ≡ matches p n
+plain_match p n plain = bytes_swap n p ∙ equal_match p n plain
+
+pub plain_among : (p : List ℕ) (names : List (List ℕ)) → not (list_any is_star p) ≡ true → has names p ≡ list_any (matches p) names
+plain_among p [] plain = refl
+plain_among p (n ∷ ns) plain = ap (λ (b : Bool). b || has ns p) (equal_match p n (not_so (list_any is_star p) plain)) ∙ ap (λ (b : Bool). matches p n || b) (plain_among p ns plain)
+  where
+    not_so : (b : Bool) → not b ≡ true → b ≡ false
+    not_so true h = sym h
+    not_so false h = refl
 
 pub starred_added : (plain starred after : List (List ℕ)) (p : List ℕ) → after ≡ with_name starred p → (n : List ℕ) → is_match (record { plain = plain; starred = after }) n ≡ (is_match (record { plain = plain; starred = starred }) n || matches p n)
 starred_added plain starred after p e n =
@@ -79,14 +99,12 @@ plain_added plain starred after p single e n =
     ap (λ (v : List (List ℕ)). has v n || rest) e
     ∙ (ap (λ (b : Bool). b || rest) (any_with (bytes_eq n) p plain ∙ ap (λ (b : Bool). has plain n || b) (plain_match p n single)) ∙ swap (has plain n) rest (matches p n))
 
--- the next of the patterns is added
-pub adds_next : (ps : List (List ℕ)) (i : ℕ) (p n : List ℕ) (old new : Bool) → i < length ps → p ≡ get_or ps i p → new ≡ (old || matches p n) → (old || list_any (λ q. matches q n) (drop i ps)) ≡ list_any (λ q. matches q n) ps → (new || list_any (λ q. matches q n) (drop (i + 1) ps)) ≡ list_any (λ q. matches q n) ps
-adds_next ps i p n old new l e h k =
-    let f : List ℕ → Bool = λ q. matches q n in
-    let rest : Bool = list_any f (drop (i + 1) ps) in
-    ap (λ (b : Bool). b || rest) h ∙ (sym (assoc old (matches p n) rest) ∙ (sym (ap (λ (v : List (List ℕ)). old || list_any f v) (drop_more ps i p l ∙ ap (λ (q : List ℕ). q ∷ drop (i + 1) ps) (sym e))) ∙ k))
+-- each of a list is added in turn
+module _ (f : List ℕ → Bool) (xs : List (List ℕ)) (i : ℕ) where
+  pub adds_next : (x : List ℕ) (old new : Bool) → i < length xs → x ≡ get_or xs i x → new ≡ (old || f x) → (old || list_any f (drop i xs)) ≡ list_any f xs → (new || list_any f (drop (i + 1) xs)) ≡ list_any f xs
+  adds_next x old new l e h k =
+      let rest : Bool = list_any f (drop (i + 1) xs) in
+      ap (λ (b : Bool). b || rest) h ∙ (sym (assoc old (f x) rest) ∙ (sym (ap (λ (v : List (List ℕ)). old || list_any f v) (drop_more xs i x l ∙ ap (λ (y : List ℕ). y ∷ drop (i + 1) xs) (sym e))) ∙ k))
 
-pub all_added : (ps : List (List ℕ)) (i : ℕ) (n : List ℕ) (found : Bool) → length ps ≤ i → (found || list_any (λ q. matches q n) (drop i ps)) ≡ list_any (λ q. matches q n) ps → found ≡ list_any (λ q. matches q n) ps
-all_added ps i n found l k =
-    let f : List ℕ → Bool = λ q. matches q n in
-    or_false found ∙ (sym (ap (λ (v : List (List ℕ)). found || list_any f v) (drop_all i ps l)) ∙ k)
+  pub all_added : (found : Bool) → length xs ≤ i → (found || list_any f (drop i xs)) ≡ list_any f xs → found ≡ list_any f xs
+  all_added found l k = or_false found ∙ (sym (ap (λ (v : List (List ℕ)). found || list_any f v) (drop_all i xs l)) ∙ k)

@@ -3,3 +3,4 @@ pub mod Segment
 pub mod Step
 pub mod Pattern
 pub mod PatternSet
+pub mod Unmatched

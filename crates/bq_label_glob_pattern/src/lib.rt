@@ -10,6 +10,7 @@
 //! - `matching`: which paths a pattern matches;
 //! - `pattern`: which texts are patterns;
 //! - `pattern_set`: patterns that names are matched against together;
+//! - `unmatched`: patterns that match none of some names;
 //! - `laws`: what the definitions say together.
 #![tactic(auto)]
 
@@ -19,6 +20,8 @@ mod pattern;
 mod pattern_set;
 mod segment;
 mod step;
+mod unmatched;
 
 pub use pattern::{Pattern, read_pattern};
 pub use pattern_set::PatternSet;
+pub use unmatched::any_matches_none;

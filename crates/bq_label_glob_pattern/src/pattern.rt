@@ -1,6 +1,6 @@
 //! Patterns of glob.
 
-ghost use Rattle.std.specs.Prelude.{◌≡◌, IfOk};
+ghost use Rattle.std.specs.Prelude.{◌≡◌, true, IfOk, IsTrue};
 ghost use Rattle.std.specs.List.{list_any};
 ghost use Rattle.bq_base.specs.Gives.{Gives};
 ghost use Rattle.bq_base.specs.declared.fault.SourceErr.TheVariants.{Bad};
@@ -11,6 +11,7 @@ ghost use Rattle.bq_label_glob_pattern.specs.Pattern.{has_two_stars, is_pattern,
 use crate::matching::is_match;
 use bq_base::{Bytes, Fault, FaultKind, SourceErr};
 use bq_label::is_segment;
+use memchr::memchr;
 use std::marker::Model;
 
 /// A pattern of glob: segments joined by `/`. Contracts see its bytes.
@@ -49,7 +50,7 @@ fn has_two_stars(segment: &[u8]) -> bool
 pub(crate) fn has_star(text: &[u8]) -> bool
     ensures { result ≡ list_any is_star text.now }
 {
-    text.iter().any(|byte| *byte == b'*')
+    memchr(b'*', text).is_some()
 }
 
 /// Returns whether a text is a pattern.
@@ -62,13 +63,24 @@ fn is_pattern(text: &[u8]) -> bool
     })
 }
 
+/// Returns whether a text is that of a pattern.
+fn is_text_of(text: &Bytes, pattern: Option<&Pattern>) -> bool
+    ensures { IsTrue result → is_pattern text.now ≡ true }
+{
+    match pattern {
+        Some(pattern) => pattern.text == *text,
+        None => false,
+    }
+}
+
 /// Reads a text as a pattern, and shares it. A text that isn't one is fault F77, at line 0: it or a segment of it is
-/// empty, a segment is `.` or `..`, or `**` is a part of a longer segment.
+/// empty, a segment is `.` or `..`, or `**` is a part of a longer segment. The text of a pattern that was read before
+/// isn't looked through again.
 #[tactic(auto, unfolding(crate::specs::Pattern::pattern_of))]
-pub fn read_pattern(text: &Bytes) -> Result<Pattern, SourceErr>
+pub fn read_pattern(text: &Bytes, before: Option<&Pattern>) -> Result<Pattern, SourceErr>
     ensures { Gives (λ p. p) Bad result (pattern_of text.now) }
 {
-    if !is_pattern(text.as_slice()) {
+    if !is_text_of(text, before) && !is_pattern(text.as_slice()) {
         return Err(SourceErr::Bad(Fault::at(FaultKind::GlobPattern, 0)));
     }
     Ok(Pattern {

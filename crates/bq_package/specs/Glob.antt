@@ -9,6 +9,7 @@ use Rattle.bq_value.specs.Cells.{StoreView}
 use Rattle.bq_value_compare.specs.Truth.{truth_of}
 use Rattle.bq_builtin_machine.specs.Args.{Passed}
 use Rattle.bq_builtin_machine.specs.Binding.{bind}
+pub use Rattle.bq_label_glob_pattern.specs.Matching.{is_nothing}
 use Rattle.bq_label_glob_pattern.specs.Pattern.{is_pattern}
 use Rattle.bq_label_glob.specs.Names.{glob}
 use Rattle.bq_package_typed_value.specs.Steps.{and_then, in_turn}
@@ -53,11 +54,6 @@ request_of store vs =
     and_then (texts_of store (argument vs 0)) (λ include.
     and_then (texts_of store (argument vs 1)) (λ exclude.
     request_by (excludes_directories (argument vs 2)) (allows_empty store (argument vs 3)) include exclude))
-
--- no name was found
-abbrev pub is_nothing : List (List ℕ) → Bool
-is_nothing [] = true
-is_nothing (name ∷ names) = false
 
 -- the names of the package's files that some pattern matches and no excluded one
 abbrev pub names_of : PlaceView → List (List ℕ) → List (List ℕ) → List (List ℕ)

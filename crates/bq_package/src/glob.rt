@@ -1,28 +1,26 @@
 //! Calls of `glob`.
 
-ghost use Rattle.std.specs.Prelude.{◌≡◌, option_copied, IfOk};
-ghost use Rattle.std.specs.List.{list_any};
+ghost use Rattle.std.specs.Prelude.{◌≡◌, option_copied};
 ghost use Rattle.bq_base.specs.Gives.{Gives};
 ghost use Rattle.bq_value.specs.declared.error.EvalErr.TheVariants.{Bad};
 ghost use Rattle.bq_builtin_machine.specs.Binding.{bind};
 ghost use Rattle.bq_package.specs.Place.{place_of};
 ghost use Rattle.bq_package_typed_value.specs.Parameters.{argument};
 ghost use Rattle.bq_package.specs.Bound.{glob_parameters};
-ghost use Rattle.bq_package.specs.Glob.{patterns, excludes_directories, request_of, is_nothing, is_idle, found, globbed};
+ghost use Rattle.bq_package.specs.Glob.{patterns, excludes_directories, request_of, is_nothing, found, globbed};
 
 use crate::bound::texts_of;
 use crate::place::Place;
 use bq_base::{Bytes, FaultKind, SourceErr};
 use bq_builtin_machine::{Args, Bound, Signature, SingleParameter, bind};
-use bq_label_glob::glob;
+use bq_label_glob::{any_is_idle, glob};
 use bq_label_glob_pattern::{Pattern, read_pattern};
 use bq_package_typed_value::argument;
 use bq_value::{EvalErr, Node, Store, Value};
 use bq_value_compare::truth;
 use bq_value_seed::Seed;
 use sqlite_items::Items;
-use std::alloc::{AllocError, Global};
-use std::slice;
+use std::alloc::Global;
 
 /// What a call of `glob` asks for.
 #[derive(Drop)]
@@ -71,7 +69,7 @@ fn patterns(alloc: Global, texts: &[Bytes]) -> Result<Items<Pattern>, EvalErr>
 {
     let mut patterns = Items::new(alloc);
     for text in texts {
-        match read_pattern(text) {
+        match read_pattern(text, patterns.as_slice().last()) {
             Ok(pattern) => patterns.push(pattern)?,
             Err(SourceErr::Memory) => return Err(EvalErr::Memory),
             Err(SourceErr::Bad(_)) => return Err(EvalErr::Bad(FaultKind::GlobPattern)),
@@ -127,51 +125,21 @@ fn is_nothing(names: &[Bytes]) -> bool
 }
 
 impl<'a> Place<'a> {
-    /// Returns whether the pattern matches no file of the package.
-    fn is_idle(&self, alloc: Global, pattern: &Pattern) -> Result<bool, AllocError>
-        ensures { IfOk result (λ idle. idle ≡ is_idle (place_of self.now) pattern.now) }
-    {
-        let names = glob(
-            alloc,
-            self.workspace,
-            self.scope.packages,
-            self.scope.own,
-            slice::from_ref(pattern),
-            &[],
-        )?;
-        Ok(is_nothing(&names))
-    }
-
-    /// Returns whether one of the patterns matches no file of the package.
-    fn any_is_idle(&self, alloc: Global, patterns: &[Pattern]) -> Result<bool, AllocError>
-        ensures { IfOk result (λ idle. idle ≡ list_any (is_idle (place_of self.now)) patterns.now) }
-    {
-        for pattern in patterns {
-            if self.is_idle(alloc, pattern)? {
-                return Ok(true);
-            }
-        }
-        Ok(false)
-    }
-
     /// Returns the result of a call that asks for this: F76 if it may not be empty, and some pattern matches no file,
     /// or no name is left.
     #[tactic(auto, unfolding(crate::specs::Glob::found))]
     fn found(&self, alloc: Global, request: &GlobRequest) -> Result<Vec<Bytes>, EvalErr>
         ensures { Gives (λ names. names.items) Bad result (found (place_of self.now) request.now) }
     {
-        let names = glob(
-            alloc,
-            self.workspace,
-            self.scope.packages,
-            self.scope.own,
-            request.include.as_slice(),
-            request.exclude.as_slice(),
-        )?;
+        let (packages, own) = (self.scope.packages, self.scope.own);
+        let include = request.include.as_slice();
+        let exclude = request.exclude.as_slice();
+        let names = glob(alloc, self.workspace, packages, own, include, exclude)?;
         if request.allows_empty {
             return Ok(names);
         }
-        if self.any_is_idle(alloc, request.include.as_slice())? || is_nothing(&names) {
+        let idle = any_is_idle(alloc, self.workspace, packages, own, include)?;
+        if idle || is_nothing(&names) {
             return Err(EvalErr::Bad(FaultKind::GlobEmpty));
         }
         Ok(names)

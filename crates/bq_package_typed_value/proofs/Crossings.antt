@@ -1,9 +1,9 @@
 -- Names without a slash cross into another package alike.
-use Rattle.std.proofs.Common.{◌≡◌, ℕ, Bool, true, false, List, Option, Some, None, refl, sym, ap, ◌∙◌, codes}
+use Rattle.std.proofs.Common.{◌≡◌, ◌↔◌, ℕ, Bool, true, false, List, Option, Some, None, refl, sym, ap, subst, ◌∙◌, codes}
 use Rattle.std.specs.Prelude.{◌&&◌, bytes_eq}
 use Rattle.std.proofs.lemmas.Slice.Eq.{bytes_eq-Decides}
 use Rattle.bq_label.specs.declared.packages.BuildFile.{BuildFile}
-use Rattle.bq_label.specs.Label.{PackageParts, LabelParts, label_in, label_at}
+use Rattle.bq_label.specs.Label.{PackageParts, LabelParts, label_in, label_at, package_of}
 use Rattle.bq_label.specs.Packages.{label_path, owner_of}
 use Rattle.bq_label.specs.Paths.{HasNoSlash, is_path}
 use Rattle.bq_package_target.specs.Target.{is_of}
@@ -24,6 +24,10 @@ both : (a b : Bool) → (a && b) ≡ true → (a ≡ true) × (b ≡ true)
 both true b h = (refl, h)
 both false b h = absurd (cc)
 
+pub in_own : (own : PackageParts) (n : List ℕ) → is_of own (label_in own n) ≡ true
+unfolding is_of
+in_own own n = rw ((bytes_eq-Decides own.repo own.repo).1 refl, (bytes_eq-Decides own.package own.package).1 refl) refl
+
 -- a label of the package is that of its name there
 pub own_is : (own : PackageParts) (l : LabelParts) → is_of own l ≡ true → l ≡ label_in own l.name
 unfolding is_of
@@ -32,6 +36,13 @@ own_is own l h =
     let repo : l.repo ≡ own.repo = (bytes_eq-Decides l.repo own.repo).0 p.0 in
     let path : l.package ≡ own.package = (bytes_eq-Decides l.package own.package).0 p.1 in
     ap (λ (r : List ℕ). label_at r l.package l.name) repo ∙ ap (λ (q : List ℕ). label_at own.repo q l.name) path
+
+-- labels with one name are equal where their packages are
+pub same_parts : (a b : LabelParts) → bytes_eq a.name b.name ≡ true → (is_of (package_of a) b ≡ true) ↔ (a ≡ b)
+same_parts a b named = (
+  λ h. ap (label_in (package_of a)) ((bytes_eq-Decides a.name b.name).0 named) ∙ sym (own_is (package_of a) b h),
+  λ e. subst (λ (l : LabelParts). is_of (package_of a) l ≡ true) e (in_own (package_of a) a.name),
+)
 
 pub short_own : (packages : List BuildFile) (own : PackageParts) (l : LabelParts) (b : Bool) → ShortNamesCross own packages b → is_of own l ≡ true → HasNoSlash l.name
     → b ≡ own_label_crosses own packages l

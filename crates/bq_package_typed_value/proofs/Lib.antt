@@ -1,4 +1,4 @@
--- what steps that succeed say of each of them
+-- what steps that succeed say of each of them, and of the last one
 pub mod Steps
 -- names without a slash cross into another package alike
 pub mod Crossings

@@ -1,7 +1,6 @@
 -- The labels that are read in a package are of it, and so are the files that a rule makes.
 use Rattle.std.proofs.Common.{◌≡◌, ◌∙◌, ℕ, Bool, true, false, List, [], Result, Ok, Err, refl, ap, subst}
 use Rattle.std.specs.List.{list_all, list_any}
-use Rattle.std.proofs.lemmas.Slice.Eq.{bytes_eq-Decides}
 use Rattle.bq_base.specs.declared.fault.FaultKind.TheVariants as f
 use Rattle.bq_label.specs.declared.packages.BuildFile.{BuildFile}
 use Rattle.bq_label.specs.Label.{PackageParts, LabelParts, label_in}
@@ -24,13 +23,10 @@ use Rattle.bq_package_typed_value.specs.Texts.{text_in, texts_in}
 use Rattle.bq_package_typed_value.specs.LabelTexts.{named, without_colon, read, read_all, label, labels}
 use Rattle.bq_package_typed_value.specs.Written.{int_in, bool_in, written_as}
 use Rattle.bq_package_typed_value.specs.Values.{typed, value_as}
+use Rattle.bq_package_typed_value.proofs.Crossings.{in_own}
 use Rattle.bq_package_typed_value.proofs.Steps.{both_ok, nested_ok, then_ok, else_ok, each_passes}
 
 -- ---- labels
-
-in_own : (own : PackageParts) (n : List ℕ) → is_of own (label_in own n) ≡ true
-unfolding is_of
-in_own own n = rw ((bytes_eq-Decides own.repo own.repo).1 refl, (bytes_eq-Decides own.package own.package).1 refl) refl
 
 named_own : (own : PackageParts) (n : List ℕ) (l : LabelParts) → named own n ≡ Ok l → is_of own l ≡ true
 named_own own n l h = subst (λ (m : LabelParts). is_of own m ≡ true) (then_ok (is_path n) (label_in own n) l f.BadName h) (in_own own n)

@@ -3,7 +3,6 @@ use Rattle.std.proofs.Common.{◌≡◌, ◌∙◌, ◌⊎◌, inl, inr, ℕ, Bo
 use Rattle.std.specs.Prelude.{◌==◌, not, All, Any}
 use Rattle.std.specs.List.{AllZip, list_any}
 use Rattle.std.proofs.lemmas.Bool.Decides.{nat_tests}
-use Rattle.std.proofs.lemmas.Slice.Eq.{bytes_eq-Decides}
 use mathlib.Core.Bool.{false≢true}
 use Rattle.bq_base.specs.declared.fault.FaultKind.{FaultKind}
 use Rattle.bq_base.specs.declared.fault.FaultKind.TheVariants as f
@@ -19,7 +18,7 @@ use Rattle.bq_package_typed_value.specs.declared.label_texts.TextKind.TheVariant
 use Rattle.bq_package_typed_value.specs.Scope.{is_owned_by_other, crosses, own_label_crosses, inside, all_inside}
 use Rattle.bq_package_typed_value.specs.LabelTexts.{named, without_colon, read, read_all, label, labels}
 use Rattle.bq_package_typed_value.specs.Taken.{NamesFile, bare, after_colon, StandsFor, StandsForNone, CrossesInto, StaysInside}
-use Rattle.bq_package_typed_value.proofs.Crossings.{own_is}
+use Rattle.bq_package_typed_value.proofs.Crossings.{in_own, own_is}
 use Rattle.bq_package_typed_value.proofs.Turns.{any_weaker, any_true, any_so, all_false, all_so, turned, answered_in_turn, refused_in_turn, zip_weaker}
 
 -- ---- one text
@@ -127,15 +126,11 @@ reads own k.Output s l h = file_reads own s l h
 
 -- ---- packages
 
-of_its_package : (l : LabelParts) → is_of (package_of l) l ≡ true
-unfolding is_of
-of_its_package l = rw ((bytes_eq-Decides l.repo l.repo).1 refl, (bytes_eq-Decides l.package l.package).1 refl) refl
-
 package_is : (own : PackageParts) (l : LabelParts) → is_of own l ≡ true → package_of l ≡ own
 package_is own l h = ap package_of (own_is own l h)
 
 is_package : (own : PackageParts) (l : LabelParts) → package_of l ≡ own → is_of own l ≡ true
-is_package own l e = subst (λ (p : PackageParts). is_of p l ≡ true) e (of_its_package l)
+is_package own l e = subst (λ (p : PackageParts). is_of p l ≡ true) e (in_own (package_of l) l.name)
 
 module _ (own : PackageParts) (packages : List BuildFile) where
   pub crossing : (l : LabelParts) → own_label_crosses own packages l ≡ true → CrossesInto own packages l

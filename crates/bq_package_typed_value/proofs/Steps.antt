@@ -1,7 +1,11 @@
--- What steps that succeed say of each of them.
-use Rattle.std.proofs.Common.{◌≡◌, Bool, true, false, cond, List, [], ◌∷◌, ◌++◌, Result, Ok, Err, refl}
+-- What steps that succeed say of each of them, and of the last one.
+use Rattle.std.proofs.Common.{◌≡◌, ◌∙◌, ◌-◌, Bool, true, false, cond, List, [], ◌∷◌, ◌++◌, length, get_or, Some, Result, Ok, Err, refl, sym, ap, subst, arith}
+use Rattle.std.specs.Prelude.{slice_get}
+use Rattle.std.specs.Option.{ForSome}
 use Rattle.std.specs.List.{list_all}
+use Rattle.std.proofs.lemmas.List.{get_or_push, length_push}
 use Rattle.std.proofs.lemmas.List.Folds.{list_all-append}
+use Rattle.std.proofs.lemmas.Option.{get_or_from_slice_get}
 use Rattle.bq_package_typed_value.specs.Steps.{and_then, in_turn}
 
 pub both_ok : {A B E : Type 0} (r : Result A E) (next : A → Result B E) (y : B) → and_then r next ≡ Ok y → (x : A) × (r ≡ Ok x) × (next x ≡ Ok y)
@@ -36,3 +40,13 @@ each_passes f p each done [] ys h past = let e : done ≡ ys = cc in rw (← e) 
 each_passes f p each done (x ∷ xs) ys h past =
     let r = both_ok (f x) (λ y. in_turn f (done ++ y ∷ []) xs) ys h in
     each_passes f p each (done ++ r.0 ∷ []) xs ys r.2 (all_more p done r.0 past (each x r.0 r.1))
+
+pub of_some : {A : Type 0} (P : A → Type 0) (x : A) → P x → ForSome (Some x) P
+of_some P x h y e = let same : x ≡ y = cc in subst P same h
+
+-- what holds of an element that is pushed holds of the last one
+pub of_last : {A : Type 0} (P : A → Type 0) (xs ys : List A) (x : A) → ys ≡ xs ++ x ∷ [] → P x → ForSome (slice_get ys (length ys - 1)) P
+of_last P xs ys x is h y e =
+    let at : length xs ≡ length ys - 1 = omega (arith, ap length is ∙ length_push xs x) in
+    let same : x ≡ y = sym (get_or_push xs x y (length ys - 1) at) ∙ (ap (λ (zs : List _). get_or zs (length ys - 1) y) (sym is) ∙ get_or_from_slice_get ys (length ys - 1) y y e) in
+    subst P same h

@@ -1,6 +1,7 @@
 -- The labels that the texts of a call stand for (Bazel, "Labels"): F78 where a text is no label, F75 where it is no name of a target, and
 -- F37 where it names a file of another package.
-use Rattle.std.specs.Prelude.{ℕ, ◌==◌, List, [], ◌∷◌, Option, Some, None, Result, Ok, Err, if◌then◌else◌}
+use Rattle.std.specs.Prelude.{◌≡◌, ℕ, ◌-◌, ◌==◌, List, [], ◌∷◌, length, slice_get, Option, Some, None, Result, Ok, Err, if◌then◌else◌}
+use Rattle.std.specs.Option.{ForSome}
 use Rattle.bq_base.specs.declared.fault.FaultKind.{FaultKind}
 use Rattle.bq_base.specs.declared.fault.FaultKind.TheVariants.{BadLabel, BadName}
 use Rattle.bq_label.specs.declared.packages.BuildFile.{BuildFile}
@@ -31,6 +32,10 @@ unfoldable pub read : PackageParts → TextKind → List ℕ → Result LabelPar
 read own k.Label text = label_found (label_of own text)
 read own k.Name text = named own text
 read own k.Output text = named own (without_colon text)
+
+-- the last of the labels, if there is one, is the text's
+abbrev pub IsReadLast : PackageParts → TextKind → List ℕ → List LabelParts → Type 0
+IsReadLast own kind text labels = ForSome (slice_get labels (length labels - 1)) (λ l. read own kind text ≡ Ok l)
 
 -- the labels of texts
 unfoldable pub read_all : PackageParts → TextKind → List (List ℕ) → Result (List LabelParts) FaultKind

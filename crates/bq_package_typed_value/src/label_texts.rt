@@ -1,9 +1,10 @@
 //! The labels that the texts of a call stand for.
 
 ghost use Rattle.std.specs.Prelude.{◌≡◌, IfOk};
+ghost use Rattle.std.specs.Option.{ForSome};
 ghost use Rattle.bq_base.specs.Gives.{Gives};
 ghost use Rattle.bq_value.specs.declared.error.EvalErr.TheVariants.{Bad};
-ghost use Rattle.bq_package_typed_value.specs.LabelTexts.{named, without_colon, read, read_all, label, labels};
+ghost use Rattle.bq_package_typed_value.specs.LabelTexts.{named, without_colon, read, IsReadLast, read_all, label, labels};
 
 use crate::scope::Scope;
 use bq_base::{Bytes, FaultKind, SourceErr};
@@ -60,6 +61,25 @@ fn read(alloc: Global, own: &PackageId, kind: TextKind, text: &Bytes) -> Result<
     }
 }
 
+/// Returns the label that a text stands for. Where it equals the text before it, whose label is the last of those that were
+/// read, that one is shared: so a long text that a list repeats is read once.
+fn read_next(
+    alloc: Global,
+    own: &PackageId,
+    kind: TextKind,
+    before: Option<&Bytes>,
+    labels: &[Label],
+    text: &Bytes,
+) -> Result<Label, EvalErr>
+    requires { ForSome before (λ b. IsReadLast own.now kind b.now labels.now) }
+    ensures { Gives (λ l. l) Bad result (read own.now kind text.now) }
+{
+    match (before, labels.last()) {
+        (Some(before), Some(label)) if before == text => Ok(label.share()?),
+        _ => read(alloc, own, kind, text),
+    }
+}
+
 /// Returns the labels that texts stand for.
 #[tactic(auto, unfolding(crate::specs::LabelTexts::read_all, crate::specs::Steps::in_turn))]
 fn read_all(
@@ -71,8 +91,11 @@ fn read_all(
     ensures { Gives (λ ls. ls) Bad result (read_all own.now kind texts.now) }
 {
     let mut labels = Vec::with_capacity(alloc, texts.len())?;
+    let mut before = None;
     for text in texts {
-        labels.push(read(alloc, own, kind, text)?)?;
+        let label = read_next(alloc, own, kind, before, &labels, text)?;
+        labels.push(label)?;
+        before = Some(text);
     }
     Ok(Items::from_vec(labels))
 }

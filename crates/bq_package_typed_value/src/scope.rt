@@ -1,6 +1,7 @@
 //! The package that a BUILD file declares targets in, among the others.
 
-ghost use Rattle.std.specs.Prelude.{◌≡◌, IfOk};
+ghost use Rattle.std.specs.Prelude.{◌≡◌, ◌↔◌, false, IfOk, IsTrue};
+ghost use Rattle.std.specs.Option.{ForSome};
 ghost use Rattle.std.specs.List.{list_any};
 ghost use Rattle.bq_label.specs.Paths.{is_slash};
 ghost use Rattle.bq_package_typed_value.specs.Scope.{crosses, own_label_crosses, ShortNamesCross};
@@ -26,6 +27,13 @@ fn has_slash(name: &[u8]) -> bool
     ensures { result ≡ list_any is_slash name.now }
 {
     name.iter().any(|byte| *byte == b'/')
+}
+
+/// Returns whether two labels are equal. The names are compared first, since they differ most often.
+fn is_same(a: &Label, b: &Label) -> bool
+    ensures { IsTrue result ↔ (a.now ≡ b.now) }
+{
+    a.name() == b.name() && is_of(a.package_id(), b)
 }
 
 /// Returns whether another package than the label's owns the path that the label names.
@@ -76,6 +84,23 @@ impl<'a> Scope<'a> {
         crosses(alloc, self.packages, label)
     }
 
+    /// Returns whether the label is so. Where it equals the one before it, which isn't, it isn't either: so a long label that
+    /// a list repeats is looked up once.
+    fn next_crosses(
+        &self,
+        alloc: Global,
+        before: Option<&Label>,
+        label: &Label,
+    ) -> Result<bool, AllocError>
+        requires { ForSome before (λ b. own_label_crosses self.now.own.now self.now.packages.now b.now ≡ false) }
+        ensures { IfOk result (λ found. found ≡ own_label_crosses self.now.own.now self.now.packages.now label.now) }
+    {
+        match before {
+            Some(before) if is_same(before, label) => Ok(false),
+            _ => self.own_label_crosses(alloc, label),
+        }
+    }
+
     /// Returns whether one of the labels is so.
     pub(crate) fn any_own_label_crosses(
         &self,
@@ -84,10 +109,12 @@ impl<'a> Scope<'a> {
     ) -> Result<bool, AllocError>
         ensures { IfOk result (λ found. found ≡ list_any (own_label_crosses self.now.own.now self.now.packages.now) labels.now) }
     {
+        let mut before = None;
         for label in labels {
-            if self.own_label_crosses(alloc, label)? {
+            if self.next_crosses(alloc, before, label)? {
                 return Ok(true);
             }
+            before = Some(label);
         }
         Ok(false)
     }

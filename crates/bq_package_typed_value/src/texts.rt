@@ -47,7 +47,7 @@ pub fn texts_in(
         Node::Tuple(values) => all_texts(alloc, values, why),
         Node::Cell(cell) => match store.content(*cell) {
             None => Err(EvalErr::Bad(why)),
-            Some(content) => match &content.body {
+            Some(content) => match content.body() {
                 Body::List(values) => all_texts(alloc, values, why),
                 Body::Dict(_) => Err(EvalErr::Bad(why)),
                 Body::Rule(_) => Err(EvalErr::Bad(why)),

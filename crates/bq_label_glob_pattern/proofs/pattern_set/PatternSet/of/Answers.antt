@@ -10,7 +10,7 @@ loop-pattern-init c = λ n. ap (λ (b : Bool). b || list_any (λ p. matches p n)
 
 pub loop-pattern-preserved : goal.loop-pattern-preserved
 loop-pattern-preserved c =
-    λ n. adds_next c.args.patterns.now c.loop-pattern.pattern-index c.pattern-item.result n (is_match c.loop-pattern.set n) (is_match c.add.new.self n) c.loop-pattern-test.true c.pattern-item.is (c.in_ok-add.ensures n) (c.loop-pattern.invariant n)
+    λ n. adds_next (λ p. matches p n) c.args.patterns.now c.loop-pattern.pattern-index c.pattern-item.result (is_match c.loop-pattern.set n) (is_match c.add.new.self n) c.loop-pattern-test.true c.pattern-item.is (c.in_ok-add.ensures n) (c.loop-pattern.invariant n)
 
 pub returns : goal.returns
-returns c = λ n. all_added c.args.patterns.now c.loop-pattern.pattern-index n (is_match c.loop-pattern.set n) c.loop-pattern-test.false (c.loop-pattern.invariant n)
+returns c = λ n. all_added (λ p. matches p n) c.args.patterns.now c.loop-pattern.pattern-index (is_match c.loop-pattern.set n) c.loop-pattern-test.false (c.loop-pattern.invariant n)
