@@ -54,7 +54,7 @@ impl<
         requires { WalksStatement self.now.layers (F.pre self.now.inner) (F.post self.now.inner) }
         ensures { Walks (visit.each (inner self.now.scope self.now.layers looping) [] statements.now walk.old) result walk.new }
     {
-        let mut done = Items::new(self.scope.alloc);
+        let mut done = Items::from_vec(Vec::with_capacity(self.scope.alloc, statements.len())?);
         for statement in statements {
             let resolved = (self.inner)(&self.scope, self.layers, looping, walk, statement)?;
             done.push(resolved)?;
@@ -104,7 +104,7 @@ impl<
         requires { WalksStatement self.now.layers (F.pre self.now.inner) (F.post self.now.inner) }
         ensures { Walks (visit.each (spec.branch self.now.scope.file.now (inner self.now.scope self.now.layers looping) self.now.scope.blocks.now) [] branches.now walk.old) result walk.new }
     {
-        let mut done = Items::new(self.scope.alloc);
+        let mut done = Items::from_vec(Vec::with_capacity(self.scope.alloc, branches.len())?);
         for branch in branches {
             done.push(self.branch(looping, walk, branch)?)?;
         }

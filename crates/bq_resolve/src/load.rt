@@ -22,7 +22,7 @@ pub fn load(
 ) -> Result<CodeSmall, SourceErr>
     ensures { Walks (spec.load file.now line load.now walk.old) result walk.new }
 {
-    let mut clauses = Items::new(alloc);
+    let mut clauses = Items::from_vec(Vec::with_capacity(alloc, load.clauses.len())?);
     for clause in load.clauses.as_slice() {
         let name = &clause.local;
         if walk.is_loaded(&name.name) {

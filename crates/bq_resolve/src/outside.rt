@@ -24,7 +24,7 @@ pub fn top_levels(
 ) -> Result<Items<CodeTopLevel>, SourceErr>
     ensures { Walks (visit.each (files.top_level file.now) [] statements.now walk.old) result walk.new }
 {
-    let mut done = Items::new(alloc);
+    let mut done = Items::from_vec(Vec::with_capacity(alloc, statements.len())?);
     for top_level in statements {
         let first_line = top_level.line;
         let statement = match &top_level.statement {

@@ -138,7 +138,7 @@ pub fn line(
 ) -> Result<Items<CodeSmall>, SourceErr>
     ensures { Walks (visit.each (spec.small_stmt scope.now.file.now scope.now.blocks.now looping) [] statements.now walk.old) result walk.new }
 {
-    let mut done = Items::new(scope.alloc);
+    let mut done = Items::from_vec(Vec::with_capacity(scope.alloc, statements.len())?);
     for statement in statements {
         done.push(small_stmt(scope, looping, walk, statement)?)?;
     }

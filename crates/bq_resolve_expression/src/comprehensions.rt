@@ -78,7 +78,7 @@ impl<'a, F: Copy + Fn(&Scope<'_>, usize, &mut Walk, &Expr) -> Result<Code, Sourc
         requires { WalksNested self.now.depth (F.pre self.now.visit) (F.post self.now.visit) }
         ensures { Walks (spec.clauses self.now.scope.file.now (spec.expr_to self.now.depth self.now.scope.file.now) round.now self.now.scope.blocks.now clauses.now walk.old) result walk.new }
     {
-        let mut done = Items::new(self.scope.alloc);
+        let mut done = Items::from_vec(Vec::with_capacity(self.scope.alloc, clauses.len())?);
         let [first, rest @ ..] = clauses else {
             return Ok(done);
         };

@@ -58,7 +58,10 @@ impl<'a, F: Copy + Fn(&Scope<'_>, usize, &mut Walk, &Expr) -> Result<Code, Sourc
                     return Err(SourceErr::Bad(fault_of(FaultKind::UnknownName, name)?));
                 };
                 let arguments = self.arguments(walk, arguments.as_slice())?;
-                let mut done = Items::new(self.scope.alloc);
+                let mut done = Items::from_vec(Vec::with_capacity(
+                    self.scope.alloc,
+                    suffixes.len(),
+                )?);
                 done.push(CodeSuffix::Call(arguments))?;
                 let suffixes = self.suffixes(walk, done, rest)?;
                 let member = Boxed::new(self.scope.alloc, Code::Member(member))?;

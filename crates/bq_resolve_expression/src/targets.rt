@@ -47,7 +47,7 @@ impl<'a, F: Copy + Fn(&Scope<'_>, usize, &mut Walk, &Expr) -> Result<Code, Sourc
         requires { WalksNested self.now.depth (F.pre self.now.visit) (F.post self.now.visit) }
         ensures { Walks (visit.each (spec.target_to self.now.scope.file.now (spec.expr_to self.now.depth self.now.scope.file.now) layers self.now.scope.blocks.now) [] targets.now walk.old) result walk.new }
     {
-        let mut done = Items::new(self.scope.alloc);
+        let mut done = Items::from_vec(Vec::with_capacity(self.scope.alloc, targets.len())?);
         for target in targets {
             done.push(self.target_to(layers, walk, target)?)?;
         }
