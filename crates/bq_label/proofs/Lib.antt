@@ -1,5 +1,6 @@
 pub mod Cuts
 pub mod Readings
+pub mod PackageTexts
 pub mod BadLabels
 pub mod Orders
 pub mod Searches

@@ -68,6 +68,13 @@ unfoldable pub last_segment : List ℕ → List ℕ
 last_segment [] = []
 last_segment (b ∷ bs) = if is_slash b || list_any is_slash bs then last_segment bs else b ∷ bs
 
+-- the texts that name a package
+pub data Spells (p : PackageParts) (text : List ℕ) : Type 0 where
+  -- `//package`, in the main repository
+  main : p.repo ≡ [] → text ≡ codes "//" ++ p.package → Spells p text
+  -- `@repository//package`; `@//package` is the main repository's
+  other : text ≡ at_sign ∷ (p.repo ++ (codes "//" ++ p.package)) → Spells p text
+
 -- the text begins with another byte than this
 abbrev pub BeginsOther : ℕ → List ℕ → Type 0
 BeginsOther c [] = Unit {0}

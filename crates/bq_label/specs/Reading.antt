@@ -1,11 +1,12 @@
--- How a label's text is read: a function that returns what the forms of `Label.antt` say (the law `forms_of_a_label`).
+-- How the texts of labels and packages are read: functions that return what the forms of `Label.antt` say (the laws `forms_of_a_label`,
+-- `forms_of_a_package`).
 use Rattle.std.specs.Prelude.{ℕ, ◌==◌, ◌&&◌, Bool, false, List, [], ◌∷◌, Option, Some, None, Result, Ok, Err, drop, if◌then◌else◌, option_and_then}
 use Rattle.std.specs.Option.{option_map}
 use Rattle.bq_base.specs.Fault.{fault_at}
 use Rattle.bq_base.specs.declared.fault.Fault.{Fault}
 use Rattle.bq_base.specs.declared.fault.FaultKind.TheVariants.{BadLabel}
 use Rattle.bq_label.specs.Paths.{is_path, is_package, is_repository}
-use Rattle.bq_label.specs.Label.{PackageParts, LabelParts, label_at, label_in, last_segment, at_sign}
+use Rattle.bq_label.specs.Label.{PackageParts, LabelParts, package_at, label_at, label_in, last_segment, at_sign}
 
 -- the text before the first such byte, and the text after it
 unfoldable pub split_once : ℕ → List ℕ → Option (List ℕ × List ℕ)
@@ -60,3 +61,26 @@ label_of own text = option_and_then valid_label (parts_of own text)
 abbrev pub or_bad_label : Option LabelParts → Result LabelParts Fault
 or_bad_label None = Err (fault_at BadLabel 0)
 or_bad_label (Some l) = Ok l
+
+-- ---- packages
+
+-- a package behind `@`: a repository, `//` and a path
+abbrev pub package_of_repository : Option (List ℕ × List ℕ) → Option PackageParts
+package_of_repository None = None
+package_of_repository (Some p) = if first_is 47 p.1 then Some (package_at p.0 (drop 1 p.1)) else None
+
+-- the parts of the package that a text names, which may be invalid
+unfoldable pub package_parts : List ℕ → Option PackageParts
+package_parts [] = None
+package_parts (b ∷ bs) =
+    if b == at_sign then package_of_repository (split_once 47 bs)
+    else if b == 47 && first_is 47 bs then Some (package_at [] (drop 1 bs))
+    else None
+
+-- a package, if its parts have their forms
+unfoldable pub package_if_valid : PackageParts → Option PackageParts
+package_if_valid p = if is_repository p.repo && is_package p.package then Some p else None
+
+-- the package that a text names
+unfoldable pub package_of_text : List ℕ → Option PackageParts
+package_of_text text = option_and_then package_if_valid (package_parts text)

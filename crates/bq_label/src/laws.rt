@@ -8,13 +8,18 @@ ghost use Rattle.bq_label.specs.declared.workspace.File.{File};
 ghost use Rattle.bq_label.specs.declared.packages.BuildFile.{BuildFile};
 ghost use Rattle.bq_label.specs.Workspace.{workspace_of, IsWorkspace, IsWorkspaceOf};
 ghost use Rattle.bq_label.specs.Packages.{packages_of, package_cmp, IsPackageOf, HasBuildFile, IsListed, split_repository, label_path, owner_of, OwnerIs, IsPathOf, label_file, FileIs};
-ghost use Rattle.bq_label.specs.Label.{PackageParts, LabelParts, label_in, IsLabel, ReadsAs, full_form};
+ghost use Rattle.bq_label.specs.Label.{PackageParts, LabelParts, label_in, IsLabel, IsPackage, ReadsAs, Spells, full_form};
 ghost use Rattle.bq_label.specs.Paths.{HasNoSlash};
-ghost use Rattle.bq_label.specs.Reading.{label_of};
+ghost use Rattle.bq_label.specs.Reading.{label_of, package_of_text};
 
 /// [`crate::read_label`] reads a text as a label exactly where one of the forms of a label does.
 pub fn forms_of_a_label()
     ensures { (own : PackageParts) (text : List ℕ) (l : LabelParts) → (label_of own text ≡ Some l) ↔ ReadsAs own text l }
+{}
+
+/// [`crate::read_package`] reads a text as a package exactly where it names that package.
+pub fn forms_of_a_package()
+    ensures { (text : List ℕ) (p : PackageParts) → (package_of_text text ≡ Some p) ↔ (Spells p text × IsPackage p) }
 {}
 
 /// A text reads as one label at most.

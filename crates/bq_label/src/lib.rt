@@ -7,7 +7,7 @@
 //!
 //! - `path`: which texts are paths, target names and repository names;
 //! - `package_id`, `label`: what a package and a label are;
-//! - `split`, `read`: which label a text reads as in a package;
+//! - `split`, `read`: which label a text reads as in a package, and which package a text names;
 //! - `print`, `order`: a label's full form, and the order of labels by it;
 //! - `workspace`: the files, and which lists of files are valid;
 //! - `repository`: the repository that a path lies in, and the path and the file that a label names;
@@ -33,6 +33,6 @@ pub use package_id::PackageId;
 pub use packages::{BuildFile, Packages};
 pub use path::{is_path, is_repository, is_segment};
 pub use print::print_label;
-pub use read::{read_label, read_shared_label};
+pub use read::{read_label, read_package, read_shared_label};
 pub use repository::{label_file, label_path};
 pub use workspace::{File, MAX_FILES, PathErr, Workspace};

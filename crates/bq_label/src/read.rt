@@ -1,19 +1,19 @@
-//! How a label is read.
+//! How labels and packages are read.
 
-ghost use Rattle.std.specs.Prelude.{◌≡◌, option_and_then};
+ghost use Rattle.std.specs.Prelude.{◌≡◌, IfOk, option_and_then};
 ghost use Rattle.bq_base.specs.Fault.{fault_at};
 ghost use Rattle.bq_base.specs.Gives.{Gives};
 ghost use Rattle.bq_base.specs.declared.fault.FaultKind.TheVariants.{BadLabel};
 ghost use Rattle.bq_base.specs.declared.fault.SourceErr.TheVariants.{Bad};
-ghost use Rattle.bq_label.specs.Label.{label_at, label_in};
-ghost use Rattle.bq_label.specs.Reading.{or_bad_label, label_of, valid_label, absolute_label, external_label};
+ghost use Rattle.bq_label.specs.Label.{package_at, label_at, label_in};
+ghost use Rattle.bq_label.specs.Reading.{or_bad_label, label_of, valid_label, absolute_label, external_label, package_if_valid, package_of_text};
 
 use crate::label::Label;
 use crate::package_id::PackageId;
 use crate::path::is_path;
 use crate::split::{last_segment, split_once};
 use bq_base::{Bytes, Fault, FaultKind, SourceErr};
-use std::alloc::Global;
+use std::alloc::{AllocError, Global};
 
 fn bad_label() -> SourceErr
     ensures { result ≡ Bad (fault_at BadLabel 0) }
@@ -113,5 +113,31 @@ pub fn read_shared_label(
         [b'/', b'/', ..] => read_label(alloc, text.as_slice(), package),
         [b':', ..] => read_label(alloc, text.as_slice(), package),
         _ => share_name(package, text),
+    }
+}
+
+/// Makes the package of copies of its two names, if they are valid.
+#[tactic(auto, unfolding(crate::specs::Reading::package_if_valid))]
+fn package_at(alloc: Global, repo: &[u8], package: &[u8]) -> Result<Option<PackageId>, AllocError>
+    ensures { IfOk result (λ found. found ≡ package_if_valid (package_at repo.now «package».now)) }
+{
+    let repo = Bytes::from_slice(alloc, repo)?;
+    let package = Bytes::from_slice(alloc, package)?;
+    PackageId::new(alloc, repo, package)
+}
+
+/// Reads the package that a text names: `//package`, or `@repository//package`. Returns `None` if it names none.
+#[tactic(auto, unfolding(crate::specs::Reading::package_parts, crate::specs::Reading::package_of_text))]
+pub fn read_package(alloc: Global, text: &[u8]) -> Result<Option<PackageId>, AllocError>
+    ensures { IfOk result (λ found. found ≡ package_of_text text.now) }
+{
+    match text {
+        [b'@', rest @ ..] => match split_once(rest, b'/') {
+            Some((repo, [b'/', package @ ..])) => package_at(alloc, repo, package),
+            Some(_) => Ok(None),
+            None => Ok(None),
+        },
+        [b'/', b'/', package @ ..] => package_at(alloc, &[], package),
+        _ => Ok(None),
     }
 }

@@ -1,14 +1,20 @@
 -- What answering a tree ensures, where its parts are answered.
-use Rattle.std.proofs.Common.{◌≡◌, ◌∙◌, Bool, List, [], ◌∷◌, ◌++◌, Option, Some, None, Result, Ok, Err, sym, ap, subst}
-use Rattle.std.specs.Prelude.{MatchOption}
+use Rattle.std.proofs.Common.{◌≡◌, ◌∙◌, Bool, List, [], ◌∷◌, ◌++◌, Option, Some, None, Result, Ok, Err, length, refl, sym, ap, subst}
+use Rattle.std.specs.Prelude.{MatchOption, IfOk}
+use Rattle.bq_label.specs.Label.{PackageParts}
+use Rattle.bq_package_target.specs.declared.target.Target.{Target}
 use Rattle.bq_query_graph.specs.Marks.{IsSet, Marked}
 use Rattle.bq_query_lex.specs.declared.query_error.QueryErr.{QueryErr}
 use Rattle.bq_query_check.specs.declared.formula.Unary.{Unary}
 use Rattle.bq_query_check.specs.declared.formula.Binary.{Binary}
-use Rattle.bq_query_check.specs.Formula.{Formula, let_in, one, two}
+use Rattle.bq_query_check.specs.Formula.{Formula, named, let_in, one, two}
+use Rattle.bq_query_lex.specs.QueryError.{Meets}
 use Rattle.bq_query_target_pattern.specs.Reading.{first_of}
+use Rattle.bq_query_target_pattern.specs.declared.pattern.TargetPattern.{TargetPattern}
+use Rattle.bq_query_target_sets.specs.Words.{Those, one_names}
+use Rattle.bq_query_target_sets.specs.Missing.{first_missing}
 use Rattle.bq_query_target_graph.specs.Graph.{GraphParts}
-use Rattle.bq_query.specs.Graph.{count_of}
+use Rattle.bq_query.specs.Graph.{count_of, packages_of, targets_of}
 use Rattle.bq_query.specs.Stands.{Stands, Bound}
 use Rattle.bq_query.specs.Functions.{OfOne, OfTwo}
 use Rattle.bq_query.specs.Faults.{Has, Answers, fault_in}
@@ -24,6 +30,20 @@ reworded marks w x y bound before result after e h = subst (λ (z : Formula). An
 pub kept_before : {A : Type 0} (marks : A → List Bool) (w : GraphParts) (x : Formula) (start before : Bound) (result : Result A QueryErr) (after : Bound) → before ≡ start
     → Answers marks w x before before result after → Answers marks w x start start result after
 kept_before marks w x start before result after e h = subst (λ (bs : Bound). Answers marks w x bs bs result after) e h
+
+-- ---- patterns
+
+named_by : {A : Type 0} (marks : A → List Bool) (w : GraphParts) (patterns : List TargetPattern) (bound : Bound) (result : Result A QueryErr) → Meets (first_missing (packages_of w) (targets_of w) patterns) result
+    → IfOk result (λ r. IsSet (count_of w) (marks r) (Those (one_names patterns) (targets_of w))) → Answers marks w (named patterns) bound bound result bound
+named_by marks w patterns bound (Ok r) none stands = (record { none = none; stands = stands }, refl)
+named_by marks w patterns bound (Err why) fault stands = fault
+
+pub named_answered : {A : Type 0} (marks : A → List Bool) (w : GraphParts) (packages : List PackageParts) (targets : List Target) (patterns : List TargetPattern) (bound : Bound) (result : Result A QueryErr) → packages ≡ packages_of w
+    → targets ≡ targets_of w → Meets (first_missing packages targets patterns) result → IfOk result (λ r. IsSet (length targets) (marks r) (Those (one_names patterns) targets)) → Answers marks w (named patterns) bound bound result bound
+named_answered marks w packages targets patterns bound result e f fault stands =
+    named_by marks w patterns bound result
+    (subst (λ (ps : List PackageParts). Meets (first_missing ps (targets_of w) patterns) result) e (subst (λ (ts : List Target). Meets (first_missing packages ts patterns) result) f fault))
+    (subst (λ (ts : List Target). IfOk result (λ r. IsSet (length ts) (marks r) (Those (one_names patterns) ts))) f stands)
 
 -- ---- functions
 

@@ -8,7 +8,6 @@
 //! In reading order:
 //!
 //! - `bindings`: the sets that lets bind;
-//! - `named`: the sets of patterns;
 //! - `functions`: functions and operators on sets;
 //! - `sets`: the sets of queries;
 //! - `whole`: whole queries;
@@ -19,7 +18,6 @@
 mod bindings;
 mod functions;
 pub mod laws;
-mod named;
 mod print;
 mod sets;
 mod whole;

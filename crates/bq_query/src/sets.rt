@@ -9,10 +9,10 @@ ghost use Rattle.bq_query.specs.Faults.{Answers, AreBound, Has};
 
 use crate::bindings::{bind, set_bound};
 use crate::functions::{combined, of_one, of_two};
-use crate::named::named;
 use bq_query_check::{ChainStep, SetExpr, Unary};
 use bq_query_lex::QueryErr;
 use bq_query_target_graph::TargetGraph;
+use bq_query_target_sets::targets_named;
 use sqlite_items::Items;
 use std::alloc::Global;
 
@@ -86,7 +86,7 @@ pub fn set_of(
     match query {
         SetExpr::Named(patterns) => {
             let patterns = patterns.as_slice();
-            named(alloc, graph, patterns)
+            targets_named(alloc, graph.packages(), graph.targets(), patterns)
         }
         SetExpr::Variable(number) => Ok(set_bound(alloc, bound.as_slice(), *number)?),
         SetExpr::Let(value, body) => {

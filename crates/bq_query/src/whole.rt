@@ -5,7 +5,8 @@ ghost use Rattle.std.specs.List.{All};
 ghost use Rattle.std.specs.List.Sorted.{IsStrictlyIncreasing};
 ghost use Rattle.bq_query_check.specs.Formula.{formula_of};
 ghost use Rattle.bq_query.specs.Stands.{Stands};
-ghost use Rattle.bq_query.specs.Faults.{Meets, fault_in};
+ghost use Rattle.bq_query_lex.specs.QueryError.{Meets};
+ghost use Rattle.bq_query.specs.Faults.{fault_in};
 ghost use Rattle.bq_query.specs.Answer.{AreThose};
 
 use crate::sets::set_of;

@@ -1,36 +1,30 @@
 -- The variables of what a tree says are bound by the lets around them.
-use Rattle.std.proofs.Common.{◌≡◌, ◌≢◌, ◌≤◌, ◌<◌, ◌+◌, ◌∙◌, ◌||◌, ℕ, zero, suc, Bool, true, false, List, [], ◌∷◌, map, length, get_or, Some, None, slice_get, bytes_eq, inl, inr, refl, sym, ap, subst, arith}
+use Rattle.std.proofs.Common.{◌≡◌, ◌≢◌, ◌≤◌, ◌<◌, ◌+◌, ◌++◌, ◌∙◌, ◌||◌, ℕ, zero, suc, Bool, true, false, List, [], ◌∷◌, map, length, get_or, Some, slice_get, bytes_eq, inl, inr, refl, sym, ap, subst, arith}
 use Rattle.std.specs.List.{list_any, AllByRecursion}
 use Rattle.std.proofs.lemmas.List.{length-append}
 use Rattle.std.proofs.lemmas.Bool.{cases_eq, false≢true}
 use Rattle.std.proofs.lemmas.Slice.Eq.{bytes_eq-Decides}
-use Rattle.bq_query_lex.specs.declared.function.QueryFunction.{QueryFunction}
 use Rattle.bq_query_tree.specs.declared.tree.SetOperation.{SetOperation}
 use Rattle.bq_query_tree.specs.declared.tree.Query.{Query}
-use Rattle.bq_query_check.specs.declared.formula.Binary.TheVariants as binary
-use Rattle.bq_query_check.specs.declared.formula.Unary.TheVariants as unary
-use Rattle.bq_query_check.specs.Formula.{Formula, Step, named, variable, let_in, combined, one, two, chained, step_of, formula_of, IsClosed, AreClosed}
+use Rattle.bq_query_lex.specs.declared.function.QueryArgumentKind.{QueryArgumentKind}
+use Rattle.bq_query_check.specs.Call.{Given}
+use Rattle.bq_query_check.proofs.Calls.{none_some, same_some, IsApplied, called_is_applied}
+use Rattle.bq_query_check.specs.Formula.{Formula, Step, named, variable, let_in, combined, chained, step_of, formula_of, IsClosed, AreClosed}
 use Rattle.bq_query_lex.specs.declared.query_error.QueryErr.TheVariants.{UnboundVariable}
 use Rattle.bq_query_verdict.specs.Verdict as spec
 use Rattle.bq_query_verdict.specs.Verdict.{no_fault}
 use Rattle.bq_query_check.specs.Checked.{Holds, FirstFails}
-use Rattle.bq_query_check.specs.FormulaOf.{IsInnermost, IsFormulaOf, AreStepsOf, IsCallOf}
+use Rattle.bq_query_check.specs.FormulaOf.{IsInnermost, IsFormulaOf, AreStepsOf, AreArgumentsOf, IsArgumentOf}
 use Rattle.bq_query_check.specs.declared.formula.ChainStep.{ChainStep}
 use Rattle.bq_query_check.proofs.Says.{step_says}
 
 -- ---- names
-
-none_some : {A : Type 0} (x : A) → None ≡ Some x → ⊥
-none_some x e = cc
 
 -- what is there has a place among them
 pub place_below : {A : Type 0} (xs : List A) (at : ℕ) (x : A) → slice_get xs at ≡ Some x → at < length xs
 place_below [] at x e = absurd (none_some x e)
 place_below (y ∷ ys) zero x e = omega arith
 place_below (y ∷ ys) (suc at) x e = let h = place_below ys at x e in omega (arith, h)
-
-same_some : {A : Type 0} (x y : A) → Some x ≡ Some y → x ≡ y
-same_some x y e = cc
 
 -- the name is none of them
 none_by : (n name : List ℕ) (ns : List (List ℕ)) (b : Bool) → bytes_eq name n ≡ b → n ≢ name → list_any (bytes_eq name) ns ≡ false → (b || list_any (bytes_eq name) ns) ≡ false
@@ -94,13 +88,22 @@ operand_closed n (p ∷ os) (suc at) o h l e = operand_closed n os at o h.1 (ome
 as_said : (n : ℕ) (x y : Formula) → x ≡ y → IsClosed n y → IsClosed n x
 as_said n x y e h = subst (IsClosed n) (sym e) h
 
+-- so is what a function makes of formulas
+all_more : {A : Type 0} (P : A → Type 0) (xs : List A) (x : A) → AllByRecursion P xs → P x → AllByRecursion P (xs ++ x ∷ [])
+all_more P [] x h p = (p, tt)
+all_more P (y ∷ ys) x h p = (h.0, all_more P ys x h.1 p)
+
+applied_closed : (n : ℕ) {xs : List Formula} {y : Formula} → IsApplied xs y → AllByRecursion (IsClosed n) xs → IsClosed n y
+applied_closed n IsApplied.of_one h = h.0
+applied_closed n IsApplied.of_two h = (h.0, h.1.0)
+
 mutual
   pub formula_closed : {ns : List (List ℕ)} {x : Query} {y : Formula} → IsFormulaOf ns x y → IsClosed (length ns) y
   formula_closed (IsFormulaOf.word {ns = ns} {y = y} e f) = as_said (length ns) y (named f.0) f.2 tt
   formula_closed (IsFormulaOf.bound {ns = ns} {y = y} {n = n} e b) = as_said (length ns) y (variable b.0) b.2 (place_below ns b.0 n b.1.there)
   formula_closed (IsFormulaOf.parenthesized e h) = formula_closed h
   formula_closed (IsFormulaOf.set_of {ns = ns} {y = y} e f) = as_said (length ns) y (named f.0) f.2 tt
-  formula_closed (IsFormulaOf.call e k c) = call_closed c
+  formula_closed (IsFormulaOf.call {ns = ns} {y = y} {f = f} {g = g} e k h c) = applied_closed (length ns) (called_is_applied f g y c) (arguments_closed h tt)
   formula_closed (IsFormulaOf.binding {ns = ns} {y = y} {a = a} {b = b} {n = n} e h k f) =
       as_said (length ns) y (let_in a b) f (formula_closed h, subst (λ (m : ℕ). IsClosed m b) (length-append ns (n ∷ [])) (formula_closed k))
   formula_closed (IsFormulaOf.chain {ns = ns} {y = y} {a = a} {steps = ss} e h s f) =
@@ -110,14 +113,12 @@ mutual
   steps_closed AreStepsOf.no_more = tt
   steps_closed (AreStepsOf.one_more e h rest) = (formula_closed h, steps_closed rest)
 
-  call_closed : {f : QueryFunction} {ns : List (List ℕ)} {xs : List Query} {y : Formula} → IsCallOf f ns xs y → IsClosed (length ns) y
-  call_closed (IsCallOf.deps {ns = ns} {y = y} {a = a} e h f) = as_said (length ns) y (one unary.Deps a) f (formula_closed h)
-  call_closed (IsCallOf.deps_within {ns = ns} {y = y} {a = a} {k = n} e h k f) = as_said (length ns) y (one (unary.DepsWithin n) a) f (formula_closed h)
-  call_closed (IsCallOf.rdeps {ns = ns} {y = y} {a = a} {b = b} e h k f) = as_said (length ns) y (two binary.Rdeps a b) f (formula_closed h, formula_closed k)
-  call_closed (IsCallOf.rdeps_within {ns = ns} {y = y} {a = a} {b = b} {k = n} e h k l f) =
-      as_said (length ns) y (two (binary.RdepsWithin n) a b) f (formula_closed h, formula_closed k)
-  call_closed (IsCallOf.allpaths {ns = ns} {y = y} {a = a} {b = b} e h k f) = as_said (length ns) y (two binary.Allpaths a b) f (formula_closed h, formula_closed k)
-  call_closed (IsCallOf.kind {ns = ns} {y = y} {a = a} {pattern = pattern} e r h f) = as_said (length ns) y (one (unary.Kind pattern) a) f (formula_closed h)
-  call_closed (IsCallOf.filter {ns = ns} {y = y} {a = a} {pattern = pattern} e r h f) = as_said (length ns) y (one (unary.Filter pattern) a) f (formula_closed h)
-  call_closed (IsCallOf.labels {ns = ns} {y = y} {a = a} {name = name} e r h f) = as_said (length ns) y (one (unary.Labels name) a) f (formula_closed h)
-  call_closed (IsCallOf.attr {ns = ns} {y = y} {a = a} {name = name} {pattern = pattern} e q r h f) = as_said (length ns) y (one (unary.Attr name pattern) a) f (formula_closed h)
+  argument_closed : {ns : List (List ℕ)} {k : QueryArgumentKind} {x : Query} {g h : Given} → IsArgumentOf ns k x g h → AllByRecursion (IsClosed (length ns)) g.sets → AllByRecursion (IsClosed (length ns)) h.sets
+  argument_closed (IsArgumentOf.set {ns = ns} {a = a} {g = g} h) all = all_more (IsClosed (length ns)) g.sets a all (formula_closed h)
+  argument_closed (IsArgumentOf.attribute w) all = all
+  argument_closed (IsArgumentOf.pattern w) all = all
+  argument_closed (IsArgumentOf.limit n) all = all
+
+  arguments_closed : {ns : List (List ℕ)} {ks : List QueryArgumentKind} {xs : List Query} {g h : Given} → AreArgumentsOf ns ks xs g h → AllByRecursion (IsClosed (length ns)) g.sets → AllByRecursion (IsClosed (length ns)) h.sets
+  arguments_closed AreArgumentsOf.no_argument all = all
+  arguments_closed (AreArgumentsOf.one_argument h rest) all = arguments_closed rest (argument_closed h all)

@@ -1,8 +1,8 @@
 -- what must hold, one after another
 pub mod Needs
--- lists of arguments
-pub mod Items
--- what must hold of calls
+-- arguments, one after another
+pub mod Left
+-- what a function takes, it says something of
 pub mod Calls
 -- the formulas of checked queries
 pub mod Says

@@ -1,17 +1,16 @@
 -- Which tree has which formula: a case for each form of query (Bazel query reference, "Expressions" and "Functions").
 use Rattle.std.specs.Prelude.{◌≡◌, ◌≢◌, ℕ, ◌+◌, ◌*◌, ◌-◌, ◌^◌, ◌<◌, min, List, [], ◌∷◌, ◌++◌, Some, slice_get}
 use Rattle.bq_query_lex.specs.declared.function.QueryFunction.{QueryFunction}
-use Rattle.bq_query_lex.specs.declared.function.QueryFunction.TheVariants as fn
-use Rattle.bq_query_lex.specs.Functions.{function_named}
+use Rattle.bq_query_lex.specs.declared.function.QueryArgumentKind.{QueryArgumentKind}
+use Rattle.bq_query_lex.specs.declared.function.QueryArgumentKind.TheVariants as kind
+use Rattle.bq_query_lex.specs.Functions.{function_named, parameters_of}
 use Rattle.bq_query_target_pattern.specs.declared.pattern.TargetPattern.{TargetPattern}
 use Rattle.bq_query_target_pattern.specs.Reading.{ArePatternsOf}
 use Rattle.bq_query_tree.specs.declared.tree.Query.{Query}
 use Rattle.bq_query_tree.specs.declared.tree.Query.TheVariants as tree
 use Rattle.bq_query_tree.specs.declared.tree.SetOperation.{SetOperation}
-use Rattle.bq_query_check.specs.declared.formula.Unary.{Unary}
-use Rattle.bq_query_check.specs.declared.formula.Unary.TheVariants as unary
-use Rattle.bq_query_check.specs.declared.formula.Binary.TheVariants as binary
-use Rattle.bq_query_check.specs.Formula.{Formula, Step, named, variable, let_in, one, two, chained}
+use Rattle.bq_query_check.specs.Formula.{Formula, Step, named, variable, let_in, chained}
+use Rattle.bq_query_check.specs.Call.{Given, nothing, called}
 
 -- ---- arguments that are words
 
@@ -63,8 +62,8 @@ mutual
     -- `set(word ..)`
     set_of : {ns : List (List ℕ)} {x : Query} {y : Formula} {ws : List (List ℕ)} → x ≡ tree.Set ws → IsNamed ws y → IsFormulaOf ns x y
     -- `function(argument, ..)`
-    call : {ns : List (List ℕ)} {x : Query} {y : Formula} {name : List ℕ} {xs : List Query} {f : QueryFunction} → x ≡ tree.Call name xs
-        → function_named name ≡ Some f → IsCallOf f ns xs y → IsFormulaOf ns x y
+    call : {ns : List (List ℕ)} {x : Query} {y : Formula} {name : List ℕ} {xs : List Query} {f : QueryFunction} {g : Given} → x ≡ tree.Call name xs
+        → function_named name ≡ Some f → AreArgumentsOf ns (parameters_of f) xs nothing g → called f g ≡ Some y → IsFormulaOf ns x y
     -- `let n = value in body`
     binding : {ns : List (List ℕ)} {x value body : Query} {y a b : Formula} {n : List ℕ} → x ≡ tree.Let n value body → IsFormulaOf ns value a
         → IsFormulaOf (ns ++ n ∷ []) body b → y ≡ let_in a b → IsFormulaOf ns x y
@@ -78,40 +77,23 @@ mutual
     one_more : {ns : List (List ℕ)} {o : SetOperation} {os : List SetOperation} {s : Step} {ss : List Step} → s.operator ≡ o.operator
         → IsFormulaOf ns o.operand s.formula → AreStepsOf ns os ss → AreStepsOf ns (o ∷ os) (s ∷ ss)
 
-  -- a function with its arguments
-  pub data IsCallOf : QueryFunction → List (List ℕ) → List Query → Formula → Type 0 where
-    -- `deps(x)`
-    deps : {ns : List (List ℕ)} {xs : List Query} {x : Query} {y a : Formula} → xs ≡ x ∷ [] → IsFormulaOf ns x a → y ≡ one unary.Deps a
-        → IsCallOf fn.Deps ns xs y
-    -- `deps(x, n)`
-    deps_within : {ns : List (List ℕ)} {xs : List Query} {x n : Query} {y a : Formula} {k : ℕ} → xs ≡ x ∷ n ∷ [] → IsFormulaOf ns x a
-        → IsNumber n k → y ≡ one (unary.DepsWithin k) a → IsCallOf fn.Deps ns xs y
-    -- `rdeps(u, x)`
-    rdeps : {ns : List (List ℕ)} {xs : List Query} {u x : Query} {y a b : Formula} → xs ≡ u ∷ x ∷ [] → IsFormulaOf ns u a → IsFormulaOf ns x b
-        → y ≡ two binary.Rdeps a b → IsCallOf fn.Rdeps ns xs y
-    -- `rdeps(u, x, n)`
-    rdeps_within : {ns : List (List ℕ)} {xs : List Query} {u x n : Query} {y a b : Formula} {k : ℕ} → xs ≡ u ∷ x ∷ n ∷ []
-        → IsFormulaOf ns u a → IsFormulaOf ns x b → IsNumber n k → y ≡ two (binary.RdepsWithin k) a b → IsCallOf fn.Rdeps ns xs y
-    -- `allpaths(x, z)`
-    allpaths : {ns : List (List ℕ)} {xs : List Query} {x z : Query} {y a b : Formula} → xs ≡ x ∷ z ∷ [] → IsFormulaOf ns x a
-        → IsFormulaOf ns z b → y ≡ two binary.Allpaths a b → IsCallOf fn.Allpaths ns xs y
-    -- `kind(pattern, x)`
-    kind : {ns : List (List ℕ)} {xs : List Query} {p x : Query} {y a : Formula} {pattern : List ℕ} → xs ≡ p ∷ x ∷ [] → IsWord p pattern
-        → IsFormulaOf ns x a → y ≡ one (unary.Kind pattern) a → IsCallOf fn.Kind ns xs y
-    -- `filter(pattern, x)`
-    filter : {ns : List (List ℕ)} {xs : List Query} {p x : Query} {y a : Formula} {pattern : List ℕ} → xs ≡ p ∷ x ∷ [] → IsWord p pattern
-        → IsFormulaOf ns x a → y ≡ one (unary.Filter pattern) a → IsCallOf fn.Filter ns xs y
-    -- `labels(name, x)`
-    labels : {ns : List (List ℕ)} {xs : List Query} {n x : Query} {y a : Formula} {name : List ℕ} → xs ≡ n ∷ x ∷ [] → IsWord n name
-        → IsFormulaOf ns x a → y ≡ one (unary.Labels name) a → IsCallOf fn.Labels ns xs y
-    -- `attr(name, pattern, x)`
-    attr : {ns : List (List ℕ)} {xs : List Query} {n p x : Query} {y a : Formula} {name pattern : List ℕ} → xs ≡ n ∷ p ∷ x ∷ []
-        → IsWord n name → IsWord p pattern → IsFormulaOf ns x a → y ≡ one (unary.Attr name pattern) a → IsCallOf fn.Attr ns xs y
+  -- the arguments of a call, each by its kind, after those that were given before
+  pub data AreArgumentsOf : List (List ℕ) → List QueryArgumentKind → List Query → Given → Given → Type 0 where
+    no_argument : {ns : List (List ℕ)} {ks : List QueryArgumentKind} {g : Given} → AreArgumentsOf ns ks [] g g
+    one_argument : {ns : List (List ℕ)} {k : QueryArgumentKind} {ks : List QueryArgumentKind} {x : Query} {xs : List Query} {g h i : Given}
+        → IsArgumentOf ns k x g h → AreArgumentsOf ns ks xs h i → AreArgumentsOf ns (k ∷ ks) (x ∷ xs) g i
+
+  -- an argument of a kind
+  pub data IsArgumentOf : List (List ℕ) → QueryArgumentKind → Query → Given → Given → Type 0 where
+    set : {ns : List (List ℕ)} {x : Query} {a : Formula} {g : Given} → IsFormulaOf ns x a
+        → IsArgumentOf ns kind.Query x g (record g { sets = g.sets ++ a ∷ [] })
+    attribute : {ns : List (List ℕ)} {x : Query} {name : List ℕ} {g : Given} → IsWord x name
+        → IsArgumentOf ns kind.Attribute x g (record g { attribute = Some name })
+    pattern : {ns : List (List ℕ)} {x : Query} {pattern : List ℕ} {g : Given} → IsWord x pattern
+        → IsArgumentOf ns kind.Pattern x g (record g { pattern = Some pattern })
+    limit : {ns : List (List ℕ)} {x : Query} {n : ℕ} {g : Given} → IsNumber x n
+        → IsArgumentOf ns kind.Number x g (record g { limit = Some n })
 
 -- the function of this name with these arguments
 abbrev pub IsCallNamed : List ℕ → List (List ℕ) → List Query → Formula → Type 0
-IsCallNamed name ns xs y = (f : QueryFunction) × (function_named name ≡ Some f) × IsCallOf f ns xs y
-
--- a function of what this tree says
-abbrev pub IsOne : Unary → List (List ℕ) → Query → Formula → Type 0
-IsOne f ns x y = (a : Formula) × IsFormulaOf ns x a × (y ≡ one f a)
+IsCallNamed name ns xs y = (f : QueryFunction) × (g : Given) × (function_named name ≡ Some f) × AreArgumentsOf ns (parameters_of f) xs nothing g × (called f g ≡ Some y)

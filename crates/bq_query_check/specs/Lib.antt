@@ -1,3 +1,4 @@
 pub mod Formula
+pub mod Call
 pub mod FormulaOf
 pub mod Checked

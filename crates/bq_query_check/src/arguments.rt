@@ -1,6 +1,5 @@
 //! Arguments that are one word: patterns, names of attributes, and numbers of edges.
 
-ghost use Rattle.std.specs.Prelude.{Some, None};
 ghost use Rattle.bq_query_lex.specs.declared.function.QueryArgumentKind.TheVariants as kind;
 ghost use Rattle.bq_query_verdict.specs.Verdict.{argument, part_of};
 ghost use Rattle.bq_query_check.specs.Checked.{Reads};
@@ -16,7 +15,7 @@ use std::alloc::Global;
 
 /// Reads a regular expression: Q4 if it is refused.
 pub fn pattern(alloc: Global, names: &[Bytes], query: &Query) -> Result<QueryPattern, QueryErr>
-    ensures { Reads (argument (Some kind.Pattern) (part_of query.now) names.now) (IsWord query.now) result }
+    ensures { Reads (argument kind.Pattern (part_of query.now) names.now) (IsWord query.now) result }
 {
     match query {
         Query::Word(text) => match QueryPattern::new(alloc, text) {
@@ -30,7 +29,7 @@ pub fn pattern(alloc: Global, names: &[Bytes], query: &Query) -> Result<QueryPat
 
 /// Reads the name of an attribute.
 pub fn attribute(alloc: Global, names: &[Bytes], query: &Query) -> Result<Bytes, QueryErr>
-    ensures { Reads (argument (Some kind.Attribute) (part_of query.now) names.now) (IsWord query.now) result }
+    ensures { Reads (argument kind.Attribute (part_of query.now) names.now) (IsWord query.now) result }
 {
     match query {
         Query::Word(text) => Ok(text.share()?),
@@ -40,7 +39,7 @@ pub fn attribute(alloc: Global, names: &[Bytes], query: &Query) -> Result<Bytes,
 
 /// Reads a number of edges: Q8 if it isn't 1 to 9 digits.
 pub fn limit(alloc: Global, names: &[Bytes], query: &Query) -> Result<usize, QueryErr>
-    ensures { Reads (argument None (part_of query.now) names.now) (IsNumber query.now) result }
+    ensures { Reads (argument kind.Number (part_of query.now) names.now) (IsNumber query.now) result }
 {
     match query {
         Query::Word(text) => {

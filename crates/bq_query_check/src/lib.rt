@@ -11,12 +11,14 @@
 //! - `checked`: checked queries;
 //! - `number`: numbers of edges;
 //! - `arguments`: arguments that are one word;
+//! - `call`: calls of functions, once their arguments are read;
 //! - `names`: the names that lets bind;
 //! - `trees`: trees, each with what it says;
 //! - `parse`: whole texts.
 #![tactic(auto)]
 
 mod arguments;
+mod call;
 mod checked;
 mod formula;
 mod names;

@@ -1,23 +1,23 @@
 //! Trees: they are checked in the order of the text, and what they say is made on the way.
 
-ghost use Rattle.std.specs.Prelude.{◌++◌, [], ◌∷◌, map};
-ghost use Rattle.bq_query_lex.specs.Functions.{function_named};
-ghost use Rattle.bq_query_lex.specs.declared.function.QueryFunction.TheVariants as f;
+ghost use Rattle.std.specs.Prelude.{◌≤◌, ◌++◌, [], ◌∷◌, length, map};
 ghost use Rattle.bq_query_target_pattern.specs.Reading.{words_fault};
 ghost use Rattle.bq_query_verdict.specs.Verdict as spec;
-ghost use Rattle.bq_query_verdict.specs.Verdict.{no_fault, part_of, operation_part, call_of, call_by, variable};
+ghost use Rattle.bq_query_verdict.specs.Verdict.{no_fault, part_of, operation_part, variable};
+ghost use Rattle.bq_query_check.specs.Call.{given, nothing};
 ghost use Rattle.bq_query_check.specs.Checked.{Reads};
 ghost use Rattle.bq_query_check.specs.Formula.{formula_of, step_of};
-ghost use Rattle.bq_query_check.specs.FormulaOf.{IsFormulaOf, AreStepsOf, IsCallOf, IsCallNamed, IsNamed, IsOne, IsBound};
+ghost use Rattle.bq_query_check.specs.FormulaOf.{IsFormulaOf, AreStepsOf, IsArgumentOf, AreArgumentsOf, IsCallNamed, IsNamed, IsBound};
 
 use crate::arguments::{attribute, limit, pattern};
-use crate::formula::{Binary, ChainStep, SetExpr, Unary};
+use crate::call::{Arguments, called};
+use crate::formula::{ChainStep, SetExpr};
 use crate::names::{innermost, with_name};
 use bq_base::Bytes;
-use bq_query_lex::{QueryErr, QueryFunction, function_named};
+use bq_query_lex::{QueryArgumentKind, QueryErr};
 use bq_query_target_pattern::read_patterns;
 use bq_query_tree::{Query, SetOperation};
-use bq_query_verdict::unknown;
+use bq_query_verdict::function;
 use sqlite_items::{Boxed, Items};
 use std::alloc::Global;
 use std::slice::from_ref;
@@ -49,145 +49,68 @@ fn boxed(alloc: Global, names: &[Bytes], query: &Query) -> Result<Boxed<SetExpr>
     Ok(Boxed::new(alloc, set)?)
 }
 
-/// Makes a function of one set, which is read here.
+/// Reads an argument of this kind.
 #[cycle(query)]
-fn one(alloc: Global, names: &[Bytes], function: Unary, query: &Query) -> Result<SetExpr, QueryErr>
-    ensures { Reads ((part_of query.now).all names.now) (λ r. IsOne function names.now query.now (formula_of r)) result }
+fn argument(
+    alloc: Global,
+    names: &[Bytes],
+    kind: QueryArgumentKind,
+    query: &Query,
+    read: &mut Arguments,
+) -> Result<(), QueryErr>
+    ensures { Reads (spec.argument kind (part_of query.now) names.now) (λ _. IsArgumentOf names.now kind query.now (given read.old) (given read.new)) result }
 {
-    let x = boxed(alloc, names, query)?;
-    Ok(SetExpr::One(function, x))
-}
-
-/// Reads `deps(x)` and `deps(x, n)`.
-#[cycle(query)]
-fn deps(alloc: Global, names: &[Bytes], arguments: &[Query]) -> Result<SetExpr, QueryErr>
-    ensures { Reads (call_of f.Deps (map part_of arguments.now) names.now) (λ r. IsCallOf f.Deps names.now arguments.now (formula_of r)) result }
-{
-    match arguments {
-        [x] => one(alloc, names, Unary::Deps, x),
-        [x, n] => {
-            let x = boxed(alloc, names, x)?;
-            let limit = limit(alloc, names, n)?;
-            Ok(SetExpr::One(Unary::DepsWithin(limit), x))
+    match kind {
+        QueryArgumentKind::Query => {
+            let set = boxed(alloc, names, query)?;
+            Ok(read.sets.push(set)?)
         }
-        _ => Err(QueryErr::Arguments),
+        QueryArgumentKind::Pattern => {
+            read.pattern = Some(pattern(alloc, names, query)?);
+            Ok(())
+        }
+        QueryArgumentKind::Attribute => {
+            read.attribute = Some(attribute(alloc, names, query)?);
+            Ok(())
+        }
+        QueryArgumentKind::Number => {
+            read.limit = Some(limit(alloc, names, query)?);
+            Ok(())
+        }
     }
 }
 
-/// Reads `rdeps(u, x)` and `rdeps(u, x, n)`.
+/// Reads arguments, each by its kind.
 #[cycle(query)]
-fn rdeps(alloc: Global, names: &[Bytes], arguments: &[Query]) -> Result<SetExpr, QueryErr>
-    ensures { Reads (call_of f.Rdeps (map part_of arguments.now) names.now) (λ r. IsCallOf f.Rdeps names.now arguments.now (formula_of r)) result }
+fn arguments(
+    alloc: Global,
+    names: &[Bytes],
+    kinds: &[QueryArgumentKind],
+    queries: &[Query],
+) -> Result<Arguments, QueryErr>
+    requires { length queries.now ≤ length kinds.now }
+    ensures { Reads (spec.arguments kinds.now (map part_of queries.now) names.now) (λ r. AreArgumentsOf names.now kinds.now queries.now nothing (given r)) result }
 {
-    match arguments {
-        [u, x] => {
-            let u = boxed(alloc, names, u)?;
-            let x = boxed(alloc, names, x)?;
-            Ok(SetExpr::Two(Binary::Rdeps, u, x))
-        }
-        [u, x, n] => {
-            let u = boxed(alloc, names, u)?;
-            let x = boxed(alloc, names, x)?;
-            let limit = limit(alloc, names, n)?;
-            Ok(SetExpr::Two(Binary::RdepsWithin(limit), u, x))
-        }
-        _ => Err(QueryErr::Arguments),
+    let mut read = Arguments::new(alloc);
+    for (kind, query) in kinds.iter().zip(queries) {
+        argument(alloc, names, *kind, query, &mut read)?;
     }
+    Ok(read)
 }
 
-/// Reads `allpaths(x, y)`.
-#[cycle(query)]
-fn allpaths(alloc: Global, names: &[Bytes], arguments: &[Query]) -> Result<SetExpr, QueryErr>
-    ensures { Reads (call_of f.Allpaths (map part_of arguments.now) names.now) (λ r. IsCallOf f.Allpaths names.now arguments.now (formula_of r)) result }
-{
-    match arguments {
-        [x, y] => {
-            let x = boxed(alloc, names, x)?;
-            let y = boxed(alloc, names, y)?;
-            Ok(SetExpr::Two(Binary::Allpaths, x, y))
-        }
-        _ => Err(QueryErr::Arguments),
-    }
-}
-
-/// Reads `kind(pattern, x)`.
-#[cycle(query)]
-fn kind(alloc: Global, names: &[Bytes], arguments: &[Query]) -> Result<SetExpr, QueryErr>
-    ensures { Reads (call_of f.Kind (map part_of arguments.now) names.now) (λ r. IsCallOf f.Kind names.now arguments.now (formula_of r)) result }
-{
-    match arguments {
-        [p, x] => {
-            let function = Unary::Kind(pattern(alloc, names, p)?);
-            one(alloc, names, function, x)
-        }
-        _ => Err(QueryErr::Arguments),
-    }
-}
-
-/// Reads `filter(pattern, x)`.
-#[cycle(query)]
-fn filter(alloc: Global, names: &[Bytes], arguments: &[Query]) -> Result<SetExpr, QueryErr>
-    ensures { Reads (call_of f.Filter (map part_of arguments.now) names.now) (λ r. IsCallOf f.Filter names.now arguments.now (formula_of r)) result }
-{
-    match arguments {
-        [p, x] => {
-            let function = Unary::Filter(pattern(alloc, names, p)?);
-            one(alloc, names, function, x)
-        }
-        _ => Err(QueryErr::Arguments),
-    }
-}
-
-/// Reads `labels(name, x)`.
-#[cycle(query)]
-fn labels(alloc: Global, names: &[Bytes], arguments: &[Query]) -> Result<SetExpr, QueryErr>
-    ensures { Reads (call_of f.Labels (map part_of arguments.now) names.now) (λ r. IsCallOf f.Labels names.now arguments.now (formula_of r)) result }
-{
-    match arguments {
-        [name, x] => {
-            let function = Unary::Labels(attribute(alloc, names, name)?);
-            one(alloc, names, function, x)
-        }
-        _ => Err(QueryErr::Arguments),
-    }
-}
-
-/// Reads `attr(name, pattern, x)`.
-#[cycle(query)]
-fn attr(alloc: Global, names: &[Bytes], arguments: &[Query]) -> Result<SetExpr, QueryErr>
-    ensures { Reads (call_of f.Attr (map part_of arguments.now) names.now) (λ r. IsCallOf f.Attr names.now arguments.now (formula_of r)) result }
-{
-    match arguments {
-        [name, p, x] => {
-            let name = attribute(alloc, names, name)?;
-            let pattern = pattern(alloc, names, p)?;
-            one(alloc, names, Unary::Attr(name, pattern), x)
-        }
-        _ => Err(QueryErr::Arguments),
-    }
-}
-
-/// Reads a function by its name, with its arguments: Q2 or Q3 if there is none that can be answered, Q8 if it takes
-/// another number of arguments.
+/// Reads a call by the parameters of its function.
 #[cycle(query)]
 fn call(
     alloc: Global,
     names: &[Bytes],
     name: &Bytes,
-    arguments: &[Query],
+    queries: &[Query],
 ) -> Result<SetExpr, QueryErr>
-    ensures { Reads (call_by (function_named name.now) name.now (map part_of arguments.now) names.now) (λ r. IsCallNamed name.now names.now arguments.now (formula_of r)) result }
+    ensures { Reads (spec.call name.now (map part_of queries.now) names.now) (λ r. IsCallNamed name.now names.now queries.now (formula_of r)) result }
 {
-    match function_named(name.as_slice()) {
-        Some(QueryFunction::Allpaths) => allpaths(alloc, names, arguments),
-        Some(QueryFunction::Attr) => attr(alloc, names, arguments),
-        Some(QueryFunction::Deps) => deps(alloc, names, arguments),
-        Some(QueryFunction::Filter) => filter(alloc, names, arguments),
-        Some(QueryFunction::Kind) => kind(alloc, names, arguments),
-        Some(QueryFunction::Labels) => labels(alloc, names, arguments),
-        Some(QueryFunction::Rdeps) => rdeps(alloc, names, arguments),
-        None => Err(unknown(name)?),
-    }
+    let function = function(name, queries.len())?;
+    let arguments = arguments(alloc, names, function.parameters(), queries)?;
+    Ok(called(function, arguments))
 }
 
 /// Reads the further operands of a chain.

@@ -1,11 +1,11 @@
--- The functions of queries (Bazel query reference, "Functions"), with what each of their arguments must be.
-use Rattle.std.specs.Prelude.{ℕ, List, [], ◌∷◌, Bool, true, false, Option, codes, bytes_eq}
+-- The functions of queries (Bazel query reference, "Functions"): their names and parameters.
+use Rattle.std.specs.Prelude.{ℕ, List, [], ◌∷◌, Bool, Option, codes, bytes_eq}
 use Rattle.std.specs.List.{list_any}
 use Rattle.std.specs.Map.{lookup}
 use Rattle.bq_query_lex.specs.declared.function.QueryFunction.{QueryFunction}
 use Rattle.bq_query_lex.specs.declared.function.QueryFunction.TheVariants as f
 use Rattle.bq_query_lex.specs.declared.function.QueryArgumentKind.{QueryArgumentKind}
-use Rattle.bq_query_lex.specs.declared.function.QueryArgumentKind.TheVariants.{Query, Pattern, Attribute}
+use Rattle.bq_query_lex.specs.declared.function.QueryArgumentKind.TheVariants.{Query, Pattern, Attribute, Number}
 
 -- the functions of queries, by their names in order
 abbrev pub functions : List (List ℕ × QueryFunction)
@@ -27,22 +27,22 @@ function_named name = lookup (bytes_eq name) functions
 abbrev pub is_left_out : List ℕ → Bool
 is_left_out name = list_any (bytes_eq name) left_out
 
--- what the arguments of a function are
-abbrev pub arguments_of : QueryFunction → List QueryArgumentKind
-arguments_of f.Allpaths = Query ∷ Query ∷ []
-arguments_of f.Attr = Attribute ∷ Pattern ∷ Query ∷ []
-arguments_of f.Deps = Query ∷ []
-arguments_of f.Filter = Pattern ∷ Query ∷ []
-arguments_of f.Kind = Pattern ∷ Query ∷ []
-arguments_of f.Labels = Attribute ∷ Query ∷ []
-arguments_of f.Rdeps = Query ∷ Query ∷ []
+-- what the arguments of a function must be, in order
+abbrev pub parameters_of : QueryFunction → List QueryArgumentKind
+parameters_of f.Allpaths = Query ∷ Query ∷ []
+parameters_of f.Attr = Attribute ∷ Pattern ∷ Query ∷ []
+parameters_of f.Deps = Query ∷ Number ∷ []
+parameters_of f.Filter = Pattern ∷ Query ∷ []
+parameters_of f.Kind = Pattern ∷ Query ∷ []
+parameters_of f.Labels = Attribute ∷ Query ∷ []
+parameters_of f.Rdeps = Query ∷ Query ∷ Number ∷ []
 
--- a number of edges may follow
-abbrev pub takes_number : QueryFunction → Bool
-takes_number f.Deps = true
-takes_number f.Rdeps = true
-takes_number f.Allpaths = false
-takes_number f.Attr = false
-takes_number f.Filter = false
-takes_number f.Kind = false
-takes_number f.Labels = false
+-- how many arguments a function must have; the parameters after them may be left out
+abbrev pub mandatory_of : QueryFunction → ℕ
+mandatory_of f.Allpaths = 2
+mandatory_of f.Attr = 3
+mandatory_of f.Deps = 1
+mandatory_of f.Filter = 2
+mandatory_of f.Kind = 2
+mandatory_of f.Labels = 2
+mandatory_of f.Rdeps = 2

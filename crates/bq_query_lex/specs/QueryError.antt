@@ -1,5 +1,5 @@
--- The numbers and names of the errors of queries, and what is printed after them.
-use Rattle.std.specs.Prelude.{ℕ, List, [], codes}
+-- The numbers and names of the errors of queries, what is printed after them, and when calls fail with them.
+use Rattle.std.specs.Prelude.{◌≡◌, ◌≢◌, ℕ, List, [], Option, Some, None, Result, Ok, Err, codes}
 use Rattle.bq_query_lex.specs.declared.query_error.QueryErr.{QueryErr}
 use Rattle.bq_query_lex.specs.declared.query_error.QueryErr.TheVariants.{Syntax, UnknownFunction, LeftOut, BadRegex, NoSuchTarget, NoSuchPackage, UnboundVariable, Arguments, Memory}
 
@@ -24,3 +24,8 @@ query_detail Syntax = []
 query_detail BadRegex = []
 query_detail Arguments = []
 query_detail Memory = []
+
+-- what a call ensures, out of memory aside: no fault where it succeeds, else this one
+abbrev pub Meets : {A : Type 0} → Option QueryErr → Result A QueryErr → Type 0
+Meets fault (Ok x) = fault ≡ None
+Meets fault (Err why) = why ≢ Memory → fault ≡ Some why

@@ -1,7 +1,7 @@
-//! The functions of queries, by name, with what each of their arguments must be.
+//! The functions of queries: their names and parameters. Calls are checked and read by this table alone.
 ghost use Rattle.std.specs.Prelude.{◌≡◌, map, bytes_eq};
 ghost use Rattle.std.specs.List.{list_any};
-ghost use Rattle.bq_query_lex.specs.Functions.{function_named, is_left_out, arguments_of, takes_number};
+ghost use Rattle.bq_query_lex.specs.Functions.{function_named, is_left_out, parameters_of, mandatory_of};
 
 /// A function that can be answered.
 #[derive(Clone, Copy)]
@@ -24,6 +24,8 @@ pub enum QueryArgumentKind {
     Pattern,
     /// A word that is the name of an attribute.
     Attribute,
+    /// A word that is a number of edges.
+    Number,
 }
 
 const FUNCTIONS: [(&[u8], QueryFunction); 7] = [
@@ -85,8 +87,8 @@ pub fn is_left_out(name: &[u8]) -> bool
 
 impl QueryFunction {
     /// Returns what its arguments must be, in order.
-    pub fn arguments(self) -> &'static [QueryArgumentKind]
-        ensures { result.now ≡ arguments_of self }
+    pub fn parameters(self) -> &'static [QueryArgumentKind]
+        ensures { result.now ≡ parameters_of self }
     {
         match self {
             QueryFunction::Allpaths => &[QueryArgumentKind::Query, QueryArgumentKind::Query],
@@ -97,26 +99,32 @@ impl QueryFunction {
                     QueryArgumentKind::Query,
                 ]
             }
-            QueryFunction::Deps => &[QueryArgumentKind::Query],
+            QueryFunction::Deps => &[QueryArgumentKind::Query, QueryArgumentKind::Number],
             QueryFunction::Filter => &[QueryArgumentKind::Pattern, QueryArgumentKind::Query],
             QueryFunction::Kind => &[QueryArgumentKind::Pattern, QueryArgumentKind::Query],
             QueryFunction::Labels => &[QueryArgumentKind::Attribute, QueryArgumentKind::Query],
-            QueryFunction::Rdeps => &[QueryArgumentKind::Query, QueryArgumentKind::Query],
+            QueryFunction::Rdeps => {
+                &[
+                    QueryArgumentKind::Query,
+                    QueryArgumentKind::Query,
+                    QueryArgumentKind::Number,
+                ]
+            }
         }
     }
 
-    /// Returns whether a number of edges may follow.
-    pub fn takes_number(self) -> bool
-        ensures { result ≡ takes_number self }
+    /// Returns how many arguments it must have. The parameters after them may be left out.
+    pub fn mandatory(self) -> usize
+        ensures { result ≡ mandatory_of self }
     {
         match self {
-            QueryFunction::Deps => true,
-            QueryFunction::Rdeps => true,
-            QueryFunction::Allpaths => false,
-            QueryFunction::Attr => false,
-            QueryFunction::Filter => false,
-            QueryFunction::Kind => false,
-            QueryFunction::Labels => false,
+            QueryFunction::Allpaths => 2,
+            QueryFunction::Attr => 3,
+            QueryFunction::Deps => 1,
+            QueryFunction::Filter => 2,
+            QueryFunction::Kind => 2,
+            QueryFunction::Labels => 2,
+            QueryFunction::Rdeps => 2,
         }
     }
 }

@@ -9,7 +9,7 @@
 //! - `token`: the kinds of tokens;
 //! - `lexis`: which bytes are a token at the front of a text;
 //! - `lexer`: the tokens of a whole text;
-//! - `function`: the functions, and what their arguments must be;
+//! - `function`: the functions and their parameters;
 //! - `target_pattern`: which form a word has as a target pattern;
 //! - `laws`: what the tokens of a text are, said of the text.
 #![tactic(auto)]

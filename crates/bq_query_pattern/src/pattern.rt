@@ -47,7 +47,8 @@ impl QueryPattern {
         }
     }
 
-    /// Compiles it again. What was compiled once is refused for want of memory alone.
+    /// Compiles it again. It compiled once, so a refusal is returned as one of memory; the contract doesn't say why
+    /// it fails.
     #[inline(never)]
     pub fn compiled(&self, alloc: Global) -> Result<CompiledPattern, AllocError>
         ensures { IfOk result (λ c. c ≡ self.now) }

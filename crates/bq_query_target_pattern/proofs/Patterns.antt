@@ -1,7 +1,6 @@
 -- A word with dots is a pattern exactly where the dots follow a package.
-use Rattle.std.proofs.Common.{◌≡◌, ◌≢◌, ◌⊎◌, ◌∙◌, ℕ, ◌+◌, ◌-◌, ◌++◌, Bool, true, false, List, [], ◌∷◌, Option, Some, None, length, take, drop, codes, nat_eq, refl, sym, ap, subst, append_assoc, arith, length-append, inl, inr}
+use Rattle.std.proofs.Common.{◌≡◌, ◌≢◌, ◌⊎◌, ◌∙◌, ℕ, ◌+◌, ◌-◌, ◌++◌, Bool, true, false, List, [], ◌∷◌, Option, Some, None, length, take, drop, codes, nat_eq, refl, sym, ap, append_assoc, arith, length-append, inl, inr}
 use Rattle.std.specs.Prelude.{◌||◌}
-use Rattle.std.specs.Option.{option_map}
 use Rattle.std.specs.List.{ends_with, list_any}
 use Rattle.std.proofs.Math.Seq.{take-append-add}
 use Rattle.std.proofs.lemmas.Bool.{cases_Bool, false≢true}
@@ -10,15 +9,17 @@ use Rattle.std.proofs.lemmas.List.{append_cancel_right, append-nil}
 use Rattle.std.proofs.lemmas.List.Folds.{list_any-append}
 use Rattle.std.proofs.lemmas.Slice.Eq.{ends_is}
 use Rattle.bq_label.specs.Paths.{is_package, is_path, is_path_byte, is_repository, is_repository_byte}
-use Rattle.bq_label.specs.Label.{PackageParts, LabelParts, IsLabel, IsPackage, IsWritten, absolute, bare_name, external, external_short, label_at, own_name, package_at, package_of, repository, short}
-use Rattle.bq_label.proofs.Readings.{label_from_reading, no_colon, none_of, path_bytes, reading_from_label}
+use Rattle.bq_label.specs.Label.{PackageParts, LabelParts, IsLabel, IsPackage, IsWritten, Spells, absolute, bare_name, external, external_short, label_at, own_name, package_at, package_of, repository, short}
+use Rattle.bq_label.specs.Reading.{package_of_text}
+use Rattle.bq_label.proofs.PackageTexts.{package_read, package_written}
+use Rattle.bq_label.proofs.Readings.{label_from_reading, no_colon, none_of, path_bytes}
 use Rattle.bq_label.proofs.Segments.{path_joined}
 use Rattle.bq_query_lex.specs.declared.target_pattern.PatternForm.{PatternForm}
 use Rattle.bq_query_lex.specs.declared.target_pattern.PatternForm.TheVariants as form
 use Rattle.bq_query_lex.specs.TargetPatterns.{Ending, begins_pattern, endings, form_by, form_or, is_colon, package_part, part_before, word_form}
-use Rattle.bq_query_target_pattern.specs.Dots.{DotsFollowAPackage, IsDots, IsPattern, Spells, dots_by}
-use Rattle.bq_query_target_pattern.specs.Reading.{label_named, package_named}
-use Rattle.bq_query_target_pattern.proofs.Names.{label_of_part, same_cut, some_is}
+use Rattle.bq_query_target_pattern.specs.Dots.{DotsFollowAPackage, IsDots, IsPattern, dots_by}
+use Rattle.bq_query_target_pattern.specs.Reading.{label_named}
+use Rattle.bq_query_target_pattern.proofs.Names.{same_cut, some_is}
 
 -- ---- last bytes
 
@@ -52,13 +53,6 @@ path_ends b bs h e =
 
 -- ---- what names a package
 
-root_label : (text : List ℕ) (p : PackageParts) (l : LabelParts) → label_named text ≡ Some l → package_of l ≡ p → option_map package_of (label_named text) ≡ Some p
-root_label text p l h e = ap (option_map package_of) h ∙ ap Some e
-
-name_valid : is_path (120 ∷ []) ≡ true
-unfolding is_path
-name_valid = refl
-
 module _ (p : PackageParts) (hp : IsPackage p) where
   written_in : (text n : List ℕ) → Spells p text → IsWritten (package_at [] []) (text ++ 58 ∷ n) (label_at p.repo p.package n)
   written_in text n (Spells.main repo is) = absolute (ap (λ (t : List ℕ). t ++ 58 ∷ n) is) repo
@@ -70,9 +64,8 @@ module _ (p : PackageParts) (hp : IsPackage p) where
       let its : IsLabel (label_at p.repo p.package n) = record { valid_repo = hp.valid_repo; valid_package = hp.valid_package; valid_name = valid } in
       label_from_reading (package_at [] []) (text ++ 58 ∷ n) (label_at p.repo p.package n) (record { written = written_in text n h; valid = its })
 
-  pub named : (text : List ℕ) → Spells p text → package_named text ≡ Some p
-  unfolding package_named
-  named text h = root_label (text ++ 58 ∷ 120 ∷ []) p (label_at p.repo p.package (120 ∷ [])) (label_in_it text (120 ∷ []) h name_valid) refl
+  pub named : (text : List ℕ) → Spells p text → package_of_text text ≡ Some p
+  named text h = package_written text p h hp
 
   pub no_colon_in : (r x : List ℕ) → is_repository r ≡ true → is_package x ≡ true → list_any is_colon (r ++ 47 ∷ 47 ∷ x) ≡ false
   unfolding is_repository
@@ -121,12 +114,6 @@ module _ (part : List ℕ) (none : list_any is_colon part ≡ false) (some : par
       let valid : IsPackage (package_of l) = record { valid_repo = h.valid_repo; valid_package = h.valid_package } in
       absurd (has_colon part n (ap (list_any is_colon) t ∙ no_colon_in (package_of l) valid l.repo l.package h.valid_repo h.valid_package))
   spelled_by n l h (repository t e m) = absurd (has_colon part n (ap (list_any is_colon) t ∙ none_of is_repository_byte 58 refl l.repo h.valid_repo))
-
-  pub spelled : (p : PackageParts) → package_named part ≡ Some p → Spells p part
-  spelled p h =
-      let l = label_of_part part p h in
-      let r = reading_from_label (package_at [] []) (part ++ 58 ∷ 120 ∷ []) l.0 l.1 in
-      subst (λ (q : PackageParts). Spells q part) l.2 (spelled_by (120 ∷ []) l.0 r.valid r.written)
 
 -- ---- endings
 
@@ -221,11 +208,11 @@ abbrev pub other_end : List ℕ → List ℕ
 other_end s = 47 ∷ 46 ∷ 46 ∷ 46 ∷ s
 
 module _ (word : List ℕ) (p : PackageParts) (hp : IsPackage p) (s : List ℕ) (n m : ℕ) (long : length (root_end s) ≡ 2 + n) (short : length (other_end s) ≡ m) where
-  from_root : (part : List ℕ) → package_named part ≡ Some p → part_before (root_end s) n word ≡ Some part → IsDots p s word
+  from_root : (part : List ℕ) → package_of_text part ≡ Some p → part_before (root_end s) n word ≡ Some part → IsDots p s word
   from_root part names h =
       let cut = parted word (root_end s) n (47 ∷ 47 ∷ []) part long refl h in
       let some : part ≢ [] = λ e. not_empty cut.front 47 (47 ∷ []) (sym cut.part_is ∙ e) in
-      let spells : Spells p part = spelled part cut.none some p names in
+      let spells : Spells p part = (package_read part p names).0 in
       let root : p.package ≡ [] = is_root p hp part spells (cut.front ++ 47 ∷ []) (cut.part_is ∙ sym (append_assoc cut.front (47 ∷ []) (47 ∷ []))) in
       let whole : word ≡ part ++ 46 ∷ 46 ∷ 46 ∷ s = cut.whole ∙ (sym (append_assoc cut.front (47 ∷ 47 ∷ []) (46 ∷ 46 ∷ 46 ∷ s)) ∙ ap (λ (x : List ℕ). x ++ 46 ∷ 46 ∷ 46 ∷ s) (sym cut.part_is)) in
       (part, spells, whole ∙ ap (λ (x : List ℕ). part ++ (dots_by x ++ s)) (sym root))
@@ -245,13 +232,13 @@ module _ (word : List ℕ) (p : PackageParts) (hp : IsPackage p) (s : List ℕ) 
   by_path part spells none whole [] root = let no : None ≡ Some (part ++ 47 ∷ []) = sym none ∙ fits_root part spells root whole in absurd (cc no)
   by_path part spells none whole (b ∷ bs) is = (part, spells, whole ∙ ap (λ (x : List ℕ). part ++ (dots_by x ++ s)) (sym is))
 
-  from_other : begins_pattern word ≡ true → (part : List ℕ) → package_named part ≡ Some p → part_before (root_end s) n word ≡ None → part_before (other_end s) m word ≡ Some part → IsDots p s word
+  from_other : begins_pattern word ≡ true → (part : List ℕ) → package_of_text part ≡ Some p → part_before (root_end s) n word ≡ None → part_before (other_end s) m word ≡ Some part → IsDots p s word
   from_other begins part names none h =
       let cut = parted word (other_end s) m [] part (omega (arith, short)) refl h in
       let is : part ≡ cut.front = cut.part_is ∙ append-nil cut.front in
       let whole : word ≡ part ++ other_end s = cut.whole ∙ ap (λ (x : List ℕ). x ++ other_end s) (sym is) in
       let some : part ≢ [] = λ e. let alone : word ≡ other_end s = whole ∙ ap (λ (x : List ℕ). x ++ other_end s) e in false≢true (ap begins_pattern (sym alone) ∙ begins) in
-      by_path part (spelled part cut.none some p names) none whole p.package refl
+      by_path part (package_read part p names).0 none whole p.package refl
 
   module _ (f : PatternForm) (es : List Ending) (text : List ℕ) (spells : Spells p text) where
     abbrev Chosen : Type 0
@@ -283,7 +270,7 @@ ends_by text (b ∷ bs) s = last_append text 0 47 (46 ∷ 46 ∷ 46 ∷ s)
 
 module _ (p : PackageParts) (word : List ℕ) (hp : IsPackage p) where
   pattern_is : (f : PatternForm) (text : List ℕ) → Spells p text → FirstFit word endings f text → IsPattern f p word
-  pattern_is f text spells h = let c = chosen word endings f text h in (c.0, ap package_named c.1 ∙ named p hp text spells)
+  pattern_is f text spells h = let c = chosen word endings f text h in (c.0, ap package_of_text c.1 ∙ named p hp text spells)
 
   -- a word that ends with another byte than these two endings
   past : (y z : ℕ) (ys zs : List ℕ) (n m : ℕ) (g f : PatternForm) (es : List Ending) (text : List ℕ) → (last_byte 0 word ≡ last_byte y ys → ⊥) → (last_byte 0 word ≡ last_byte z zs → ⊥) → FirstFit word es f text
@@ -329,7 +316,7 @@ module _ (p : PackageParts) (word : List ℕ) (hp : IsPackage p) where
       (past 47 47 (codes "/...:*") (codes "...:*") 5 6 form.AllBeneath form.AllBeneath (drop 6 endings) d.0 no_star no_star
       (chosen_dots word p hp (codes ":all-targets") 15 16 refl refl form.AllBeneath (drop 8 endings) d.0 d.1 p.package refl d.2))))
 
-  module _ (begins : begins_pattern word ≡ true) (part : List ℕ) (names : package_named part ≡ Some p) where
+  module _ (begins : begins_pattern word ≡ true) (part : List ℕ) (names : package_of_text part ≡ Some p) where
     rules_by : FirstFit word endings form.RulesBeneath part → IsDots p [] word ⊎ IsDots p (codes ":all") word
     rules_by (inl a) = inl (from_root word p hp [] 3 4 refl refl part names a.1)
     rules_by (inr (first, inl a)) = inl (from_other word p hp [] 3 4 refl refl begins part names first a.1)

@@ -8,18 +8,19 @@ use Rattle.std.proofs.lemmas.Bool.Decides.{nat_tests}
 use Rattle.std.proofs.lemmas.List.{append-nil}
 use Rattle.std.proofs.lemmas.List.Folds.{list_all-append, list_any-append}
 use Rattle.bq_label.specs.Paths.{is_package, is_path, is_path_byte, is_repository, is_segment, is_slash}
-use Rattle.bq_label.specs.Label.{PackageParts, LabelParts, BeginsOther, IsLabel, IsPackage, IsWritten, absolute, at_sign, bare_name, external, external_short, label_at, last_segment, own_name, package_at, package_of, repository, short}
+use Rattle.bq_label.specs.Label.{PackageParts, LabelParts, BeginsOther, IsLabel, IsPackage, IsWritten, Spells, absolute, at_sign, bare_name, external, external_short, label_at, last_segment, own_name, package_at, package_of, repository, short}
+use Rattle.bq_label.specs.Reading.{package_of_text}
 use Rattle.bq_label.proofs.Cuts.{last_whole}
+use Rattle.bq_label.proofs.PackageTexts.{package_read}
 use Rattle.bq_label.proofs.Readings.{first_of_two, label_from_reading, no_slash, path_begins, reading_from_label, second_of_two}
 use Rattle.bq_label.proofs.Segments.{last_cut, last_joined, path_joined, split_joined, two_true}
 use Rattle.bq_query_lex.specs.declared.target_pattern.PatternForm.{PatternForm}
 use Rattle.bq_query_lex.specs.declared.target_pattern.PatternForm.TheVariants as form
 use Rattle.bq_query_lex.specs.TargetPatterns.{Ending, begins_pattern, endings, form_by, form_or, is_colon, part_before, word_form}
 use Rattle.bq_query_target_pattern.specs.declared.pattern.TargetPattern.TheVariants as pattern
-use Rattle.bq_query_target_pattern.specs.Dots.{IsDots, Spells, dots_by}
-use Rattle.bq_query_target_pattern.specs.Reading.{PatternsReadAsLabels, label_named, package_named, pattern_by, pattern_of}
-use Rattle.bq_query_target_pattern.proofs.Names.{package_valid}
-use Rattle.bq_query_target_pattern.proofs.Patterns.{FirstFit, all_from, all_to, empty_no_path, first_fit, has_colon, label_in_it, named, other_end, parted, root_end, rules_from, rules_to, skip_all, spelled, spelled_by}
+use Rattle.bq_query_target_pattern.specs.Dots.{IsDots, dots_by}
+use Rattle.bq_query_target_pattern.specs.Reading.{PatternsReadAsLabels, label_named, pattern_by, pattern_of}
+use Rattle.bq_query_target_pattern.proofs.Patterns.{FirstFit, all_from, all_to, empty_no_path, first_fit, has_colon, label_in_it, named, other_end, parted, root_end, rules_from, rules_to, skip_all, spelled_by}
 
 abbrev dots : List ℕ
 dots = 46 ∷ 46 ∷ 46 ∷ []
@@ -261,7 +262,7 @@ module _ (word : List ℕ) (begins : begins_pattern word ≡ true) where
   part = (word_form word).1
 
   abbrev Package : Type 0
-  Package = (p : PackageParts) × (package_named part ≡ Some p)
+  Package = (p : PackageParts) × (package_of_text part ≡ Some p)
 
   abbrev Label : Type 0
   Label = (l : LabelParts) × (label_named word ≡ Some l)
@@ -328,9 +329,9 @@ module _ (word : List ℕ) (begins : begins_pattern word ≡ true) where
       let r = reading_from_label root (part ++ 58 ∷ n) l (ap label_named (sym is.whole) ∙ h) in
       (package_of l, named (package_of l) (package_is_valid l r.valid) part (spelled_by part is.none (part_some n is.whole) n l r.valid r.written))
 
-  named_label : (n : List ℕ) → Named n → (p : PackageParts) → package_named part ≡ Some p → Label
+  named_label : (n : List ℕ) → Named n → (p : PackageParts) → package_of_text part ≡ Some p → Label
   named_label n is p h =
-      (label_at p.repo p.package n, ap label_named is.whole ∙ label_in_it p (package_valid part p h) part n (spelled part is.none (part_some n is.whole) p h) is.valid)
+      (label_at p.repo p.package n, ap label_named is.whole ∙ label_in_it p (package_read part p h).1 part n (package_read part p h).0 is.valid)
 
   rules_named : FirstFit word (drop 8 endings) form.Rules part → Named (codes "all")
   rules_named (inl a) = named_by (codes "all") 4 refl all_valid a.1
@@ -349,16 +350,16 @@ module _ (word : List ℕ) (begins : begins_pattern word ≡ true) where
   fit : (f : PatternForm) → (form.Target ≡ f → ⊥) → (word_form word).0 ≡ f → FirstFit word endings f part
   fit f other is = elim (first_fit word endings f part is refl) [ inl t ↦ absurd (other t) | inr h ↦ h ]
 
-  same : ((p : PackageParts) → package_named part ≡ Some p → Label) → ((l : LabelParts) → label_named word ≡ Some l → Package) → is_some (package_named part) ≡ is_some (label_named word)
-  same = same_some (package_named part) (label_named word)
+  same : ((p : PackageParts) → package_of_text part ≡ Some p → Label) → ((l : LabelParts) → label_named word ≡ Some l → Package) → is_some (package_of_text part) ≡ is_some (label_named word)
+  same = same_some (package_of_text part) (label_named word)
 
-  rules_same : (word_form word).0 ≡ form.Rules → is_some (package_named part) ≡ is_some (label_named word)
+  rules_same : (word_form word).0 ≡ form.Rules → is_some (package_of_text part) ≡ is_some (label_named word)
   rules_same is =
       let h = skip_all root word root_valid (take 8 endings) (drop 8 endings) form.Rules part (λ e. cc e, (λ e. cc e, (λ e. cc e, (λ e. cc e, (λ e. cc e, (λ e. cc e, (λ e. cc e, (λ e. cc e, tt)))))))) (fit form.Rules (λ e. cc e) is) in
       let n = rules_named h in
       same (named_label (codes "all") n) (named_package (codes "all") n)
 
-  all_same : (word_form word).0 ≡ form.All → is_some (package_named part) ≡ is_some (label_named word)
+  all_same : (word_form word).0 ≡ form.All → is_some (package_of_text part) ≡ is_some (label_named word)
   all_same is =
       let h = skip_all root word root_valid (take 8 endings) (drop 8 endings) form.All part (λ e. cc e, (λ e. cc e, (λ e. cc e, (λ e. cc e, (λ e. cc e, (λ e. cc e, (λ e. cc e, (λ e. cc e, tt)))))))) (fit form.All (λ e. cc e) is) in
       elim (all_named h) [
@@ -366,16 +367,16 @@ module _ (word : List ℕ) (begins : begins_pattern word ≡ true) where
         | inr n ↦ same (named_label (codes "all-targets") n) (named_package (codes "all-targets") n)
       ]
 
-  rules_beneath_same : (word_form word).0 ≡ form.RulesBeneath → is_some (package_named part) ≡ is_some (label_named word)
+  rules_beneath_same : (word_form word).0 ≡ form.RulesBeneath → is_some (package_of_text part) ≡ is_some (label_named word)
   rules_beneath_same is =
       same
-      (λ p h. let hp = package_valid part p h in rules_label p hp (rules_from p word hp begins (is, h)))
+      (λ p h. let hp = (package_read part p h).1 in rules_label p hp (rules_from p word hp begins (is, h)))
       (λ l h. rules_package l h (rules_ends (fit form.RulesBeneath (λ e. cc e) is)))
 
-  all_beneath_same : (word_form word).0 ≡ form.AllBeneath → is_some (package_named part) ≡ is_some (label_named word)
+  all_beneath_same : (word_form word).0 ≡ form.AllBeneath → is_some (package_of_text part) ≡ is_some (label_named word)
   all_beneath_same is =
       same
-      (λ p h. let hp = package_valid part p h in all_label p hp (all_from p word hp begins (is, h)))
+      (λ p h. let hp = (package_read part p h).1 in all_label p hp (all_from p word hp begins (is, h)))
       (λ l h. all_package l h (all_ends (fit form.AllBeneath (λ e. cc e) is)))
 
   -- a word of no other form is named whole
@@ -399,10 +400,10 @@ module _ (word : List ℕ) (begins : begins_pattern word ≡ true) where
 
   by_form : (f : PatternForm) → (word_form word).0 ≡ f → is_some (pattern_by f part) ≡ is_some (label_named word)
   by_form form.Target is = mapped pattern.Target (label_named part) ∙ target_same is
-  by_form form.Rules is = mapped pattern.Rules (package_named part) ∙ rules_same is
-  by_form form.All is = mapped pattern.All (package_named part) ∙ all_same is
-  by_form form.RulesBeneath is = mapped pattern.RulesBeneath (package_named part) ∙ rules_beneath_same is
-  by_form form.AllBeneath is = mapped pattern.AllBeneath (package_named part) ∙ all_beneath_same is
+  by_form form.Rules is = mapped pattern.Rules (package_of_text part) ∙ rules_same is
+  by_form form.All is = mapped pattern.All (package_of_text part) ∙ all_same is
+  by_form form.RulesBeneath is = mapped pattern.RulesBeneath (package_of_text part) ∙ rules_beneath_same is
+  by_form form.AllBeneath is = mapped pattern.AllBeneath (package_of_text part) ∙ all_beneath_same is
 
 pub patterns_read_as_labels : PatternsReadAsLabels
 unfolding pattern_of

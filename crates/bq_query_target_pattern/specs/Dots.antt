@@ -1,15 +1,10 @@
 -- Which words with `...` are patterns over all that is beneath a package (Bazel, "Target patterns").
 use Rattle.std.specs.Prelude.{◌≡◌, ◌↔◌, ◌⊎◌, ℕ, ◌++◌, true, List, [], ◌∷◌, Some, codes}
-use Rattle.bq_label.specs.Label.{PackageParts, IsPackage, at_sign}
+use Rattle.bq_label.specs.Label.{PackageParts, IsPackage, Spells}
+use Rattle.bq_label.specs.Reading.{package_of_text}
 use Rattle.bq_query_lex.specs.declared.target_pattern.PatternForm.{PatternForm}
 use Rattle.bq_query_lex.specs.declared.target_pattern.PatternForm.TheVariants as form
 use Rattle.bq_query_lex.specs.TargetPatterns.{begins_pattern, word_form}
-use Rattle.bq_query_target_pattern.specs.Reading.{package_named}
-
--- the text names the package: `//package`, or `@repository//package`; `@//package` is the main repository's
-pub data Spells (p : PackageParts) (text : List ℕ) : Type 0 where
-  main : p.repo ≡ [] → text ≡ codes "//" ++ p.package → Spells p text
-  other : text ≡ at_sign ∷ (p.repo ++ (codes "//" ++ p.package)) → Spells p text
 
 -- `/...`, which after the root package's two slashes is `...`
 abbrev pub dots_by : List ℕ → List ℕ
@@ -22,7 +17,7 @@ IsDots p end word = (text : List ℕ) × Spells p text × (word ≡ text ++ (dot
 
 -- the word is a pattern of this form over the package
 abbrev pub IsPattern : PatternForm → PackageParts → List ℕ → Type 0
-IsPattern f p word = ((word_form word).0 ≡ f) × (package_named (word_form word).1 ≡ Some p)
+IsPattern f p word = ((word_form word).0 ≡ f) × (package_of_text (word_form word).1 ≡ Some p)
 
 -- A word is a pattern over all that is beneath a package exactly where the dots follow that package.
 pub record FollowsAPackage (p : PackageParts) (word : List ℕ) : Type 0 where

@@ -1,8 +1,8 @@
 -- Which pattern a word is (Bazel, "Target patterns"): its form, and the label or the package that it names.
-use Rattle.std.specs.Prelude.{◌≡◌, ◌≢◌, ℕ, ◌++◌, true, List, [], ◌∷◌, map, Option, Some, None, is_some, Result, Ok, Err, codes, if◌then◌else◌}
+use Rattle.std.specs.Prelude.{◌≡◌, ◌≢◌, ℕ, true, List, [], ◌∷◌, map, Option, Some, None, is_some, Result, Ok, Err, if◌then◌else◌}
 use Rattle.std.specs.Option.{option_map}
-use Rattle.bq_label.specs.Label.{PackageParts, LabelParts, package_at, package_of}
-use Rattle.bq_label.specs.Reading.{label_of}
+use Rattle.bq_label.specs.Label.{LabelParts, package_at}
+use Rattle.bq_label.specs.Reading.{label_of, package_of_text}
 use Rattle.bq_query_lex.specs.declared.query_error.QueryErr.{QueryErr}
 use Rattle.bq_query_lex.specs.declared.query_error.QueryErr.TheVariants as e
 use Rattle.bq_query_lex.specs.declared.target_pattern.PatternForm.{PatternForm}
@@ -15,17 +15,13 @@ use Rattle.bq_query_target_pattern.specs.declared.pattern.TargetPattern.TheVaria
 abbrev pub label_named : List ℕ → Option LabelParts
 label_named word = label_of (package_at [] []) word
 
--- the package that the part of a word before `:` or `/...` names: the package of `part:x`
-unfoldable pub package_named : List ℕ → Option PackageParts
-package_named part = option_map package_of (label_named (part ++ codes ":x"))
-
--- what a word stands for, by its form
+-- what a word stands for, by its form: the label as which its part reads, or the package that the part names
 abbrev pub pattern_by : PatternForm → List ℕ → Option TargetPattern
 pattern_by form.Target part = option_map pattern.Target (label_named part)
-pattern_by form.Rules part = option_map pattern.Rules (package_named part)
-pattern_by form.All part = option_map pattern.All (package_named part)
-pattern_by form.RulesBeneath part = option_map pattern.RulesBeneath (package_named part)
-pattern_by form.AllBeneath part = option_map pattern.AllBeneath (package_named part)
+pattern_by form.Rules part = option_map pattern.Rules (package_of_text part)
+pattern_by form.All part = option_map pattern.All (package_of_text part)
+pattern_by form.RulesBeneath part = option_map pattern.RulesBeneath (package_of_text part)
+pattern_by form.AllBeneath part = option_map pattern.AllBeneath (package_of_text part)
 
 -- the pattern that a word is
 unfoldable pub pattern_of : List ℕ → Option TargetPattern

@@ -1,10 +1,11 @@
 //! Words to target patterns.
 
-ghost use Rattle.bq_query_target_pattern.specs.Reading.{IsReadAs, IsReadPattern, AreReadPatterns, label_named, package_named, pattern_by};
+ghost use Rattle.bq_label.specs.Reading.{package_of_text};
+ghost use Rattle.bq_query_target_pattern.specs.Reading.{IsReadAs, IsReadPattern, AreReadPatterns, label_named, pattern_by};
 
 use crate::pattern::TargetPattern;
 use bq_base::{Bytes, SourceErr};
-use bq_label::{Label, PackageId, read_label};
+use bq_label::{Label, PackageId, read_label, read_package};
 use bq_query_lex::{PatternForm, QueryErr, begins_pattern, word_form};
 use sqlite_items::Items;
 use std::alloc::Global;
@@ -21,16 +22,14 @@ fn label_named(alloc: Global, word: &[u8]) -> Result<Label, QueryErr>
     }
 }
 
-/// Reads the package that the part of a word before `:` or `/...` names: that of the label `part:x`. Q8 if there is
-/// none.
-#[tactic(auto, unfolding(crate::specs::Reading::package_named))]
+/// Reads the package that the part of a word before `:` or `/...` names: Q8 if there is none.
 fn package_named(alloc: Global, part: &[u8]) -> Result<PackageId, QueryErr>
-    ensures { IsReadAs (package_named part.now) result }
+    ensures { IsReadAs (package_of_text part.now) result }
 {
-    let mut word = part.to_vec(alloc)?;
-    word.extend_from_slice(b":x")?;
-    let label = label_named(alloc, &word)?;
-    Ok(label.package_id().share()?)
+    match read_package(alloc, part)? {
+        Some(package) => Ok(package),
+        None => Err(QueryErr::Arguments),
+    }
 }
 
 /// Reads the part that names, in a word of this form.

@@ -1,5 +1,5 @@
 -- Labels that begin as those of a package do have that package, or one beneath it.
-use Rattle.std.proofs.Common.{◌≡◌, ◌≢◌, ◌↔◌, ◌⊎◌, ◌∙◌, ℕ, ◌++◌, ◌==◌, Bool, true, false, List, [], ◌∷◌, Option, Some, None, length, drop, refl, sym, ap, subst, append_assoc, arith, inl, inr}
+use Rattle.std.proofs.Common.{◌≡◌, ◌↔◌, ◌⊎◌, ◌∙◌, ℕ, ◌++◌, ◌==◌, Bool, true, false, List, [], ◌∷◌, Option, Some, None, length, drop, refl, sym, ap, subst, append_assoc, arith, inl, inr}
 use Rattle.std.specs.Prelude.{◌||◌}
 use Rattle.std.specs.Option.{option_map}
 use Rattle.std.specs.List.{list_any}
@@ -17,8 +17,10 @@ use Rattle.bq_query_lex.specs.declared.target_pattern.PatternForm.TheVariants as
 use Rattle.bq_query_lex.specs.TargetPatterns.{word_form}
 use Rattle.bq_query_target_pattern.specs.declared.pattern.TargetPattern.{TargetPattern}
 use Rattle.bq_query_target_pattern.specs.declared.pattern.TargetPattern.TheVariants as pattern
-use Rattle.bq_query_target_pattern.specs.Reading.{label_named, package_named, pattern_by, pattern_of}
-use Rattle.bq_query_target_pattern.proofs.Names.{label_valid, package_valid, same_cut, some_is}
+use Rattle.bq_label.specs.Reading.{package_of_text}
+use Rattle.bq_label.proofs.PackageTexts.{package_read}
+use Rattle.bq_query_target_pattern.specs.Reading.{label_named, pattern_by, pattern_of}
+use Rattle.bq_query_target_pattern.proofs.Names.{label_valid, same_cut, some_is}
 use Rattle.bq_package_target.specs.declared.target.Target.{Target}
 use Rattle.bq_query_target_sets.specs.Order.{text_of}
 use Rattle.bq_query_target_sets.specs.Packages.{IsWithin, NamesBy, TargetsBeneathAPackage, TargetsOfAPackage, WordsNameLabelsAndPackages}
@@ -179,12 +181,12 @@ module _ (part : List ℕ) (t : Target) (hl : IsLabel t.label) where
     λ h. equal_bytes (full_form t.label) (full_form l) (ap full_form (some_is (sym h ∙ e))),
   )
 
-  module _ (p : PackageParts) (e : package_named part ≡ Some p) where
+  module _ (p : PackageParts) (e : package_of_text part ≡ Some p) where
     valid : IsPackage p
-    valid = package_valid part p e
+    valid = (package_read part p e).1
 
     -- the part names one package
-    one : (q : PackageParts) → package_named part ≡ Some q → q ≡ p
+    one : (q : PackageParts) → package_of_text part ≡ Some q → q ≡ p
     one q h = some_is (sym h ∙ e)
 
     rules_said : IsSaid form.Rules (pattern.Rules p)
@@ -199,7 +201,7 @@ module _ (part : List ℕ) (t : Target) (hl : IsLabel t.label) where
       λ h. is_of_it p t false valid hl (h.2 ∙ one h.0 h.1, or_second (is_rule t) true refl),
     )
 
-    within_it : (q : PackageParts) → package_named part ≡ Some q → IsWithin q (package_of t.label) → IsWithin p (package_of t.label)
+    within_it : (q : PackageParts) → package_of_text part ≡ Some q → IsWithin q (package_of t.label) → IsWithin p (package_of t.label)
     within_it q h w = subst (λ (x : PackageParts). IsWithin x (package_of t.label)) (one q h) w
 
     rules_beneath_said : IsSaid form.RulesBeneath (pattern.RulesBeneath p)
@@ -219,10 +221,10 @@ module _ (part : List ℕ) (t : Target) (hl : IsLabel t.label) where
 
   names_is : (f : PatternForm) (p : TargetPattern) → pattern_by f part ≡ Some p → IsSaid f p
   names_is form.Target p h = as_read form.Target pattern.Target (label_named part) p h label_said
-  names_is form.Rules p h = as_read form.Rules pattern.Rules (package_named part) p h rules_said
-  names_is form.All p h = as_read form.All pattern.All (package_named part) p h all_said
-  names_is form.RulesBeneath p h = as_read form.RulesBeneath pattern.RulesBeneath (package_named part) p h rules_beneath_said
-  names_is form.AllBeneath p h = as_read form.AllBeneath pattern.AllBeneath (package_named part) p h all_beneath_said
+  names_is form.Rules p h = as_read form.Rules pattern.Rules (package_of_text part) p h rules_said
+  names_is form.All p h = as_read form.All pattern.All (package_of_text part) p h all_said
+  names_is form.RulesBeneath p h = as_read form.RulesBeneath pattern.RulesBeneath (package_of_text part) p h rules_beneath_said
+  names_is form.AllBeneath p h = as_read form.AllBeneath pattern.AllBeneath (package_of_text part) p h all_beneath_said
 
 pub words_name_labels_and_packages : WordsNameLabelsAndPackages
 unfolding pattern_of

@@ -1,5 +1,5 @@
 -- What a pattern names that is not there (Q5, Q6), with what is printed of it: a label or a pattern in full.
-use Rattle.std.specs.Prelude.{ℕ, ◌++◌, ◌&&◌, Bool, List, Option, Some, None, is_some, bytes_eq, codes, if◌then◌else◌}
+use Rattle.std.specs.Prelude.{ℕ, ◌++◌, ◌&&◌, Bool, List, [], ◌∷◌, Option, Some, None, is_some, bytes_eq, codes, if◌then◌else◌}
 use Rattle.std.specs.List.{find}
 use Rattle.bq_label.specs.Label.{PackageParts, LabelParts, package_of, full_form}
 use Rattle.bq_query_lex.specs.declared.query_error.QueryErr.{QueryErr}
@@ -7,8 +7,8 @@ use Rattle.bq_query_lex.specs.declared.query_error.QueryErr.TheVariants as e
 use Rattle.bq_query_target_pattern.specs.declared.pattern.TargetPattern.{TargetPattern}
 use Rattle.bq_query_target_pattern.specs.declared.pattern.TargetPattern.TheVariants as pattern
 use Rattle.bq_package_target.specs.declared.target.Target.{Target}
-use Rattle.bq_query_target_sets.specs.Order.{is_text}
-use Rattle.bq_query_target_sets.specs.Words.{package_text}
+use Rattle.bq_query_target_pattern.specs.Reading.{first_of}
+use Rattle.bq_query_target_sets.specs.Words.{package_text, has_label}
 
 -- two packages are the same
 abbrev pub is_package : PackageParts → PackageParts → Bool
@@ -20,7 +20,7 @@ has_package packages p = is_some (find (is_package p) packages)
 
 -- a target has this label
 abbrev pub has_target : List Target → LabelParts → Bool
-has_target targets l = is_some (find (is_text (full_form l)) targets)
+has_target targets l = is_some (find (has_label l) targets)
 
 -- a label that names nothing: its package, or the target in it, is missing
 abbrev pub missing_label : List PackageParts → List Target → LabelParts → Option QueryErr
@@ -39,3 +39,8 @@ missing packages targets (pattern.Rules p) = missing_package packages (codes ":a
 missing packages targets (pattern.All p) = missing_package packages (codes ":*") p
 missing packages targets (pattern.RulesBeneath p) = None
 missing packages targets (pattern.AllBeneath p) = None
+
+-- the first of these patterns that names what is not there
+abbrev pub first_missing : List PackageParts → List Target → List TargetPattern → Option QueryErr
+first_missing packages targets [] = None
+first_missing packages targets (p ∷ ps) = first_of (missing packages targets p) (first_missing packages targets ps)

@@ -2,11 +2,12 @@
 -- and the patterns as which words are read mean just this.
 use Rattle.std.specs.Prelude.{◌≡◌, ◌↔◌, ℕ, ◌++◌, Bool, true, false, List, [], ◌∷◌, Some}
 use Rattle.bq_label.specs.Label.{PackageParts, IsPackage, IsLabel, package_of}
+use Rattle.bq_label.specs.Reading.{package_of_text}
 use Rattle.bq_query_lex.specs.declared.target_pattern.PatternForm.{PatternForm}
 use Rattle.bq_query_lex.specs.declared.target_pattern.PatternForm.TheVariants as form
 use Rattle.bq_query_lex.specs.TargetPatterns.{word_form}
 use Rattle.bq_query_target_pattern.specs.declared.pattern.TargetPattern.{TargetPattern}
-use Rattle.bq_query_target_pattern.specs.Reading.{label_named, package_named, pattern_of}
+use Rattle.bq_query_target_pattern.specs.Reading.{label_named, pattern_of}
 use Rattle.bq_package_target.specs.declared.target.Target.{Target}
 use Rattle.bq_query_target_sets.specs.Words.{is_rule, is_wanted, names_in, names}
 
@@ -34,10 +35,10 @@ TargetsBeneathAPackage =
 -- what a word of this form names, by the part of it that names the target or the package
 abbrev pub NamesBy : PatternForm → List ℕ → Target → Type 0
 NamesBy form.Target part t = label_named part ≡ Some t.label
-NamesBy form.Rules part t = (p : PackageParts) × (package_named part ≡ Some p) × (package_of t.label ≡ p) × (is_rule t ≡ true)
-NamesBy form.All part t = (p : PackageParts) × (package_named part ≡ Some p) × (package_of t.label ≡ p)
-NamesBy form.RulesBeneath part t = (p : PackageParts) × (package_named part ≡ Some p) × IsWithin p (package_of t.label) × (is_rule t ≡ true)
-NamesBy form.AllBeneath part t = (p : PackageParts) × (package_named part ≡ Some p) × IsWithin p (package_of t.label)
+NamesBy form.Rules part t = (p : PackageParts) × (package_of_text part ≡ Some p) × (package_of t.label ≡ p) × (is_rule t ≡ true)
+NamesBy form.All part t = (p : PackageParts) × (package_of_text part ≡ Some p) × (package_of t.label ≡ p)
+NamesBy form.RulesBeneath part t = (p : PackageParts) × (package_of_text part ≡ Some p) × IsWithin p (package_of t.label) × (is_rule t ≡ true)
+NamesBy form.AllBeneath part t = (p : PackageParts) × (package_of_text part ≡ Some p) × IsWithin p (package_of t.label)
 
 abbrev pub WordsNameLabelsAndPackages : Type 0
 WordsNameLabelsAndPackages =

@@ -1,19 +1,20 @@
 //! What a pattern names that isn't there (Q5, Q6).
 
-ghost use Rattle.std.specs.Prelude.{◌≡◌, Some, IfOk};
+ghost use Rattle.std.specs.Prelude.{◌≡◌, ◌<◌, [], length, slice_index_or, IfOk};
 ghost use Rattle.std.specs.List.Sorted.{IsStrictlySortedBy};
+ghost use Rattle.bq_label.specs.Label.{full_form};
 ghost use Rattle.bq_label.specs.Packages.{id_cmp};
 ghost use Rattle.bq_query_lex.specs.declared.query_error.QueryErr.TheVariants.{NoSuchPackage};
-ghost use Rattle.bq_query_target_sets.specs.Order.{AreInOrder};
-ghost use Rattle.bq_query_target_sets.specs.Missing.{has_package, has_target, missing_label, missing_package, missing};
+ghost use Rattle.bq_query_lex.specs.QueryError.{Meets};
+ghost use Rattle.bq_query_target_sets.specs.Order.{texts_of, AreInOrder};
+ghost use Rattle.bq_query_target_sets.specs.Missing.{has_package, missing_label, missing_package};
 
 use crate::order::target_of;
-use crate::pattern::package_text;
+use crate::text::package_text;
 use bq_base::Bytes;
 use bq_label::{Label, PackageId, print_label};
 use bq_package_target::Target;
 use bq_query_lex::QueryErr;
-use bq_query_target_pattern::TargetPattern;
 use std::alloc::{AllocError, Global};
 
 /// Returns whether there is such a package, by binary search.
@@ -30,67 +31,48 @@ fn has_package(packages: &[PackageId], id: &PackageId) -> bool
     }
 }
 
-fn no_package(alloc: Global, text: Vec<u8>) -> Result<Option<QueryErr>, AllocError>
-    ensures { IfOk result (λ r. r ≡ Some (NoSuchPackage text.items)) }
+fn no_package(alloc: Global, text: Vec<u8>) -> Result<QueryErr, AllocError>
+    ensures { IfOk result (λ e. e ≡ NoSuchPackage text.items) }
 {
-    Ok(Some(QueryErr::NoSuchPackage(Bytes::from_vec(alloc, text)?)))
+    Ok(QueryErr::NoSuchPackage(Bytes::from_vec(alloc, text)?))
 }
 
-/// Returns what is missing of a label: its package (Q6), or the target in it (Q5).
-fn missing_label(
+/// Returns the target with this label. Fails with Q6 if its package isn't there, with Q5 if the target isn't.
+pub fn target_named(
     alloc: Global,
     packages: &[PackageId],
     targets: &[Target],
     label: &Label,
-) -> Result<Option<QueryErr>, AllocError>
+) -> Result<usize, QueryErr>
     requires packages { IsStrictlySortedBy id_cmp packages.now }
     requires targets { AreInOrder targets.now }
-    ensures { IfOk result (λ r. r ≡ missing_label packages.now targets.now label.now) }
+    ensures fault { Meets (missing_label packages.now targets.now label.now) result }
+    ensures found { IfOk result (λ at. (at < length targets.now) × (slice_index_or (texts_of targets.now) at [] ≡ full_form label.now)) }
 {
     if !has_package(packages, label.package_id()) {
-        return no_package(alloc, print_label(alloc, label)?);
+        return Err(no_package(alloc, print_label(alloc, label)?)?);
     }
-    if target_of(targets, label).is_some() {
-        return Ok(None);
+    if let Some(at) = target_of(targets, label) {
+        return Ok(at);
     }
     let text = print_label(alloc, label)?;
-    Ok(Some(QueryErr::NoSuchTarget(Bytes::from_vec(alloc, text)?)))
+    Err(QueryErr::NoSuchTarget(Bytes::from_vec(alloc, text)?))
 }
 
-/// Returns what is missing of the targets of a package: the package (Q6).
-fn missing_package(
+/// Fails with Q6 if the package of a pattern with this ending isn't there.
+pub fn needs_package(
     alloc: Global,
     packages: &[PackageId],
     ending: &[u8],
     id: &PackageId,
-) -> Result<Option<QueryErr>, AllocError>
+) -> Result<(), QueryErr>
     requires { IsStrictlySortedBy id_cmp packages.now }
-    ensures { IfOk result (λ r. r ≡ missing_package packages.now ending.now id.now) }
+    ensures { Meets (missing_package packages.now ending.now id.now) result }
 {
     if has_package(packages, id) {
-        return Ok(None);
+        return Ok(());
     }
     let mut text = package_text(alloc, id)?;
     text.extend_from_slice(ending)?;
-    no_package(alloc, text)
-}
-
-/// Returns what is missing of a pattern. One that ends with `/...` is never wrong.
-pub fn missing(
-    alloc: Global,
-    packages: &[PackageId],
-    targets: &[Target],
-    pattern: &TargetPattern,
-) -> Result<Option<QueryErr>, AllocError>
-    requires packages { IsStrictlySortedBy id_cmp packages.now }
-    requires targets { AreInOrder targets.now }
-    ensures { IfOk result (λ r. r ≡ missing packages.now targets.now pattern.now) }
-{
-    match pattern {
-        TargetPattern::Target(label) => missing_label(alloc, packages, targets, label),
-        TargetPattern::Rules(id) => missing_package(alloc, packages, b":all", id),
-        TargetPattern::All(id) => missing_package(alloc, packages, b":*", id),
-        TargetPattern::RulesBeneath(_) => Ok(None),
-        TargetPattern::AllBeneath(_) => Ok(None),
-    }
+    Err(no_package(alloc, text)?)
 }

@@ -2,12 +2,19 @@
 //! packages beneath it, are together in the order of labels, since their labels begin alike.
 
 ghost use Rattle.std.specs.Prelude.{◌≡◌, ◌++◌, ◌∷◌, [], ◌&&◌, ◌<◌, ◌≤◌, length, IfOk, OnOk};
+ghost use Rattle.std.specs.List.Sorted.{IsStrictlySortedBy};
+ghost use Rattle.bq_label.specs.Packages.{id_cmp};
+ghost use Rattle.bq_query_lex.specs.QueryError.{Meets};
+ghost use Rattle.bq_query_target_sets.specs.Missing.{missing};
 ghost use Rattle.bq_query_target_sets.specs.Order.{texts_of, AreInOrder, IsPlaceOf};
-ghost use Rattle.bq_query_target_sets.specs.Words.{Adds, Range, is_wanted, begins, own, beneath, package_text, has_label, names, names_in};
+ghost use Rattle.bq_query_target_sets.specs.Words.{Adds, Range, is_wanted, begins, own, beneath, has_label, names, names_in};
 
+use crate::missing::{needs_package, target_named};
 use crate::order::{place_of, target_of};
+use crate::text::package_text;
 use bq_label::{Label, PackageId};
 use bq_package_target::{Target, TargetKind};
+use bq_query_lex::QueryErr;
 use bq_query_target_pattern::TargetPattern;
 use std::alloc::{AllocError, Global};
 
@@ -19,20 +26,6 @@ fn is_wanted(rules: bool, target: &Target) -> bool
         TargetKind::Rule(_, _) => true,
         _ => !rules,
     }
-}
-
-/// Returns `//package`, or `@repository//package`.
-pub fn package_text(alloc: Global, id: &PackageId) -> Result<Vec<u8>, AllocError>
-    ensures { IfOk result (λ text. text.items ≡ package_text id.now) }
-{
-    let mut text = Vec::new(alloc);
-    if !id.repo().is_empty() {
-        text.push(b'@')?;
-        text.extend_from_slice(id.repo().as_slice())?;
-    }
-    text.extend_from_slice(b"//")?;
-    text.extend_from_slice(id.package().as_slice())?;
-    Ok(text)
 }
 
 /// Returns how the labels of the packages beneath it begin, without the last slash.
@@ -166,25 +159,36 @@ pub fn add_label(targets: &[Target], label: &Label, marks: &mut Vec<bool>)
     }
 }
 
-/// Adds the targets that the pattern names.
+/// Adds the targets that the pattern names. Fails with Q5 or Q6 if what it names isn't there; a pattern that ends with
+/// `/...` is never wrong.
 pub fn add_pattern(
     alloc: Global,
+    packages: &[PackageId],
     targets: &[Target],
     pattern: &TargetPattern,
     marks: &mut Vec<bool>,
-) -> Result<(), AllocError>
+) -> Result<(), QueryErr>
+    requires packages { IsStrictlySortedBy id_cmp packages.now }
     requires order { AreInOrder targets.now }
     requires long { length marks.old.items ≡ length targets.now }
-    ensures { OnOk result (Adds (names pattern.now) targets.now marks.old.items marks.new.items) }
+    ensures fault { Meets (missing packages.now targets.now pattern.now) result }
+    ensures set { OnOk result (Adds (names pattern.now) targets.now marks.old.items marks.new.items) }
 {
     match pattern {
         TargetPattern::Target(label) => {
-            add_label(targets, label, marks);
+            let at = target_named(alloc, packages, targets, label)?;
+            marks[at] = true;
             Ok(())
         }
-        TargetPattern::Rules(id) => add_package(alloc, targets, id, false, true, marks),
-        TargetPattern::All(id) => add_package(alloc, targets, id, false, false, marks),
-        TargetPattern::RulesBeneath(id) => add_package(alloc, targets, id, true, true, marks),
-        TargetPattern::AllBeneath(id) => add_package(alloc, targets, id, true, false, marks),
+        TargetPattern::Rules(id) => {
+            needs_package(alloc, packages, b":all", id)?;
+            Ok(add_package(alloc, targets, id, false, true, marks)?)
+        }
+        TargetPattern::All(id) => {
+            needs_package(alloc, packages, b":*", id)?;
+            Ok(add_package(alloc, targets, id, false, false, marks)?)
+        }
+        TargetPattern::RulesBeneath(id) => Ok(add_package(alloc, targets, id, true, true, marks)?),
+        TargetPattern::AllBeneath(id) => Ok(add_package(alloc, targets, id, true, false, marks)?),
     }
 }

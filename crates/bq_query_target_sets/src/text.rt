@@ -1,19 +1,20 @@
-//! The texts in which patterns are looked for: of a target's kind, its label, and an attribute of it.
+//! The texts of packages and targets: of a package, a target's kind, its label, and an attribute of it.
 
 ghost use Rattle.std.specs.Prelude.{◌≡◌, ◌++◌, ◌∷◌, codes, map, Some, None, IfOk, OnOk, bytes_eq, if◌then◌else◌};
 ghost use Rattle.std.specs.List.{find};
 ghost use Rattle.std.specs.Option.{option_copied, is_some};
 ghost use Rattle.std.specs.Fmt.{signed_decimal};
 ghost use Rattle.bq_label.specs.Label.{full_form};
+ghost use Rattle.bq_query_target_sets.specs.Words.{package_text};
 ghost use Rattle.bq_query_target_sets.specs.Texts as spec;
 ghost use Rattle.bq_query_target_sets.specs.Texts.{further, kind_text, list_text, value_text, default_text, given, subject_text, attribute_text, text_by};
 
 use bq_base::Bytes;
-use bq_label::Label;
+use bq_label::{Label, PackageId};
 use bq_package_target::{GivenAttribute, Target, TargetKind, attribute_type};
 use bq_value_rule_class::{AttributeType, AttributeValue, RuleClass};
 use itoa::Buffer;
-use std::alloc::AllocError;
+use std::alloc::{AllocError, Global};
 
 /// What of a target a pattern is looked for in.
 #[derive(Clone, Copy)]
@@ -38,6 +39,20 @@ pub fn write_kind(kind: &TargetKind, text: &mut Vec<u8>) -> Result<(), AllocErro
         TargetKind::Generated(_) => text.extend_from_slice(b"generated file"),
         TargetKind::Group => text.extend_from_slice(b"package group"),
     }
+}
+
+/// Returns `//package`, or `@repository//package`.
+pub fn package_text(alloc: Global, id: &PackageId) -> Result<Vec<u8>, AllocError>
+    ensures { IfOk result (λ text. text.items ≡ package_text id.now) }
+{
+    let mut text = Vec::new(alloc);
+    if !id.repo().is_empty() {
+        text.push(b'@')?;
+        text.extend_from_slice(id.repo().as_slice())?;
+    }
+    text.extend_from_slice(b"//")?;
+    text.extend_from_slice(id.package().as_slice())?;
+    Ok(text)
 }
 
 /// Writes a label in full.

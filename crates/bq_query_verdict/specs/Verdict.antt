@@ -1,13 +1,13 @@
 -- What must hold of the tree of a query, in the order of its text: that there is no fault at a place, at one place that of the least number
 -- first, and that a text is a pattern. The first of these that doesn't hold is the query's error.
-use Rattle.std.specs.Prelude.{ℕ, ◌+◌, ◌==◌, ◌&&◌, ◌||◌, nat_le, not, Bool, List, [], ◌∷◌, ◌++◌, length, Option, Some, None, Result, Ok, Err, bytes_eq, if◌then◌else◌, ◌≡◌, ◌≢◌}
+use Rattle.std.specs.Prelude.{ℕ, ◌==◌, ◌&&◌, nat_le, not, Bool, List, [], ◌∷◌, ◌++◌, length, Option, Some, None, bytes_eq, if◌then◌else◌}
 use Rattle.std.specs.List.{list_any, list_all}
 use Rattle.bq_query_lex.specs.declared.query_error.QueryErr.{QueryErr}
 use Rattle.bq_query_lex.specs.declared.query_error.QueryErr.TheVariants as e
 use Rattle.bq_query_lex.specs.declared.function.QueryFunction.{QueryFunction}
 use Rattle.bq_query_lex.specs.declared.function.QueryArgumentKind.{QueryArgumentKind}
 use Rattle.bq_query_lex.specs.declared.function.QueryArgumentKind.TheVariants as kind
-use Rattle.bq_query_lex.specs.Functions.{function_named, is_left_out, arguments_of, takes_number}
+use Rattle.bq_query_lex.specs.Functions.{function_named, is_left_out, parameters_of, mandatory_of}
 use Rattle.bq_query_target_pattern.specs.Reading.{first_of, word_fault, words_fault}
 use Rattle.bq_query_tree.specs.declared.tree.Query.{Query, fold-Query}
 use Rattle.bq_query_tree.specs.declared.tree.SetOperation.{SetOperation, fold-SetOperation}
@@ -17,11 +17,6 @@ use Rattle.bq_query_tree.specs.declared.tree.Query.TheOpen.{Query-F, SetOperatio
 -- nothing, or a fault
 abbrev pub Fault : Type 0
 Fault = Option QueryErr
-
--- what a test ensures, out of memory aside
-abbrev pub Tells : Fault → Result (Unit {0}) QueryErr → Type 0
-Tells fault (Ok x) = fault ≡ None
-Tells fault (Err why) = why ≢ e.Memory → fault ≡ Some why
 
 -- ---- names
 
@@ -33,9 +28,9 @@ variable names name = if list_any (bytes_eq name) names then None else Some (e.U
 abbrev pub unknown : List ℕ → QueryErr
 unknown name = if is_left_out name then e.LeftOut name else e.UnknownFunction name
 
--- a function takes so many arguments, and some one more, a number
+-- a function takes so many arguments
 abbrev pub fits : QueryFunction → ℕ → Bool
-fits f n = (n == length (arguments_of f)) || (takes_number f && (n == length (arguments_of f) + 1))
+fits f n = nat_le (mandatory_of f) n && nat_le n (length (parameters_of f))
 
 -- the fault of a call, by its function
 abbrev pub function_by : Option QueryFunction → List ℕ → ℕ → Fault
@@ -87,41 +82,32 @@ abbrev pub number_by : Option (List ℕ) → Part → List (List ℕ) → Fault
 number_by (Some w) x names = if is_number w then None else Some e.Arguments
 number_by None x names = no_word x names
 
--- an argument of a kind; a number of edges has none
-abbrev pub argument : Option QueryArgumentKind → Part → List (List ℕ) → List Need
-argument (Some kind.Query) x names = x.all names
-argument (Some kind.Pattern) x names = pattern_by x.word x names ∷ []
-argument (Some kind.Attribute) x names = no_fault (attribute_by x.word x names) ∷ []
-argument None x names = no_fault (number_by x.word x names) ∷ []
+-- an argument of a kind
+abbrev pub argument : QueryArgumentKind → Part → List (List ℕ) → List Need
+argument kind.Query x names = x.all names
+argument kind.Pattern x names = pattern_by x.word x names ∷ []
+argument kind.Attribute x names = no_fault (attribute_by x.word x names) ∷ []
+argument kind.Number x names = no_fault (number_by x.word x names) ∷ []
 
--- what the first argument has to be
-abbrev pub first_kind : List QueryArgumentKind → Option QueryArgumentKind
-first_kind [] = None
-first_kind (k ∷ ks) = Some k
-
--- what the others have to be
-abbrev pub other_kinds : List QueryArgumentKind → List QueryArgumentKind
-other_kinds [] = []
-other_kinds (k ∷ ks) = ks
-
--- what the arguments of a function need, from the left
+-- what arguments need, each by its kind, from the left
 abbrev pub arguments : List QueryArgumentKind → List Part → List (List ℕ) → List Need
 arguments ks [] names = []
-arguments ks (x ∷ xs) names = argument (first_kind ks) x names ++ arguments (other_kinds ks) xs names
+arguments [] (x ∷ xs) names = []
+arguments (k ∷ ks) (x ∷ xs) names = argument k x names ++ arguments ks xs names
 
 -- what these parts need, from the left
 abbrev pub parts : List Part → List (List ℕ) → List Need
 parts [] names = []
 parts (x ∷ xs) names = x.all names ++ parts xs names
 
--- the function with these arguments
-abbrev pub call_of : QueryFunction → List Part → List (List ℕ) → List Need
-call_of f xs names = no_fault (if fits f (length xs) then None else Some e.Arguments) ∷ arguments (arguments_of f) xs names
+-- what the arguments of a function must be, if there is one
+abbrev pub parameters_by : Option QueryFunction → List QueryArgumentKind
+parameters_by None = []
+parameters_by (Some f) = parameters_of f
 
--- what a call needs, by its function
-abbrev pub call_by : Option QueryFunction → List ℕ → List Part → List (List ℕ) → List Need
-call_by None name xs names = no_fault (Some (unknown name)) ∷ []
-call_by (Some f) name xs names = call_of f xs names
+-- a call needs a function that takes so many arguments, and what they need
+abbrev pub call : List ℕ → List Part → List (List ℕ) → List Need
+call name xs names = no_fault (function name (length xs)) ∷ arguments (parameters_by (function_named name)) xs names
 
 -- a part that is no word, with no fault at its first token
 abbrev pub larger : (List (List ℕ) → List Need) → Part
@@ -137,7 +123,7 @@ query_step (tree.Word w) = record { word = Some w; at_first = λ names. word_fau
 query_step (tree.Variable n) = record { word = None; at_first = λ names. variable names n; all = λ names. no_fault (variable names n) ∷ [] }
 query_step (tree.Parenthesized x) = larger x.all
 query_step (tree.Set ws) = larger (λ names. no_fault (words_fault ws) ∷ [])
-query_step (tree.Call f xs) = record { word = None; at_first = λ names. function f (length xs); all = λ names. call_by (function_named f) f xs names }
+query_step (tree.Call f xs) = record { word = None; at_first = λ names. function f (length xs); all = λ names. call f xs names }
 query_step (tree.Let n x y) = larger (λ names. x.all names ++ y.all (names ++ n ∷ []))
 query_step (tree.Chain x os) = record { word = None; at_first = x.at_first; all = λ names. x.all names ++ parts os names }
 

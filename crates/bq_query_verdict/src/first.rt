@@ -2,8 +2,9 @@
 
 ghost use Rattle.std.specs.Prelude.{◌≡◌, ◌≢◌, Some};
 ghost use Rattle.bq_query_lex.specs.declared.query_error.QueryErr.TheVariants.{Memory};
+ghost use Rattle.bq_query_lex.specs.QueryError.{Meets};
 ghost use Rattle.bq_query_verdict.specs.Verdict as spec;
-ghost use Rattle.bq_query_verdict.specs.Verdict.{Tells, part_of};
+ghost use Rattle.bq_query_verdict.specs.Verdict.{part_of};
 
 use crate::leaves::{function, variable, word};
 use bq_base::Bytes;
@@ -13,12 +14,15 @@ use std::alloc::Global;
 
 /// Fails with the fault at the first token, if it has one.
 fn at_first(alloc: Global, names: &[Bytes], query: &Query) -> Result<(), QueryErr>
-    ensures { Tells ((part_of query.now).at_first names.now) result }
+    ensures { Meets ((part_of query.now).at_first names.now) result }
 {
     match query {
         Query::Word(text) => word(alloc, text),
         Query::Variable(name) => variable(names, name),
-        Query::Call(name, arguments) => function(name, arguments.len()),
+        Query::Call(name, arguments) => {
+            let _function = function(name, arguments.len())?;
+            Ok(())
+        }
         Query::Chain(first, _) => at_first(alloc, names, first.get()),
         Query::Parenthesized(_) => Ok(()),
         Query::Set(_) => Ok(()),

@@ -1,10 +1,11 @@
 //! Words, variables and the names of functions, each by itself.
 
-ghost use Rattle.std.specs.Prelude.{◌≡◌, ◌++◌, [], ◌∷◌, IfOk, bytes_eq};
+ghost use Rattle.std.specs.Prelude.{◌≡◌, Some, IfOk, bytes_eq};
 ghost use Rattle.std.specs.List.{list_any, list_all};
+ghost use Rattle.bq_query_lex.specs.Functions as table;
+ghost use Rattle.bq_query_lex.specs.QueryError.{Meets};
 ghost use Rattle.bq_query_target_pattern.specs.Reading.{word_fault};
 ghost use Rattle.bq_query_verdict.specs.Verdict as spec;
-ghost use Rattle.bq_query_verdict.specs.Verdict.{Tells};
 
 use bq_base::Bytes;
 use bq_query_lex::{QueryErr, QueryFunction, function_named, is_left_out};
@@ -13,7 +14,7 @@ use std::alloc::{AllocError, Global};
 
 /// Fails with Q3 or Q8 if the word can't be read as a target pattern.
 pub fn word(alloc: Global, word: &Bytes) -> Result<(), QueryErr>
-    ensures { Tells (word_fault word.now) result }
+    ensures { Meets (word_fault word.now) result }
 {
     let _pattern = read_pattern(alloc, word)?;
     Ok(())
@@ -33,7 +34,7 @@ fn is_among(mut names: &[Bytes], name: &[u8]) -> bool
 
 /// Fails with Q7 if no `let` around it binds the variable.
 pub fn variable(names: &[Bytes], name: &Bytes) -> Result<(), QueryErr>
-    ensures { Tells (spec.variable names.now name.now) result }
+    ensures { Meets (spec.variable names.now name.now) result }
 {
     if is_among(names, name.as_slice()) {
         return Ok(());
@@ -43,7 +44,7 @@ pub fn variable(names: &[Bytes], name: &Bytes) -> Result<(), QueryErr>
 
 /// Returns the error of a name that isn't that of a function that can be answered: Q3 if Bazel has a function of this
 /// name, Q2 if not.
-pub fn unknown(name: &Bytes) -> Result<QueryErr, AllocError>
+fn unknown(name: &Bytes) -> Result<QueryErr, AllocError>
     ensures { IfOk result (λ e. e ≡ spec.unknown name.now) }
 {
     if is_left_out(name.as_slice()) {
@@ -55,22 +56,19 @@ pub fn unknown(name: &Bytes) -> Result<QueryErr, AllocError>
 fn fits(function: QueryFunction, count: usize) -> bool
     ensures { result ≡ spec.fits function count }
 {
-    let wanted = function.arguments().len();
-    if count == wanted {
-        return true;
-    }
-    function.takes_number() && count == wanted + 1
+    function.mandatory() <= count && count <= function.parameters().len()
 }
 
-/// Fails with Q2 or Q3 if the name isn't that of a function that can be answered, with Q8 if the number of its
-/// arguments is wrong.
-pub fn function(name: &Bytes, count: usize) -> Result<(), QueryErr>
-    ensures { Tells (spec.function name.now count) result }
+/// Returns the function of a call. Fails with Q2 or Q3 if the name isn't that of a function that can be answered, with
+/// Q8 if the number of its arguments is wrong.
+pub fn function(name: &Bytes, count: usize) -> Result<QueryFunction, QueryErr>
+    ensures fault { Meets (spec.function name.now count) result }
+    ensures function { IfOk result (λ f. table.function_named name.now ≡ Some f) }
 {
     match function_named(name.as_slice()) {
         Some(function) => {
             if fits(function, count) {
-                Ok(())
+                Ok(function)
             } else {
                 Err(QueryErr::Arguments)
             }

@@ -15,4 +15,4 @@ mod first;
 mod leaves;
 
 pub use first::no_word;
-pub use leaves::{is_number, unknown, variable};
+pub use leaves::{function, is_number, variable};

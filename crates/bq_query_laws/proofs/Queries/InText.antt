@@ -3,7 +3,7 @@ use Rattle.std.proofs.Common.{◌≡◌, ◌∙◌, ℕ, zero, suc, List, [], �
 use Rattle.bq_query_lex.specs.declared.function.QueryArgumentKind.{QueryArgumentKind}
 use Rattle.bq_query_lex.specs.declared.function.QueryArgumentKind.TheVariants as kind
 use Rattle.bq_query_lex.specs.declared.function.QueryFunction.{QueryFunction}
-use Rattle.bq_query_lex.specs.Functions.{function_named, arguments_of}
+use Rattle.bq_query_lex.specs.Functions.{function_named, parameters_of}
 use Rattle.bq_query_target_pattern.specs.declared.pattern.TargetPattern.{TargetPattern}
 use Rattle.bq_query_target_pattern.specs.Reading.{ArePatternsOf, pattern_of}
 use Rattle.bq_query_tree.specs.Grammar.{IsWord, AreArguments, IsOperand, IsLet, AreOperations, IsQueryOver, IsQueryTo, max_open, chain_of, operation}
@@ -16,7 +16,9 @@ use Rattle.bq_query_tree.specs.declared.tree.Query.TheOpen as open_tree
 use Rattle.bq_query_tree.specs.declared.tree.Query.TheOpen.{Query-F, SetOperation-F}
 use Rattle.bq_query_tree.specs.declared.tree.Query.TheVariants as tree
 use Rattle.bq_query_check.specs.Formula.{Formula, Step, combined, chained}
-use Rattle.bq_query_check.specs.FormulaOf.{IsFormulaOf, AreStepsOf, IsCallOf}
+use Rattle.bq_query_check.specs.Call.{Given}
+use Rattle.bq_query_check.specs.FormulaOf.{IsFormulaOf, AreStepsOf, AreArgumentsOf, IsArgumentOf}
+use Rattle.bq_query_check.proofs.Calls.{IsApplied, called_is_applied}
 use Rattle.bq_query_laws.specs.Queries.InText.{WriteWords, WordsInTextOrder}
 use Rattle.bq_query_laws.specs.Queries.Missing.{target_patterns}
 
@@ -32,10 +34,11 @@ picked [] (x ∷ xs) = []
 picked (kind.Query ∷ ks) (x ∷ xs) = x ++ picked ks xs
 picked (kind.Pattern ∷ ks) (x ∷ xs) = picked ks xs
 picked (kind.Attribute ∷ ks) (x ∷ xs) = picked ks xs
+picked (kind.Number ∷ ks) (x ∷ xs) = picked ks xs
 
 abbrev call_words : Option QueryFunction → List Words → Words
 call_words None xs = []
-call_words (Some f) xs = picked (arguments_of f) xs
+call_words (Some f) xs = picked (parameters_of f) xs
 
 abbrev joined : List Words → Words
 joined [] = []
@@ -104,9 +107,6 @@ both ps ws qs vs h k =
 alone : (ps : Patterns) (ws : Words) → ArePatternsOf ws ps → ArePatternsOf (ws ++ []) ps
 alone ps ws h = ap (λ (t : Words). map pattern_of t) (append-nil ws) ∙ h
 
-two_of : (ps : Patterns) (ws : Words) (qs : Patterns) (vs : Words) → ArePatternsOf ws ps → ArePatternsOf vs qs → ArePatternsOf (ws ++ (vs ++ [])) (ps ++ qs)
-two_of ps ws qs vs h k = both ps ws qs (vs ++ []) h (alone qs vs k)
-
 abbrev step_patterns : List Step → Patterns
 step_patterns [] = []
 step_patterns (s ∷ ss) = target_patterns s.formula ++ step_patterns ss
@@ -118,9 +118,18 @@ chained_patterns a (s ∷ ss) = chained_patterns (combined s.operator a s.formul
 abbrev all_words : List Query → List Words
 all_words xs = map tree_words xs
 
--- the arguments of a call, and the patterns of its formula
-as_arguments : (ks : List QueryArgumentKind) (xs ys : List Query) (ps qs : Patterns) → xs ≡ ys → qs ≡ ps → ArePatternsOf (picked ks (all_words ys)) ps → ArePatternsOf (picked ks (all_words xs)) qs
-as_arguments ks xs ys ps qs same e h = same_words (picked ks (all_words xs)) (picked ks (all_words ys)) ps qs e (ap (λ (zs : List Query). picked ks (all_words zs)) same) h
+-- the patterns of the sets that a call is given are those of its formula
+abbrev sets_patterns : List Formula → Patterns
+sets_patterns [] = []
+sets_patterns (a ∷ fs) = target_patterns a ++ sets_patterns fs
+
+one_set_more : (fs : List Formula) (a : Formula) → sets_patterns (fs ++ a ∷ []) ≡ sets_patterns fs ++ target_patterns a
+one_set_more [] a = append-nil (target_patterns a)
+one_set_more (b ∷ fs) a = ap (λ (t : Patterns). target_patterns b ++ t) (one_set_more fs a) ∙ sym (append_assoc (target_patterns b) (sets_patterns fs) (target_patterns a))
+
+applied_patterns : {fs : List Formula} {y : Formula} → IsApplied fs y → target_patterns y ≡ sets_patterns fs
+applied_patterns (IsApplied.of_one {a = a}) = sym (append-nil (target_patterns a))
+applied_patterns (IsApplied.of_two {a = a} {b = b}) = ap (λ (t : Patterns). target_patterns a ++ t) (sym (append-nil (target_patterns b)))
 
 mutual
   formula_words : {ns : List (List ℕ)} {x : Query} {y : Formula} → IsFormulaOf ns x y → ArePatternsOf (tree_words x) (target_patterns y)
@@ -129,9 +138,9 @@ mutual
   formula_words (IsFormulaOf.parenthesized {x = x} {inner = z} {y = y} e h) =
       same_words (tree_words x) (tree_words z) (target_patterns y) (target_patterns y) refl (ap tree_words e ∙ of_parenthesized z) (formula_words h)
   formula_words (IsFormulaOf.set_of {x = x} {y = y} {ws = ws} e f) = same_words (tree_words x) ws f.0 (target_patterns y) (ap target_patterns f.2) (ap tree_words e ∙ of_set ws) f.1
-  formula_words (IsFormulaOf.call {x = x} {y = y} {name = name} {xs = xs} {f = f} e known c) =
-      same_words (tree_words x) (picked (arguments_of f) (all_words xs)) (target_patterns y) (target_patterns y) refl
-      (ap tree_words e ∙ (of_call name xs ∙ ap (λ (o : Option QueryFunction). call_words o (map tree_words xs)) known)) (call_formula c)
+  formula_words (IsFormulaOf.call {x = x} {y = y} {name = name} {xs = xs} {f = f} {g = g} e known h c) =
+      same_words (tree_words x) (picked (parameters_of f) (all_words xs)) (sets_patterns g.sets) (target_patterns y) (applied_patterns (called_is_applied f g y c))
+      (ap tree_words e ∙ (of_call name xs ∙ ap (λ (o : Option QueryFunction). call_words o (map tree_words xs)) known)) (arguments_formula h [] refl)
   formula_words (IsFormulaOf.binding {x = x} {value = v} {body = b} {y = y} {a = a} {b = c} {n = n} e h k f) =
       same_words (tree_words x) (tree_words v ++ tree_words b) (target_patterns a ++ target_patterns c) (target_patterns y) (ap target_patterns f) (ap tree_words e ∙ of_let n v b)
       (both (target_patterns a) (tree_words v) (target_patterns c) (tree_words b) (formula_words h) (formula_words k))
@@ -146,28 +155,17 @@ mutual
       both (target_patterns s.formula) (operation_words o) (step_patterns ss) (joined (map operation_words os))
       (same_words (operation_words o) (tree_words o.operand) (target_patterns s.formula) (target_patterns s.formula) refl (of_operation o) (formula_words h)) (steps_formula rest)
 
-  call_formula : {f : QueryFunction} {ns : List (List ℕ)} {xs : List Query} {y : Formula} → IsCallOf f ns xs y → ArePatternsOf (picked (arguments_of f) (all_words xs)) (target_patterns y)
-  call_formula (IsCallOf.deps {xs = xs} {x = x} {y = y} {a = a} e h f) =
-      as_arguments (kind.Query ∷ []) xs (x ∷ []) (target_patterns a) (target_patterns y) e (ap target_patterns f) (alone (target_patterns a) (tree_words x) (formula_words h))
-  call_formula (IsCallOf.deps_within {xs = xs} {x = x} {n = n} {y = y} {a = a} e h k f) =
-      as_arguments (kind.Query ∷ []) xs (x ∷ n ∷ []) (target_patterns a) (target_patterns y) e (ap target_patterns f) (alone (target_patterns a) (tree_words x) (formula_words h))
-  call_formula (IsCallOf.rdeps {xs = xs} {u = u} {x = x} {y = y} {a = a} {b = b} e h k f) =
-      as_arguments (kind.Query ∷ kind.Query ∷ []) xs (u ∷ x ∷ []) (target_patterns a ++ target_patterns b) (target_patterns y) e (ap target_patterns f)
-      (two_of (target_patterns a) (tree_words u) (target_patterns b) (tree_words x) (formula_words h) (formula_words k))
-  call_formula (IsCallOf.rdeps_within {xs = xs} {u = u} {x = x} {n = n} {y = y} {a = a} {b = b} e h k l f) =
-      as_arguments (kind.Query ∷ kind.Query ∷ []) xs (u ∷ x ∷ n ∷ []) (target_patterns a ++ target_patterns b) (target_patterns y) e (ap target_patterns f)
-      (two_of (target_patterns a) (tree_words u) (target_patterns b) (tree_words x) (formula_words h) (formula_words k))
-  call_formula (IsCallOf.allpaths {xs = xs} {x = u} {z = x} {y = y} {a = a} {b = b} e h k f) =
-      as_arguments (kind.Query ∷ kind.Query ∷ []) xs (u ∷ x ∷ []) (target_patterns a ++ target_patterns b) (target_patterns y) e (ap target_patterns f)
-      (two_of (target_patterns a) (tree_words u) (target_patterns b) (tree_words x) (formula_words h) (formula_words k))
-  call_formula (IsCallOf.kind {xs = xs} {p = p} {x = x} {y = y} {a = a} e r h f) =
-      as_arguments (kind.Pattern ∷ kind.Query ∷ []) xs (p ∷ x ∷ []) (target_patterns a) (target_patterns y) e (ap target_patterns f) (alone (target_patterns a) (tree_words x) (formula_words h))
-  call_formula (IsCallOf.filter {xs = xs} {p = p} {x = x} {y = y} {a = a} e r h f) =
-      as_arguments (kind.Pattern ∷ kind.Query ∷ []) xs (p ∷ x ∷ []) (target_patterns a) (target_patterns y) e (ap target_patterns f) (alone (target_patterns a) (tree_words x) (formula_words h))
-  call_formula (IsCallOf.labels {xs = xs} {n = p} {x = x} {y = y} {a = a} e r h f) =
-      as_arguments (kind.Attribute ∷ kind.Query ∷ []) xs (p ∷ x ∷ []) (target_patterns a) (target_patterns y) e (ap target_patterns f) (alone (target_patterns a) (tree_words x) (formula_words h))
-  call_formula (IsCallOf.attr {xs = xs} {n = n} {p = p} {x = x} {y = y} {a = a} e q r h f) =
-      as_arguments (kind.Attribute ∷ kind.Pattern ∷ kind.Query ∷ []) xs (n ∷ p ∷ x ∷ []) (target_patterns a) (target_patterns y) e (ap target_patterns f) (alone (target_patterns a) (tree_words x) (formula_words h))
+  arguments_formula : {ns : List (List ℕ)} {ks : List QueryArgumentKind} {xs : List Query} {g h : Given} → AreArgumentsOf ns ks xs g h → (ws : Words) → ArePatternsOf ws (sets_patterns g.sets)
+      → ArePatternsOf (ws ++ picked ks (all_words xs)) (sets_patterns h.sets)
+  arguments_formula (AreArgumentsOf.no_argument {g = g}) ws k = alone (sets_patterns g.sets) ws k
+  arguments_formula (AreArgumentsOf.one_argument {ks = ks} {x = x} {xs = xs} {h = h} {i = i} (IsArgumentOf.set {a = a} {g = g} is) rest) ws k =
+      let more = same_words (ws ++ tree_words x) (ws ++ tree_words x) (sets_patterns g.sets ++ target_patterns a) (sets_patterns (g.sets ++ a ∷ [])) (one_set_more g.sets a) refl
+      (both (sets_patterns g.sets) ws (target_patterns a) (tree_words x) k (formula_words is)) in
+      same_words (ws ++ (tree_words x ++ picked ks (all_words xs))) ((ws ++ tree_words x) ++ picked ks (all_words xs)) (sets_patterns i.sets) (sets_patterns i.sets) refl
+      (sym (append_assoc ws (tree_words x) (picked ks (all_words xs)))) (arguments_formula rest (ws ++ tree_words x) more)
+  arguments_formula (AreArgumentsOf.one_argument (IsArgumentOf.attribute w) rest) ws k = arguments_formula rest ws k
+  arguments_formula (AreArgumentsOf.one_argument (IsArgumentOf.pattern w) rest) ws k = arguments_formula rest ws k
+  arguments_formula (AreArgumentsOf.one_argument (IsArgumentOf.limit n) rest) ws k = arguments_formula rest ws k
 
 -- ---- the tokens of a tree write its words
 
@@ -207,6 +205,7 @@ module _ (depth : ℕ) (Inner : Phrase Query) (inner : (ts rest : List Lexeme) (
   one_argument (kind.Query ∷ ks) x xs h k = after h (k ks)
   one_argument (kind.Pattern ∷ ks) x xs h k = after (skipped h) (k ks)
   one_argument (kind.Attribute ∷ ks) x xs h k = after (skipped h) (k ks)
+  one_argument (kind.Number ∷ ks) x xs h k = after (skipped h) (k ks)
 
   more_arguments : {ts rest : List Lexeme} {xs : List Query} → Repeat (CommaThen Inner) ts rest xs → (ks : List QueryArgumentKind) → WriteWords ts rest (picked ks (all_words xs))
   more_arguments Repeat.over ks = WriteWords.no_more
@@ -218,7 +217,7 @@ module _ (depth : ℕ) (Inner : Phrase Query) (inner : (ts rest : List Lexeme) (
 
   call_written : {ts rest : List Lexeme} {xs : List Query} → AreArguments Inner ts rest xs → (o : Option QueryFunction) → WriteWords ts rest (call_words o (all_words xs))
   call_written h None = skipped (arguments h [])
-  call_written h (Some f) = arguments h (arguments_of f)
+  call_written h (Some f) = arguments h (parameters_of f)
 
   operand : {ts rest : List Lexeme} {x : Query} → IsOperand depth Inner ts rest x → WriteWords ts rest (tree_words x)
   operand (IsOperand.word {w = w} h) = in_words (w ∷ []) (tree_words (tree.Word w)) (of_word w) (one_word h)

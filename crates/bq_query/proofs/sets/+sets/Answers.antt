@@ -9,7 +9,7 @@ use Rattle.bq_query.specs.Graph.{count_of}
 use Rattle.bq_query.specs.Functions.{OfOne, OfTwo, Combined}
 use Rattle.bq_query.specs.Stands.{Bound, AreSets}
 use Rattle.bq_query.specs.Faults.{Has, AreBound, fault_in}
-use Rattle.bq_query.proofs.Answering.{reworded, has_one, first_fails, second_fails, both_answered, let_answered, value_fails, kept_before, popped_kept}
+use Rattle.bq_query.proofs.Answering.{reworded, named_answered, has_one, first_fails, second_fails, both_answered, let_answered, value_fails, kept_before, popped_kept}
 use Rattle.bq_query.proofs.Bound.{bound_as, one_bound, start_bound, rest_closed}
 use Rattle.bq_query.proofs.Firsts.{fault_stays}
 use Rattle.bq_query.proofs.Formulas.{SoFar, none_done, one_more, fails_there, all_done}
@@ -167,7 +167,9 @@ set_of-chain_of-requires t c =
 pub set_of-returns-in-Named : goal.set_of-returns-in-Named
 set_of-returns-in-Named t c =
     let says : formula_of c.args.query.now ≡ named c.as_slice-patterns.result.now = first_of (search (rules, the_lemmas), grind (arith, common_steps, patterns_say), grind (arith, common_steps)) in
-    reworded (λ v. v.items) c.args.graph.now (formula_of c.args.query.now) (named c.as_slice-patterns.result.now) c.args.bound.now c.args.bound.now c.named.result c.args.bound.now says (c.named.ensures c.args.bound.now)
+    reworded (λ v. v.items) c.args.graph.now (formula_of c.args.query.now) (named c.as_slice-patterns.result.now) c.args.bound.now c.args.bound.now c.targets_named.result c.args.bound.now says
+    (named_answered (λ v. v.items) c.args.graph.now c.packages.result.now c.targets.result.now c.as_slice-patterns.result.now c.args.bound.now c.targets_named.result c.packages.ensures.value c.targets.ensures.value
+    c.targets_named.ensures.fault c.targets_named.ensures.set)
 
 pub set_of-returns-in-One : goal.set_of-returns-in-One
 set_of-returns-in-One t c =

@@ -1,28 +1,28 @@
-use Rattle.std.proofs.Common.{◌≡◌, ◌∙◌, ◌++◌, ◌∷◌, [], ◌+◌, List, ℕ, None, Some, Ok, Err, inr, map, take, drop, refl, sym, ap, subst, rules, arith}
+use Rattle.std.proofs.Common.{◌≡◌, ◌∙◌, ◌++◌, ◌∷◌, [], ◌+◌, List, ℕ, map, take, drop, length, is_some, refl, sym, ap, subst, rules, arith}
 use Rattle.std.proofs.lemmas.List.{take_more, take_all, take-append-drop, drop_more}
 use Rattle.std.specs.List.{AllByRecursion}
+use Rattle.std.specs.Iterator.Adapters.{zip_first, zip_second}
+use Rattle.std.specs.Slice.Iter.{iter_rest}
+use Rattle.std.proofs.lemmas.Slice.Zip.{Zip-more, either_empty_from_Zip}
+use Rattle.bq_query_lex.specs.declared.function.QueryArgumentKind.{QueryArgumentKind}
 use Rattle.std.proofs.lemmas.Result.{err_from_is_err_and}
-use Rattle.bq_query_lex.specs.Functions.{function_named}
-use Rattle.bq_query_lex.specs.declared.function.QueryArgumentKind.TheVariants as kind
-use Rattle.bq_query_lex.specs.declared.function.QueryFunction.TheVariants as fn
 use Rattle.bq_query_target_pattern.specs.Reading.{word_fault, words_fault}
 use Rattle.bq_query_tree.specs.declared.tree.Query.{Query}
 use Rattle.bq_query_tree.specs.declared.tree.Query.TheVariants as tree
 use Rattle.bq_query_tree.specs.declared.tree.Query.TheFolds.{the_lemmas}
 use Rattle.bq_query_tree.specs.declared.tree.SetOperation.{SetOperation}
 use Rattle.bq_query_verdict.specs.Verdict as spec
-use Rattle.bq_query_verdict.specs.Verdict.{Need, no_fault, part_of, operation_part, argument, parts, call_by}
+use Rattle.bq_query_verdict.specs.Verdict.{Need, no_fault, part_of, operation_part, parts}
 use Rattle.bq_query_check.specs.declared.formula.SetExpr.{SetExpr}
 use Rattle.bq_query_check.specs.declared.formula.ChainStep.{ChainStep}
-use Rattle.bq_query_check.specs.declared.formula.Unary.TheVariants as unary
-use Rattle.bq_query_check.specs.declared.formula.Binary.TheVariants as binary
 use Rattle.bq_query_check.specs.Checked.{Holds, FirstFails, Reads}
 use Rattle.bq_query_check.specs.Formula.{formula_of, step_of}
-use Rattle.bq_query_check.specs.FormulaOf.{IsFormulaOf, IsBound, IsCallOf, IsCallNamed, IsNamed, IsOne, AreStepsOf}
+use Rattle.bq_query_check.specs.FormulaOf.{IsFormulaOf, IsBound, IsCallNamed, IsNamed, AreStepsOf, IsArgumentOf, AreArgumentsOf}
+use Rattle.bq_query_check.specs.Call.{given, nothing}
 use Rattle.bq_query_check.proofs.Needs.{all_hold, fails_before, fails_after, read_as, one_word}
-use Rattle.bq_query_check.proofs.Calls.{moved, part_fails, last_part, call_known}
-use Rattle.bq_query_check.proofs.Items.{one_item, two_items, three_items}
-use Rattle.bq_query_check.proofs.Says.{let_says, chain_says, one_says, two_says}
+use Rattle.bq_query_check.proofs.Left.{AreLeft, set_given, one_less, next_fails, none_left}
+use Rattle.bq_query_check.proofs.Calls.{is_called, function_fits}
+use Rattle.bq_query_check.proofs.Says.{let_says, chain_says}
 use Rattle.bq_query_check.proofs.Steps.{steps_pushed, parts_more, part_fails_there}
 use Rattle.bq_query_check.proofs.trees.+query.Goals as goal
 
@@ -37,331 +37,60 @@ pub boxed-returns : goal.boxed-returns
 boxed-returns t c =
     (c.in_ok-set.ensures.0, subst (λ (r : SetExpr). IsFormulaOf c.args.names.now c.args.query.now (formula_of r)) (sym c.in_ok-new.ensures) c.in_ok-set.ensures.1)
 
--- ---- functions
-
-pub one-returns-in_err-x : goal.one-returns-in_err-x
-one-returns-in_err-x t c =
-    let p = err_from_is_err_and c.from_residual.result c.from_residual.ensures.1 in
-    rw (p.1, p.2) (λ other. c.in_err-x.ensures other)
-
-pub one-returns : goal.one-returns
-one-returns t c = (c.in_ok-x.ensures.0, (formula_of c.in_ok-x.x, c.in_ok-x.ensures.1, one_says c.args.function c.in_ok-x.x))
-
 -- ---- calls
 
-pub deps-returns-in-len1 : goal.deps-returns-in-len1
-deps-returns-in-len1 t c =
-    let xs = c.args.arguments.now in
-    let ns = c.args.names.now in
-    let x = c.x-item.result in
-    let same : c.args.arguments.now ≡ c.x-item.result ∷ [] = one_item xs x (omega arith) c.x-item.is in
-    moved fn.Deps c.args.names.now xs (x ∷ []) (λ r. IsCallOf fn.Deps ns xs (formula_of r)) c.one.result same
-    (last_part (no_fault None ∷ []) ((part_of x).all c.args.names.now) (λ r. IsCallOf fn.Deps ns xs (formula_of r)) (λ r. IsOne unary.Deps c.args.names.now x (formula_of r)) c.one.result (refl, tt)
-    (λ y h. IsCallOf.deps same h.1 h.2) c.one.ensures)
+pub argument-returns-in_ok-push-in-Query : goal.argument-returns-in_ok-push-in-Query
+argument-returns-in_ok-push-in-Query t c =
+    let set = c.in_ok-set-in-Query in
+    rw c.in-Query.is (set.ensures.0, set_given c.args.names.now c.args.query.now c.args.read.now c.push.new.self set.set set.ensures.1 c.in_ok-push-in-Query.ensures.ok)
 
-pub allpaths-returns-in_err-x-in-len2 : goal.allpaths-returns-in_err-x-in-len2
-allpaths-returns-in_err-x-in-len2 t c =
-    let xs = c.args.arguments.now in
-    let ns = c.args.names.now in
-    let u = c.x-item.result in
-    let x = c.y-item.result in
-    let same : c.args.arguments.now ≡ c.x-item.result ∷ c.y-item.result ∷ [] = two_items xs u x (omega arith) c.x-item.is c.y-item.is in
+pub argument-returns-in_ok-pattern-in-Pattern : goal.argument-returns-in_ok-pattern-in-Pattern
+argument-returns-in_ok-pattern-in-Pattern t c = rw c.in-Pattern.is (c.in_ok-pattern-in-Pattern.ensures.0, IsArgumentOf.pattern c.in_ok-pattern-in-Pattern.ensures.1)
+
+pub argument-returns-in_ok-attribute-in-Attribute : goal.argument-returns-in_ok-attribute-in-Attribute
+argument-returns-in_ok-attribute-in-Attribute t c = rw c.in-Attribute.is (c.in_ok-attribute-in-Attribute.ensures.0, IsArgumentOf.attribute c.in_ok-attribute-in-Attribute.ensures.1)
+
+pub argument-returns-in_ok-limit-in-Number : goal.argument-returns-in_ok-limit-in-Number
+argument-returns-in_ok-limit-in-Number t c = rw c.in-Number.is (c.in_ok-limit-in-Number.ensures.0, IsArgumentOf.limit c.in_ok-limit-in-Number.ensures.1)
+
+pub arguments-loop-kind-preserved : goal.arguments-loop-kind-preserved
+arguments-loop-kind-preserved t c =
+    let more = Zip-more c.loop-kind.kind-iterator c.next.new.self c.next.result (c.in-Some.kind, c.in-Some.query) c.in-Some.is c.next.ensures.steps in
+    let ks = iter_rest (zip_first c.next.new.self) in
+    let xs = iter_rest (zip_second c.next.new.self) in
+    let k = c.in-Some.kind.now in
+    let g = given c.loop-kind.read in
+    let left = subst (λ (zs : List Query). AreLeft c.args.names.now c.args.kinds.now c.args.queries.now (k ∷ ks) zs g) more.1
+    (subst (λ (js : List QueryArgumentKind). AreLeft c.args.names.now c.args.kinds.now c.args.queries.now js (iter_rest (zip_second c.loop-kind.kind-iterator)) g) more.0 c.loop-kind.invariant) in
+    one_less c.args.names.now c.args.kinds.now c.args.queries.now k ks c.in-Some.query.now xs g (given c.argument.new.read) left c.in_ok-argument.ensures.0 c.in_ok-argument.ensures.1
+
+pub arguments-returns-in_err-argument : goal.arguments-returns-in_err-argument
+arguments-returns-in_err-argument t c =
+    let more = Zip-more c.loop-kind.kind-iterator c.next.new.self c.next.result (c.in-Some.kind, c.in-Some.query) c.in-Some.is c.next.ensures.steps in
+    let ks = iter_rest (zip_first c.next.new.self) in
+    let xs = iter_rest (zip_second c.next.new.self) in
+    let k = c.in-Some.kind.now in
+    let g = given c.loop-kind.read in
+    let left = subst (λ (zs : List Query). AreLeft c.args.names.now c.args.kinds.now c.args.queries.now (k ∷ ks) zs g) more.1
+    (subst (λ (js : List QueryArgumentKind). AreLeft c.args.names.now c.args.kinds.now c.args.queries.now js (iter_rest (zip_second c.loop-kind.kind-iterator)) g) more.0 c.loop-kind.invariant) in
     let p = err_from_is_err_and c.from_residual.result c.from_residual.ensures.1 in
-    rw (p.1, p.2) (moved fn.Allpaths ns xs (u ∷ x ∷ []) (λ r. IsCallOf fn.Allpaths ns xs (formula_of r)) (Err _) same
-    (part_fails (no_fault None ∷ []) ((part_of u).all ns) ((part_of x).all ns ++ []) _ (refl, tt) c.in_err-x-in-len2.ensures))
+    rw (p.1, p.2) (λ other. next_fails c.args.names.now c.args.kinds.now c.args.queries.now k ks c.in-Some.query.now xs g c.in_err-argument.field-0.0 left (c.in_err-argument.ensures other))
 
-pub allpaths-returns-in_err-y-in-len2 : goal.allpaths-returns-in_err-y-in-len2
-allpaths-returns-in_err-y-in-len2 t c =
-    let xs = c.args.arguments.now in
+pub arguments-returns : goal.arguments-returns
+arguments-returns t c =
+    let ks = iter_rest (zip_first c.loop-kind.kind-iterator) in
+    let xs = iter_rest (zip_second c.loop-kind.kind-iterator) in
+    none_left c.args.names.now c.args.kinds.now c.args.queries.now ks xs (given c.loop-kind.read) c.loop-kind.invariant
+    (either_empty_from_Zip c.loop-kind.kind-iterator c.next.new.self c.next.result c.in-None.is c.next.ensures.steps)
+
+pub call-called-requires : goal.call-called-requires
+call-called-requires t c =
+    let f = c.in_ok-function.function in
     let ns = c.args.names.now in
-    let u = c.x-item.result in
-    let x = c.y-item.result in
-    let same : c.args.arguments.now ≡ c.x-item.result ∷ c.y-item.result ∷ [] = two_items xs u x (omega arith) c.x-item.is c.y-item.is in
-    let p = err_from_is_err_and c.from_residual-in_err-y-in-len2.result c.from_residual-in_err-y-in-len2.ensures.1 in
-    rw (p.1, p.2) (moved fn.Allpaths ns xs (u ∷ x ∷ []) (λ r. IsCallOf fn.Allpaths ns xs (formula_of r)) (Err _) same
-    (part_fails (no_fault None ∷ (part_of u).all ns) ((part_of x).all ns) [] _ (refl, c.in_ok-x-in-len2.ensures.0) c.in_err-y-in-len2.ensures))
-
-pub allpaths-returns-in_ok-y-in-len2 : goal.allpaths-returns-in_ok-y-in-len2
-allpaths-returns-in_ok-y-in-len2 t c =
-    let xs = c.args.arguments.now in
-    let ns = c.args.names.now in
-    let u = c.x-item.result in
-    let x = c.y-item.result in
-    let same : c.args.arguments.now ≡ c.x-item.result ∷ c.y-item.result ∷ [] = two_items xs u x (omega arith) c.x-item.is c.y-item.is in
-    moved fn.Allpaths ns xs (u ∷ x ∷ []) (λ r. IsCallOf fn.Allpaths ns xs (formula_of r)) (Ok _) same (
-      (refl, all_hold ((part_of u).all ns) ((part_of x).all ns ++ []) c.in_ok-x-in-len2.ensures.0 (all_hold ((part_of x).all ns) [] c.in_ok-y-in-len2.ensures.0 tt)),
-      IsCallOf.allpaths same c.in_ok-x-in-len2.ensures.1 c.in_ok-y-in-len2.ensures.1 (two_says binary.Allpaths c.in_ok-x-in-len2.x c.in_ok-y-in-len2.y),
-    )
-
-pub rdeps-returns-in_err-u-in-len2 : goal.rdeps-returns-in_err-u-in-len2
-rdeps-returns-in_err-u-in-len2 t c =
-    let xs = c.args.arguments.now in
-    let ns = c.args.names.now in
-    let u = c.u-item.result in
-    let x = c.x-item.result in
-    let same : c.args.arguments.now ≡ c.u-item.result ∷ c.x-item.result ∷ [] = two_items xs u x (omega arith) c.u-item.is c.x-item.is in
-    let p = err_from_is_err_and c.from_residual.result c.from_residual.ensures.1 in
-    rw (p.1, p.2) (moved fn.Rdeps ns xs (u ∷ x ∷ []) (λ r. IsCallOf fn.Rdeps ns xs (formula_of r)) (Err _) same
-    (part_fails (no_fault None ∷ []) ((part_of u).all ns) ((part_of x).all ns ++ []) _ (refl, tt) c.in_err-u-in-len2.ensures))
-
-pub rdeps-returns-in_err-x-in-len2 : goal.rdeps-returns-in_err-x-in-len2
-rdeps-returns-in_err-x-in-len2 t c =
-    let xs = c.args.arguments.now in
-    let ns = c.args.names.now in
-    let u = c.u-item.result in
-    let x = c.x-item.result in
-    let same : c.args.arguments.now ≡ c.u-item.result ∷ c.x-item.result ∷ [] = two_items xs u x (omega arith) c.u-item.is c.x-item.is in
-    let p = err_from_is_err_and c.from_residual-in_err-x-in-len2.result c.from_residual-in_err-x-in-len2.ensures.1 in
-    rw (p.1, p.2) (moved fn.Rdeps ns xs (u ∷ x ∷ []) (λ r. IsCallOf fn.Rdeps ns xs (formula_of r)) (Err _) same
-    (part_fails (no_fault None ∷ (part_of u).all ns) ((part_of x).all ns) [] _ (refl, c.in_ok-u-in-len2.ensures.0) c.in_err-x-in-len2.ensures))
-
-pub rdeps-returns-in_ok-x-in-len2 : goal.rdeps-returns-in_ok-x-in-len2
-rdeps-returns-in_ok-x-in-len2 t c =
-    let xs = c.args.arguments.now in
-    let ns = c.args.names.now in
-    let u = c.u-item.result in
-    let x = c.x-item.result in
-    let same : c.args.arguments.now ≡ c.u-item.result ∷ c.x-item.result ∷ [] = two_items xs u x (omega arith) c.u-item.is c.x-item.is in
-    moved fn.Rdeps ns xs (u ∷ x ∷ []) (λ r. IsCallOf fn.Rdeps ns xs (formula_of r)) (Ok _) same (
-      (refl, all_hold ((part_of u).all ns) ((part_of x).all ns ++ []) c.in_ok-u-in-len2.ensures.0 (all_hold ((part_of x).all ns) [] c.in_ok-x-in-len2.ensures.0 tt)),
-      IsCallOf.rdeps same c.in_ok-u-in-len2.ensures.1 c.in_ok-x-in-len2.ensures.1 (two_says binary.Rdeps c.in_ok-u-in-len2.u c.in_ok-x-in-len2.x),
-    )
-
-pub deps-returns-in_err-x-in-len2 : goal.deps-returns-in_err-x-in-len2
-deps-returns-in_err-x-in-len2 t c =
-    let xs = c.args.arguments.now in
-    let ns = c.args.names.now in
-    let x = c.x-item-then-arguments-lt3.result in
-    let n = c.n-item.result in
-    let same : c.args.arguments.now ≡ c.x-item-then-arguments-lt3.result ∷ c.n-item.result ∷ [] = two_items xs x n (omega arith) c.x-item-then-arguments-lt3.is c.n-item.is in
-    let p = err_from_is_err_and c.from_residual.result c.from_residual.ensures.1 in
-    rw (p.1, p.2) (moved fn.Deps ns xs (x ∷ n ∷ []) (λ r. IsCallOf fn.Deps ns xs (formula_of r)) (Err _) same
-    (part_fails (no_fault None ∷ []) ((part_of x).all ns) (argument None (part_of n) ns ++ []) _ (refl, tt) c.in_err-x-in-len2.ensures))
-
-pub deps-returns-in_err-limit-in-len2 : goal.deps-returns-in_err-limit-in-len2
-deps-returns-in_err-limit-in-len2 t c =
-    let xs = c.args.arguments.now in
-    let ns = c.args.names.now in
-    let x = c.x-item-then-arguments-lt3.result in
-    let n = c.n-item.result in
-    let same : c.args.arguments.now ≡ c.x-item-then-arguments-lt3.result ∷ c.n-item.result ∷ [] = two_items xs x n (omega arith) c.x-item-then-arguments-lt3.is c.n-item.is in
-    let p = err_from_is_err_and c.from_residual-in_err-limit-in-len2.result c.from_residual-in_err-limit-in-len2.ensures.1 in
-    rw (p.1, p.2) (moved fn.Deps ns xs (x ∷ n ∷ []) (λ r. IsCallOf fn.Deps ns xs (formula_of r)) (Err _) same
-    (part_fails (no_fault None ∷ (part_of x).all ns) (argument None (part_of n) ns) [] _ (refl, c.in_ok-x-in-len2.ensures.0) c.in_err-limit-in-len2.ensures))
-
-pub deps-returns-in_ok-limit-in-len2 : goal.deps-returns-in_ok-limit-in-len2
-deps-returns-in_ok-limit-in-len2 t c =
-    let xs = c.args.arguments.now in
-    let ns = c.args.names.now in
-    let x = c.x-item-then-arguments-lt3.result in
-    let n = c.n-item.result in
-    let same : c.args.arguments.now ≡ c.x-item-then-arguments-lt3.result ∷ c.n-item.result ∷ [] = two_items xs x n (omega arith) c.x-item-then-arguments-lt3.is c.n-item.is in
-    moved fn.Deps ns xs (x ∷ n ∷ []) (λ r. IsCallOf fn.Deps ns xs (formula_of r)) (Ok _) same (
-      (refl, all_hold ((part_of x).all ns) (argument None (part_of n) ns ++ []) c.in_ok-x-in-len2.ensures.0 (all_hold (argument None (part_of n) ns) [] c.in_ok-limit-in-len2.ensures.0 tt)),
-      IsCallOf.deps_within same c.in_ok-x-in-len2.ensures.1 c.in_ok-limit-in-len2.ensures.1
-          (one_says (unary.DepsWithin c.in_ok-limit-in-len2.limit) c.in_ok-x-in-len2.x),
-    )
-
-pub kind-returns-in_err-pattern-in-len2 : goal.kind-returns-in_err-pattern-in-len2
-kind-returns-in_err-pattern-in-len2 t c =
-    let xs = c.args.arguments.now in
-    let ns = c.args.names.now in
-    let w = c.p-item.result in
-    let x = c.x-item.result in
-    let same : c.args.arguments.now ≡ c.p-item.result ∷ c.x-item.result ∷ [] = two_items xs w x (omega arith) c.p-item.is c.x-item.is in
-    let p = err_from_is_err_and c.from_residual.result c.from_residual.ensures.1 in
-    rw (p.1, p.2) (moved fn.Kind ns xs (w ∷ x ∷ []) (λ r. IsCallOf fn.Kind ns xs (formula_of r)) (Err _) same
-    (part_fails (no_fault None ∷ []) (argument (Some kind.Pattern) (part_of w) ns) ((part_of x).all ns ++ []) _ (refl, tt) c.in_err-pattern-in-len2.ensures))
-
-pub kind-returns-in_ok-pattern-in-len2 : goal.kind-returns-in_ok-pattern-in-len2
-kind-returns-in_ok-pattern-in-len2 t c =
-    let xs = c.args.arguments.now in
-    let ns = c.args.names.now in
-    let w = c.p-item.result in
-    let x = c.x-item.result in
-    let same : c.args.arguments.now ≡ c.p-item.result ∷ c.x-item.result ∷ [] = two_items xs w x (omega arith) c.p-item.is c.x-item.is in
-    let f = unary.Kind c.in_ok-pattern-in-len2.field-0 in
-    moved fn.Kind ns xs (w ∷ x ∷ []) (λ r. IsCallOf fn.Kind ns xs (formula_of r)) c.one.result same
-    (last_part (no_fault None ∷ argument (Some kind.Pattern) (part_of w) ns) ((part_of x).all ns) (λ r. IsCallOf fn.Kind ns xs (formula_of r)) (λ r. IsOne f ns x (formula_of r)) c.one.result
-    (refl, c.in_ok-pattern-in-len2.ensures.0) (λ z h. IsCallOf.kind same c.in_ok-pattern-in-len2.ensures.1 h.1 h.2) c.one.ensures)
-
-pub filter-returns-in_err-pattern-in-len2 : goal.filter-returns-in_err-pattern-in-len2
-filter-returns-in_err-pattern-in-len2 t c =
-    let xs = c.args.arguments.now in
-    let ns = c.args.names.now in
-    let w = c.p-item.result in
-    let x = c.x-item.result in
-    let same : c.args.arguments.now ≡ c.p-item.result ∷ c.x-item.result ∷ [] = two_items xs w x (omega arith) c.p-item.is c.x-item.is in
-    let p = err_from_is_err_and c.from_residual.result c.from_residual.ensures.1 in
-    rw (p.1, p.2) (moved fn.Filter ns xs (w ∷ x ∷ []) (λ r. IsCallOf fn.Filter ns xs (formula_of r)) (Err _) same
-    (part_fails (no_fault None ∷ []) (argument (Some kind.Pattern) (part_of w) ns) ((part_of x).all ns ++ []) _ (refl, tt) c.in_err-pattern-in-len2.ensures))
-
-pub filter-returns-in_ok-pattern-in-len2 : goal.filter-returns-in_ok-pattern-in-len2
-filter-returns-in_ok-pattern-in-len2 t c =
-    let xs = c.args.arguments.now in
-    let ns = c.args.names.now in
-    let w = c.p-item.result in
-    let x = c.x-item.result in
-    let same : c.args.arguments.now ≡ c.p-item.result ∷ c.x-item.result ∷ [] = two_items xs w x (omega arith) c.p-item.is c.x-item.is in
-    let f = unary.Filter c.in_ok-pattern-in-len2.field-0 in
-    moved fn.Filter ns xs (w ∷ x ∷ []) (λ r. IsCallOf fn.Filter ns xs (formula_of r)) c.one.result same
-    (last_part (no_fault None ∷ argument (Some kind.Pattern) (part_of w) ns) ((part_of x).all ns) (λ r. IsCallOf fn.Filter ns xs (formula_of r)) (λ r. IsOne f ns x (formula_of r)) c.one.result
-    (refl, c.in_ok-pattern-in-len2.ensures.0) (λ z h. IsCallOf.filter same c.in_ok-pattern-in-len2.ensures.1 h.1 h.2) c.one.ensures)
-
-pub labels-returns-in_err-attribute-in-len2 : goal.labels-returns-in_err-attribute-in-len2
-labels-returns-in_err-attribute-in-len2 t c =
-    let xs = c.args.arguments.now in
-    let ns = c.args.names.now in
-    let w = c.name-item.result in
-    let x = c.x-item.result in
-    let same : c.args.arguments.now ≡ c.name-item.result ∷ c.x-item.result ∷ [] = two_items xs w x (omega arith) c.name-item.is c.x-item.is in
-    let p = err_from_is_err_and c.from_residual.result c.from_residual.ensures.1 in
-    rw (p.1, p.2) (moved fn.Labels ns xs (w ∷ x ∷ []) (λ r. IsCallOf fn.Labels ns xs (formula_of r)) (Err _) same
-    (part_fails (no_fault None ∷ []) (argument (Some kind.Attribute) (part_of w) ns) ((part_of x).all ns ++ []) _ (refl, tt) c.in_err-attribute-in-len2.ensures))
-
-pub labels-returns-in_ok-attribute-in-len2 : goal.labels-returns-in_ok-attribute-in-len2
-labels-returns-in_ok-attribute-in-len2 t c =
-    let xs = c.args.arguments.now in
-    let ns = c.args.names.now in
-    let w = c.name-item.result in
-    let x = c.x-item.result in
-    let same : c.args.arguments.now ≡ c.name-item.result ∷ c.x-item.result ∷ [] = two_items xs w x (omega arith) c.name-item.is c.x-item.is in
-    let f = unary.Labels c.in_ok-attribute-in-len2.field-0 in
-    moved fn.Labels ns xs (w ∷ x ∷ []) (λ r. IsCallOf fn.Labels ns xs (formula_of r)) c.one.result same
-    (last_part (no_fault None ∷ argument (Some kind.Attribute) (part_of w) ns) ((part_of x).all ns) (λ r. IsCallOf fn.Labels ns xs (formula_of r)) (λ r. IsOne f ns x (formula_of r)) c.one.result
-    (refl, c.in_ok-attribute-in-len2.ensures.0) (λ z h. IsCallOf.labels same c.in_ok-attribute-in-len2.ensures.1 h.1 h.2) c.one.ensures)
-
-pub attr-returns-in_err-name-in-len3 : goal.attr-returns-in_err-name-in-len3
-attr-returns-in_err-name-in-len3 t c =
-    let xs = c.args.arguments.now in
-    let ns = c.args.names.now in
-    let n = c.name-item.result in
-    let w = c.p-item.result in
-    let x = c.x-item.result in
-    let same : c.args.arguments.now ≡ c.name-item.result ∷ c.p-item.result ∷ c.x-item.result ∷ [] = three_items xs n w x (omega arith) c.name-item.is c.p-item.is c.x-item.is in
-    let p = err_from_is_err_and c.from_residual.result c.from_residual.ensures.1 in
-    rw (p.1, p.2) (moved fn.Attr ns xs (n ∷ w ∷ x ∷ []) (λ r. IsCallOf fn.Attr ns xs (formula_of r)) (Err _) same
-    (part_fails (no_fault None ∷ []) (argument (Some kind.Attribute) (part_of n) ns) (argument (Some kind.Pattern) (part_of w) ns ++ ((part_of x).all ns ++ [])) _ (refl, tt) c.in_err-name-in-len3.ensures))
-
-pub attr-returns-in_err-pattern-in-len3 : goal.attr-returns-in_err-pattern-in-len3
-attr-returns-in_err-pattern-in-len3 t c =
-    let xs = c.args.arguments.now in
-    let ns = c.args.names.now in
-    let n = c.name-item.result in
-    let w = c.p-item.result in
-    let x = c.x-item.result in
-    let same : c.args.arguments.now ≡ c.name-item.result ∷ c.p-item.result ∷ c.x-item.result ∷ [] = three_items xs n w x (omega arith) c.name-item.is c.p-item.is c.x-item.is in
-    let p = err_from_is_err_and c.from_residual-in_err-pattern-in-len3.result c.from_residual-in_err-pattern-in-len3.ensures.1 in
-    rw (p.1, p.2) (moved fn.Attr ns xs (n ∷ w ∷ x ∷ []) (λ r. IsCallOf fn.Attr ns xs (formula_of r)) (Err _) same
-    (part_fails (no_fault None ∷ argument (Some kind.Attribute) (part_of n) ns) (argument (Some kind.Pattern) (part_of w) ns) ((part_of x).all ns ++ []) _ (refl, c.in_ok-name-in-len3.ensures.0) c.in_err-pattern-in-len3.ensures))
-
-pub attr-returns-in_ok-pattern-in-len3 : goal.attr-returns-in_ok-pattern-in-len3
-attr-returns-in_ok-pattern-in-len3 t c =
-    let xs = c.args.arguments.now in
-    let ns = c.args.names.now in
-    let n = c.name-item.result in
-    let w = c.p-item.result in
-    let x = c.x-item.result in
-    let same : c.args.arguments.now ≡ c.name-item.result ∷ c.p-item.result ∷ c.x-item.result ∷ [] = three_items xs n w x (omega arith) c.name-item.is c.p-item.is c.x-item.is in
-    let f = unary.Attr c.in_ok-name-in-len3.name c.in_ok-pattern-in-len3.pattern in
-    let a = argument (Some kind.Attribute) (part_of n) ns in
-    let b = argument (Some kind.Pattern) (part_of w) ns in
-    moved fn.Attr ns xs (n ∷ w ∷ x ∷ []) (λ r. IsCallOf fn.Attr ns xs (formula_of r)) c.one.result same
-    (last_part (no_fault None ∷ (a ++ b)) ((part_of x).all ns) (λ r. IsCallOf fn.Attr ns xs (formula_of r)) (λ r. IsOne f ns x (formula_of r)) c.one.result
-    (refl, all_hold a b c.in_ok-name-in-len3.ensures.0 c.in_ok-pattern-in-len3.ensures.0) (λ z h. IsCallOf.attr same c.in_ok-name-in-len3.ensures.1 c.in_ok-pattern-in-len3.ensures.1 h.1 h.2) c.one.ensures)
-
-pub rdeps-returns-in_err-u-in-len3 : goal.rdeps-returns-in_err-u-in-len3
-rdeps-returns-in_err-u-in-len3 t c =
-    let xs = c.args.arguments.now in
-    let ns = c.args.names.now in
-    let u = c.u-item-then-arguments-lt4.result in
-    let x = c.x-item-then-arguments-lt4.result in
-    let n = c.n-item.result in
-    let same : c.args.arguments.now ≡ c.u-item-then-arguments-lt4.result ∷ c.x-item-then-arguments-lt4.result ∷ c.n-item.result ∷ [] = three_items xs u x n (omega arith) c.u-item-then-arguments-lt4.is c.x-item-then-arguments-lt4.is c.n-item.is in
-    let p = err_from_is_err_and c.from_residual-in_err-u-in-len3.result c.from_residual-in_err-u-in-len3.ensures.1 in
-    rw (p.1, p.2) (moved fn.Rdeps ns xs (u ∷ x ∷ n ∷ []) (λ r. IsCallOf fn.Rdeps ns xs (formula_of r)) (Err _) same
-    (part_fails (no_fault None ∷ []) ((part_of u).all ns) ((part_of x).all ns ++ (argument None (part_of n) ns ++ [])) _ (refl, tt) c.in_err-u-in-len3.ensures))
-
-pub rdeps-returns-in_err-x-in-len3 : goal.rdeps-returns-in_err-x-in-len3
-rdeps-returns-in_err-x-in-len3 t c =
-    let xs = c.args.arguments.now in
-    let ns = c.args.names.now in
-    let u = c.u-item-then-arguments-lt4.result in
-    let x = c.x-item-then-arguments-lt4.result in
-    let n = c.n-item.result in
-    let same : c.args.arguments.now ≡ c.u-item-then-arguments-lt4.result ∷ c.x-item-then-arguments-lt4.result ∷ c.n-item.result ∷ [] = three_items xs u x n (omega arith) c.u-item-then-arguments-lt4.is c.x-item-then-arguments-lt4.is c.n-item.is in
-    let p = err_from_is_err_and c.from_residual-in_err-x-in-len3.result c.from_residual-in_err-x-in-len3.ensures.1 in
-    rw (p.1, p.2) (moved fn.Rdeps ns xs (u ∷ x ∷ n ∷ []) (λ r. IsCallOf fn.Rdeps ns xs (formula_of r)) (Err _) same
-    (part_fails (no_fault None ∷ (part_of u).all ns) ((part_of x).all ns) (argument None (part_of n) ns ++ []) _ (refl, c.in_ok-u-in-len3.ensures.0) c.in_err-x-in-len3.ensures))
-
-pub rdeps-returns-in_err-limit-in-len3 : goal.rdeps-returns-in_err-limit-in-len3
-rdeps-returns-in_err-limit-in-len3 t c =
-    let xs = c.args.arguments.now in
-    let ns = c.args.names.now in
-    let u = c.u-item-then-arguments-lt4.result in
-    let x = c.x-item-then-arguments-lt4.result in
-    let n = c.n-item.result in
-    let same : c.args.arguments.now ≡ c.u-item-then-arguments-lt4.result ∷ c.x-item-then-arguments-lt4.result ∷ c.n-item.result ∷ [] = three_items xs u x n (omega arith) c.u-item-then-arguments-lt4.is c.x-item-then-arguments-lt4.is c.n-item.is in
-    let p = err_from_is_err_and c.from_residual-in_err-limit-in-len3.result c.from_residual-in_err-limit-in-len3.ensures.1 in
-    rw (p.1, p.2) (moved fn.Rdeps ns xs (u ∷ x ∷ n ∷ []) (λ r. IsCallOf fn.Rdeps ns xs (formula_of r)) (Err _) same
-    (λ other. inr (
-      refl,
-      fails_after ((part_of u).all ns) ((part_of x).all ns ++ (argument None (part_of n) ns ++ [])) _ c.in_ok-u-in-len3.ensures.0
-          (part_fails ((part_of x).all ns) (argument None (part_of n) ns) [] _ c.in_ok-x-in-len3.ensures.0 c.in_err-limit-in-len3.ensures other),
-    )))
-
-pub rdeps-returns-in_ok-limit-in-len3 : goal.rdeps-returns-in_ok-limit-in-len3
-rdeps-returns-in_ok-limit-in-len3 t c =
-    let xs = c.args.arguments.now in
-    let ns = c.args.names.now in
-    let u = c.u-item-then-arguments-lt4.result in
-    let x = c.x-item-then-arguments-lt4.result in
-    let n = c.n-item.result in
-    let same : c.args.arguments.now ≡ c.u-item-then-arguments-lt4.result ∷ c.x-item-then-arguments-lt4.result ∷ c.n-item.result ∷ [] = three_items xs u x n (omega arith) c.u-item-then-arguments-lt4.is c.x-item-then-arguments-lt4.is c.n-item.is in
-    moved fn.Rdeps ns xs (u ∷ x ∷ n ∷ []) (λ r. IsCallOf fn.Rdeps ns xs (formula_of r)) (Ok _) same (
-      (
-        refl,
-        all_hold ((part_of u).all ns) ((part_of x).all ns ++ (argument None (part_of n) ns ++ [])) c.in_ok-u-in-len3.ensures.0
-            (all_hold ((part_of x).all ns) (argument None (part_of n) ns ++ []) c.in_ok-x-in-len3.ensures.0 (all_hold (argument None (part_of n) ns) [] c.in_ok-limit-in-len3.ensures.0 tt)),
-      ),
-      IsCallOf.rdeps_within same c.in_ok-u-in-len3.ensures.1 c.in_ok-x-in-len3.ensures.1 c.in_ok-limit-in-len3.ensures.1
-          (two_says (binary.RdepsWithin c.in_ok-limit-in-len3.limit) c.in_ok-u-in-len3.u c.in_ok-x-in-len3.x),
-    )
-
-pub call-returns-in-Some-Allpaths : goal.call-returns-in-Some-Allpaths
-call-returns-in-Some-Allpaths t c =
-    call_known c.args.name.now c.args.names.now c.args.arguments.now fn.Allpaths c.allpaths.result
-    (ap function_named (sym c.as_slice.ensures) ∙ (sym c.function_named.ensures ∙ (c.in-Some-Allpaths.is ∙ ap Some c.in-Some-Allpaths.field-0-is))) c.allpaths.ensures
-
-pub call-returns-in-Some-Attr : goal.call-returns-in-Some-Attr
-call-returns-in-Some-Attr t c =
-    call_known c.args.name.now c.args.names.now c.args.arguments.now fn.Attr c.attr.result
-    (ap function_named (sym c.as_slice.ensures) ∙ (sym c.function_named.ensures ∙ (c.in-Some-Attr.is ∙ ap Some c.in-Some-Attr.field-0-is))) c.attr.ensures
-
-pub call-returns-in-Some-Deps : goal.call-returns-in-Some-Deps
-call-returns-in-Some-Deps t c =
-    call_known c.args.name.now c.args.names.now c.args.arguments.now fn.Deps c.deps.result
-    (ap function_named (sym c.as_slice.ensures) ∙ (sym c.function_named.ensures ∙ (c.in-Some-Deps.is ∙ ap Some c.in-Some-Deps.field-0-is))) c.deps.ensures
-
-pub call-returns-in-Some-Filter : goal.call-returns-in-Some-Filter
-call-returns-in-Some-Filter t c =
-    call_known c.args.name.now c.args.names.now c.args.arguments.now fn.Filter c.filter.result
-    (ap function_named (sym c.as_slice.ensures) ∙ (sym c.function_named.ensures ∙ (c.in-Some-Filter.is ∙ ap Some c.in-Some-Filter.field-0-is))) c.filter.ensures
-
-pub call-returns-in-Some-Kind : goal.call-returns-in-Some-Kind
-call-returns-in-Some-Kind t c =
-    call_known c.args.name.now c.args.names.now c.args.arguments.now fn.Kind c.kind.result
-    (ap function_named (sym c.as_slice.ensures) ∙ (sym c.function_named.ensures ∙ (c.in-Some-Kind.is ∙ ap Some c.in-Some-Kind.field-0-is))) c.kind.ensures
-
-pub call-returns-in-Some-Labels : goal.call-returns-in-Some-Labels
-call-returns-in-Some-Labels t c =
-    call_known c.args.name.now c.args.names.now c.args.arguments.now fn.Labels c.labels.result
-    (ap function_named (sym c.as_slice.ensures) ∙ (sym c.function_named.ensures ∙ (c.in-Some-Labels.is ∙ ap Some c.in-Some-Labels.field-0-is))) c.labels.ensures
-
-pub call-returns-in-Some-Rdeps : goal.call-returns-in-Some-Rdeps
-call-returns-in-Some-Rdeps t c =
-    call_known c.args.name.now c.args.names.now c.args.arguments.now fn.Rdeps c.rdeps.result
-    (ap function_named (sym c.as_slice.ensures) ∙ (sym c.function_named.ensures ∙ (c.in-Some-Rdeps.is ∙ ap Some c.in-Some-Rdeps.field-0-is))) c.rdeps.ensures
+    let xs = c.args.queries.now in
+    let g = given c.in_ok-arguments.arguments in
+    let read = subst (λ (ks : List QueryArgumentKind). AreArgumentsOf ns ks xs nothing g) c.parameters.ensures c.in_ok-arguments.ensures.1 in
+    ap is_some (is_called f read (function_fits c.args.name.now (length xs) f c.in_ok-function.ensures.fault c.in_ok-function.ensures.function)).1
 
 -- ---- chains
 
@@ -448,10 +177,10 @@ read-returns-in-Call t c =
     let ns = c.args.names.now in
     let name = c.in-Call.name in
     let xs = c.as_slice-in-Call.result.now in
-    let says : (part_of c.args.query.now).all c.args.names.now ≡ call_by (function_named c.in-Call.name) c.in-Call.name (map part_of c.as_slice-in-Call.result.now) c.args.names.now = search (rules, the_lemmas) in
+    let says : (part_of c.args.query.now).all c.args.names.now ≡ spec.call c.in-Call.name (map part_of c.as_slice-in-Call.result.now) c.args.names.now = search (rules, the_lemmas) in
     let is : c.args.query.now ≡ tree.Call c.in-Call.name c.as_slice-in-Call.result.now = c.in-Call.is ∙ ap (tree.Call name) (sym c.as_slice-in-Call.ensures) in
-    read_as ((part_of c.args.query.now).all ns) (call_by (function_named name) name (map part_of xs) ns) (λ r. IsFormulaOf c.args.names.now c.args.query.now (formula_of r)) (λ r. IsCallNamed name ns xs (formula_of r)) c.call.result
-    says (λ r h. IsFormulaOf.call is h.1 h.2) c.call.ensures
+    read_as ((part_of c.args.query.now).all ns) (spec.call name (map part_of xs) ns) (λ r. IsFormulaOf c.args.names.now c.args.query.now (formula_of r)) (λ r. IsCallNamed name ns xs (formula_of r)) c.call.result
+    says (λ r h. IsFormulaOf.call is h.2 h.3 h.4) c.call.ensures
 
 pub read-returns-in_err-value-in-Let : goal.read-returns-in_err-value-in-Let
 read-returns-in_err-value-in-Let t c =
