@@ -22,6 +22,7 @@ use Rattle.bq_run_report.specs.Ending.{status_by}
 use Rattle.bq_run_report.specs.Report.{Inside, IsAnswer, ReplyView, ReportView, all_faults, fault_text}
 use Rattle.bq_run_report.specs.declared.ending.NoAnswer.TheVariants.{Query, Schema, TooManyModules}
 use Rattle.bq_run_report.specs.declared.ending.Status.{Status}
+use Rattle.bq_run.specs.declared.options.Options.{Options}
 use Rattle.bq_run.specs.Run.{Run, run_report}
 use Rattle.bq_run.specs.WorkspaceRun.{loaded_in, refused}
 use Rattle.bq_run_facts.specs.Lines.{target_lines, module_lines, fault_objects}
@@ -67,6 +68,10 @@ pub record TellsFacts (packages : List BuildFile) (modules : List ℕ) (i : Insi
   pub faults : r.faults ≡ fault_text i
   pub reply : TellsAll packages modules graph asked (all_faults i) r
 
+-- The same, of files with this schema and this load graph, where each module may take `limit` steps.
+abbrev pub TellsGraph : List File → Rules → ℕ → LoadParts → Option CheckedQuery → ReportView → Type 0
+TellsGraph files rules limit g asked r = TellsFacts (packages_of files) (module_lines g.modules) (loaded_in files rules limit g.labels g.edges) asked r
+
 -- ---- the run
 
 -- the report of a run over these files whose query is read, where each module may take `limit` steps
@@ -76,7 +81,7 @@ pub data IsFactsBy (limit : ℕ) (files : List File) (asked : Option CheckedQuer
   -- E7
   too_many : (rules : Rules) → schema_in files ≡ Ok rules → AreTooMany (inputs_of files rules) → r ≡ refused TooManyModules → IsFactsBy limit files asked r
   loaded : (rules : Rules) (g : LoadParts) → schema_in files ≡ Ok rules → IsReadGraph (inputs_of files rules) g
-      → TellsFacts (packages_of files) (module_lines g.modules) (loaded_in files rules limit g.labels g.edges) asked r → IsFactsBy limit files asked r
+      → TellsGraph files rules limit g asked r → IsFactsBy limit files asked r
 
 -- the report of a run with the query of this text, if there is one
 pub data IsFactsOn (limit : ℕ) (files : List File) (text : Option (List ℕ)) (r : ReportView) : Type 0 where
@@ -85,5 +90,5 @@ pub data IsFactsOn (limit : ℕ) (files : List File) (text : Option (List ℕ)) 
   read : (asked : Option CheckedQuery) → IsAsked text asked → IsFactsBy limit files asked r → IsFactsOn limit files text r
 
 -- what is written, and how the run ends
-abbrev pub IsFactsOver : ℕ → List File → Option (List ℕ) → Run → Type 0
-IsFactsOver limit files text what = (r : ReportView) × IsFactsOn limit files text r × (what ≡ run_report r)
+abbrev pub IsFactsOver : Options → List File → Option (List ℕ) → Run → Type 0
+IsFactsOver options files text what = (r : ReportView) × IsFactsOn options.max_steps files text r × (what ≡ run_report r)

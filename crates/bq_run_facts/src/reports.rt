@@ -10,9 +10,9 @@ ghost use Rattle.bq_base_fault_line.specs.FaultLine.{put_lines};
 ghost use Rattle.bq_base_fault_line.specs.LineText.{line_text};
 ghost use Rattle.bq_run_report.specs.Report.{inside, report_view};
 ghost use Rattle.bq_run.specs.Run.{IsInRange};
-ghost use Rattle.bq_run.specs.WorkspaceRun.{loaded_in, refused};
+ghost use Rattle.bq_run.specs.WorkspaceRun.{refused};
 ghost use Rattle.bq_run_report.specs.declared.ending.NoAnswer.TheVariants.{Schema as BadSchema, TooManyModules};
-ghost use Rattle.bq_run_facts.specs.Facts.{IsFactsBy, IsFactsOn, TellsAll, TellsFacts};
+ghost use Rattle.bq_run_facts.specs.Facts.{IsFactsBy, IsFactsOn, TellsAll, TellsFacts, TellsGraph};
 ghost use Rattle.bq_run_facts.specs.Lines.{module_lines};
 
 use crate::lines::{push_faults, push_modules};
@@ -137,7 +137,7 @@ fn report_graph<T: Threads + Wait + RandomSource + Sync>(
 ) -> Result<Report, AllocError>
     requires in_range { IsInRange options.now }
     requires graph { IsReadGraph (inputs_of workspace.now schema.now) graph }
-    ensures { IfOk result (λ r. TellsFacts (packages_of workspace.now) (module_lines graph.modules) (loaded_in workspace.now schema.now options.now.max_steps graph.labels graph.edges) (option_copied asked.entry) (report_view r)) }
+    ensures { IfOk result (λ r. TellsGraph workspace.now schema.now options.now.max_steps graph (option_copied asked.entry) (report_view r)) }
 {
     let Ok(before) = read_before(alloc, workspace, graph.modules()) else {
         drop(graph); // PROOF: one call lets the graph go

@@ -35,7 +35,7 @@ pub fn run_facts<T: Threads + Wait + RandomSource + Sync, W: ByteSink, F: ByteSi
     requires faults_writer { F.failed faults_writer.old < 2 ^ 64 - 1 }
 
     // What is written, and how the run ends, are the definition's.
-    ensures does { DoesOne (IsFactsOver options.now.max_steps workspace.now (option_copied query.entry)) result (F.contents faults_writer.old) (F.contents faults_writer.new) (W.contents writer.old) (W.contents writer.new) }
+    ensures does { DoesOne (IsFactsOver options.now workspace.now (option_copied query.entry)) result (F.contents faults_writer.old) (F.contents faults_writer.new) (W.contents writer.old) (W.contents writer.new) }
     ensures silent { IsSilent result → Keeps (F.contents faults_writer.old) (F.contents faults_writer.new) × Keeps (W.contents writer.old) (W.contents writer.new) }
 
     // E3 is returned exactly after one failed call of a writer, which is not tried again. Nothing is read.

@@ -3,7 +3,7 @@
 ghost use Rattle.std.specs.Prelude.{◌≡◌, ◌<◌, length, IfOk};
 ghost use Rattle.std.specs.List.{All, range_with_len};
 ghost use Rattle.std.specs.Option.{option_copied};
-ghost use Rattle.bq_query.specs.Faults.{Meets};
+ghost use Rattle.bq_query_lex.specs.QueryError.{Meets};
 ghost use Rattle.bq_run_facts.specs.Facts.{AreMeant, fault_by};
 
 use bq_query::answer;

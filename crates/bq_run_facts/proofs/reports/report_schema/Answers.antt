@@ -2,13 +2,11 @@ use Rattle.std.proofs.Common.{◌≡◌, Result, Ok, Err}
 use Rattle.std.specs.Prelude.{IfOk}
 use Rattle.std.specs.Prelude.{option_copied}
 use Rattle.std.proofs.lemmas.Result.{IfOk-weaker}
-use Rattle.bq_label.specs.Packages.{packages_of}
 use Rattle.bq_run_report.specs.Report.{report_view}
 use Rattle.bq_load_discover.specs.declared.load_err.LoadErr.TheVariants as e
 use Rattle.bq_run_report.specs.declared.ending.NoAnswer.TheVariants.{TooManyModules}
-use Rattle.bq_run.specs.WorkspaceRun.{loaded_in, refused}
-use Rattle.bq_run_facts.specs.Facts.{IsFactsBy, TellsFacts}
-use Rattle.bq_run_facts.specs.Lines.{module_lines}
+use Rattle.bq_run.specs.WorkspaceRun.{refused}
+use Rattle.bq_run_facts.specs.Facts.{IsFactsBy, TellsGraph}
 use Rattle.bq_run_facts.proofs.reports.report_schema.Goals as goal
 
 both : {A E : Type 0} (result : Result A E) (P Q R : A → Type 0) → ((x : A) → P x → Q x → R x) → IfOk result P → IfOk result Q → IfOk result R
@@ -22,7 +20,7 @@ returns-in-Ok g c =
     let limit = c.args.options.now.max_steps in
     let graph = c.in-Ok.graph in
     let asked = option_copied c.args.asked in
-    IfOk-weaker c.report_graph.result (λ r. TellsFacts (packages_of files) (module_lines graph.modules) (loaded_in files rules limit graph.labels graph.edges) asked (report_view r))
+    IfOk-weaker c.report_graph.result (λ r. TellsGraph files rules limit graph asked (report_view r))
     (λ r. IsFactsBy limit files asked (report_view r))
     (λ r h. IsFactsBy.loaded rules graph c.requires.schema c.in-Ok.ensures h) c.report_graph.ensures
 
