@@ -7,17 +7,16 @@ ghost use Rattle.bq_value.specs.Pairs.{keys};
 ghost use Rattle.bq_builtin_machine.specs.Action.{Does};
 ghost use Rattle.bq_builtin_machine.specs.Iteration.{content_elements, elements, begin_walk, end_walk, IsNext};
 
-use crate::iteration::content_elements;
+use crate::iteration::{Elements, content_elements};
 use crate::machine::Machine;
-use crate::range_walk::RangeWalk;
 use bq_base::FaultKind;
 use bq_value::{Body, Content, Dict, EvalErr, Node, Value};
 use std::alloc::{AllocError, Global};
 use std::marker::Model;
 use std::sync::Arc;
 
-/// The elements that a walk has still to go through: it has a share of what it goes over, so that beginning it takes no
-/// time. Contracts see their list.
+/// The elements that a walk has still to go through. If they are many, it has a share of what it goes over, so that
+/// beginning it takes no time. Contracts see their list.
 #[derive(Drop)]
 pub struct Walk {
     over: Over,
@@ -29,7 +28,8 @@ enum Over {
     Values(Arc<Vec<Value>>, usize),
     /// A list, or the keys of a dict, from this place on.
     Content(Arc<Body>, usize),
-    Range(RangeWalk),
+    /// A few elements, or those of a range.
+    Elements(Elements),
 }
 
 impl Model for Walk {
@@ -72,7 +72,7 @@ pub fn next_key(dict: &Dict, at: &mut usize) -> Result<Option<Value>, AllocError
     Ok(Some(value))
 }
 
-/// Begins a walk over what a cell holds. Of a few frozen elements it has copies.
+/// Begins a walk over what a cell holds. Of a few elements it has copies.
 fn over_content(alloc: Global, content: &Content) -> Result<Walk, EvalErr>
     ensures { Gives (λ xs. xs) Bad result (content_elements (Some content.now)) }
 {
@@ -81,7 +81,7 @@ fn over_content(alloc: Global, content: &Content) -> Result<Walk, EvalErr>
     }
     let over = match content.shared()? {
         Some(body) => Over::Content(body, 0),
-        None => Over::Values(Arc::new(alloc, content_elements(alloc, content)?)?, 0),
+        None => Over::Elements(Elements::of(content_elements(alloc, content)?)),
     };
     Ok(Walk { over })
 }
@@ -98,10 +98,7 @@ impl Walk {
                 Body::Dict(dict) => next_key(dict, at),
                 Body::Rule(_) => Ok(None),
             },
-            Over::Range(integers) => match integers.next() {
-                Some(n) => Ok(Some(Value::int(n))),
-                None => Ok(None),
-            },
+            Over::Elements(elements) => Ok(elements.next()),
         }
     }
 }
@@ -117,7 +114,7 @@ impl Machine {
                 over: Over::Values(items.clone()?, 0),
             }),
             Node::Range(range) => Ok(Walk {
-                over: Over::Range(RangeWalk::over(*range)),
+                over: Over::Elements(Elements::of_range(*range)),
             }),
             Node::Cell(cell) => {
                 self.store.share(alloc, *cell)?;

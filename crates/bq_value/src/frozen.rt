@@ -72,12 +72,12 @@ impl Frozen {
     }
 }
 
-/// Has walks in other modules share the lists and dicts of many elements.
-fn share_many(alloc: Global, contents: &mut [Content]) -> Result<(), AllocError>
+/// Has walks in other modules share what these cells hold.
+fn share_all(alloc: Global, contents: &mut [Content]) -> Result<(), AllocError>
     ensures { OnOk result (contents.new ≡ contents.old) }
 {
     for content in contents.iter_mut() {
-        content.share_many(alloc)?;
+        content.share(alloc)?;
     }
     Ok(())
 }
@@ -95,7 +95,7 @@ pub fn freeze(
     let Store { made, loaded, .. } = store;
     let own = made.module();
     let mut contents = made.into_contents();
-    share_many(alloc, &mut contents)?;
+    share_all(alloc, &mut contents)?;
     let kinds = kinds_of(alloc, own, &contents, names, &globals)?;
     let cells = Cells {
         contents,

@@ -91,7 +91,8 @@ impl Store {
         module.cells.contents.get(cell.number)
     }
 
-    /// Makes what `cell` holds one that walks share, if it is a cell of the running module.
+    /// Makes what `cell` holds one that walks share, if it has more than a few elements and is a cell of the running
+    /// module.
     pub fn share(&mut self, alloc: Global, cell: Cell) -> Result<(), AllocError>
         ensures { self.new ≡ self.old }
     {

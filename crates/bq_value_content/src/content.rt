@@ -13,7 +13,7 @@ use std::marker::Model;
 use std::mem;
 use std::sync::Arc;
 
-/// A frozen list or dict with more elements than this is one that walks share; of a smaller one they take copies.
+/// Walks share a list or dict with more elements than this; of a smaller one they take copies.
 const FEW: usize = 16;
 
 /// A list, a dict or a rule. Contracts see its `Contents`.
@@ -188,21 +188,14 @@ impl Content {
         self.held.own()
     }
 
-    /// Makes it one that walks share.
+    /// Makes it one that walks share, if it has more than a few elements.
     pub fn share(&mut self, alloc: Global) -> Result<(), AllocError>
-        ensures { self.new ≡ self.old }
-    {
-        self.held.share(alloc)
-    }
-
-    /// Makes a list or dict of many elements one that walks share.
-    pub fn share_many(&mut self, alloc: Global) -> Result<(), AllocError>
         ensures { self.new ≡ self.old }
     {
         if self.body().len() <= FEW {
             return Ok(());
         }
-        self.share(alloc)
+        self.held.share(alloc)
     }
 
     /// Returns a share, if it is one that walks share.

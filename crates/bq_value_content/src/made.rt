@@ -69,7 +69,7 @@ impl Made {
         self.cells.get(number)
     }
 
-    /// Makes what the cell of this number holds one that walks share.
+    /// Makes what the cell of this number holds one that walks share, if it has more than a few elements.
     pub fn share(&mut self, alloc: Global, number: usize) -> Result<(), AllocError>
         ensures { self.new ≡ self.old }
     {
