@@ -6,7 +6,7 @@ use Rattle.bq_builtin_machine.specs.Action.{Run}
 use Rattle.bq_builtin_machine.specs.State.{State, started}
 use Rattle.bq_eval_meaning_spec.specs.Frame.{Frame}
 use Rattle.bq_eval_meaning_spec.specs.Module.{module_meaning, frozen_units}
-use Rattle.bq_eval_rules.specs.Round.{views_of}
+use Rattle.bq_eval_rules.specs.Round.{views_of, lent_files}
 use Rattle.bq_eval_operations.specs.Calling.{HostCalls}
 use Rattle.bq_eval_operations.specs.Runtime.{primitives}
 use Rattle.bq_eval.specs.Module.{first_store, module_run}
@@ -15,7 +15,7 @@ use Rattle.bq_eval.specs.declared.module.ResolvedModule.{ResolvedModule}
 
 -- the run from this state of a machine, and what the host keeps
 abbrev pub run_from : {W : Type 0} → List Name → HostCalls W → ResolvedModule → State → W → Run (State × W) Frame
-run_from rules host m machine kept = module_meaning (primitives rules host) (frozen_units m.code.now (views_of m.loaded.now)) m.number m.file.now m.imports.now (machine, kept)
+run_from rules host m machine kept = module_meaning (primitives rules host) (frozen_units (lent_files m.code.now) (views_of m.loaded.now)) m.number m.file.now m.imports.now (machine, kept)
 
 pub run_starts : {W : Type 0} (rules : List Name) (host : HostCalls W) (m : ResolvedModule) (limit : ℕ) (kept : W) (store : StoreView) (machine : State)
     → store ≡ first_store m.number (views_of m.loaded.now) → machine ≡ started store limit → run_from rules host m machine kept ≡ run_of rules host m limit kept

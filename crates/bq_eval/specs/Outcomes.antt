@@ -8,7 +8,7 @@ use Rattle.bq_builtin_machine.specs.State.{State}
 use Rattle.bq_eval_meaning_spec.specs.Frame.{Frame, empty}
 use Rattle.bq_eval_meaning_spec.specs.Module.{eval_top, first_globals, frozen_units, module_meaning, top_levels}
 use Rattle.bq_eval_meaning_spec.specs.Primitives.{Primitives}
-use Rattle.bq_eval_rules.specs.Round.{views_of, own_of}
+use Rattle.bq_eval_rules.specs.Round.{views_of, lent_files, own_of}
 use Rattle.bq_eval_rules.specs.declared.context.Program.{Program}
 use Rattle.bq_eval_operations.specs.Calling.{HostCalls}
 use Rattle.bq_eval.specs.Module.{Ended, evaluated, failed, module_run}
@@ -22,13 +22,13 @@ ended_of (o.Failed fault prints) = failed fault prints.items
 
 -- where the rules have these names, and the host means this by its calls: with `limit` steps, from what the host keeps
 abbrev pub run_of : {W : Type 0} → List Name → HostCalls W → ResolvedModule → ℕ → W → Run (State × W) Frame
-run_of rules host m limit kept = module_run rules host m.code.now m.number m.file.now (views_of m.loaded.now) m.imports.now limit kept
+run_of rules host m limit kept = module_run rules host (lent_files m.code.now) m.number m.file.now (views_of m.loaded.now) m.imports.now limit kept
 
 -- the statements of a module's file run, where the primitive operations mean this
 abbrev pub file_run : {S : Type 0} → Primitives S → ResolvedModule → Action S Frame
-file_run means m = module_meaning means (frozen_units m.code.now (views_of m.loaded.now)) m.number m.file.now m.imports.now
+file_run means m = module_meaning means (frozen_units (lent_files m.code.now) (views_of m.loaded.now)) m.number m.file.now m.imports.now
 
 -- these statements run as those of a module of a program; what it loads gives some globals their first values
 unfoldable pub program_run : {S : Type 0} → Primitives S → Program → List LoadStmt → List CodeTopLevel → Action S Frame
 program_run m p loads stmts =
-    top_levels m (own_of p) (eval_top m (frozen_units p.code.now (views_of p.frozen.now)) (own_of p)) stmts (first_globals loads p.loaded.now empty) >>= λ r. pure r.1
+    top_levels m (own_of p) (eval_top m (frozen_units (lent_files p.code.now) (views_of p.frozen.now)) (own_of p)) stmts (first_globals loads p.loaded.now empty) >>= λ r. pure r.1

@@ -1,9 +1,11 @@
 -- What a context says of the environment of an expression or a statement.
-use Rattle.std.specs.Prelude.{List, map, slice_get, if◌then◌else◌}
+use Rattle.std.specs.Prelude.{List, map, slice_get, Option, option_copied, if◌then◌else◌}
+use Rattle.std.specs.Borrow.{Bor}
 use Rattle.std.specs.declared.alloc.Global.{Global}
 use Rattle.std.specs.declared.sync.Arc.{Arc}
 use Rattle.bq_resolve_scope.specs.Names.{max_layers}
 use Rattle.bq_resolve_scope.specs.declared.code.CodeStmt.{CodeStmt}
+use Rattle.bq_resolve_scope.specs.declared.code.Resolved.{Resolved}
 use Rattle.bq_value.specs.Cells.{FrozenView}
 use Rattle.bq_eval_meaning_spec.specs.Frame.{Frame, Surroundings, empty}
 use Rattle.bq_eval_meaning_spec.specs.Primitives.{Primitives}
@@ -35,9 +37,13 @@ own_of p = record { number = p.number; functions = p.functions.now; loaded = p.l
 abbrev pub views_of : List (Arc FrozenView Global) → List FrozenView
 views_of fs = map (λ f. f.value) fs
 
+-- the files that are lent to a program, by the numbers of their modules
+abbrev pub lent_files : List (Option (Bor Resolved)) → List (Option Resolved)
+lent_files code = map option_copied code
+
 -- where the own module's globals are these
 unfoldable pub units_at : Program → Frame → Units
-units_at p globals = with_own (frozen_units p.code.now (views_of p.frozen.now)) (own_of p) globals
+units_at p globals = with_own (frozen_units (lent_files p.code.now) (views_of p.frozen.now)) (own_of p) globals
 
 -- what calls mean
 unfoldable pub inside : {S : Type 0} → Primitives S → Context → Calls S

@@ -42,7 +42,7 @@ pub struct Program<'a> {
     /// The values that its loads bind.
     pub loaded: &'a [Value],
     /// The resolved files, by the numbers of their modules.
-    pub code: &'a [Option<Resolved>],
+    pub code: &'a [Option<&'a Resolved>],
     /// The modules that it loads.
     pub frozen: &'a [Arc<Frozen>],
 }

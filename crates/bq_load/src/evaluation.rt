@@ -2,7 +2,7 @@
 
 ghost use Rattle.std.specs.Prelude.{◌≡◌, [], map, IfOk};
 ghost use Rattle.bq_load_module.specs.Calls.{held_by};
-ghost use Rattle.bq_load_module.specs.Round.{views_of};
+ghost use Rattle.bq_load_module.specs.Round.{views_of, lent_files};
 ghost use Rattle.bq_base.specs.Gives.{Gives};
 ghost use Rattle.bq_base.specs.declared.fault.SourceErr.TheVariants.{Bad};
 ghost use Rattle.bq_load_front.specs.Code.{items};
@@ -35,6 +35,17 @@ fn frozen_of(
     let mut all = Vec::with_capacity(alloc, modules.len())?;
     for loaded in modules {
         all.push(Arc::try_clone(&loaded.frozen)?)?;
+    }
+    Ok(all)
+}
+
+/// Lends the code of modules.
+fn lent(alloc: Global, code: &[Option<Resolved>]) -> Result<Vec<Option<&Resolved>>, AllocError>
+    ensures { IfOk result (λ all. lent_files all.items ≡ code.now) }
+{
+    let mut all = Vec::with_capacity(alloc, code.len())?;
+    for each in code {
+        all.push(each.as_ref())?;
     }
     Ok(all)
 }
@@ -76,7 +87,7 @@ impl<'a> Loading<'a> {
         label: &Label,
         module: &ResolvedModule<'_>,
     ) -> Result<Result<LoadedModule, FailedModule>, AllocError>
-        requires { «module».now.code.now ≡ self.now.code.items }
+        requires { lent_files «module».now.code.now ≡ self.now.code.items }
         ensures { IfOk result (λ r. told module_view failed_view r ≡ module_after «module».now.file.now «module».now.imports.now (hosted_run self.now label.now «module».now)) }
     {
         let host = self.host(alloc, label)?;
@@ -95,12 +106,13 @@ impl<'a> Loading<'a> {
         ensures { IfOk result (λ r. told module_view failed_view r ≡ file_after (loading_of self.now) «module».now.number «module».now.source.now.label «module».now.file.now (module_views modules.now) imports.now) }
     {
         let loaded = frozen_of(alloc, modules)?;
+        let code = lent(alloc, self.code.as_slice())?;
         let resolved = ResolvedModule {
             number: module.number,
             file: module.file,
             loaded: loaded.as_slice(),
             imports,
-            code: self.code.as_slice(),
+            code: code.as_slice(),
         };
         // PROOF: the file is run as this module
         Ok(self.run(alloc, &module.source.label, &resolved)?)

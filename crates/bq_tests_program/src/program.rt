@@ -142,33 +142,26 @@ fn add_imports(
     Ok(())
 }
 
-/// A module that another file loads: its code, and what it evaluated to, each as a list of one.
+/// A module that another file loads: its file, and what it evaluated to, as a list of one.
 #[derive(Drop)]
 struct Below {
-    code: Vec<Option<Resolved>>,
+    file: Resolved,
     modules: Vec<Arc<Frozen>>,
-}
-
-/// A list of one.
-fn one<T: Drop>(alloc: Global, item: T) -> Result<Vec<T>, AllocError> {
-    let mut items = Vec::new(alloc);
-    items.push(item)?;
-    Ok(items)
 }
 
 impl Below {
     fn of(alloc: Global, file: Resolved, frozen: Frozen) -> Result<Below, AllocError> {
-        let code = one(alloc, Some(file))?;
-        let modules = one(alloc, Arc::new(alloc, frozen)?)?;
-        Ok(Below { code, modules })
+        let mut modules = Vec::new(alloc);
+        modules.push(Arc::new(alloc, frozen)?)?;
+        Ok(Below { file, modules })
     }
 
     /// The values of the symbols of all loads, where all of them are of this module.
     fn imports(&self, alloc: Global, loads: &[LoadStmt]) -> Result<Vec<Value>, AllocError> {
         let mut imports = Vec::new(alloc);
-        if let ([Some(file)], [frozen]) = (self.code.as_slice(), self.modules.as_slice()) {
+        if let [frozen] = self.modules.as_slice() {
             for load in loads {
-                add_imports(file, frozen, load, &mut imports)?;
+                add_imports(&self.file, frozen, load, &mut imports)?;
             }
         }
         Ok(imports)
@@ -188,7 +181,7 @@ fn above<H: Host + Drop>(
         file,
         loaded: &below.modules,
         imports: &imports,
-        code: &below.code,
+        code: &[Some(&below.file)],
     };
     eval_module(
         setting.alloc,
