@@ -8,9 +8,15 @@ use std::alloc::{AllocError, Global};
 use std::marker::Model;
 
 /// Packages in the order of their repositories and paths, none of them twice. Contracts see the list of them.
-#[derive(Drop)]
 pub struct PackageList {
     all: Vec<Package>,
+}
+
+impl Drop for PackageList {
+    // PROOF: a drop that is written out is proved here alone, and a derived one in each crate that drops a list
+    fn drop(self) {
+        let PackageList { all: _ } = self;
+    }
 }
 
 impl Model for PackageList {
@@ -45,7 +51,8 @@ impl PackageList {
         ensures value { result.items ≡ self }
         ensures ascend { PackagesAscend self }
     {
-        self.all
+        let PackageList { all } = self;
+        all
     }
 
     /// Returns another owner of the packages. No target is copied.

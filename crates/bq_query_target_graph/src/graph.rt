@@ -23,11 +23,21 @@ use std::marker::Model;
 
 /// The targets of a workspace with their dependencies. Contracts see the targets in the order of their labels, the packages in theirs,
 /// and for each target the numbers of those that it depends on.
-#[derive(Drop)]
 pub struct TargetGraph {
     targets: Vec<Target>,
     packages: Items<PackageId>,
     graph: DependencyGraph,
+}
+
+impl Drop for TargetGraph {
+    // PROOF: a drop that is written out is proved here alone, and a derived one in each crate that drops a graph
+    fn drop(self) {
+        let TargetGraph {
+            targets: _,
+            packages: _,
+            graph: _,
+        } = self;
+    }
 }
 
 impl Model for TargetGraph {
