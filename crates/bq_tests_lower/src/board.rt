@@ -1,13 +1,12 @@
 //! The board on small plans by hand, and on large ones by four threads.
-ghost use Rattle.std.specs.Prelude.{◌≡◌, ◌<◌, ◌≤◌, length, vec_len, All, IfOk, IfSome, IsTrue};
+ghost use Rattle.std.specs.Prelude.{◌≡◌, ◌<◌, ◌≤◌, length, All, IsTrue};
 ghost use Rattle.bq_board.specs.Seats.{IsSeatOf, base_of, view_of};
 ghost use Rattle.bq_board.specs.Conditions.{Owes, Holds, KeepsAll, KeepsOthers, HoldsIfWon};
 
-use crate::rows::{Row, Subject, check_rows, number_of};
 use bq_board::{Board, Claim, MAX_SEATS, Parcel, Plan, PlanErr, Seat};
 use std::alloc::{AllocError, Global};
 use std::sync::atomic::{AtomicU64, Ordering};
-use std::thread::{Threads, for_each_mut, join};
+use std::thread::{Threads, for_each_mut};
 
 /// A parcel that says where it comes from and for which edge it was posted.
 #[derive(Drop)]
@@ -91,32 +90,32 @@ fn wins(board: &Board<Note>, seat: &mut Seat<Note>, m: usize) -> bool
     }
 }
 
-// Wins a module, and fetches all edges into it.
-fn gathers(board: &Board<Note>, seat: &mut Seat<Note>, m: usize) -> bool
-    requires seat { IsSeatOf board.now seat.old }
-    requires module { m < length board.now.plan }
-    ensures seat { IsSeatOf board.now seat.new }
-{
-    if !wins(board, seat, m) {
-        return false;
-    }
-    collect(board, seat, m)
-}
-
-// Wins a module, fetches all edges into it, posts all edges out of it, and finishes it.
-fn loads(board: &Board<Note>, base: u64, seat: &mut Seat<Note>, m: usize) -> bool
+// Wins a module, and fetches all edges into it; if it is to end there, also posts all edges out of it, and finishes it. Whether each
+// parcel was right, if the module was won.
+fn load_module(
+    board: &Board<Note>,
+    base: u64,
+    seat: &mut Seat<Note>,
+    m: usize,
+    ends: bool,
+) -> Option<bool>
     requires seat { IsSeatOf board.now seat.old }
     requires base { base_of board.now ≡ base }
-    requires module { m < length board.now.plan }
     ensures seat { IsSeatOf board.now seat.new }
 {
-    if !wins(board, seat, m) {
-        return false;
+    if m >= board.plan().modules() || !wins(board, seat, m) {
+        return None;
     }
     let right = collect(board, seat, m);
-    deliver(board, base, seat, m);
-    right
+    if ends {
+        deliver(board, base, seat, m);
+    }
+    Some(right)
 }
+
+// A call of a seat by its letter, the module, and what it answers: a claim, a module that is loaded or whose edges are gathered, or how
+// many modules are done.
+type Step = (u8, usize, &'static str, u64);
 
 fn claimed(claim: Claim) -> (&'static str, u64) {
     match claim {
@@ -126,433 +125,274 @@ fn claimed(claim: Claim) -> (&'static str, u64) {
     }
 }
 
-// One step of a seat on a board with the base 7, by its letter, and what it answers: a claim, a load, a claim with all fetched, or how many modules are done.
-fn step_of(board: &Board<Note>, seat: &mut Seat<Note>, letter: u8, m: usize) -> (&'static str, u64)
-    requires seat { IsSeatOf board.now seat.old }
-    requires base { base_of board.now ≡ 7 }
-    ensures seat { IsSeatOf board.now seat.new }
-{
-    if m >= board.plan().modules() {
-        return ("no module", 0);
-    }
-    match letter {
-        b'c' => claimed(ask(board, seat, m)),
-        b'l' => ("loaded", u64::from(loads(board, 7, seat, m))),
-        b'g' => ("gathered", u64::from(gathers(board, seat, m))),
-        _ => ("done", board.done(seat)),
+fn loaded(name: &'static str, right: Option<bool>) -> (&'static str, u64) {
+    match right {
+        Some(right) => (name, u64::from(right)),
+        None => ("not won", 0),
     }
 }
 
-fn add_answer(out: &mut String, answer: (&str, u64)) -> Result<(), AllocError> {
-    write!(out, "{} {};", answer.0, answer.1)?;
-    Ok(())
-}
-
-// Adds what each step of a script, as `c1 l0`, answers.
-fn play(
+fn answer(
     board: &Board<Note>,
+    base: u64,
     seat: &mut Seat<Note>,
-    script: &[u8],
-    out: &mut String,
-) -> Result<(), AllocError>
+    letter: u8,
+    m: usize,
+) -> (&'static str, u64)
     requires seat { IsSeatOf board.now seat.old }
-    requires base { base_of board.now ≡ 7 }
+    requires base { base_of board.now ≡ base }
     ensures seat { IsSeatOf board.now seat.new }
 {
-    for word in script.split(|byte| *byte == b' ') {
-        if let [letter, digits @ ..] = word {
-            let answer = step_of(board, seat, *letter, number_of(digits) as usize);
-            add_answer(out, answer)?;
+    match letter {
+        b'l' => loaded("loaded", load_module(board, base, seat, m, true)),
+        b'g' => loaded("gathered", load_module(board, base, seat, m, false)),
+        b'd' => ("done", board.done(seat)),
+        _ => {
+            if m >= board.plan().modules() {
+                return ("no module", 0);
+            }
+            claimed(ask(board, seat, m))
         }
     }
-    Ok(())
 }
 
-// The modules that each module loads, by their digits, with a `;` after each module.
-fn loads_of(alloc: Global, text: &[u8]) -> Result<Vec<Vec<u32>>, AllocError> {
+// Whether each step of a script is answered so.
+fn plays(board: &Board<Note>, base: u64, seat: &mut Seat<Note>, script: &[Step]) -> bool
+    requires seat { IsSeatOf board.now seat.old }
+    requires base { base_of board.now ≡ base }
+    ensures seat { IsSeatOf board.now seat.new }
+{
+    for (letter, m, wanted, count) in script {
+        let (name, number) = answer(board, base, seat, *letter, *m);
+        if name != *wanted || number != *count {
+            return false;
+        }
+    }
+    true
+}
+
+// What each module loads.
+#[derive(Clone, Copy)]
+enum Loads {
+    Rows(&'static [&'static [u32]]),
+    // A chain of so many modules after the first, each loading the one before it 16 times; and a last one, which loads the one before it
+    // so many times.
+    Chain(u32, u32),
+    // Up to 8 modules of a lower rank, in an order that differs with this number.
+    Random(u64),
+}
+
+const MODULES: u32 = 2000;
+
+// A number that looks random.
+fn mixed(state: u64) -> u64 {
+    let a = state ^ (state << 13);
+    let b = a ^ (a >> 7);
+    b ^ (b << 17)
+}
+
+fn rank(m: u32, seed: u64) -> u64 {
+    u64::from(m).wrapping_mul(777).wrapping_add(seed) % 2000
+}
+
+fn drawn(seed: u64, m: u32, at: u32) -> Option<u32> {
+    let place = seed.wrapping_mul(2000).wrapping_add(u64::from(m));
+    let draw = place.wrapping_mul(8).wrapping_add(u64::from(at));
+    let load = (mixed(draw.wrapping_add(1).wrapping_mul(0x9e37_79b9_7f4a_7c15)) % 2000) as u32;
+    if at < 8 && rank(load, seed) < rank(m, seed) {
+        return Some(load);
+    }
+    None
+}
+
+fn chained(modules: u32, times: u32, m: u32, at: u32) -> Option<u32> {
+    let all = if m > modules { times } else { 16 };
+    if m > 0 && at < all {
+        return Some(m - 1);
+    }
+    None
+}
+
+impl Loads {
+    fn modules(self) -> u32 {
+        match self {
+            Loads::Rows(rows) => rows.len().min(100) as u32,
+            Loads::Chain(modules, _) => modules.saturating_add(2),
+            Loads::Random(_) => MODULES,
+        }
+    }
+
+    // One of up to 40 loads of a module, if it has that one.
+    fn load(self, m: u32, at: u32) -> Option<u32> {
+        match self {
+            Loads::Rows(rows) => match rows.get(m as usize) {
+                Some(row) => row.get(at as usize).copied(),
+                None => None,
+            },
+            Loads::Chain(modules, times) => chained(modules, times, m, at),
+            Loads::Random(seed) => drawn(seed, m, at),
+        }
+    }
+}
+
+fn row_of(alloc: Global, loads: Loads, m: u32) -> Result<Vec<u32>, AllocError> {
+    let mut row = Vec::new(alloc);
+    for at in 0..40 {
+        match loads.load(m, at) {
+            Some(load) => row.push(load)?,
+            None => {}
+        }
+    }
+    Ok(row)
+}
+
+fn rows_of(alloc: Global, loads: Loads) -> Result<Vec<Vec<u32>>, AllocError> {
     let mut rows = Vec::new(alloc);
-    add_loads(alloc, text, &mut rows)?;
-    // There is nothing after the last `;`.
-    let _none = rows.pop();
+    for m in 0..loads.modules() {
+        rows.push(row_of(alloc, loads, m)?)?;
+    }
     Ok(rows)
 }
 
-fn add_loads(alloc: Global, text: &[u8], rows: &mut Vec<Vec<u32>>) -> Result<(), AllocError> {
-    for digits in text.split(|byte| *byte == b';') {
-        rows.push(modules_of(alloc, digits)?)?;
-    }
-    Ok(())
-}
-
-fn modules_of(alloc: Global, digits: &[u8]) -> Result<Vec<u32>, AllocError> {
-    let mut modules = Vec::new(alloc);
-    for digit in digits {
-        modules.push(u32::from(digit.wrapping_sub(b'0')))?;
-    }
-    Ok(modules)
-}
-
-// A board of these loads, with its seats.
-fn opened(
-    alloc: Global,
-    loads: Vec<Vec<u32>>,
-    seats: usize,
-    base: u64,
-) -> Result<(Board<Note>, Vec<Seat<Note>>), PlanErr>
-    requires { (0 < seats) × (seats ≤ MAX_SEATS) }
-    ensures count { IfOk result (λ r. vec_len r.1 ≡ seats) }
-    ensures base { IfOk result (λ r. base_of r.0 ≡ base) }
-    ensures seats { IfOk result (λ r. All (λ s. IsSeatOf r.0 s) r.1.items) }
-{
-    let plan = Plan::new(alloc, loads)?;
-    Ok(Board::open(alloc, plan, seats, &base)?)
-}
-
-// The last of the seats. The others are let go of.
-fn last_seat(board: &Board<Note>, mut seats: Vec<Seat<Note>>) -> Option<Seat<Note>>
-    requires { All (λ s. IsSeatOf board.now s) seats.items }
-    ensures { IfSome result (λ s. IsSeatOf board.now s) }
-{
-    // PROOF: it says whose seats they are.
-    let _ = board;
-    let last = seats.pop();
-    drop(seats);
-    last
-}
-
-// The last two.
-fn last_two(board: &Board<Note>, mut seats: Vec<Seat<Note>>) -> Option<(Seat<Note>, Seat<Note>)>
-    requires { All (λ s. IsSeatOf board.now s) seats.items }
-    ensures { IfSome result (λ p. IsSeatOf board.now p.0 × IsSeatOf board.now p.1) }
-{
-    let last = seats.pop()?;
-    Some((last, last_seat(board, seats)?))
-}
-
-fn refusal(alloc: Global, error: &PlanErr) -> Result<Vec<u8>, AllocError> {
-    Ok(format!(in alloc; "{error}")?.into_bytes())
-}
-
-/// What one seat is answered on a board with these loads.
-struct Scripts;
-
-fn one_plays(
-    alloc: Global,
-    board: Board<Note>,
-    mut seat: Seat<Note>,
-    script: &[u8],
-) -> Result<Vec<u8>, AllocError>
-    requires seat { IsSeatOf board seat }
-    requires base { base_of board ≡ 7 }
-{
-    let mut out = String::new(alloc);
-    let played = play(&board, &mut seat, script, &mut out);
-    board.close(seat);
-    whole(played, out)
-}
-
-// What was written, if all of it was.
-fn whole(written: Result<(), AllocError>, out: String) -> Result<Vec<u8>, AllocError> {
-    match written {
-        Ok(()) => Ok(out.into_bytes()),
-        Err(error) => Err(error),
+// How many modules and edges a plan has, or why there is none.
+fn described(alloc: Global, plan: &Result<Plan, PlanErr>) -> Result<String, AllocError> {
+    match plan {
+        Ok(plan) => format!(in alloc; "{} modules, {} edges", plan.modules(), plan.edges()),
+        Err(error) => format!(in alloc; "{error}"),
     }
 }
 
-fn last_plays(
-    alloc: Global,
-    board: Board<Note>,
-    seats: Vec<Seat<Note>>,
-    script: &[u8],
-) -> Result<Vec<u8>, AllocError>
-    requires seats { All (λ s. IsSeatOf board s) seats.items }
-    requires base { base_of board ≡ 7 }
-{
-    match last_seat(&board, seats) {
-        Some(seat) => one_plays(alloc, board, seat, script),
-        None => b"no seat".to_vec(alloc),
-    }
-}
-
-fn one_seat(alloc: Global, loads: Vec<Vec<u32>>, script: &[u8]) -> Result<Vec<u8>, AllocError> {
-    match opened(alloc, loads, 1, 7) {
-        Ok((board, seats)) => last_plays(alloc, board, seats, script),
-        Err(error) => refusal(alloc, &error),
-    }
-}
-
-impl Subject for Scripts {
-    fn answer(&self, alloc: Global, text: &[u8], row: Row) -> Result<Vec<u8>, AllocError> {
-        one_seat(alloc, loads_of(alloc, text)?, row.word(1))
-    }
-}
-
-#[test]
-fn one_seat_loads_modules(rt: HostRuntime) -> Result<(), AllocError> {
-    check_rows(&rt, rt.alloc(), SCRIPTS, &Scripts)
-}
-
-const SCRIPTS: &str = r#"
-# module 1 loads module 0
-;0; | c1 l0 c0 l1 d | waiting 0;loaded 1;taken 0;loaded 1;done 2;
-# two modules load module 0
-;0;0; | c2 l0 l2 g1 d | waiting 1;loaded 1;loaded 1;gathered 1;done 2;
-"#;
-
-// How many modules and edges a plan has.
-fn counted(alloc: Global, plan: &Plan) -> Result<Vec<u8>, AllocError> {
-    let modules = plan.modules();
-    Ok(format!(in alloc; "{modules} modules, {} edges", plan.edges())?.into_bytes())
-}
-
-// The same, or why the loads make no plan.
-fn verdict(alloc: Global, loads: Vec<Vec<u32>>) -> Result<Vec<u8>, AllocError> {
-    match Plan::new(alloc, loads) {
-        Ok(plan) => counted(alloc, &plan),
-        Err(error) => refusal(alloc, &error),
-    }
-}
-
-/// The plan of these loads.
-struct Plans;
-
-impl Subject for Plans {
-    fn answer(&self, alloc: Global, text: &[u8], _row: Row) -> Result<Vec<u8>, AllocError> {
-        verdict(alloc, loads_of(alloc, text)?)
-    }
+// Whether the plan of these loads is described so.
+fn is_planned(alloc: Global, loads: Loads, wanted: &str) -> Result<bool, AllocError> {
+    let plan = Plan::new(alloc, rows_of(alloc, loads)?);
+    let found = described(alloc, &plan);
+    drop(plan);
+    Ok(found?.as_str() == wanted)
 }
 
 #[test]
 fn loads_make_a_plan_or_are_refused(rt: HostRuntime) -> Result<(), AllocError> {
-    check_rows(&rt, rt.alloc(), PLANS, &Plans)
-}
-
-const PLANS: &str = r#"
-| 0 modules, 0 edges
-1;; | 2 modules, 1 edges
-;00;1; | 3 modules, 3 edges
-0; | P1 Cyclic
-1;0; | P1 Cyclic
-2;; | P2 BadIndex
-1;02; | P2 BadIndex
-"#;
-
-// A module that loads another so many times.
-fn repeated_load(alloc: Global, module: u32, times: u64) -> Result<Vec<u32>, AllocError> {
-    let mut loads = Vec::new(alloc);
-    for _ in 0..times {
-        loads.push(module)?;
+    for (loads, wanted) in PLANS {
+        assert!(rt;
+            is_planned(rt.alloc(), Loads::Rows(loads), wanted)?,
+            "{wanted}"
+        );
     }
-    Ok(loads)
+    Ok(())
 }
 
-// A chain of modules, each but the first loading the one before it 16 times; and a last one, which loads the one before it so many times.
-fn chain(alloc: Global, modules: u32, times: u64) -> Result<Vec<Vec<u32>>, AllocError> {
-    let mut rows = Vec::new(alloc);
-    rows.push(Vec::new(alloc))?;
-    for m in 0..modules {
-        rows.push(repeated_load(alloc, m, 16)?)?;
-    }
-    rows.push(repeated_load(alloc, modules, times)?)?;
-    Ok(rows)
-}
-
-/// The plan of a chain with this module before the last, which loads it so many times.
-struct Chains;
-
-impl Subject for Chains {
-    fn answer(&self, alloc: Global, _text: &[u8], row: Row) -> Result<Vec<u8>, AllocError> {
-        verdict(
-            alloc,
-            chain(alloc, row.number(0).min(20_000) as u32, row.number(1))?,
-        )
-    }
-}
+const PLANS: [(&[&[u32]], &str); 7] = [
+    (&[], "0 modules, 0 edges"),
+    (&[&[1], &[]], "2 modules, 1 edges"),
+    (&[&[], &[0, 0], &[1]], "3 modules, 3 edges"),
+    (&[&[0]], "P1 Cyclic"),
+    (&[&[1], &[0]], "P1 Cyclic"),
+    (&[&[2], &[]], "P2 BadIndex"),
+    (&[&[1], &[0, 2]], "P2 BadIndex"),
+];
 
 #[test]
 fn limits_of_plans(rt: HostRuntime) -> Result<(), AllocError> {
-    check_rows(&rt, rt.alloc(), CHAINS, &Chains)
-}
-
-const CHAINS: &str = r#"
-16382 | 33 | P3 TooMany
-16383 | 16 | P3 TooMany
-16382 | 32 | 16384 modules, 262144 edges
-"#;
-
-/// What two of the most seats are answered on the largest board.
-struct LargestBoard;
-
-fn both_play(
-    board: &Board<Note>,
-    a: &mut Seat<Note>,
-    b: &mut Seat<Note>,
-    out: &mut String,
-) -> Result<(), AllocError>
-    requires a { IsSeatOf board.now a.old }
-    requires b { IsSeatOf board.now b.old }
-    requires base { base_of board.now ≡ 7 }
-    ensures a { IsSeatOf board.now a.new }
-{
-    play(board, a, b"c16383 l0", out)?;
-    play(board, b, b"c1", out)?;
-    play(board, a, b"d0", out)
-}
-
-fn two_play(
-    alloc: Global,
-    board: Board<Note>,
-    mut a: Seat<Note>,
-    mut b: Seat<Note>,
-) -> Result<Vec<u8>, AllocError>
-    requires a { IsSeatOf board a }
-    requires b { IsSeatOf board b }
-    requires base { base_of board ≡ 7 }
-{
-    let mut out = String::new(alloc);
-    let played = both_play(&board, &mut a, &mut b, &mut out);
-    drop(b);
-    board.close(a);
-    whole(played, out)
-}
-
-fn last_two_play(
-    alloc: Global,
-    board: Board<Note>,
-    seats: Vec<Seat<Note>>,
-) -> Result<Vec<u8>, AllocError>
-    requires seats { All (λ s. IsSeatOf board s) seats.items }
-    requires base { base_of board ≡ 7 }
-{
-    match last_two(&board, seats) {
-        Some((a, b)) => two_play(alloc, board, a, b),
-        None => b"fewer than two seats".to_vec(alloc),
+    for (modules, times, wanted) in CHAINS {
+        assert!(rt;
+            is_planned(rt.alloc(), Loads::Chain(modules, times), wanted)?,
+            "{wanted}"
+        );
     }
+    Ok(())
 }
 
-impl Subject for LargestBoard {
-    fn answer(&self, alloc: Global, _text: &[u8], _row: Row) -> Result<Vec<u8>, AllocError> {
-        match opened(alloc, chain(alloc, 16382, 32)?, MAX_SEATS, 7) {
-            Ok((board, seats)) => last_two_play(alloc, board, seats),
-            Err(error) => refusal(alloc, &error),
+const CHAINS: [(u32, u32, &str); 3] = [
+    (16382, 33, "P3 TooMany"),
+    (16383, 16, "P3 TooMany"),
+    (16382, 32, "16384 modules, 262144 edges"),
+];
+
+// What seats do on a board.
+#[derive(Clone, Copy)]
+enum Task {
+    // The first ones play these scripts, one after the other.
+    Play(&'static [&'static [Step]]),
+    // The first one loads module 0. The second one waits for it, and loads module 1, all of whose loads are posted by then.
+    Meet,
+    // All load all modules.
+    Load,
+}
+
+// How much went wrong, and how often each module was loaded.
+#[derive(Drop)]
+struct Seen {
+    wrong: AtomicU64,
+    times: Vec<AtomicU64>,
+}
+
+impl Seen {
+    fn new(alloc: Global, modules: u32) -> Result<Seen, AllocError> {
+        let mut times = Vec::new(alloc);
+        for _ in 0..modules {
+            times.push(AtomicU64::new(0))?;
+        }
+        Ok(Seen {
+            wrong: AtomicU64::new(0),
+            times,
+        })
+    }
+
+    fn note(&self, right: bool) {
+        if !right {
+            self.wrong.fetch_add(1, Ordering::SeqCst);
         }
     }
-}
 
-#[test]
-fn limits_of_boards(rt: HostRuntime) -> Result<(), AllocError> {
-    check_rows(&rt, rt.alloc(), LARGEST, &LargestBoard)
-}
-
-const LARGEST: &str = r#"
-257 seats | waiting 262112;loaded 1;won 0;done 1;
-"#;
-
-// Loads module 0.
-fn give(board: &Board<Note>, base: u64, mut seat: Seat<Note>) -> (bool, Seat<Note>)
-    requires seat { IsSeatOf board.now seat }
-    requires base { base_of board.now ≡ base }
-    ensures seat { IsSeatOf board.now result.1 }
-{
-    if board.plan().modules() == 0 || !wins(board, &mut seat, 0) {
-        return (false, seat);
+    // Notes whether a module was loaded rightly, if it was loaded.
+    fn count(&self, m: usize, loaded: Option<bool>) {
+        match (loaded, self.times.get(m)) {
+            (Some(right), Some(times)) => {
+                times.fetch_add(1, Ordering::SeqCst);
+                self.note(right);
+            }
+            (loaded, _) => self.note(loaded.is_none()),
+        }
     }
-    deliver(board, base, &mut seat, 0);
-    (true, seat)
+
+    // Whether nothing went wrong, and each module was loaded once.
+    fn is_right(&self) -> bool {
+        let once = self
+            .times
+            .iter()
+            .all(|times| times.load(Ordering::SeqCst) == 1);
+        once && self.wrong.load(Ordering::SeqCst) == 0
+    }
 }
 
-// Waits for module 0, and loads module 1, all of whose loads are posted by then.
-fn take(board: &Board<Note>, mut seat: Seat<Note>) -> (bool, Seat<Note>)
-    requires seat { IsSeatOf board.now seat }
-    ensures seat { IsSeatOf board.now result.1 }
+fn takes(board: &Board<Note>, base: u64, seat: &mut Seat<Note>) -> bool
+    requires seat { IsSeatOf board.now seat.old }
+    requires base { base_of board.now ≡ base }
+    ensures seat { IsSeatOf board.now seat.new }
 {
     for _ in 0..MAX_TURNS {
-        if board.done(&mut seat) == 1 {
+        if board.done(seat) == 1 {
             break;
         }
     }
-    if board.plan().modules() != 2 || !wins(board, &mut seat, 1) {
-        return (false, seat);
+    match load_module(board, base, seat, 1, false) {
+        Some(true) => board.done(seat) == 1,
+        _ => false,
     }
-    let right = collect(board, &mut seat, 1);
-    (right && board.done(&mut seat) == 1, seat)
 }
 
 const MAX_TURNS: u64 = 1_000_000_000;
 
-fn give_and_take<R: Threads + Sync>(
-    rt: &R,
-    board: &Board<Note>,
-    base: u64,
-    a: Seat<Note>,
-    b: Seat<Note>,
-) -> (bool, Seat<Note>)
-    requires a { IsSeatOf board.now a }
-    requires b { IsSeatOf board.now b }
-    requires base { base_of board.now ≡ base }
-    ensures seat { IsSeatOf board.now result.1 }
-{
-    let ((gave, a), (took, b)) = join(rt, || give(board, base, a), || take(board, b));
-    drop(a);
-    (gave && took, b)
-}
-
-fn two_work<R: Threads + Sync>(rt: &R, board: Board<Note>, a: Seat<Note>, b: Seat<Note>) -> bool
-    requires a { IsSeatOf board a }
-    requires b { IsSeatOf board b }
-    requires base { base_of board ≡ 7 }
-{
-    let (both, b) = give_and_take(rt, &board, 7, a, b);
-    board.close(b);
-    both
-}
-
-fn last_two_work<R: Threads + Sync>(rt: &R, board: Board<Note>, seats: Vec<Seat<Note>>) -> bool
-    requires seats { All (λ s. IsSeatOf board s) seats.items }
-    requires base { base_of board ≡ 7 }
-{
-    match last_two(&board, seats) {
-        Some((a, b)) => two_work(rt, board, a, b),
-        None => false,
-    }
-}
-
-fn are_read<R: Threads + Sync>(rt: &R, alloc: Global) -> Result<bool, AllocError> {
-    match opened(alloc, loads_of(alloc, b";0;")?, 2, 7) {
-        Ok((board, seats)) => Ok(last_two_work(rt, board, seats)),
-        Err(_) => Ok(false),
-    }
-}
-
-#[test]
-fn a_seat_reads_what_another_wrote(rt: HostRuntime) -> Result<(), AllocError> {
-    assert!(rt; are_read(&rt, rt.alloc())?);
-    Ok(())
-}
-
-// Claims one module after another until all are finished; marks each that it wins.
-fn work(
-    board: &Board<Note>,
-    base: u64,
-    marks: &[AtomicU64],
-    wrong: &AtomicU64,
-    seat: &mut Seat<Note>,
-)
+// Loads one module after another until all are finished.
+fn work(board: &Board<Note>, base: u64, seat: &mut Seat<Note>, seen: &Seen)
     requires seat { IsSeatOf board.now seat.old }
     requires base { base_of board.now ≡ base }
-    requires marks { length marks.now ≡ length board.now.plan }
     ensures seat { IsSeatOf board.now seat.new }
 {
     let modules = board.plan().modules();
     for _ in 0..MAX_ROUNDS {
         for m in 0..modules {
-            if wins(board, seat, m) {
-                marks[m].fetch_add(1, Ordering::SeqCst);
-                if !collect(board, seat, m) {
-                    wrong.fetch_add(1, Ordering::SeqCst);
-                }
-                deliver(board, base, seat, m);
-            }
+            seen.count(m, load_module(board, base, seat, m, true));
         }
         if board.done(seat) == modules as u64 {
             break;
@@ -563,141 +403,202 @@ fn work(
 // Rounds over all modules, far more than any run takes, so that a run ends by itself.
 const MAX_ROUNDS: u64 = 100_000;
 
-const MODULES: u64 = 2000;
-
-const RUNS: u64 = 200;
-
-// Each module loads up to 8 modules of a lower rank.
-fn random_loads(alloc: Global, seed: u64) -> Result<Vec<Vec<u32>>, AllocError>
-    requires { seed < 2000 }
+// What the seat with this number does.
+fn act(
+    board: &Board<Note>,
+    base: u64,
+    task: Task,
+    number: usize,
+    seat: &mut Seat<Note>,
+    seen: &Seen,
+)
+    requires seat { IsSeatOf board.now seat.old }
+    requires base { base_of board.now ≡ base }
+    ensures seat { IsSeatOf board.now seat.new }
 {
-    let mut state = seed * 2 + 1;
-    let mut rows = Vec::new(alloc);
-    for m in 0..MODULES {
-        rows.push(random_row(alloc, seed, m, &mut state)?)?;
-    }
-    Ok(rows)
-}
-
-// The loads of a module.
-fn random_row(alloc: Global, seed: u64, m: u64, state: &mut u64) -> Result<Vec<u32>, AllocError>
-    requires { (m < 2000) × (seed < 2000) }
-{
-    let mut row = Vec::new(alloc);
-    for _ in 0..8 {
-        *state = step(*state);
-        let l = *state % MODULES;
-        if rank(l, seed) < rank(m, seed) {
-            row.push(l as u32)?;
+    match task {
+        Task::Play(scripts) => match scripts.get(number) {
+            Some(script) => seen.note(plays(board, base, seat, script)),
+            None => {}
+        },
+        Task::Meet => {
+            if number == 0 {
+                let gave = load_module(board, base, seat, 0, true);
+                seen.note(gave == Some(true));
+            } else {
+                seen.note(takes(board, base, seat));
+            }
         }
+        Task::Load => work(board, base, seat, seen),
     }
-    Ok(row)
 }
 
-// The next of a row of numbers that look random.
-fn step(state: u64) -> u64 {
-    let a = state ^ (state << 13);
-    let b = a ^ (a >> 7);
-    b ^ (b << 17)
-}
-
-// Another order of the modules for each seed.
-fn rank(m: u64, seed: u64) -> u64
-    requires { (m < 2000) × (seed < 2000) }
-{
-    (m * 777 + seed) % MODULES
-}
-
-fn work_in_threads<R: Threads + Sync>(
+// All seats act, in up to four threads, each of which has seats that follow one another.
+fn all_act<R: Threads + Sync>(
     rt: &R,
     board: &Board<Note>,
     base: u64,
-    marks: &[AtomicU64],
-    wrong: &AtomicU64,
+    task: Task,
     seats: &mut [Seat<Note>],
+    seen: &Seen,
 )
     requires seats { All (λ s. IsSeatOf board.now s) seats.old }
     requires base { base_of board.now ≡ base }
-    requires marks { length marks.now ≡ length board.now.plan }
     ensures seats { All (λ s. IsSeatOf board.now s) seats.new }
 {
     for_each_mut(
         rt,
         seats,
         4,
-        &|_, seat| work(board, base, marks, wrong, seat),
+        &|number, seat| act(board, base, task, number, seat, seen),
     );
 }
 
-fn no_marks(alloc: Global, count: u64) -> Result<Vec<AtomicU64>, AllocError> {
-    let mut marks = Vec::new(alloc);
-    for _ in 0..count {
-        marks.push(AtomicU64::new(0))?;
+// How many modules are done in the end. The board is closed.
+fn ended(board: Board<Note>, mut seats: Vec<Seat<Note>>) -> Option<u64>
+    requires { All (λ s. IsSeatOf board s) seats.items }
+{
+    let last = seats.pop();
+    drop(seats);
+    match last {
+        Some(mut seat) => {
+            let done = board.done(&mut seat);
+            board.close(seat);
+            Some(done)
+        }
+        None => None,
     }
-    Ok(marks)
 }
 
-// Whether each module was won once, with the parcels of its loads.
-fn works_once<R: Threads + Sync>(
+// Loads of modules, a board of so many seats and of this base, what the seats do, and how many modules are to be loaded once.
+#[derive(Clone, Copy)]
+struct Game {
+    loads: Loads,
+    seats: usize,
+    base: u64,
+    task: Task,
+    once: u32,
+}
+
+fn played<R: Threads + Sync>(
     rt: &R,
-    board: &Board<Note>,
-    seed: u64,
-    marks: &[AtomicU64],
-    seats: &mut [Seat<Note>],
-) -> bool
-    requires seats { All (λ s. IsSeatOf board.now s) seats.old }
-    requires base { base_of board.now ≡ seed }
-    ensures seats { All (λ s. IsSeatOf board.now s) seats.new }
-{
-    if board.plan().modules() != marks.len() {
-        return false;
+    alloc: Global,
+    game: Game,
+    seen: &Seen,
+) -> Result<Option<u64>, PlanErr> {
+    let plan = Plan::new(alloc, rows_of(alloc, game.loads)?)?;
+    let seats = game.seats.clamp(1, MAX_SEATS);
+    let (board, mut seats) = Board::open(alloc, plan, seats, &game.base)?;
+    all_act(rt, &board, game.base, game.task, &mut seats, seen);
+    Ok(ended(board, seats))
+}
+
+// How many modules are done in the end, if nothing went wrong.
+fn done_in<R: Threads + Sync>(rt: &R, alloc: Global, game: Game) -> Result<Option<u64>, PlanErr> {
+    let seen = Seen::new(alloc, game.once)?;
+    let done = played(rt, alloc, game, &seen);
+    if !seen.is_right() {
+        return Ok(None);
     }
-    let wrong = AtomicU64::new(0);
-    work_in_threads(rt, board, seed, marks, &wrong, seats);
-    wrong.load(Ordering::SeqCst) == 0 && marks.iter().all(|n| n.load(Ordering::SeqCst) == 1)
+    done
 }
 
-// Closes a board, and says whether all modules are finished.
-fn is_done(board: Board<Note>, mut seat: Seat<Note>) -> bool
-    requires { IsSeatOf board seat }
-{
-    let done = board.done(&mut seat);
-    board.close(seat);
-    done == MODULES
-}
-
-fn all_work<R: Threads + Sync>(
-    rt: &R,
-    board: Board<Note>,
-    seed: u64,
-    marks: &[AtomicU64],
-    mut seats: Vec<Seat<Note>>,
-) -> bool
-    requires seats { All (λ s. IsSeatOf board s) seats.items }
-    requires base { base_of board ≡ seed }
-{
-    let once = works_once(rt, &board, seed, marks, &mut seats);
-    match last_seat(&board, seats) {
-        Some(seat) => is_done(board, seat) && once,
-        None => false,
-    }
-}
-
-// One run by four threads.
-fn loads_all<R: Threads + Sync>(rt: &R, alloc: Global, seed: u64) -> Result<bool, AllocError>
-    requires { seed < 2000 }
-{
-    let marks = no_marks(alloc, MODULES)?;
-    match opened(alloc, random_loads(alloc, seed)?, 4, seed) {
-        Ok((board, seats)) => Ok(all_work(rt, board, seed, &marks, seats)),
-        Err(_) => Ok(false),
+// Seats play these scripts on a board of so many seats.
+fn script(loads: Loads, seats: usize, scripts: &'static [&'static [Step]]) -> Game {
+    Game {
+        loads,
+        seats,
+        base: 7,
+        task: Task::Play(scripts),
+        once: 0,
     }
 }
 
 #[test]
-fn four_threads_load_each_module_once(rt: HostRuntime) -> Result<(), AllocError> {
+fn one_seat_loads_modules(rt: HostRuntime) -> Result<(), PlanErr> {
+    for (loads, scripts) in SCRIPTS {
+        let game = script(Loads::Rows(loads), 1, scripts);
+        assert!(rt;
+            done_in(&rt, rt.alloc(), game)? == Some(2),
+            "{} modules",
+            loads.len()
+        );
+    }
+    Ok(())
+}
+
+const SCRIPTS: [(&[&[u32]], &[&[Step]]); 2] = [
+    // module 1 loads module 0
+    (
+        &[&[], &[0]],
+        &[&[
+            (b'c', 1, "waiting", 0),
+            (b'l', 0, "loaded", 1),
+            (b'c', 0, "taken", 0),
+            (b'l', 1, "loaded", 1),
+            (b'd', 0, "done", 2),
+        ]],
+    ),
+    // two modules load module 0
+    (
+        &[&[], &[0], &[0]],
+        &[&[
+            (b'c', 2, "waiting", 1),
+            (b'l', 0, "loaded", 1),
+            (b'l', 2, "loaded", 1),
+            (b'g', 1, "gathered", 1),
+            (b'd', 0, "done", 2),
+        ]],
+    ),
+];
+
+// Two of the most seats on the largest board.
+#[test]
+fn limits_of_boards(rt: HostRuntime) -> Result<(), PlanErr> {
+    let game = script(Loads::Chain(16382, 32), MAX_SEATS, LARGEST);
+    assert!(rt; MAX_SEATS == 257);
+    assert!(rt; done_in(&rt, rt.alloc(), game)? == Some(1));
+    Ok(())
+}
+
+const LARGEST: &[&[Step]] = &[
+    &[
+        (b'c', 16383, "waiting", 262112),
+        (b'l', 0, "loaded", 1),
+        (b'd', 0, "done", 1),
+    ],
+    &[(b'c', 1, "won", 0), (b'd', 0, "done", 1)],
+];
+
+#[test]
+fn a_seat_reads_what_another_wrote(rt: HostRuntime) -> Result<(), PlanErr> {
+    let game = Game {
+        loads: Loads::Rows(&[&[], &[0]]),
+        seats: 2,
+        base: 7,
+        task: Task::Meet,
+        once: 0,
+    };
+    assert!(rt; done_in(&rt, rt.alloc(), game)? == Some(1));
+    Ok(())
+}
+
+const RUNS: u64 = 200;
+
+#[test]
+fn four_threads_load_each_module_once(rt: HostRuntime) -> Result<(), PlanErr> {
     for seed in 0..RUNS {
-        assert!(rt; loads_all(&rt, rt.alloc(), seed)?);
+        let game = Game {
+            loads: Loads::Random(seed),
+            seats: 4,
+            base: seed,
+            task: Task::Load,
+            once: MODULES,
+        };
+        assert!(rt;
+            done_in(&rt, rt.alloc(), game)? == Some(2000),
+            "seed {seed}"
+        );
     }
     Ok(())
 }

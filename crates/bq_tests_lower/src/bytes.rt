@@ -1,76 +1,58 @@
 //! Shares of bytes, and the texts of faults and errors: what of them no program shows.
+//!
+//! What owns bytes or an error is one function for a row of a table, and drops it before anything else can fail: the prover follows each
+//! way out with all that a function owns.
 
-use crate::rows::{Row, Subject, check_rows};
 use bq_base::{Bytes, Fault, FaultKind, SourceErr};
 use bq_query_lex::QueryErr;
 use std::alloc::{AllocError, Global};
-use std::fmt::Write;
-
-/// Adds the number and the name of each kind, as `1 BadByte`.
-fn add_numbered(out: &mut String, kinds: &[FaultKind]) -> Result<(), AllocError> {
-    for kind in kinds {
-        write!(out, "{} {};", kind.number(), kind.name())?;
-    }
-    Ok(())
-}
-
-const KINDS: [FaultKind; 5] = [
-    FaultKind::BadByte,
-    FaultKind::LeftOut,
-    FaultKind::WrongType,
-    FaultKind::DoubleTarget,
-    FaultKind::Schema,
-];
-
-const NUMBERED: &str = "1 BadByte;12 LeftOut;40 Type;74 DoubleTarget;80 Schema;";
-
-fn are_numbered(alloc: Global) -> Result<bool, AllocError> {
-    let mut found = String::new(alloc);
-    add_numbered(&mut found, &KINDS)?;
-    Ok(found.as_str() == NUMBERED)
-}
 
 #[test]
-fn numbers_and_names(rt: HostRuntime) -> Result<(), AllocError> {
-    assert!(rt; are_numbered(rt.alloc())?);
-    Ok(())
+fn numbers_and_names(rt: HostRuntime) {
+    for (kind, number, name) in KINDS {
+        assert!(rt; kind.number() == number && kind.name() == name, "{name}");
+    }
 }
 
-fn refusal(alloc: Global, error: &SourceErr) -> Result<Vec<u8>, AllocError> {
-    Ok(format!(in alloc; "{error}")?.into_bytes())
-}
+const KINDS: [(FaultKind, u32, &str); 5] = [
+    (FaultKind::BadByte, 1, "BadByte"),
+    (FaultKind::LeftOut, 12, "LeftOut"),
+    (FaultKind::WrongType, 40, "Type"),
+    (FaultKind::DoubleTarget, 74, "DoubleTarget"),
+    (FaultKind::Schema, 80, "Schema"),
+];
 
-fn shown_fault(alloc: Global, detail: &[u8]) -> Result<Vec<u8>, AllocError> {
-    let fault = Fault {
+/// F35 with this detail, or a lack of memory where it is empty.
+fn source_error(alloc: Global, detail: &[u8]) -> Result<SourceErr, AllocError> {
+    if detail.is_empty() {
+        return Ok(SourceErr::from(AllocError));
+    }
+    Ok(SourceErr::Bad(Fault {
         kind: FaultKind::CycleReached,
         line: 1,
         detail: Bytes::from_slice(alloc, detail)?,
-    };
-    refusal(alloc, &SourceErr::Bad(fault))
+    }))
 }
 
-/// What is shown of F35 with this detail, or of a lack of memory where it is empty.
-struct Shown;
-
-impl Subject for Shown {
-    fn answer(&self, alloc: Global, text: &[u8], _row: Row) -> Result<Vec<u8>, AllocError> {
-        if text.is_empty() {
-            return refusal(alloc, &SourceErr::from(AllocError));
-        }
-        shown_fault(alloc, text)
-    }
+fn is_shown(alloc: Global, error: SourceErr, wanted: &str) -> Result<bool, AllocError> {
+    let found = format!(in alloc; "{error}");
+    drop(error);
+    Ok(found?.as_str() == wanted)
 }
 
 #[test]
 fn shows_errors(rt: HostRuntime) -> Result<(), AllocError> {
-    check_rows(&rt, rt.alloc(), SHOWN, &Shown)
+    for (detail, wanted) in SHOWN {
+        let error = source_error(rt.alloc(), detail)?;
+        assert!(rt; is_shown(rt.alloc(), error, wanted)?, "{wanted}");
+    }
+    Ok(())
 }
 
-/// The room of the copy that another owner makes of these bytes.
-fn room_of_a_copy(alloc: Global, bytes: &Bytes) -> Result<usize, AllocError> {
-    let shared = bytes.share()?;
-    Ok(shared.into_vec(alloc)?.capacity())
-}
+const SHOWN: [(&[u8], &str); 2] = [
+    (b"//:b.bzl", "line 1: F35 CycleReached //:b.bzl"),
+    (b"", "out of memory"),
+];
 
 /// Bytes with room for a thousand.
 fn roomy(alloc: Global, bytes: &[u8]) -> Result<Bytes, AllocError> {
@@ -79,59 +61,75 @@ fn roomy(alloc: Global, bytes: &[u8]) -> Result<Bytes, AllocError> {
     Bytes::from_vec(alloc, held)
 }
 
-fn room_at_the_end(alloc: Global, bytes: Bytes) -> Result<usize, AllocError> {
-    Ok(bytes.into_vec(alloc)?.capacity())
+/// The room that an owner gets, if there was no lack of memory before.
+fn room(alloc: Global, bytes: Result<Bytes, AllocError>) -> Result<usize, AllocError> {
+    Ok(bytes?.into_vec(alloc)?.capacity())
 }
 
-/// The room of a share's copy, and then the room that the last owner gets back.
-fn rooms(alloc: Global, bytes: &[u8]) -> Result<(usize, usize), AllocError> {
+/// Whether a share's copy, and then what the last owner gets back, has the room that was asked for.
+fn rooms(alloc: Global, bytes: &[u8]) -> Result<(bool, bool), AllocError> {
     let bytes = roomy(alloc, bytes)?;
-    let copied = room_of_a_copy(alloc, &bytes)?;
-    Ok((copied, room_at_the_end(alloc, bytes)?))
-}
-
-/// Which of them are the thousand that were asked for.
-struct Copies;
-
-impl Subject for Copies {
-    fn answer(&self, alloc: Global, text: &[u8], _row: Row) -> Result<Vec<u8>, AllocError> {
-        let (copied, kept) = rooms(alloc, text)?;
-        Ok(format!(in alloc; "{} {}", copied >= 1000, kept >= 1000)?.into_bytes())
-    }
+    let copied = room(alloc, bytes.share());
+    let kept = room(alloc, Ok(bytes));
+    Ok((copied? >= 1000, kept? >= 1000))
 }
 
 /// Another owner takes a copy; the only owner gets the bytes themselves back. Few bytes lie in place and are copied always.
 #[test]
 fn shares_one_copy(rt: HostRuntime) -> Result<(), AllocError> {
-    check_rows(&rt, rt.alloc(), ROOMS, &Copies)
-}
-
-/// What a share of bytes shows.
-struct Shares;
-
-fn debug_of(alloc: Global, bytes: &Bytes) -> Result<Vec<u8>, AllocError> {
-    let len = bytes.len();
-    let empty = bytes.is_empty();
-    Ok(format!(in alloc; "{len} {empty}: {bytes:?}.")?.into_bytes())
-}
-
-fn shown_share(alloc: Global, bytes: &Bytes) -> Result<Vec<u8>, AllocError> {
-    debug_of(alloc, &bytes.share()?)
-}
-
-impl Subject for Shares {
-    fn answer(&self, alloc: Global, text: &[u8], _row: Row) -> Result<Vec<u8>, AllocError> {
-        if text.is_empty() {
-            return shown_share(alloc, &Bytes::empty());
-        }
-        shown_share(alloc, &roomy(alloc, text)?)
+    for (text, wanted_copied, wanted_kept) in ROOMS {
+        let (copied, kept) = rooms(rt.alloc(), text)?;
+        assert!(rt;
+            copied == wanted_copied && kept == wanted_kept,
+            "{}",
+            text.escape_ascii()
+        );
     }
+    Ok(())
+}
+
+const ROOMS: [(&[u8], bool, bool); 2] = [
+    (b"a text that is too long to lie in place\n", false, true),
+    (b"\n", false, false),
+];
+
+fn has_text(alloc: Global, bytes: &Bytes, wanted: &str) -> Result<bool, AllocError> {
+    let found = format!(in alloc; "{bytes:?}")?;
+    Ok(found.as_str() == wanted)
+}
+
+/// Whether a share of bytes has this length and this text.
+fn share_shows(alloc: Global, bytes: Bytes, len: usize, wanted: &str) -> Result<bool, AllocError> {
+    let share = bytes.share();
+    let found = match &share {
+        Ok(share) if share.len() == len && share.is_empty() == (len == 0) => {
+            has_text(alloc, share, wanted)
+        }
+        _ => Ok(false),
+    };
+    drop(share);
+    drop(bytes);
+    found
 }
 
 #[test]
 fn shows_bytes(rt: HostRuntime) -> Result<(), AllocError> {
-    check_rows(&rt, rt.alloc(), SHARES, &Shares)
+    for (text, len, wanted) in SHARES {
+        let bytes = roomy(rt.alloc(), text)?;
+        assert!(rt; share_shows(rt.alloc(), bytes, len, wanted)?, "{wanted}");
+    }
+    assert!(rt; share_shows(rt.alloc(), Bytes::empty(), 0, "")?);
+    Ok(())
 }
+
+const SHARES: [(&[u8], usize, &str); 2] = [
+    (
+        b"a text that is too long to lie in place\n",
+        40,
+        r"a text that is too long to lie in place\n",
+    ),
+    (b"\n", 1, r"\n"),
+];
 
 /// An error without detail, by the number that users see.
 fn error_of(number: u64) -> QueryErr {
@@ -143,49 +141,23 @@ fn error_of(number: u64) -> QueryErr {
     }
 }
 
-/// Adds the title of an error, and how long its detail is.
-fn add_title(out: &mut String, error: &QueryErr) -> Result<(), AllocError> {
-    write!(out, "{} {};", error.title(), error.detail().len())?;
-    Ok(())
-}
-
-fn add_title_of(out: &mut String, number: u64) -> Result<(), AllocError> {
-    add_title(out, &error_of(number))
-}
-
-fn add_titles(out: &mut String, numbers: &[u64]) -> Result<(), AllocError> {
-    for number in numbers {
-        add_title_of(out, *number)?;
-    }
-    Ok(())
-}
-
-const TITLES: &str = "Q1 Syntax 0;Q4 BadRegex 0;Q8 Arguments 0;Q9 Memory 0;";
-
-fn are_titled(alloc: Global) -> Result<bool, AllocError> {
-    let mut found = String::new(alloc);
-    add_titles(&mut found, &[1, 4, 8, 9])?;
-    Ok(found.as_str() == TITLES)
+fn is_titled(number: u64, wanted: &str) -> bool {
+    let error = error_of(number);
+    let found = error.title() == wanted && error.detail().is_empty();
+    drop(error);
+    found
 }
 
 #[test]
-fn titles_of_query_errors(rt: HostRuntime) -> Result<(), AllocError> {
-    assert!(rt; are_titled(rt.alloc())?);
-    Ok(())
+fn titles_of_query_errors(rt: HostRuntime) {
+    for (number, title) in TITLES {
+        assert!(rt; is_titled(number, title), "{title}");
+    }
 }
 
-const SHOWN: &str = r#"
-//:b.bzl | line 1: F35 CycleReached //:b.bzl
-| out of memory
-"#;
-
-const ROOMS: &str = r#"
-a text that is too long to lie in place\n | false true
-\n | false false
-"#;
-
-const SHARES: &str = r#"
-a text that is too long to lie in place\n | 40 false: a text that is too long to lie in place\\n.
-\n | 1 false: \\n.
-| 0 true: .
-"#;
+const TITLES: [(u64, &str); 4] = [
+    (1, "Q1 Syntax"),
+    (4, "Q4 BadRegex"),
+    (8, "Q8 Arguments"),
+    (9, "Q9 Memory"),
+];

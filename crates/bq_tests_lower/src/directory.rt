@@ -67,7 +67,6 @@ fn text_of(bytes: &[u8]) -> &str {
 }
 
 /// Calls on a disk.
-#[derive_where(Clone, Copy)]
 struct Disk<'a, R>(&'a R);
 
 /// What a call of a row gives, with a path and what it is made of.
@@ -132,10 +131,12 @@ fn stops_at_what_is_not_there(rt: HostRuntime) -> Result<(), AllocError> {
     check_disk(&rt, LOST)
 }
 
-/// Makes a link to the pipe of this number.
-fn link_to_pipe<R: Files + Alloc<A = Global>>(rt: &R, pipe: i32) -> io::Result<()> {
-    let pipe = format!(in rt.alloc(); "/proc/self/fd/{pipe}")?;
-    symlink(rt, pipe.as_str(), "out/special/BUILD")
+/// Makes a link to the pipe of this number. Whether it could.
+fn links_to_pipe<R: Files + Alloc<A = Global>>(rt: &R, pipe: i32) -> bool {
+    match format!(in rt.alloc(); "/proc/self/fd/{pipe}") {
+        Ok(pipe) => symlink(rt, pipe.as_str(), "out/special/BUILD").is_ok(),
+        Err(_) => false,
+    }
 }
 
 /// What is read of a directory with a file and links to a device and to the pipe of this number.
@@ -143,10 +144,10 @@ fn read_special<R: Files + Alloc<A = Global> + Clone + Drop>(
     rt: &R,
     pipe: i32,
 ) -> Result<Vec<u8>, AllocError> {
-    match link_to_pipe(rt, pipe) {
-        Ok(()) => read(rt, "out/special"),
-        Err(_) => b"failed".to_vec(rt.alloc()),
+    if links_to_pipe(rt, pipe) {
+        return read(rt, "out/special");
     }
+    b"failed".to_vec(rt.alloc())
 }
 
 #[test]

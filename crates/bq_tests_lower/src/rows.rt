@@ -1,7 +1,7 @@
 //! Tables as texts, each row of which is asserted.
 
 use bq_tests_rows::wrong_rows;
-pub use bq_tests_rows::{Row, Subject, number_of};
+pub use bq_tests_rows::{Row, Subject};
 use std::alloc::{AllocError, Global};
 use std::process::Abort;
 
