@@ -273,15 +273,12 @@ fn is_planned(alloc: Global, loads: Loads, wanted: &str) -> Result<bool, AllocEr
 #[test]
 fn loads_make_a_plan_or_are_refused(rt: HostRuntime) -> Result<(), AllocError> {
     for (loads, wanted) in PLANS {
-        assert!(rt;
-            is_planned(rt.alloc(), Loads::Rows(loads), wanted)?,
-            "{wanted}"
-        );
+        assert!(rt; is_planned(rt.alloc(), Loads::Rows(*loads), wanted)?);
     }
     Ok(())
 }
 
-const PLANS: [(&[&[u32]], &str); 7] = [
+const PLANS: &[(&[&[u32]], &str)] = &[
     (&[], "0 modules, 0 edges"),
     (&[&[1], &[]], "2 modules, 1 edges"),
     (&[&[], &[0, 0], &[1]], "3 modules, 3 edges"),
@@ -294,15 +291,12 @@ const PLANS: [(&[&[u32]], &str); 7] = [
 #[test]
 fn limits_of_plans(rt: HostRuntime) -> Result<(), AllocError> {
     for (modules, times, wanted) in CHAINS {
-        assert!(rt;
-            is_planned(rt.alloc(), Loads::Chain(modules, times), wanted)?,
-            "{wanted}"
-        );
+        assert!(rt; is_planned(rt.alloc(), Loads::Chain(*modules, *times), wanted)?);
     }
     Ok(())
 }
 
-const CHAINS: [(u32, u32, &str); 3] = [
+const CHAINS: &[(u32, u32, &str)] = &[
     (16382, 33, "P3 TooMany"),
     (16383, 16, "P3 TooMany"),
     (16382, 32, "16384 modules, 262144 edges"),
@@ -493,14 +487,18 @@ fn played<R: Threads + Sync>(
     Ok(ended(board, seats))
 }
 
-// How many modules are done in the end, if nothing went wrong.
-fn done_in<R: Threads + Sync>(rt: &R, alloc: Global, game: Game) -> Result<Option<u64>, PlanErr> {
+// Whether so many modules are done in the end, and nothing went wrong.
+fn ends_with<R: Threads + Sync>(
+    rt: &R,
+    alloc: Global,
+    game: Game,
+    done: u64,
+) -> Result<bool, PlanErr> {
     let seen = Seen::new(alloc, game.once)?;
-    let done = played(rt, alloc, game, &seen);
-    if !seen.is_right() {
-        return Ok(None);
+    match played(rt, alloc, game, &seen)? {
+        Some(found) => Ok(found == done && seen.is_right()),
+        None => Ok(false),
     }
-    done
 }
 
 // Seats play these scripts on a board of so many seats.
@@ -516,48 +514,38 @@ fn script(loads: Loads, seats: usize, scripts: &'static [&'static [Step]]) -> Ga
 
 #[test]
 fn one_seat_loads_modules(rt: HostRuntime) -> Result<(), PlanErr> {
-    for (loads, scripts) in SCRIPTS {
-        let game = script(Loads::Rows(loads), 1, scripts);
-        assert!(rt;
-            done_in(&rt, rt.alloc(), game)? == Some(2),
-            "{} modules",
-            loads.len()
-        );
-    }
+    let alloc = rt.alloc();
+    let one = script(Loads::Rows(&[&[], &[0]]), 1, ONE);
+    assert!(rt; ends_with(&rt, alloc, one, 2)?);
+    let two = script(Loads::Rows(&[&[], &[0], &[0]]), 1, TWO);
+    assert!(rt; ends_with(&rt, alloc, two, 2)?);
     Ok(())
 }
 
-const SCRIPTS: [(&[&[u32]], &[&[Step]]); 2] = [
-    // module 1 loads module 0
-    (
-        &[&[], &[0]],
-        &[&[
-            (b'c', 1, "waiting", 0),
-            (b'l', 0, "loaded", 1),
-            (b'c', 0, "taken", 0),
-            (b'l', 1, "loaded", 1),
-            (b'd', 0, "done", 2),
-        ]],
-    ),
-    // two modules load module 0
-    (
-        &[&[], &[0], &[0]],
-        &[&[
-            (b'c', 2, "waiting", 1),
-            (b'l', 0, "loaded", 1),
-            (b'l', 2, "loaded", 1),
-            (b'g', 1, "gathered", 1),
-            (b'd', 0, "done", 2),
-        ]],
-    ),
-];
+// Module 1 loads module 0.
+const ONE: &[&[Step]] = &[&[
+    (b'c', 1, "waiting", 0),
+    (b'l', 0, "loaded", 1),
+    (b'c', 0, "taken", 0),
+    (b'l', 1, "loaded", 1),
+    (b'd', 0, "done", 2),
+]];
+
+// Two modules load module 0.
+const TWO: &[&[Step]] = &[&[
+    (b'c', 2, "waiting", 1),
+    (b'l', 0, "loaded", 1),
+    (b'l', 2, "loaded", 1),
+    (b'g', 1, "gathered", 1),
+    (b'd', 0, "done", 2),
+]];
 
 // Two of the most seats on the largest board.
 #[test]
 fn limits_of_boards(rt: HostRuntime) -> Result<(), PlanErr> {
     let game = script(Loads::Chain(16382, 32), MAX_SEATS, LARGEST);
     assert!(rt; MAX_SEATS == 257);
-    assert!(rt; done_in(&rt, rt.alloc(), game)? == Some(1));
+    assert!(rt; ends_with(&rt, rt.alloc(), game, 1)?);
     Ok(())
 }
 
@@ -579,7 +567,7 @@ fn a_seat_reads_what_another_wrote(rt: HostRuntime) -> Result<(), PlanErr> {
         task: Task::Meet,
         once: 0,
     };
-    assert!(rt; done_in(&rt, rt.alloc(), game)? == Some(1));
+    assert!(rt; ends_with(&rt, rt.alloc(), game, 1)?);
     Ok(())
 }
 
@@ -595,10 +583,7 @@ fn four_threads_load_each_module_once(rt: HostRuntime) -> Result<(), PlanErr> {
             task: Task::Load,
             once: MODULES,
         };
-        assert!(rt;
-            done_in(&rt, rt.alloc(), game)? == Some(2000),
-            "seed {seed}"
-        );
+        assert!(rt; ends_with(&rt, rt.alloc(), game, 2000)?, "seed {seed}");
     }
     Ok(())
 }

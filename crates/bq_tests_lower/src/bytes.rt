@@ -10,11 +10,11 @@ use std::alloc::{AllocError, Global};
 #[test]
 fn numbers_and_names(rt: HostRuntime) {
     for (kind, number, name) in KINDS {
-        assert!(rt; kind.number() == number && kind.name() == name, "{name}");
+        assert!(rt; kind.number() == *number && kind.name() == *name);
     }
 }
 
-const KINDS: [(FaultKind, u32, &str); 5] = [
+const KINDS: &[(FaultKind, u32, &str)] = &[
     (FaultKind::BadByte, 1, "BadByte"),
     (FaultKind::LeftOut, 12, "LeftOut"),
     (FaultKind::WrongType, 40, "Type"),
@@ -34,7 +34,9 @@ fn source_error(alloc: Global, detail: &[u8]) -> Result<SourceErr, AllocError> {
     }))
 }
 
-fn is_shown(alloc: Global, error: SourceErr, wanted: &str) -> Result<bool, AllocError> {
+/// Whether it is shown so.
+fn is_shown(alloc: Global, detail: &[u8], wanted: &str) -> Result<bool, AllocError> {
+    let error = source_error(alloc, detail)?;
     let found = format!(in alloc; "{error}");
     drop(error);
     Ok(found?.as_str() == wanted)
@@ -42,17 +44,11 @@ fn is_shown(alloc: Global, error: SourceErr, wanted: &str) -> Result<bool, Alloc
 
 #[test]
 fn shows_errors(rt: HostRuntime) -> Result<(), AllocError> {
-    for (detail, wanted) in SHOWN {
-        let error = source_error(rt.alloc(), detail)?;
-        assert!(rt; is_shown(rt.alloc(), error, wanted)?, "{wanted}");
-    }
+    let alloc = rt.alloc();
+    assert!(rt; is_shown(alloc, b"//:b.bzl", "line 1: F35 CycleReached //:b.bzl")?);
+    assert!(rt; is_shown(alloc, b"", "out of memory")?);
     Ok(())
 }
-
-const SHOWN: [(&[u8], &str); 2] = [
-    (b"//:b.bzl", "line 1: F35 CycleReached //:b.bzl"),
-    (b"", "out of memory"),
-];
 
 /// Bytes with room for a thousand.
 fn roomy(alloc: Global, bytes: &[u8]) -> Result<Bytes, AllocError> {
@@ -66,32 +62,24 @@ fn room(alloc: Global, bytes: Result<Bytes, AllocError>) -> Result<usize, AllocE
     Ok(bytes?.into_vec(alloc)?.capacity())
 }
 
-/// Whether a share's copy, and then what the last owner gets back, has the room that was asked for.
-fn rooms(alloc: Global, bytes: &[u8]) -> Result<(bool, bool), AllocError> {
+/// Whether a share's copy has the room that was asked for, as wanted, and then what the last owner gets back.
+fn have_room(alloc: Global, bytes: &[u8], copy: bool, own: bool) -> Result<bool, AllocError> {
     let bytes = roomy(alloc, bytes)?;
     let copied = room(alloc, bytes.share());
     let kept = room(alloc, Ok(bytes));
-    Ok((copied? >= 1000, kept? >= 1000))
+    Ok((copied? >= 1000) == copy && (kept? >= 1000) == own)
 }
+
+const TEXT: &[u8] = b"a text that is too long to lie in place\n";
 
 /// Another owner takes a copy; the only owner gets the bytes themselves back. Few bytes lie in place and are copied always.
 #[test]
 fn shares_one_copy(rt: HostRuntime) -> Result<(), AllocError> {
-    for (text, wanted_copied, wanted_kept) in ROOMS {
-        let (copied, kept) = rooms(rt.alloc(), text)?;
-        assert!(rt;
-            copied == wanted_copied && kept == wanted_kept,
-            "{}",
-            text.escape_ascii()
-        );
-    }
+    let alloc = rt.alloc();
+    assert!(rt; have_room(alloc, TEXT, false, true)?);
+    assert!(rt; have_room(alloc, b"\n", false, false)?);
     Ok(())
 }
-
-const ROOMS: [(&[u8], bool, bool); 2] = [
-    (b"a text that is too long to lie in place\n", false, true),
-    (b"\n", false, false),
-];
 
 fn has_text(alloc: Global, bytes: &Bytes, wanted: &str) -> Result<bool, AllocError> {
     let found = format!(in alloc; "{bytes:?}")?;
@@ -114,22 +102,13 @@ fn share_shows(alloc: Global, bytes: Bytes, len: usize, wanted: &str) -> Result<
 
 #[test]
 fn shows_bytes(rt: HostRuntime) -> Result<(), AllocError> {
-    for (text, len, wanted) in SHARES {
-        let bytes = roomy(rt.alloc(), text)?;
-        assert!(rt; share_shows(rt.alloc(), bytes, len, wanted)?, "{wanted}");
-    }
-    assert!(rt; share_shows(rt.alloc(), Bytes::empty(), 0, "")?);
+    let alloc = rt.alloc();
+    let shown = r"a text that is too long to lie in place\n";
+    assert!(rt; share_shows(alloc, roomy(alloc, TEXT)?, 40, shown)?);
+    assert!(rt; share_shows(alloc, roomy(alloc, b"\n")?, 1, r"\n")?);
+    assert!(rt; share_shows(alloc, Bytes::empty(), 0, "")?);
     Ok(())
 }
-
-const SHARES: [(&[u8], usize, &str); 2] = [
-    (
-        b"a text that is too long to lie in place\n",
-        40,
-        r"a text that is too long to lie in place\n",
-    ),
-    (b"\n", 1, r"\n"),
-];
 
 /// An error without detail, by the number that users see.
 fn error_of(number: u64) -> QueryErr {
@@ -151,11 +130,11 @@ fn is_titled(number: u64, wanted: &str) -> bool {
 #[test]
 fn titles_of_query_errors(rt: HostRuntime) {
     for (number, title) in TITLES {
-        assert!(rt; is_titled(number, title), "{title}");
+        assert!(rt; is_titled(*number, title));
     }
 }
 
-const TITLES: [(u64, &str); 4] = [
+const TITLES: &[(u64, &str)] = &[
     (1, "Q1 Syntax"),
     (4, "Q4 BadRegex"),
     (8, "Q8 Arguments"),

@@ -7,10 +7,8 @@ use crate::rows::{Row, Subject, check_rows};
 use bq_label::{File, Workspace};
 use bq_run_directory::{DirectoryErr, read_directory};
 use std::alloc::{AllocError, Global};
-use std::fs::Files;
 use std::os::fd::AsRawFd;
 use std::os::unix::fs::symlink;
-use std::process::Abort;
 use std::{fs, io};
 
 /// Adds a file a line: its path, ` = ` and its bytes.
@@ -31,10 +29,7 @@ fn shown(alloc: Global, workspace: &Workspace) -> Result<Vec<u8>, AllocError> {
 }
 
 /// The files of a directory.
-fn read<R: Files + Alloc<A = Global> + Clone + Drop>(
-    rt: &R,
-    root: &str,
-) -> Result<Vec<u8>, AllocError> {
+fn read(rt: &HostRuntime, root: &str) -> Result<Vec<u8>, AllocError> {
     let found = read_directory(rt, root);
     let text = match &found {
         Ok(workspace) => shown(rt.alloc(), workspace),
@@ -45,7 +40,7 @@ fn read<R: Files + Alloc<A = Global> + Clone + Drop>(
     text
 }
 
-fn fresh<R: Files + Alloc<A = Global>>(rt: &R, root: &str) -> io::Result<()> {
+fn fresh(rt: &HostRuntime, root: &str) -> io::Result<()> {
     if fs::exists(rt, root)? {
         fs::remove_dir_all(rt, root)?;
     }
@@ -53,7 +48,7 @@ fn fresh<R: Files + Alloc<A = Global>>(rt: &R, root: &str) -> io::Result<()> {
 }
 
 /// Makes what the first letter of a word says.
-fn make<R: Files + Alloc<A = Global>>(rt: &R, word: &[u8], path: &str, of: &str) -> io::Result<()> {
+fn make(rt: &HostRuntime, word: &[u8], path: &str, of: &str) -> io::Result<()> {
     match word {
         [b'd', ..] => fs::create_dir_all(rt, path),
         [b'f', ..] => fs::write(rt, path, of.as_bytes()),
@@ -67,15 +62,11 @@ fn text_of(bytes: &[u8]) -> &str {
 }
 
 /// Calls on a disk.
-struct Disk<'a, R>(&'a R);
+#[derive(Drop)]
+struct Disk<'a>(&'a HostRuntime);
 
 /// What a call of a row gives, with a path and what it is made of.
-fn called<R: Files + Alloc<A = Global> + Clone + Drop>(
-    rt: &R,
-    word: &[u8],
-    path: &str,
-    of: &str,
-) -> Result<Vec<u8>, AllocError> {
+fn called(rt: &HostRuntime, word: &[u8], path: &str, of: &str) -> Result<Vec<u8>, AllocError> {
     if word == b"read".as_slice() {
         return read(rt, path);
     }
@@ -85,7 +76,7 @@ fn called<R: Files + Alloc<A = Global> + Clone + Drop>(
     }
 }
 
-impl<R: Files + Alloc<A = Global> + Clone + Drop> Subject for Disk<'_, R> {
+impl Subject for Disk<'_> {
     fn answer(&self, alloc: Global, text: &[u8], row: Row) -> Result<Vec<u8>, AllocError> {
         let path = row.bytes(alloc, 1)?;
         let of = row.bytes(alloc, 2)?;
@@ -93,46 +84,38 @@ impl<R: Files + Alloc<A = Global> + Clone + Drop> Subject for Disk<'_, R> {
     }
 }
 
-/// Goes through a table of calls on a disk.
-fn check_disk<R: Files + Alloc<A = Global> + Clone + Drop + Abort>(
-    rt: &R,
-    table: &str,
-) -> Result<(), AllocError> {
-    check_rows(rt, rt.alloc(), table, &Disk(rt))
-}
-
 #[test]
 fn reads_what_lies_below(rt: HostRuntime) -> Result<(), AllocError> {
-    check_disk(&rt, BELOW)
+    check_rows(&rt, rt.alloc(), BELOW, &Disk(&rt))
 }
 
 #[test]
 fn reads_only_the_bytes_that_count(rt: HostRuntime) -> Result<(), AllocError> {
-    check_disk(&rt, BYTES)
+    check_rows(&rt, rt.alloc(), BYTES, &Disk(&rt))
 }
 
 #[test]
 fn follows_links(rt: HostRuntime) -> Result<(), AllocError> {
-    check_disk(&rt, LINKS)
+    check_rows(&rt, rt.alloc(), LINKS, &Disk(&rt))
 }
 
 #[test]
 fn enters_no_directory_from_within(rt: HostRuntime) -> Result<(), AllocError> {
-    check_disk(&rt, CIRCLES)
+    check_rows(&rt, rt.alloc(), CIRCLES, &Disk(&rt))
 }
 
 #[test]
 fn leaves_out_what_is_not_of_the_workspace(rt: HostRuntime) -> Result<(), AllocError> {
-    check_disk(&rt, OTHERS)
+    check_rows(&rt, rt.alloc(), OTHERS, &Disk(&rt))
 }
 
 #[test]
 fn stops_at_what_is_not_there(rt: HostRuntime) -> Result<(), AllocError> {
-    check_disk(&rt, LOST)
+    check_rows(&rt, rt.alloc(), LOST, &Disk(&rt))
 }
 
 /// Makes a link to the pipe of this number. Whether it could.
-fn links_to_pipe<R: Files + Alloc<A = Global>>(rt: &R, pipe: i32) -> bool {
+fn links_to_pipe(rt: &HostRuntime, pipe: i32) -> bool {
     match format!(in rt.alloc(); "/proc/self/fd/{pipe}") {
         Ok(pipe) => symlink(rt, pipe.as_str(), "out/special/BUILD").is_ok(),
         Err(_) => false,
@@ -140,29 +123,28 @@ fn links_to_pipe<R: Files + Alloc<A = Global>>(rt: &R, pipe: i32) -> bool {
 }
 
 /// What is read of a directory with a file and links to a device and to the pipe of this number.
-fn read_special<R: Files + Alloc<A = Global> + Clone + Drop>(
-    rt: &R,
-    pipe: i32,
-) -> Result<Vec<u8>, AllocError> {
+fn read_special(rt: &HostRuntime, pipe: i32) -> Result<Vec<u8>, AllocError> {
     if links_to_pipe(rt, pipe) {
         return read(rt, "out/special");
     }
     b"failed".to_vec(rt.alloc())
 }
 
-#[test]
-fn leaves_out_what_is_no_file(rt: HostRuntime) -> io::Result<()> {
-    check_disk(&rt, SPECIAL)?;
-    let (reader, writer) = io::pipe(&rt)?;
-    let found = read_special(&rt, reader.as_raw_fd());
+/// Whether nothing of a pipe and of a device is read.
+fn are_left_out(rt: &HostRuntime) -> Result<bool, AllocError> {
+    let Ok((reader, writer)) = io::pipe(rt) else {
+        return Ok(false);
+    };
+    let found = read_special(rt, reader.as_raw_fd());
     drop(reader);
     drop(writer);
-    let found = found?;
-    assert!(rt;
-        found.as_slice() == b"x = \n".as_slice(),
-        "{}",
-        found.escape_ascii()
-    );
+    Ok(found?.as_slice() == b"x = \n".as_slice())
+}
+
+#[test]
+fn leaves_out_what_is_no_file(rt: HostRuntime) -> Result<(), AllocError> {
+    check_rows(&rt, rt.alloc(), SPECIAL, &Disk(&rt))?;
+    assert!(rt; are_left_out(&rt)?);
     Ok(())
 }
 

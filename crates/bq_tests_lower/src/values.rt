@@ -168,14 +168,16 @@ fn text_of_an_output_attribute(rt: HostRuntime) -> Result<(), AllocError> {
     Ok(())
 }
 
+fn is_bad_pattern(alloc: Global, bytes: &Bytes) -> bool {
+    matches!(QueryPattern::new(alloc, bytes), Err(PatternErr::BadRegex))
+}
+
 /// A pattern of bytes that are no text: an argument of the program can't have them.
 #[test]
 fn a_pattern_that_is_no_text(rt: HostRuntime) -> Result<(), AllocError> {
     let bytes = Bytes::from_slice(rt.alloc(), b"\xff")?;
-    let refused = matches!(
-        QueryPattern::new(rt.alloc(), &bytes),
-        Err(PatternErr::BadRegex)
-    );
+    let refused = is_bad_pattern(rt.alloc(), &bytes);
+    drop(bytes);
     assert!(rt; refused);
     Ok(())
 }
