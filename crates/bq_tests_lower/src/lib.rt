@@ -1,5 +1,7 @@
 //! The tests of lower crates for what no program shows: tokens and their places, shares of bytes, values that no program makes, directories
 //! on a disk, and the board. All else is in the rows in `tests/rows`.
+//!
+//! - `rows`: the tables in which the tests of tokens and directories are written
 #![tactic(auto)]
 
 #[cfg(test)]
