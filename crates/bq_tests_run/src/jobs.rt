@@ -1,8 +1,7 @@
 //! Runs by several workers. What a run writes doesn't depend on how many there are, and it calls no device while files
 //! are evaluated. So the threads of this process are counted meanwhile.
 
-use crate::options::options;
-use crate::runs::{UNFAILING, written};
+use crate::runs::{Case, Given, UNFAILING, gives};
 use std::alloc::{AllocError, Global};
 use std::random::RandomSource;
 use std::sync::Wait;
@@ -63,25 +62,27 @@ fn watch(rt: &HostRuntime, watched: &Watched) {
     }
 }
 
-/// What a run by so many workers writes.
-fn long_run<R: Threads + Wait + RandomSource + Sync>(
-    rt: &R,
-    alloc: Global,
-    jobs: u32,
-) -> Result<Vec<u8>, AllocError> {
-    let mut asked = options(alloc, b"//:BUILD", jobs)?;
-    asked.max_steps = 100_000_000;
-    written(rt, alloc, LONG.as_bytes(), &asked, UNFAILING)
-}
-
-/// The same, and says when it is over.
+/// Whether a run by so many workers gives the answer. Says when it is over.
 fn watched_run<R: Threads + Wait + RandomSource + Sync>(
     rt: &R,
     alloc: Global,
     jobs: u32,
     watched: &Watched,
-) -> Result<Vec<u8>, AllocError> {
-    let found = long_run(rt, alloc, jobs);
+) -> Result<bool, AllocError> {
+    let case = Case {
+        bundle: LONG.as_bytes(),
+        query: b"//:BUILD",
+        jobs,
+        steps: 100_000_000,
+    };
+    let wanted = Given {
+        faults: b"",
+        answer: b"//:BUILD\n",
+        line: b"",
+        status: 0,
+        failures: 0,
+    };
+    let found = gives(rt, alloc, case, UNFAILING, wanted);
     watched.over.store(true, Ordering::SeqCst);
     found
 }
@@ -104,8 +105,7 @@ fn are_at_work<R: Threads + Wait + RandomSource + Sync>(
         || watch(rt, &watched),
         || watched_run(threads, alloc, jobs, &watched),
     );
-    let is_written = found?.as_slice() == b">//:BUILD\n>>0 0".as_slice();
-    Ok(is_written && watched.seen.load(Ordering::SeqCst))
+    Ok(found? && watched.seen.load(Ordering::SeqCst))
 }
 
 #[test]

@@ -1,103 +1,115 @@
 //! The exit status and the error line of each ending.
 
 use crate::devices::make_sip;
-use crate::rows::{Row, Subject, check_rows};
 use bq_base::Bytes;
 use bq_run::{QueryErr, RunErr, Status, status_code, status_of, write_status_line};
 use std::alloc::{AllocError, Global};
 
-/// The error of a query, by the number that users see.
+/// An ending of a run, an error by the number that users see.
+#[derive(Clone, Copy)]
+enum Ending {
+    Ended(Status),
+    Run(u64),
+    Query(u64, &'static [u8]),
+}
+
+/// The error of a query with a detail.
 fn query_error(number: u64, detail: Bytes) -> QueryErr {
     match number {
-        1 => QueryErr::Syntax,
         2 => QueryErr::UnknownFunction(detail),
         3 => QueryErr::LeftOut(detail),
-        4 => QueryErr::BadRegex,
         5 => QueryErr::NoSuchTarget(detail),
         6 => QueryErr::NoSuchPackage(detail),
-        7 => QueryErr::UnboundVariable(detail),
-        _ => QueryErr::Arguments,
+        _ => QueryErr::UnboundVariable(detail),
     }
 }
 
-/// The error of a run, by the number that users see.
-fn run_error(number: u64) -> RunErr {
-    match number {
-        1 => RunErr::Memory,
-        2 => RunErr::Read,
-        3 => RunErr::Write,
-        4 => RunErr::Bundle,
-        6 => RunErr::Schema(4294967295),
-        _ => RunErr::TooManyModules,
+/// The error of a run, or of a query without a detail.
+fn run_error(number: u64, of_query: bool) -> RunErr {
+    match (number, of_query) {
+        (1, false) => RunErr::Memory,
+        (2, false) => RunErr::Read,
+        (3, false) => RunErr::Write,
+        (4, false) => RunErr::Bundle,
+        (6, false) => RunErr::Schema(4294967295),
+        (_, false) => RunErr::TooManyModules,
+        (1, true) => RunErr::Query(QueryErr::Syntax),
+        (4, true) => RunErr::Query(QueryErr::BadRegex),
+        (_, true) => RunErr::Query(QueryErr::Arguments),
     }
 }
 
-/// An ending, by a letter and a number.
-fn ending(alloc: Global, letter: u8, row: Row) -> Result<Result<Status, RunErr>, AllocError> {
-    Ok(match letter {
-        b'A' => Ok(Status::Answered),
-        b'W' => Ok(Status::WithFaults),
-        b'E' => Err(run_error(row.number(1))),
-        _ => {
-            let detail = Bytes::from_slice(alloc, row.word(2))?;
-            Err(RunErr::Query(query_error(row.number(1), detail)))
-        }
-    })
+fn ended_by(alloc: Global, ending: Ending) -> Result<Result<Status, RunErr>, AllocError> {
+    match ending {
+        Ending::Ended(status) => Ok(Ok(status)),
+        Ending::Run(number) => Ok(Err(run_error(number, false))),
+        Ending::Query(number, b"") => Ok(Err(run_error(number, true))),
+        Ending::Query(number, detail) => match Bytes::from_slice(alloc, detail) {
+            Ok(detail) => Ok(Err(RunErr::Query(query_error(number, detail)))),
+            Err(error) => Err(error),
+        },
+    }
 }
 
-/// The line, where it is the same as in pieces to a writer.
-fn line_of(
+/// Whether a run ended with this status and this line.
+pub fn is_ended(
     alloc: Global,
-    ended: &Result<Status, RunErr>,
+    ended: Result<Status, RunErr>,
+    wanted: u8,
     line: &[u8],
-) -> Result<Vec<u8>, AllocError> {
+) -> Result<bool, AllocError> {
+    let code = status_code(&ended);
+    let found = status_of(alloc, &ended);
+    drop(ended);
+    let (status, text) = found?;
+    Ok(status == wanted && code == wanted && text.as_slice() == line)
+}
+
+/// Whether this is the line in pieces to a writer.
+fn is_line(alloc: Global, ended: &Result<Status, RunErr>, line: &[u8]) -> bool {
     let mut writer = make_sip(alloc, 0, false);
-    if write_status_line(&mut writer, ended).is_err() || writer.device.held.as_slice() != line {
-        return b"another line in pieces".to_vec(alloc);
-    }
-    line.to_vec(alloc)
-}
-
-/// The status and the line of an ending.
-struct Endings;
-
-fn shown(alloc: Global, ended: &Result<Status, RunErr>) -> Result<Vec<u8>, AllocError> {
-    let (status, line) = status_of(alloc, ended)?;
-    let code = status_code(ended);
-    let mut out = format!(in alloc; "{status} {code} ")?.into_bytes();
-    out.extend_from_slice(&line_of(alloc, ended, &line)?)?;
-    Ok(out)
-}
-
-impl Subject for Endings {
-    fn answer(&self, alloc: Global, text: &[u8], row: Row) -> Result<Vec<u8>, AllocError> {
-        match text.first() {
-            Some(letter) => shown(alloc, &ending(alloc, *letter, row)?),
-            None => b"no ending".to_vec(alloc),
-        }
-    }
+    let written = write_status_line(&mut writer, ended);
+    written.is_ok() && writer.device.held.as_slice() == line
 }
 
 #[test]
 fn names_each_ending(rt: HostRuntime) -> Result<(), AllocError> {
-    check_rows(&rt, rt.alloc(), ENDINGS, &Endings)
+    for (ending, status, line) in ENDINGS {
+        let ended = ended_by(rt.alloc(), *ending)?;
+        let in_pieces = is_line(rt.alloc(), &ended, line);
+        let at_once = is_ended(rt.alloc(), ended, *status, line)?;
+        assert!(rt; in_pieces && at_once, "{}", line.escape_ascii());
+    }
+    Ok(())
 }
 
-const ENDINGS: &str = r#"
-Answered | 0 0\x20
-WithFaults | 3 3\x20
-E | 1 | 4 4 bq: E1 Memory\n
-E | 2 | 5 5 bq: E2 Read\n
-E | 3 | 5 5 bq: E3 Write\n
-E | 4 | 2 2 bq: E4 Bundle\n
-Q | 1 | 2 2 bq: Q1 Syntax\n
-Q | 2 | foo | 2 2 bq: Q2 UnknownFunction foo\n
-Q | 3 | somepath | 2 2 bq: Q3 LeftOut somepath\n
-Q | 4 | 2 2 bq: Q4 BadRegex\n
-Q | 5 | //a:none | 2 2 bq: Q5 NoSuchTarget //a:none\n
-Q | 6 | @r//b:x | 2 2 bq: Q6 NoSuchPackage @r//b:x\n
-Q | 7 | v | 2 2 bq: Q7 UnboundVariable v\n
-Q | 8 | 2 2 bq: Q8 Arguments\n
-E | 6 | 2 2 bq: E6 Schema 4294967295\n
-E | 7 | 2 2 bq: E7 TooManyModules\n
-"#;
+const ENDINGS: &[(Ending, u8, &[u8])] = &[
+    (Ending::Ended(Status::Answered), 0, b""),
+    (Ending::Ended(Status::WithFaults), 3, b""),
+    (Ending::Run(1), 4, b"bq: E1 Memory\n"),
+    (Ending::Run(2), 5, b"bq: E2 Read\n"),
+    (Ending::Run(3), 5, b"bq: E3 Write\n"),
+    (Ending::Run(4), 2, b"bq: E4 Bundle\n"),
+    (Ending::Query(1, b""), 2, b"bq: Q1 Syntax\n"),
+    (Ending::Query(2, b"foo"), 2, b"bq: Q2 UnknownFunction foo\n"),
+    (
+        Ending::Query(3, b"somepath"),
+        2,
+        b"bq: Q3 LeftOut somepath\n",
+    ),
+    (Ending::Query(4, b""), 2, b"bq: Q4 BadRegex\n"),
+    (
+        Ending::Query(5, b"//a:none"),
+        2,
+        b"bq: Q5 NoSuchTarget //a:none\n",
+    ),
+    (
+        Ending::Query(6, b"@r//b:x"),
+        2,
+        b"bq: Q6 NoSuchPackage @r//b:x\n",
+    ),
+    (Ending::Query(7, b"v"), 2, b"bq: Q7 UnboundVariable v\n"),
+    (Ending::Query(8, b""), 2, b"bq: Q8 Arguments\n"),
+    (Ending::Run(6), 2, b"bq: E6 Schema 4294967295\n"),
+    (Ending::Run(7), 2, b"bq: E7 TooManyModules\n"),
+];
