@@ -2,15 +2,12 @@
 //!
 //! What a run shows in its bytes is in the rows in `tests/rows`.
 //!
-//! - `chunks`: tables as texts, with what is wanted beside their lines
 //! - `program`: programs of one file, or of two
 //! - `hosts`: which calls reach the host of a program
 //! - `load`: workspaces, and pools of threads
 //! - `workers`, `refused`: random load graphs by several workers, and workers that are refused memory
 #![tactic(auto)]
 
-#[cfg(test)]
-mod chunks;
 #[cfg(test)]
 mod hosts;
 #[cfg(test)]

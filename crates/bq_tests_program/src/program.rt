@@ -1,6 +1,5 @@
-//! A program of one file, or of a .bzl file and a file that loads it: what it prints, its fault, and what its host keeps.
+//! A program of one file, or of a .bzl file and a file that loads it: what it prints, and its fault.
 
-use crate::chunks::add_line;
 use bq_base::{Bytes, Fault, SourceErr};
 use bq_eval::{EvaluatedFile, FileOutcome, ResolvedModule, eval_module};
 use bq_label::{PackageId, Packages};
@@ -14,6 +13,13 @@ use bq_value_seed::Seed;
 use std::alloc::{AllocError, Global};
 use std::fmt::Write;
 use std::sync::Arc;
+
+/// Adds a text and a newline.
+fn add_line(whole: &mut Vec<u8>, text: &[u8]) -> Result<(), AllocError> {
+    whole.extend_from_slice(text)?;
+    whole.push(b'\n')?;
+    Ok(())
+}
 
 /// A fault as a line: `3: F56 Fail "no"`.
 fn add_fault(alloc: Global, whole: &mut Vec<u8>, fault: &Fault) -> Result<(), AllocError> {
@@ -50,7 +56,7 @@ fn add_prints(whole: &mut Vec<u8>, prints: &[Bytes]) -> Result<(), AllocError> {
 }
 
 /// What is printed of an outcome: its prints, then its fault, if it has one.
-fn add_outcome(
+pub fn add_outcome(
     alloc: Global,
     whole: &mut Vec<u8>,
     outcome: &FileOutcome,
@@ -77,7 +83,7 @@ pub struct Setting<'a> {
 }
 
 /// The file of a text. Adds why it is none, where it is none.
-fn file_of(
+pub fn file_of(
     setting: Setting<'_>,
     kind: FileKind,
     text: &[u8],
@@ -93,29 +99,6 @@ fn file_of(
             Ok(None)
         }
     }
-}
-
-/// Evaluates a file that loads nothing, as module 0.
-fn alone<H: Host + Drop>(
-    setting: Setting<'_>,
-    file: &Resolved,
-    host: H,
-) -> Result<EvaluatedFile<H>, AllocError> {
-    let module = ResolvedModule {
-        number: 0,
-        file,
-        loaded: &[],
-        imports: &[],
-        code: &[],
-    };
-    eval_module(
-        setting.alloc,
-        setting.built_ins,
-        &module,
-        host,
-        setting.limit,
-        Seed::fixed(),
-    )
 }
 
 /// The global of this name; `None` where the file binds none.
@@ -144,10 +127,22 @@ fn add_imports(
 
 /// A module that another file loads: its file, and what it evaluated to, as a list of one.
 #[derive(Drop)]
-struct Below {
-    file: Resolved,
-    modules: Vec<Arc<Frozen>>,
+pub struct Below {
+    pub file: Resolved,
+    pub modules: Vec<Arc<Frozen>>,
 }
+
+/// What is lent to a file that loads one module, or none: the module's file, and what it evaluated to.
+#[derive(Clone, Copy)]
+pub struct Lent<'a> {
+    pub code: &'a [Option<&'a Resolved>],
+    pub modules: &'a [Arc<Frozen>],
+}
+
+pub const NOTHING: Lent<'static> = Lent {
+    code: &[],
+    modules: &[],
+};
 
 impl Below {
     fn of(alloc: Global, file: Resolved, frozen: Frozen) -> Result<Below, AllocError> {
@@ -155,21 +150,21 @@ impl Below {
         modules.push(Arc::new(alloc, frozen)?)?;
         Ok(Below { file, modules })
     }
-
-    /// The values of the symbols of all loads, where all of them are of this module.
-    fn imports(&self, alloc: Global, loads: &[LoadStmt]) -> Result<Vec<Value>, AllocError> {
-        let mut imports = Vec::new(alloc);
-        if let [frozen] = self.modules.as_slice() {
-            for load in loads {
-                add_imports(&self.file, frozen, load, &mut imports)?;
-            }
-        }
-        Ok(imports)
-    }
 }
 
-/// Evaluates a file that loads this module, as module 1.
-fn above<H: Host + Drop>(
+/// The values of the symbols of all loads, where all of them are of the module that is lent.
+fn imports_of(alloc: Global, lent: Lent<'_>, loads: &[LoadStmt]) -> Result<Vec<Value>, AllocError> {
+    let mut imports = Vec::new(alloc);
+    if let ([Some(file)], [frozen]) = (lent.code, lent.modules) {
+        for load in loads {
+            add_imports(file, frozen, load, &mut imports)?;
+        }
+    }
+    Ok(imports)
+}
+
+/// Evaluates a file over what it loads: as module 0 where that is nothing, else as module 1.
+pub fn evaluate<H: Host + Drop>(
     setting: Setting<'_>,
     below: &Below,
     file: &Resolved,
@@ -177,7 +172,7 @@ fn above<H: Host + Drop>(
 ) -> Result<EvaluatedFile<H>, AllocError> {
     let imports = below.imports(setting.alloc, file.loads.as_slice())?;
     let module = ResolvedModule {
-        number: 1,
+        number: if below.modules.is_empty() { 0 } else { 1 },
         file,
         loaded: &below.modules,
         imports: &imports,
@@ -191,51 +186,6 @@ fn above<H: Host + Drop>(
         setting.limit,
         Seed::fixed(),
     )
-}
-
-/// The host of an evaluation. Adds what is printed of its outcome.
-fn host_of<H: Host + Drop>(
-    alloc: Global,
-    evaluated: EvaluatedFile<H>,
-    whole: &mut Vec<u8>,
-) -> Result<H, AllocError> {
-    let EvaluatedFile { outcome, host } = evaluated;
-    let added = add_outcome(alloc, whole, &outcome);
-    drop(outcome);
-    added?;
-    Ok(host)
-}
-
-/// Evaluates one file, and adds what is printed of it.
-fn run_one<H: Host + Drop>(
-    setting: Setting<'_>,
-    kind: FileKind,
-    text: &[u8],
-    host: H,
-    whole: &mut Vec<u8>,
-) -> Result<Option<H>, AllocError> {
-    let Some(file) = file_of(setting, kind, text, whole)? else {
-        return Ok(None);
-    };
-    let evaluated = alone(setting, &file, host);
-    drop(file);
-    Ok(Some(host_of(setting.alloc, evaluated?, whole)?))
-}
-
-/// Evaluates the BUILD file over a module, and adds what is printed of it.
-fn run_above<H: Host + Drop>(
-    setting: Setting<'_>,
-    below: &Below,
-    text: &[u8],
-    host: H,
-    whole: &mut Vec<u8>,
-) -> Result<Option<H>, AllocError> {
-    let Some(file) = file_of(setting, FileKind::Build, text, whole)? else {
-        return Ok(None);
-    };
-    let evaluated = above(setting, below, &file, host);
-    drop(file);
-    Ok(Some(host_of(setting.alloc, evaluated?, whole)?))
 }
 
 /// The module that an outcome is, if it is one.
@@ -253,14 +203,19 @@ fn frozen_of(
     whole: &mut Vec<u8>,
 ) -> Result<Option<Frozen>, AllocError> {
     let host = BuildHost::outside(setting.alloc, setting.own, setting.packages)?;
-    let EvaluatedFile { outcome, host } = alone(setting, file, host)?;
+    let EvaluatedFile { outcome, host } = evaluate(
+        setting,
+        &Below::none(setting.alloc),
+        file,
+        host,
+    )?;
     drop(host);
     add_outcome(setting.alloc, whole, &outcome)?;
     Ok(module_in(outcome))
 }
 
 /// Evaluates a .bzl file, and adds what is printed of it.
-fn run_below(
+pub fn run_bzl(
     setting: Setting<'_>,
     text: &[u8],
     whole: &mut Vec<u8>,
@@ -274,44 +229,20 @@ fn run_below(
     }
 }
 
-/// Evaluates a .bzl file, and then a BUILD file that loads it, and adds what is printed of both.
-fn run_two<H: Host + Drop>(
-    setting: Setting<'_>,
-    bzl: &[u8],
-    build: &[u8],
-    host: H,
-    whole: &mut Vec<u8>,
-) -> Result<Option<H>, AllocError> {
-    match run_below(setting, bzl, whole)? {
-        Some(below) => run_above(setting, &below, build, host, whole),
-        None => Ok(None),
+/// The parts of a text before and after a line of this mark, if there is one.
+pub fn cut(text: &[u8], mark: u8) -> Option<(&[u8], &[u8])> {
+    let at = text.iter().position(|byte| *byte == mark)?;
+    let (before, rest) = text.split_at(at);
+    match rest {
+        [_, b'\n', after @ ..] => Some((before, after)),
+        _ => None,
     }
 }
 
-/// The files of a chunk: the part before a line `===`, if there is one, and the part after it.
-fn files_of(chunk: &[u8]) -> (Option<&[u8]>, &[u8]) {
-    let mut at = 0usize;
-    for line in chunk.split(|byte| *byte == b'\n') {
-        let after = at.saturating_add(line.len()).saturating_add(1);
-        if line == b"===".as_slice() && at <= chunk.len() && after <= chunk.len() {
-            return (Some(&chunk[..at]), &chunk[after..]);
-        }
-        at = after;
-    }
-    (None, chunk)
-}
-
-/// Evaluates what a chunk has: one file of this kind, or a .bzl file and then a BUILD file. Adds what is printed of it, and returns the
-/// host of the last file, if it was evaluated.
-pub fn run_chunk<H: Host + Drop>(
-    setting: Setting<'_>,
-    kind: FileKind,
-    chunk: &[u8],
-    host: H,
-    whole: &mut Vec<u8>,
-) -> Result<Option<H>, AllocError> {
-    match files_of(chunk) {
-        (Some(bzl), build) => run_two(setting, bzl, build, host, whole),
-        (None, text) => run_one(setting, kind, text, host, whole),
+/// A text but for a newline at its beginning.
+pub fn without_newline(text: &[u8]) -> &[u8] {
+    match text {
+        [b'\n', rest @ ..] => rest,
+        _ => text,
     }
 }

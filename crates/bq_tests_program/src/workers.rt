@@ -1,12 +1,13 @@
 //! Load graphs by several workers, against the same by one thread.
 ghost use Rattle.std.specs.Prelude.{◌≡◌, ◌<◌, ◌≤◌};
+ghost use Rattle.bq_board.specs.Seats.{IsSeatOf};
 ghost use Rattle.bq_tests_program.specs.Mixing.{is_faulty, mixed};
 
 use crate::random::random_rows;
 use bq_board::{Graph, PlanErr};
 use bq_load_order::{Evaluate, SharedOutcome, Unwatched, Watch, outcomes_one_thread};
 use bq_load_outcome_spec::Outcome;
-use bq_load_workers::{MAX_WORKERS, WorkerPool, outcomes_by_workers};
+use bq_load_workers::{MAX_WORKERS, WorkerPool, WorkerSeat, outcomes_by_workers};
 use std::alloc::{AllocError, Global};
 use std::sync::atomic::{AtomicU64, Ordering};
 use std::sync::{Arc, Wait};
@@ -89,66 +90,48 @@ fn new_mixing() -> Mixing {
     }
 }
 
-/// Whether so many workers give what one thread gives, with as many evaluations.
-fn gives_the_same<R: Threads + Wait + Sync>(
+/// Whether so many workers give this, with as many evaluations.
+fn workers_give<R: Threads + Wait + Sync>(
     rt: &R,
     alloc: Global,
     graph: Graph,
     workers: usize,
+    wanted: &[SharedOutcome<u64, u64>],
+    calls: u64,
 ) -> Result<bool, AllocError>
     requires { (0 < workers) × (workers ≤ MAX_WORKERS) }
 {
-    let one = new_mixing();
-    let wanted = outcomes_one_thread(alloc, &one, &graph, &Unwatched)?;
     let (pool, seats) = WorkerPool::open(alloc, new_mixing(), graph, workers)?;
     let found = outcomes_by_workers(rt, alloc, &pool, seats, &Unwatched)?;
-    let calls = pool.evaluator().calls.load(Ordering::SeqCst);
-    Ok(are_same(&wanted, &found) && one.calls.load(Ordering::SeqCst) == calls)
+    Ok(are_same(wanted, &found) && pool.evaluator().calls.load(Ordering::SeqCst) == calls)
 }
 
-fn random_graph(alloc: Global, seed: u64, count: u32) -> Result<Graph, PlanErr>
-    requires { 0 < count }
-{
-    Graph::new(random_rows(alloc, seed, count)?)
-}
-
-/// One random graph, by 1, 2 and 8 workers.
-fn few_workers<R: Threads + Wait + Sync>(
+/// Whether so many workers give what one thread gives, with as many evaluations.
+fn gives_the_same<R: Threads + Wait + Sync>(
     rt: &R,
     alloc: Global,
-    seed: u64,
+    rows: Rows,
+    workers: usize,
 ) -> Result<bool, PlanErr> {
-    let one = gives_the_same(rt, alloc, random_graph(alloc, seed, 60)?, 1)?;
-    let two = gives_the_same(rt, alloc, random_graph(alloc, seed, 60)?, 2)?;
-    let eight = gives_the_same(rt, alloc, random_graph(alloc, seed, 60)?, 8)?;
-    Ok(one && two && eight)
+    let graph = Graph::new(rows_of(alloc, rows)?)?;
+    let one = new_mixing();
+    let wanted = outcomes_one_thread(alloc, &one, &graph, &Unwatched)?;
+    let calls = one.calls.load(Ordering::SeqCst);
+    let workers = workers.clamp(1, MAX_WORKERS);
+    Ok(workers_give(rt, alloc, graph, workers, &wanted, calls)?)
 }
 
-#[test]
-fn few_workers_load_as_one_thread(rt: HostRuntime) -> Result<(), PlanErr> {
-    for seed in 0..20u64 {
-        assert!(rt; few_workers(&rt, rt.alloc(), seed)?, "seed {seed}");
-    }
-    Ok(())
+/// The loads of modules.
+#[derive(Clone, Copy)]
+enum Rows {
+    /// Random loads of this seed, of so many modules.
+    Random(u64, u32),
+    /// A hundred modules, each of which loads the one before it, and the first one this.
+    Chain(u32),
+    Nothing,
 }
 
-/// More workers than modules, and a graph without modules.
-#[test]
-fn many_workers_load_as_one_thread(rt: HostRuntime) -> Result<(), PlanErr> {
-    for count in [1u32, 10, 200] {
-        let graph = random_graph(rt.alloc(), 7, count)?;
-        assert!(rt;
-            gives_the_same(&rt, rt.alloc(), graph, 64)?,
-            "{count} modules"
-        );
-    }
-    let none = Graph::new(Vec::new(rt.alloc()))?;
-    assert!(rt; gives_the_same(&rt, rt.alloc(), none, 64)?);
-    Ok(())
-}
-
-/// A hundred modules, each of which loads the one before it, and the first one this.
-fn chain_rows(alloc: Global, first: u32) -> Result<Vec<Vec<u32>>, AllocError> {
+fn chain(alloc: Global, first: u32) -> Result<Vec<Vec<u32>>, AllocError> {
     let mut rows = Vec::new(alloc);
     for m in 0..100u32 {
         let mut row = Vec::new(alloc);
@@ -158,23 +141,80 @@ fn chain_rows(alloc: Global, first: u32) -> Result<Vec<Vec<u32>>, AllocError> {
     Ok(rows)
 }
 
-/// A chain after a cycle of one module, in which no two modules can be evaluated side by side, and a cycle of all.
+fn rows_of(alloc: Global, rows: Rows) -> Result<Vec<Vec<u32>>, AllocError> {
+    match rows {
+        Rows::Random(seed, count) => random_rows(alloc, seed, count.max(1)),
+        Rows::Chain(first) => chain(alloc, first),
+        Rows::Nothing => Ok(Vec::new(alloc)),
+    }
+}
+
+/// 20 random graphs, each by 1, 2 and 8 workers.
 #[test]
-fn workers_load_chains_and_cycles(rt: HostRuntime) -> Result<(), PlanErr> {
-    for first in [0u32, 99] {
-        let graph = Graph::new(chain_rows(rt.alloc(), first)?)?;
-        assert!(rt; gives_the_same(&rt, rt.alloc(), graph, 8)?, "to {first}");
+fn few_workers_load_as_one_thread(rt: HostRuntime) -> Result<(), PlanErr> {
+    for seed in 0..20u64 {
+        for workers in [1usize, 2, 8] {
+            let rows = Rows::Random(seed, 60);
+            assert!(rt;
+                gives_the_same(&rt, rt.alloc(), rows, workers)?,
+                "seed {seed}, {workers} workers"
+            );
+        }
     }
     Ok(())
 }
 
-/// One seat of a pool of two, whose other seat never works, finishes all modules.
+/// More workers than modules, and a graph without modules.
+#[test]
+fn many_workers_load_as_one_thread(rt: HostRuntime) -> Result<(), PlanErr> {
+    for count in [1u32, 10, 200] {
+        let rows = Rows::Random(7, count);
+        assert!(rt;
+            gives_the_same(&rt, rt.alloc(), rows, 64)?,
+            "{count} modules"
+        );
+    }
+    assert!(rt; gives_the_same(&rt, rt.alloc(), Rows::Nothing, 64)?);
+    Ok(())
+}
+
+/// A chain after a cycle of one module, in which no two modules can be evaluated side by side, and a cycle of all.
+#[test]
+fn workers_load_chains_and_cycles(rt: HostRuntime) -> Result<(), PlanErr> {
+    for first in [0u32, 99] {
+        assert!(rt;
+            gives_the_same(&rt, rt.alloc(), Rows::Chain(first), 8)?,
+            "to {first}"
+        );
+    }
+    Ok(())
+}
+
+/// Whether a seat finishes 60 modules.
+fn finishes<R: Wait>(
+    rt: &R,
+    alloc: Global,
+    pool: &WorkerPool<Mixing>,
+    seat: &mut WorkerSeat<Mixing>,
+) -> Result<bool, AllocError>
+    requires { IsSeatOf pool.now.board seat.old.place }
+{
+    let worked = pool.work(rt, alloc, seat, &Unwatched)?;
+    Ok(worked.all && worked.modules.len() == 60)
+}
+
+/// Whether one seat of a pool of two, whose other seat never works, finishes all modules of a random graph.
+fn one_seat_finishes<R: Wait>(rt: &R, alloc: Global) -> Result<bool, PlanErr> {
+    let graph = Graph::new(random_rows(alloc, 3, 60)?)?;
+    let (pool, mut seats) = WorkerPool::open(alloc, new_mixing(), graph, 2)?;
+    let found = finishes(rt, alloc, &pool, &mut seats[0]);
+    drop(seats);
+    drop(pool);
+    Ok(found?)
+}
+
 #[test]
 fn one_seat_finishes_a_pool(rt: HostRuntime) -> Result<(), PlanErr> {
-    let graph = random_graph(rt.alloc(), 3, 60)?;
-    let (pool, mut seats) = WorkerPool::open(rt.alloc(), new_mixing(), graph, 2)?;
-    let mut seat = seats.pop().unwrap();
-    let worked = pool.work(&rt, rt.alloc(), &mut seat, &Unwatched)?;
-    assert!(rt; worked.all && worked.modules.len() == 60);
+    assert!(rt; one_seat_finishes(&rt, rt.alloc())?);
     Ok(())
 }

@@ -12,36 +12,6 @@ use std::alloc::{AllocError, Global};
 use std::sync::Wait;
 use std::thread::Threads;
 
-fn by_one_thread(tree: Tree<'_>) -> Result<Loaded, LoadErr> {
-    load_one_thread(
-        tree.alloc,
-        tree.workspace,
-        tree.schema,
-        LIMIT,
-        Seed::fixed(),
-    )
-}
-
-pub fn loaded_by<R: Threads + Wait + Sync, G: Gate>(
-    rt: &R,
-    tree: Tree<'_>,
-    workers: usize,
-    gate: &G,
-) -> Result<Loaded, LoadErr>
-    requires { (0 < workers) × (workers ≤ MAX_WORKERS) }
-{
-    load_with(
-        rt,
-        tree.alloc,
-        tree.workspace,
-        tree.schema,
-        LIMIT,
-        Seed::fixed(),
-        workers,
-        gate,
-    )
-}
-
 /// How many targets the packages have.
 fn targets(loaded: &Loaded) -> usize {
     let mut count = 0usize;
@@ -62,7 +32,59 @@ fn are_same(alloc: Global, a: &Loaded, b: &Loaded) -> Result<bool, AllocError> {
     Ok(a.modules.len() == b.modules.len() && targets(a) == targets(b))
 }
 
-/// Whether so many workers give what one thread gives, each module that is evaluated enters once, and no other does.
+/// What is wanted of what a workspace loads to.
+#[derive(Clone, Copy)]
+pub enum Wanted<'a> {
+    /// The same lines, and as many modules and targets; each module that is evaluated entered once, and no other did.
+    Same(&'a Loaded, &'a Counts),
+    /// These prints.
+    Prints(&'a [u8]),
+    /// So many modules, and no faults.
+    Modules(usize),
+}
+
+fn is_wanted(alloc: Global, loaded: &Loaded, wanted: Wanted<'_>) -> Result<bool, AllocError> {
+    match wanted {
+        Wanted::Same(other, counts) => {
+            if !counts.are_right(loaded) {
+                return Ok(false);
+            }
+            are_same(alloc, other, loaded)
+        }
+        Wanted::Prints(text) => {
+            let prints = loaded.prints.to_vec(alloc)?;
+            Ok(prints.as_slice() == text)
+        }
+        Wanted::Modules(count) => Ok(loaded.modules.len() == count && loaded.faults.is_empty()),
+    }
+}
+
+/// Whether so many workers load what is wanted.
+pub fn load_so<R: Threads + Wait + Sync, G: Gate>(
+    rt: &R,
+    tree: Tree<'_>,
+    workers: usize,
+    gate: &G,
+    wanted: Wanted<'_>,
+) -> Result<bool, LoadErr>
+    requires { (0 < workers) × (workers ≤ MAX_WORKERS) }
+{
+    let loaded = load_with(
+        rt,
+        tree.alloc,
+        tree.workspace,
+        tree.schema,
+        LIMIT,
+        Seed::fixed(),
+        workers,
+        gate,
+    )?;
+    let found = is_wanted(tree.alloc, &loaded, wanted);
+    drop(loaded);
+    Ok(found?)
+}
+
+/// Whether so many workers give what one thread gives.
 fn gives_the_same<R: Threads + Wait + Sync>(
     rt: &R,
     tree: Tree<'_>,
@@ -72,8 +94,7 @@ fn gives_the_same<R: Threads + Wait + Sync>(
     requires { (0 < workers) × (workers ≤ MAX_WORKERS) }
 {
     let gate = Counts::new(tree.alloc)?;
-    let found = loaded_by(rt, tree, workers, &gate)?;
-    Ok(gate.are_right(&found) && are_same(tree.alloc, wanted, &found)?)
+    load_so(rt, tree, workers, &gate, Wanted::Same(wanted, &gate))
 }
 
 fn all_give_the_same<R: Threads + Wait + Sync>(
@@ -90,7 +111,13 @@ fn all_give_the_same<R: Threads + Wait + Sync>(
 
 /// Whether a workspace is loaded alike by any number of workers.
 pub fn is_loaded_alike<R: Threads + Wait + Sync>(rt: &R, tree: Tree<'_>) -> Result<bool, LoadErr> {
-    let wanted = by_one_thread(tree)?;
+    let wanted = load_one_thread(
+        tree.alloc,
+        tree.workspace,
+        tree.schema,
+        LIMIT,
+        Seed::fixed(),
+    )?;
     if wanted.modules.len() != 401 || wanted.faults.is_empty() {
         return Ok(false);
     }
@@ -120,31 +147,18 @@ load(":y.bzl", "b")
 print(a + b)
 "#;
 
-/// What the modules print, by so many workers.
-fn printed<R: Threads + Wait + Sync, G: Gate>(
-    rt: &R,
-    tree: Tree<'_>,
-    workers: usize,
-    gate: &G,
-) -> Result<Vec<u8>, LoadErr>
-    requires { (0 < workers) × (workers ≤ MAX_WORKERS) }
-{
-    let loaded = loaded_by(rt, tree, workers, gate)?;
-    Ok(loaded.prints.to_vec(tree.alloc)?)
-}
+const PRINTED: &[u8] = b"//:BUILD: 3\n";
 
 /// Whether the two files are in evaluation at once, and each module enters once.
 pub fn two_meet<R: Threads + Wait + Sync>(rt: &R, tree: Tree<'_>) -> Result<bool, LoadErr> {
     let gate = Meeting::new();
-    let prints = printed(rt, tree, 2, &gate)?;
-    let is_whole = prints.as_slice() == b"//:BUILD: 3\n".as_slice();
+    let is_whole = load_so(rt, tree, 2, &gate, Wanted::Prints(PRINTED))?;
     Ok(gate.both_met() && gate.entered_once() && is_whole)
 }
 
 /// Whether 64 workers print the same.
 pub fn many_print<R: Threads + Wait + Sync>(rt: &R, tree: Tree<'_>) -> Result<bool, LoadErr> {
-    let prints = printed(rt, tree, 64, &OpenGate)?;
-    Ok(prints.as_slice() == b"//:BUILD: 3\n".as_slice())
+    load_so(rt, tree, 64, &OpenGate, Wanted::Prints(PRINTED))
 }
 
 /// Two workers evaluate two files at once.

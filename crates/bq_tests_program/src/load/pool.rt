@@ -3,7 +3,7 @@
 ghost use Rattle.std.specs.Prelude.{◌≡◌, ◌<◌, ◌≤◌, All, IfOk, vec_len};
 ghost use Rattle.bq_board.specs.Seats.{IsSeatOf};
 
-use super::by_workers::loaded_by;
+use super::by_workers::{Wanted, load_so};
 use super::holding::Holding;
 use super::workplace::{Returned, work_at_all};
 use super::{LIMIT, Property, Tree, text_has};
@@ -40,8 +40,8 @@ load(":b.bzl", "b")
 /// Whether `c.bzl` enters while `b.bzl` is held, by two workers.
 pub fn workers_meet<R: Threads + Wait + Sync>(rt: &R, tree: Tree<'_>) -> Result<bool, LoadErr> {
     let gate = Holding::new();
-    let loaded = loaded_by(rt, tree, 2, &gate)?;
-    Ok(gate.both_met() && loaded.modules.len() == 4 && loaded.faults.is_empty())
+    let is_whole = load_so(rt, tree, 2, &gate, Wanted::Modules(4))?;
+    Ok(gate.both_met() && is_whole)
 }
 
 #[test]
