@@ -3,7 +3,7 @@ ghost use Rattle.std.specs.Prelude.{◌≡◌};
 ghost use Rattle.bq_tests_program.specs.Noting.{is_licenses, noted};
 
 use crate::program::{
-    Below, Lent, NOTHING, Setting, add_outcome, cut, evaluate, file_of, run_bzl, without_newline,
+    Below, Lent, Setting, add_outcome, cut, evaluate, file_of, run_bzl, without_newline,
 };
 use crate::workspace::no_packages;
 use bq_base::{Bytes, FaultKind};
@@ -160,7 +160,11 @@ fn run_over(
 /// Evaluates the files of a chunk: a .bzl file before a line `|`, if there is one, and then a BUILD file that loads it.
 fn run_chunk(setting: Setting<'_>, chunk: &[u8], whole: &mut Vec<u8>) -> Result<(), AllocError> {
     let Some((bzl, build)) = cut(chunk, b'|') else {
-        return run_build(setting, NOTHING, chunk, whole);
+        let nothing = Lent {
+            code: &[],
+            modules: &[],
+        };
+        return run_build(setting, nothing, chunk, whole);
     };
     match run_bzl(setting, bzl, whole)? {
         Some(below) => run_over(setting, &below, build, whole),

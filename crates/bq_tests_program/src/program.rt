@@ -139,11 +139,6 @@ pub struct Lent<'a> {
     pub modules: &'a [Arc<Frozen>],
 }
 
-pub const NOTHING: Lent<'static> = Lent {
-    code: &[],
-    modules: &[],
-};
-
 impl Below {
     fn of(alloc: Global, file: Resolved, frozen: Frozen) -> Result<Below, AllocError> {
         let mut modules = Vec::new(alloc);
@@ -166,17 +161,17 @@ fn imports_of(alloc: Global, lent: Lent<'_>, loads: &[LoadStmt]) -> Result<Vec<V
 /// Evaluates a file over what it loads: as module 0 where that is nothing, else as module 1.
 pub fn evaluate<H: Host + Drop>(
     setting: Setting<'_>,
-    below: &Below,
+    lent: Lent<'_>,
     file: &Resolved,
     host: H,
 ) -> Result<EvaluatedFile<H>, AllocError> {
-    let imports = below.imports(setting.alloc, file.loads.as_slice())?;
+    let imports = imports_of(setting.alloc, lent, file.loads.as_slice())?;
     let module = ResolvedModule {
-        number: if below.modules.is_empty() { 0 } else { 1 },
+        number: if lent.modules.is_empty() { 0 } else { 1 },
         file,
-        loaded: &below.modules,
+        loaded: lent.modules,
         imports: &imports,
-        code: &[Some(&below.file)],
+        code: lent.code,
     };
     eval_module(
         setting.alloc,
@@ -203,12 +198,11 @@ fn frozen_of(
     whole: &mut Vec<u8>,
 ) -> Result<Option<Frozen>, AllocError> {
     let host = BuildHost::outside(setting.alloc, setting.own, setting.packages)?;
-    let EvaluatedFile { outcome, host } = evaluate(
-        setting,
-        &Below::none(setting.alloc),
-        file,
-        host,
-    )?;
+    let nothing = Lent {
+        code: &[],
+        modules: &[],
+    };
+    let EvaluatedFile { outcome, host } = evaluate(setting, nothing, file, host)?;
     drop(host);
     add_outcome(setting.alloc, whole, &outcome)?;
     Ok(module_in(outcome))

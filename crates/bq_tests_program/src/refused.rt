@@ -1,5 +1,5 @@
 //! Workers of which one is refused memory.
-ghost use Rattle.std.specs.Prelude.{◌<◌, ◌≤◌, All, Ok};
+ghost use Rattle.std.specs.Prelude.{◌<◌, ◌≤◌, All, IfOk, Ok};
 ghost use Rattle.bq_board.specs.Seats.{IsSeatOf};
 
 use bq_board::{Graph, PlanErr};
@@ -103,6 +103,19 @@ fn rows(alloc: Global) -> Result<Vec<Vec<u32>>, AllocError> {
     Ok(rows)
 }
 
+/// A pool of so many seats, at one of which memory is refused.
+fn open(
+    alloc: Global,
+    counts: &Arc<Counts, Global>,
+    workers: usize,
+) -> Result<(WorkerPool<Refusing>, Vec<WorkerSeat<Refusing>>), PlanErr>
+    requires { (0 < workers) × (workers ≤ MAX_WORKERS) }
+    ensures { IfOk result (λ r. All (λ s. IsSeatOf r.0.board s.place) r.1.items) }
+{
+    let graph = Graph::new(rows(alloc)?)?;
+    Ok(WorkerPool::open(alloc, new_refusing(counts)?, graph, workers)?)
+}
+
 /// Whether so many workers, of which one is refused memory, answer so.
 fn are_refused<R: Threads + Wait + Sync>(
     rt: &R,
@@ -111,9 +124,7 @@ fn are_refused<R: Threads + Wait + Sync>(
 ) -> Result<bool, PlanErr>
     requires { (0 < workers) × (workers ≤ MAX_WORKERS) }
 {
-    let refusing = new_refusing(&new_counts(alloc)?)?;
-    let graph = Graph::new(rows(alloc)?)?;
-    let (pool, seats) = WorkerPool::open(alloc, refusing, graph, workers)?;
+    let (pool, seats) = open(alloc, &new_counts(alloc)?, workers)?;
     let found = outcomes_by_workers(rt, alloc, &pool, seats, &Unwatched);
     Ok(found.is_err())
 }
@@ -176,21 +187,21 @@ fn work_at_all<R: Threads + Wait + Sync>(
     );
 }
 
-/// Opens a pool of two seats, works at both, and closes it with what was posted and nobody fetched.
+/// Works at all seats of a pool, and closes it with what was posted and nobody fetched.
 fn work_and_close<R: Threads + Wait + Sync>(
     rt: &R,
     alloc: Global,
-    refusing: Refusing,
+    pool: WorkerPool<Refusing>,
+    mut seats: Vec<WorkerSeat<Refusing>>,
     ends: &Ends,
-) -> Result<(), PlanErr> {
-    let graph = Graph::new(rows(alloc)?)?;
-    let (pool, mut seats) = WorkerPool::open(alloc, refusing, graph, 2)?;
+)
+    requires { All (λ s. IsSeatOf pool.board s.place) seats.items }
+{
     work_at_all(rt, alloc, &pool, &mut seats, ends);
     match seats.pop() {
         Some(seat) => pool.close(seat),
         None => {}
     }
-    Ok(())
 }
 
 /// Of two seats in threads of the test's own, the one that is refused memory says so, the other is stopped, and a closed
@@ -202,7 +213,8 @@ fn one_seat_of_two_is_refused_memory(rt: HostRuntime) -> Result<(), PlanErr> {
         refused: AtomicU64::new(0),
         stopped: AtomicU64::new(0),
     };
-    work_and_close(&rt, rt.alloc(), new_refusing(&counts)?, &ends)?;
+    let (pool, seats) = open(rt.alloc(), &counts, 2)?;
+    work_and_close(&rt, rt.alloc(), pool, seats, &ends);
     assert!(rt; ends.refused.load(Ordering::SeqCst) == 1);
     assert!(rt; ends.stopped.load(Ordering::SeqCst) == 1);
     assert!(rt; counts.are_same(), "values are left");
