@@ -1,5 +1,5 @@
 -- The schema of a workspace: that of the file `rules.schema` at the root, or the standard one (ours).
-use Rattle.std.specs.Prelude.{ℕ, List, Option, None, Some, Result, Ok, Err, codes}
+use Rattle.std.specs.Prelude.{ℕ, List, None, Some, Result, Ok, Err, codes}
 use Rattle.bq_base.specs.declared.fault.Fault.{Fault}
 use Rattle.bq_label.specs.declared.workspace.File.{File}
 use Rattle.bq_label.specs.Workspace.{file_at}
@@ -7,20 +7,10 @@ use Rattle.bq_package_schema.specs.Schema.{Rules}
 use Rattle.bq_package_schema.specs.Reading.{schema_of}
 use Rattle.bq_package_schema.specs.Standard.{standard_rules}
 
--- the rules of a workspace: the standard ones, where it has no schema file
-abbrev pub declared_by : Option File → Result Rules Fault
-declared_by None = Ok standard_rules
-declared_by (Some f) = schema_of f.content
-
--- what the file of the schema declares, or its fault
+-- what the file of the schema declares, or its fault; the standard rules, where there is no such file
 unfoldable pub declared_in : List File → Result Rules Fault
-declared_in files = declared_by (file_at files (codes "rules.schema"))
-
--- rules, or the line of the schema file that is wrong
-abbrev pub or_line : Result Rules Fault → Result Rules ℕ
-or_line (Ok rules) = Ok rules
-or_line (Err why) = Err why.line
+declared_in files = elim (file_at files (codes "rules.schema")) [ Some f ↦ schema_of f.content | None ↦ Ok standard_rules ]
 
 -- the rules of the schema, or the number of its first bad line
 unfoldable pub schema_in : List File → Result Rules ℕ
-schema_in files = or_line (declared_in files)
+schema_in files = elim (declared_in files) [ Ok rules ↦ Ok rules | Err why ↦ Err why.line ]

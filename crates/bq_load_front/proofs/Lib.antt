@@ -1,5 +1,6 @@
 pub mod Tokens
 pub mod Codes
+pub mod Cases
 pub mod Texts
 pub mod Loads
 pub mod ByName

@@ -10,7 +10,8 @@ use Rattle.bq_resolve_by_name.specs.Files.{ParsedFile}
 use Rattle.bq_resolve_by_name.specs.Loads.{WrittenLoad, file_loads}
 use Rattle.bq_load_front.specs.Code.{◌>>=◌}
 use Rattle.bq_load_front.specs.Inputs.{InputParts, universe_of}
-use Rattle.bq_load_front.specs.Parsed.{ParsedFront, file_of_text, file_named, labels_of, kind_of, front_from, parsed_at, parsed_of, loads_in, loads_of}
+use Rattle.bq_load_front.specs.Parsed.{ParsedFront, file_of_text, file_named, labels_of, kind_of, front_from, parsed_of, loads_in, loads_of}
+use Rattle.bq_load_front.proofs.Cases.{parsed_at}
 use Rattle.bq_load_front.specs.Laws.{named, IsFirstBadLoad, IsNamed, AreRead, LoadedFiles, LoadsOfFiles}
 
 no_head : {X : Type 0} (x : X) (xs : List X) → [] ≡ x ∷ xs → ⊥

@@ -15,7 +15,8 @@ use Rattle.bq_resolve_by_name.specs.Files.{ParsedFile}
 use Rattle.bq_resolve_by_name.specs.Violations.{first, violations}
 use Rattle.bq_load_front.specs.Code.{◌>>=◌}
 use Rattle.bq_load_front.specs.Laws.{IsTextOf, BreaksFirst, FilesOfTexts}
-use Rattle.bq_load_front.specs.Parsed.{trees_of, unless_broken, file_from, file_of_text}
+use Rattle.bq_load_front.specs.Parsed.{trees_of, file_from, file_of_text}
+use Rattle.bq_load_front.proofs.Cases.{unless_broken}
 
 abbrev good : ParsedFile → Result ParsedFile Fault
 good file = Ok file

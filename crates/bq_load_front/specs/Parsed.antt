@@ -1,6 +1,6 @@
 -- What the file of a module is on its own: its statements and the files that its loads name, or its first fault. Names are names here: which
 -- slots they get is a matter of the code (`Front`).
-use Rattle.std.specs.Prelude.{ℕ, List, [], ◌∷◌, ◌++◌, nat_eq, Option, None, Some, Result, Ok, Err, codes, if◌then◌else◌}
+use Rattle.std.specs.Prelude.{ℕ, List, [], ◌∷◌, ◌++◌, nat_eq, None, Some, Result, Ok, Err, codes, if◌then◌else◌}
 use Rattle.std.specs.List.{ends_with}
 use Rattle.bq_base.specs.declared.fault.Fault.{Fault}
 use Rattle.bq_base.specs.declared.fault.FaultKind.TheVariants as f
@@ -15,7 +15,6 @@ use Rattle.bq_resolve_scope.specs.Universe.{UniverseParts}
 use Rattle.bq_resolve_by_name.specs.Files.{ParsedFile}
 use Rattle.bq_resolve_by_name.specs.Loads.{WrittenLoad, file_loads}
 use Rattle.bq_resolve_by_name.specs.Violations.{violations}
-use Rattle.bq_label.specs.declared.workspace.File.{File}
 use Rattle.bq_label.specs.Label.{PackageParts, LabelParts, package_of}
 use Rattle.bq_label.specs.Packages.{label_file}
 use Rattle.bq_load_label.specs.NamedFile.{load_label}
@@ -33,14 +32,9 @@ pub record ParsedFront : Type 0 where
 unfoldable pub trees_of : UniverseParts → List ℕ → Result (List TopLevel) Fault
 trees_of universe text = tokens_of text >>= λ ts. statements_of universe.kind (lexemes text ts)
 
--- the file, unless it breaks one of these rules
-abbrev pub unless_broken : ParsedFile → List Fault → Result ParsedFile Fault
-unless_broken file [] = Ok file
-unless_broken file (why ∷ more) = Err why
-
 -- a file of these statements, unless it breaks a rule of names and flow
 abbrev pub file_from : UniverseParts → List TopLevel → Result ParsedFile Fault
-file_from universe ts = unless_broken (record { universe = universe; statements = ts }) (violations universe ts)
+file_from universe ts = elim (violations universe ts) [ [] ↦ Ok (record { universe = universe; statements = ts }) | why ∷ more ↦ Err why ]
 
 -- the file of a text: its tokens, the trees of its statements, and no rule of names and flow that these break
 unfoldable pub file_of_text : UniverseParts → List ℕ → Result ParsedFile Fault
@@ -67,14 +61,12 @@ kind_of l = if ends_with nat_eq l.name (codes ".bzl") then kinds.Bzl else kinds.
 abbrev pub front_from : InputParts → LabelParts → ParsedFile → Result ParsedFront Fault
 front_from inputs l file = labels_of (file_named inputs (package_of l)) [] (file_loads file.statements) >>= λ ls. Ok (record { file = file; loads = ls })
 
--- no module of a workspace lacks its file
-abbrev pub parsed_at : InputParts → LabelParts → Option File → Result ParsedFront Fault
-parsed_at inputs l None = Err (fault_at f.NoSuchFile 0)
-parsed_at inputs l (Some x) = file_of_text (universe_of inputs (kind_of l)) x.content >>= front_from inputs l
-
--- what the file of this label is
+-- what the file of this label is; no module of a workspace lacks its file
 unfoldable pub parsed_of : InputParts → LabelParts → Result ParsedFront Fault
-parsed_of inputs l = parsed_at inputs l (label_file inputs.files l)
+parsed_of inputs l = elim (label_file inputs.files l) [
+  | None ↦ Err (fault_at f.NoSuchFile 0)
+  | Some x ↦ file_of_text (universe_of inputs (kind_of l)) x.content >>= front_from inputs l
+]
 
 -- the labels of the loads of a file: none if it has a fault of its own or a bad load
 abbrev pub loads_in : Result ParsedFront Fault → List LabelParts

@@ -12,8 +12,9 @@ use Rattle.bq_label.specs.Label.{PackageParts, LabelParts, ReadsAs, package_of}
 use Rattle.bq_label.specs.Reading.{label_of}
 use Rattle.bq_label.specs.Packages.{package_named, label_file}
 use Rattle.bq_load_label.specs.Crossing.{crosses}
-use Rattle.bq_load_label.specs.NamedFile.{has_load_form, bzl_label, if_bzl, fault_of_file, unless_fault, file_named, load_label}
+use Rattle.bq_load_label.specs.NamedFile.{has_load_form, bzl_label, fault_of_file, unless_fault, file_named, load_label}
 use Rattle.bq_load_label.specs.Laws.{NamesFile}
+use Rattle.bq_load_label.proofs.Unread.{if_bzl}
 use Rattle.bq_load_label.proofs.Tests.{form_in_words, form_from_words, stem_of, has_stem, listed_package, package_listed, file_is_there, there_is_file, owned, uncrossed}
 
 -- ---- the label of a .bzl file

@@ -10,7 +10,7 @@ use Rattle.bq_label.specs.declared.workspace.File.{File}
 use Rattle.bq_label.specs.declared.packages.BuildFile.{BuildFile}
 use Rattle.bq_label.specs.Label.{PackageParts, LabelParts, package_at, package_of}
 use Rattle.bq_label.specs.Packages.{IsListed, IsFileOf, label_path, label_file, owner_of, package_named}
-use Rattle.bq_load_label.specs.Crossing.{is_of, is_owned_by_other, crosses}
+use Rattle.bq_load_label.specs.Crossing.{is_of, crosses}
 use Rattle.bq_load_label.specs.NamedFile.{has_load_form}
 use Rattle.bq_load_label.specs.Laws.{HasLoadForm}
 use Rattle.bq_label.proofs.Owners.{package_known, package_unknown}
@@ -98,6 +98,10 @@ there_is_file files l f x = elim (some_or_none (label_file files l)) [
 ]
 
 -- ---- crossing
+
+-- a path lies in another package than its label's
+abbrev is_owned_by_other : LabelParts → Option BuildFile → Bool
+is_owned_by_other l o = elim o [ Some b ↦ not (is_of l b.id) | None ↦ false ]
 
 pub owned : (packages : List BuildFile) (l : LabelParts) → crosses packages l ≡ false → (b : BuildFile) → owner_of packages (label_path l) ≡ Some b → b.id ≡ package_of l
 unfolding crosses is_of

@@ -1,6 +1,7 @@
 -- The file that a load names (Bazel, "Load statements": "a label that identifies a Starlark file", a .bzl file).
 use Rattle.std.specs.Prelude.{ℕ, List, Bool, ◌||◌, nat_eq, Option, None, Some, Result, Ok, Err, is_some, codes, if◌then◌else◌}
 use Rattle.std.specs.List.{starts_with, ends_with}
+use Rattle.std.specs.Option.{option_and_then}
 use Rattle.bq_base.specs.declared.fault.Fault.{Fault}
 use Rattle.bq_base.specs.declared.fault.FaultKind.{FaultKind}
 use Rattle.bq_base.specs.declared.fault.FaultKind.TheVariants as f
@@ -16,14 +17,10 @@ use Rattle.bq_load_label.specs.Crossing.{crosses}
 unfoldable pub has_load_form : List ℕ → Bool
 has_load_form text = starts_with nat_eq text (codes "//") || starts_with nat_eq text (codes "@") || starts_with nat_eq text (codes ":")
 
--- a label that can be loaded ends in `.bzl`
-abbrev pub if_bzl : Option LabelParts → Option LabelParts
-if_bzl None = None
-if_bzl (Some l) = if ends_with nat_eq l.name (codes ".bzl") then Some l else None
-
--- the label of a .bzl file that the text reads as in this package
+-- the label of a .bzl file that the text reads as in this package: it ends in `.bzl`
 unfoldable pub bzl_label : PackageParts → List ℕ → Option LabelParts
-bzl_label own text = if has_load_form text then if_bzl (label_of own text) else None
+bzl_label own text =
+    if has_load_form text then option_and_then (λ l. if ends_with nat_eq l.name (codes ".bzl") then Some l else None) (label_of own text) else None
 
 -- why the label names no file that can be loaded, the first that applies
 unfoldable pub fault_of_file : List File → List BuildFile → LabelParts → Option FaultKind
