@@ -1,6 +1,7 @@
 -- What answering a tree ensures, where its parts are answered.
 use Rattle.std.proofs.Common.{◌≡◌, ◌∙◌, Bool, List, [], ◌∷◌, ◌++◌, Option, Some, None, Result, Ok, Err, length, refl, sym, ap, subst}
 use Rattle.std.specs.Prelude.{MatchOption, IfOk}
+use Rattle.std.specs.Option.{option_or}
 use Rattle.bq_label.specs.Label.{PackageParts}
 use Rattle.bq_package_target.specs.declared.target.Target.{Target}
 use Rattle.bq_query_graph.specs.Marks.{IsSet, Marked}
@@ -9,12 +10,10 @@ use Rattle.bq_query_check.specs.declared.formula.Unary.{Unary}
 use Rattle.bq_query_check.specs.declared.formula.Binary.{Binary}
 use Rattle.bq_query_check.specs.Formula.{Formula, named, let_in, one, two}
 use Rattle.bq_query_lex.specs.QueryError.{Meets}
-use Rattle.bq_query_target_pattern.specs.Reading.{first_of}
 use Rattle.bq_query_target_pattern.specs.declared.pattern.TargetPattern.{TargetPattern}
 use Rattle.bq_query_target_sets.specs.Words.{Those, one_names}
 use Rattle.bq_query_target_sets.specs.Missing.{first_missing}
 use Rattle.bq_query_target_graph.specs.Graph.{GraphParts}
-use Rattle.bq_query.specs.Graph.{count_of, packages_of, targets_of}
 use Rattle.bq_query.specs.Stands.{Stands, Bound}
 use Rattle.bq_query.specs.Functions.{OfOne, OfTwo}
 use Rattle.bq_query.specs.Faults.{Has, Answers, fault_in}
@@ -33,38 +32,38 @@ kept_before marks w x start before result after e h = subst (λ (bs : Bound). An
 
 -- ---- patterns
 
-named_by : {A : Type 0} (marks : A → List Bool) (w : GraphParts) (patterns : List TargetPattern) (bound : Bound) (result : Result A QueryErr) → Meets (first_missing (packages_of w) (targets_of w) patterns) result
-    → IfOk result (λ r. IsSet (count_of w) (marks r) (Those (one_names patterns) (targets_of w))) → Answers marks w (named patterns) bound bound result bound
+named_by : {A : Type 0} (marks : A → List Bool) (w : GraphParts) (patterns : List TargetPattern) (bound : Bound) (result : Result A QueryErr) → Meets (first_missing w.packages w.targets patterns) result
+    → IfOk result (λ r. IsSet (length w.targets) (marks r) (Those (one_names patterns) w.targets)) → Answers marks w (named patterns) bound bound result bound
 named_by marks w patterns bound (Ok r) none stands = (record { none = none; stands = stands }, refl)
 named_by marks w patterns bound (Err why) fault stands = fault
 
-pub named_answered : {A : Type 0} (marks : A → List Bool) (w : GraphParts) (packages : List PackageParts) (targets : List Target) (patterns : List TargetPattern) (bound : Bound) (result : Result A QueryErr) → packages ≡ packages_of w
-    → targets ≡ targets_of w → Meets (first_missing packages targets patterns) result → IfOk result (λ r. IsSet (length targets) (marks r) (Those (one_names patterns) targets)) → Answers marks w (named patterns) bound bound result bound
+pub named_answered : {A : Type 0} (marks : A → List Bool) (w : GraphParts) (packages : List PackageParts) (targets : List Target) (patterns : List TargetPattern) (bound : Bound) (result : Result A QueryErr) → packages ≡ w.packages
+    → targets ≡ w.targets → Meets (first_missing packages targets patterns) result → IfOk result (λ r. IsSet (length targets) (marks r) (Those (one_names patterns) targets)) → Answers marks w (named patterns) bound bound result bound
 named_answered marks w packages targets patterns bound result e f fault stands =
     named_by marks w patterns bound result
-    (subst (λ (ps : List PackageParts). Meets (first_missing ps (targets_of w) patterns) result) e (subst (λ (ts : List Target). Meets (first_missing packages ts patterns) result) f fault))
+    (subst (λ (ps : List PackageParts). Meets (first_missing ps w.targets patterns) result) e (subst (λ (ts : List Target). Meets (first_missing packages ts patterns) result) f fault))
     (subst (λ (ts : List Target). IfOk result (λ r. IsSet (length ts) (marks r) (Those (one_names patterns) ts))) f stands)
 
 -- ---- functions
 
-pub has_one : (w : GraphParts) (bound : Bound) (f : Unary) (a : Formula) (x r : List Bool) → Has w bound a x → IsSet (count_of w) r (OfOne w f (Marked x)) → Has w bound (one f a) r
-has_one w bound f a x r h t = record { none = h.none; stands = one_stands (count_of w) (count_of w) x r (Stands w a bound) h.stands w f t }
+pub has_one : (w : GraphParts) (bound : Bound) (f : Unary) (a : Formula) (x r : List Bool) → Has w bound a x → IsSet (length w.targets) r (OfOne w f (Marked x)) → Has w bound (one f a) r
+has_one w bound f a x r h t = record { none = h.none; stands = one_stands (length w.targets) (length w.targets) x r (Stands w a bound) h.stands w f t }
 
 -- the first of two sets fails, or the second
 pub first_fails : (w : GraphParts) (f : Binary) (a b : Formula) (why : QueryErr) → fault_in w a ≡ Some why → fault_in w (two f a b) ≡ Some why
-first_fails w f a b why h = ap (λ e. first_of e (fault_in w b)) h
+first_fails w f a b why h = ap (λ e. option_or e (fault_in w b)) h
 
 pub second_fails : (w : GraphParts) (f : Binary) (a b : Formula) (why : QueryErr) → fault_in w a ≡ None → fault_in w b ≡ Some why → fault_in w (two f a b) ≡ Some why
-second_fails w f a b why none h = ap (λ e. first_of e (fault_in w b)) none ∙ h
+second_fails w f a b why none h = ap (λ e. option_or e (fault_in w b)) none ∙ h
 
 -- both have sets
 pub both_answered : (w : GraphParts) (f : Binary) (a b : Formula) (before middle after : Bound) (x y r : List Bool) → Has w before a x × (middle ≡ before)
-    → Has w middle b y × (after ≡ middle) → IsSet (count_of w) r (OfTwo w f (Marked x) (Marked y)) → Has w before (two f a b) r × (after ≡ before)
+    → Has w middle b y × (after ≡ middle) → IsSet (length w.targets) r (OfTwo w f (Marked x) (Marked y)) → Has w before (two f a b) r × (after ≡ before)
 both_answered w f a b before middle after x y r h k t =
     let second : Has w before b y = subst (λ (bs : Bound). Has w bs b y) h.1 k.0 in (
       record {
-        none = ap (λ e. first_of e (fault_in w b)) h.0.none ∙ second.none;
-        stands = two_stand (count_of w) (count_of w) x y r (Stands w a before) (Stands w b before) h.0.stands second.stands w f t;
+        none = ap (λ e. option_or e (fault_in w b)) h.0.none ∙ second.none;
+        stands = two_stand (length w.targets) (length w.targets) x y r (Stands w a before) (Stands w b before) h.0.stands second.stands w f t;
       },
       k.1 ∙ h.1,
     )
@@ -76,16 +75,16 @@ let_known : {A : Type 0} (marks : A → List Bool) (w : GraphParts) (a b : Formu
     → Answers marks w (let_in a b) before before result after
 let_known marks w a b before set (Ok r) after h k = (
   record {
-    none = ap (λ e. first_of e (fault_in w b)) h.none ∙ k.0.none;
+    none = ap (λ e. option_or e (fault_in w b)) h.none ∙ k.0.none;
     stands = let_stands w a b before set (marks r) h.stands k.0.stands;
   },
   k.1,
 )
-let_known marks w a b before set (Err why) after h k = λ other. ap (λ e. first_of e (fault_in w b)) h.none ∙ k other
+let_known marks w a b before set (Err why) after h k = λ other. ap (λ e. option_or e (fault_in w b)) h.none ∙ k other
 
 -- something is missing from the value
 pub value_fails : (w : GraphParts) (a b : Formula) (why : QueryErr) → fault_in w a ≡ Some why → fault_in w (let_in a b) ≡ Some why
-value_fails w a b why h = ap (λ e. first_of e (fault_in w b)) h
+value_fails w a b why h = ap (λ e. option_or e (fault_in w b)) h
 
 -- the value has a set
 pub let_answered : {A : Type 0} (marks : A → List Bool) (w : GraphParts) (a b : Formula) (before middle : Bound) (set : List Bool) (result : Result A QueryErr) (after : Bound)

@@ -9,7 +9,6 @@ use Rattle.bq_query_check.specs.declared.formula.Binary.{Binary}
 use Rattle.bq_query_check.specs.Formula.{Formula, step_of, variable, let_in, one, two, chained, IsClosed, AreClosed}
 use Rattle.bq_query_check.proofs.Closed.{first_closed, further_closed}
 use Rattle.bq_query_target_graph.specs.Graph.{GraphParts}
-use Rattle.bq_query.specs.Graph.{count_of}
 use Rattle.bq_query.specs.Stands.{Bound, AreSets}
 use Rattle.bq_query.specs.Faults.{Has, AreBound}
 
@@ -39,10 +38,10 @@ second_bound w f a b bound h = record { closed = h.closed.1; sets = h.sets }
 pub value_bound : (w : GraphParts) (a b : Formula) (bound : Bound) → AreBound w (let_in a b) bound → AreBound w a bound
 value_bound w a b bound h = record { closed = h.closed.0; sets = h.sets }
 
-pub body_bound : (w : GraphParts) (a b : Formula) (bound : Bound) (set : List Bool) → length set ≡ count_of w → AreBound w (let_in a b) bound → AreBound w b (bound ++ set ∷ [])
+pub body_bound : (w : GraphParts) (a b : Formula) (bound : Bound) (set : List Bool) → length set ≡ length w.targets → AreBound w (let_in a b) bound → AreBound w b (bound ++ set ∷ [])
 body_bound w a b bound set long h = record {
   closed = subst (λ (n : ℕ). IsClosed n b) (sym (length-append bound (set ∷ []))) h.closed.1;
-  sets = All-push (λ s. length s ≡ count_of w) bound set h.sets long;
+  sets = All-push (λ s. length s ≡ length w.targets) bound set h.sets long;
 }
 
 pub start_bound : (w : GraphParts) (x : Formula) (os : List ChainStep) (bound : Bound) → AreBound w (chained x (map step_of os)) bound → AreBound w x bound

@@ -1,11 +1,10 @@
 -- The sets of formulas whose parts' sets are known.
-use Rattle.std.proofs.Common.{◌≡◌, ◌∙◌, Bool, List, [], ◌∷◌, ◌++◌, Some, None, refl, sym, ap, subst}
+use Rattle.std.proofs.Common.{◌≡◌, ◌∙◌, Bool, List, [], ◌∷◌, ◌++◌, length, Some, None, refl, sym, ap, subst}
+use Rattle.std.specs.Option.{option_or}
 use Rattle.bq_query_graph.specs.Marks.{IsSet, Marked}
 use Rattle.bq_query_target_graph.specs.Graph.{GraphParts}
-use Rattle.bq_query.specs.Graph.{count_of}
 use Rattle.bq_query_check.specs.Formula.{Formula, let_in, combined, Step, chained}
 use Rattle.bq_query_lex.specs.declared.query_error.QueryErr.{QueryErr}
-use Rattle.bq_query_target_pattern.specs.Reading.{first_of}
 use Rattle.bq_query.specs.Stands.{Stands, Bound}
 use Rattle.bq_query.specs.Functions.{Combined}
 use Rattle.bq_query.specs.Faults.{fault_in, Has}
@@ -13,11 +12,11 @@ use Rattle.bq_query.proofs.Same.{set_as, one_list, combined_stands}
 use Rattle.bq_query.proofs.Firsts.{fault_stays}
 
 -- `let name = a in b`, where `set` is that of `a`
-pub let_stands : (w : GraphParts) (a b : Formula) (bound : Bound) (set r : List Bool) → IsSet (count_of w) set (Stands w a bound)
-    → IsSet (count_of w) r (Stands w b (bound ++ set ∷ [])) → IsSet (count_of w) r (Stands w (let_in a b) bound)
+pub let_stands : (w : GraphParts) (a b : Formula) (bound : Bound) (set r : List Bool) → IsSet (length w.targets) set (Stands w a bound)
+    → IsSet (length w.targets) r (Stands w b (bound ++ set ∷ [])) → IsSet (length w.targets) r (Stands w (let_in a b) bound)
 let_stands w a b bound set r s t =
-    set_as (Stands w b (bound ++ set ∷ [])) (Stands w (let_in a b) bound) (count_of w) r (λ y h. (set, s, h))
-    (λ y h. subst (λ (xs : List Bool). Stands w b (bound ++ xs ∷ []) y) (one_list (Stands w a bound) (count_of w) h.0 set h.1 s) h.2) t
+    set_as (Stands w b (bound ++ set ∷ [])) (Stands w (let_in a b) bound) (length w.targets) r (λ y h. (set, s, h))
+    (λ y h. subst (λ (xs : List Bool). Stands w b (bound ++ xs ∷ []) y) (one_list (Stands w a bound) (length w.targets) h.0 set h.1 s) h.2) t
 
 -- a part of a chain is done, and has these marks: what is left makes of it what the whole chain says
 pub record SoFar (w : GraphParts) (bound : Bound) (whole : Formula) (left : List Step) (set : List Bool) : Type 0 where
@@ -31,13 +30,13 @@ none_done w bound x steps set h = record { done = x; goes_on = refl; has = h }
 
 -- one operation more
 pub one_more : (w : GraphParts) (bound : Bound) (whole : Formula) (o : Step) (left : List Step) (set operand r : List Bool) → SoFar w bound whole (o ∷ left) set → fault_in w o.formula ≡ None
-    → IsSet (count_of w) operand (Stands w o.formula bound) → IsSet (count_of w) r (Combined o.operator (Marked set) (Marked operand)) → SoFar w bound whole left r
+    → IsSet (length w.targets) operand (Stands w o.formula bound) → IsSet (length w.targets) r (Combined o.operator (Marked set) (Marked operand)) → SoFar w bound whole left r
 one_more w bound whole o left set operand r so_far none s t = record {
   done = combined o.operator so_far.done o.formula;
   goes_on = so_far.goes_on;
   has = record {
-    none = ap (λ f. first_of f (fault_in w o.formula)) so_far.has.none ∙ none;
-    stands = combined_stands (count_of w) (count_of w) set operand r (Stands w so_far.done bound) (Stands w o.formula bound) so_far.has.stands s o.operator t;
+    none = ap (λ f. option_or f (fault_in w o.formula)) so_far.has.none ∙ none;
+    stands = combined_stands (length w.targets) (length w.targets) set operand r (Stands w so_far.done bound) (Stands w o.formula bound) so_far.has.stands s o.operator t;
   };
 }
 
@@ -45,7 +44,7 @@ one_more w bound whole o left set operand r so_far none s t = record {
 pub fails_there : (w : GraphParts) (bound : Bound) (whole : Formula) (o : Step) (left : List Step) (set : List Bool) (why : QueryErr) → SoFar w bound whole (o ∷ left) set → fault_in w o.formula ≡ Some why
     → fault_in w whole ≡ Some why
 fails_there w bound whole o left set why so_far h =
-    ap (fault_in w) (sym so_far.goes_on) ∙ fault_stays w (combined o.operator so_far.done o.formula) left why (ap (λ f. first_of f (fault_in w o.formula)) so_far.has.none ∙ h)
+    ap (fault_in w) (sym so_far.goes_on) ∙ fault_stays w (combined o.operator so_far.done o.formula) left why (ap (λ f. option_or f (fault_in w o.formula)) so_far.has.none ∙ h)
 
 -- all of it
 pub all_done : (w : GraphParts) (bound : Bound) (whole : Formula) (set : List Bool) → SoFar w bound whole [] set → Has w bound whole set

@@ -14,9 +14,9 @@ use Rattle.bq_query.specs.Laws.{LieWithin, Keep, IsItself, LabelsAscend}
 pub lie_within : (w : GraphParts) (a b : Formula) (n : ℕ) (bound : Bound) (y : ℕ) → LieWithin w a b n bound y
 lie_within w a b n bound y = record {
   argument = λ h. record { from = y; starts = h; through = []; path = refl };
-  near = λ e. record { from = e.from; starts = e.starts; through = e.through; path = e.path };
+  near = λ e. e.0;
   dependents = λ e. e.inside.0;
-  near_dependents = λ e. record { to = e.to; ends = e.ends; through = e.through; path = e.path; inside = e.inside };
+  near_dependents = λ e. e.0;
   paths = λ e. e.reached;
 }
 

@@ -13,7 +13,6 @@ use Rattle.bq_query_check.specs.declared.formula.Binary.{Binary}
 use Rattle.bq_query_check.specs.declared.formula.Binary.TheVariants as binary
 use Rattle.bq_query.specs.Functions.{OfOne, OfTwo, Combined}
 use Rattle.bq_query_target_graph.specs.Graph.{GraphParts}
-use Rattle.bq_query.specs.Graph.{edges_of}
 
 abbrev pub Within : (ℕ → Type 0) → (ℕ → Type 0) → Type 0
 Within P Q = (y : ℕ) → P y → Q y
@@ -34,7 +33,8 @@ deps_in : (g : List (List ℕ)) (P Q : ℕ → Type 0) → Within P Q → Within
 deps_in g P Q f y e = record { from = e.from; starts = f e.from e.starts; through = e.through; path = e.path }
 
 deps_within_in : (g : List (List ℕ)) (n : ℕ) (P Q : ℕ → Type 0) → Within P Q → Within (DepsWithin g P n) (DepsWithin g Q n)
-deps_within_in g n P Q f y e = record { from = e.from; starts = f e.from e.starts; through = e.through; path = e.path; few = e.few }
+unfolding deps_in
+deps_within_in g n P Q f y (e, few) = (deps_in g P Q f y e, few)
 
 all_in : (P Q : ℕ → Type 0) → Within P Q → (xs : List ℕ) → AllByRecursion P xs → AllByRecursion Q xs
 all_in P Q f [] h = tt
@@ -44,24 +44,24 @@ rdeps_in : (g : List (List ℕ)) (U V X Y : ℕ → Type 0) → Within U V → W
 rdeps_in g U V X Y f h y e = record { to = e.to; ends = h e.to e.ends; through = e.through; path = e.path; inside = all_in (Deps g U) (Deps g V) (deps_in g U V f) (y ∷ e.through) e.inside }
 
 rdeps_within_in : (g : List (List ℕ)) (n : ℕ) (U V X Y : ℕ → Type 0) → Within U V → Within X Y → Within (RdepsWithin g U X n) (RdepsWithin g V Y n)
-rdeps_within_in g n U V X Y f h y e =
-    record { to = e.to; ends = h e.to e.ends; through = e.through; path = e.path; inside = all_in (Deps g U) (Deps g V) (deps_in g U V f) (y ∷ e.through) e.inside; few = e.few }
+unfolding rdeps_in
+rdeps_within_in g n U V X Y f h y (e, few) = (rdeps_in g U V X Y f h y e, few)
 
 paths_in : (g : List (List ℕ)) (A C B D : ℕ → Type 0) → Within A C → Within B D → Within (OnPaths g A B) (OnPaths g C D)
 paths_in g A C B D f h y e = record { reached = deps_in g A C f y e.reached; to = e.to; ends = h e.to e.ends; through = e.through; path = e.path }
 
 one_in : (w : GraphParts) (f : Unary) (P Q : ℕ → Type 0) → Within P Q → Within (OfOne w f P) (OfOne w f Q)
-one_in w unary.Deps P Q g y e = deps_in (edges_of w) P Q g y e
-one_in w (unary.DepsWithin n) P Q g y e = deps_within_in (edges_of w) n P Q g y e
+one_in w unary.Deps P Q g y e = deps_in w.edges P Q g y e
+one_in w (unary.DepsWithin n) P Q g y e = deps_within_in w.edges n P Q g y e
 one_in w (unary.Kind pattern) P Q g y e = (g y e.0, e.1)
 one_in w (unary.Filter pattern) P Q g y e = (g y e.0, e.1)
 one_in w (unary.Attr name pattern) P Q g y e = (g y e.0, e.1)
 one_in w (unary.Labels name) P Q g y e = (e.0, g e.0 e.1, e.2)
 
 two_in : (w : GraphParts) (f : Binary) (A C B D : ℕ → Type 0) → Within A C → Within B D → Within (OfTwo w f A B) (OfTwo w f C D)
-two_in w binary.Rdeps A C B D g h y e = rdeps_in (edges_of w) A C B D g h y e
-two_in w (binary.RdepsWithin n) A C B D g h y e = rdeps_within_in (edges_of w) n A C B D g h y e
-two_in w binary.Allpaths A C B D g h y e = paths_in (edges_of w) A C B D g h y e
+two_in w binary.Rdeps A C B D g h y e = rdeps_in w.edges A C B D g h y e
+two_in w (binary.RdepsWithin n) A C B D g h y e = rdeps_within_in w.edges n A C B D g h y e
+two_in w binary.Allpaths A C B D g h y e = paths_in w.edges A C B D g h y e
 
 combined_in : (o : SetOperator) (A C B D : ℕ → Type 0) → Within A C → Within B D → Within D B → Within (Combined o A B) (Combined o C D)
 combined_in op.Union A C B D f h k y e = elim e [ inl a ↦ inl (f y a) | inr b ↦ inr (h y b) ]

@@ -11,22 +11,21 @@ use Rattle.bq_query_target_sets.specs.Words.{Those}
 use Rattle.bq_query_target_sets.specs.Labels.{Labels}
 use Rattle.bq_query_target_sets.specs.Matching.{has_kind, has_text, has_attribute}
 use Rattle.bq_query_target_graph.specs.Graph.{GraphParts}
-use Rattle.bq_query.specs.Graph.{edges_of, targets_of}
 
 -- what a function of one set gives of the set `X`
 abbrev pub OfOne : GraphParts → Unary → (ℕ → Type 0) → ℕ → Type 0
-OfOne w unary.Deps X y = Deps (edges_of w) X y
-OfOne w (unary.DepsWithin n) X y = DepsWithin (edges_of w) X n y
-OfOne w (unary.Kind pattern) X y = X y × Those (has_kind pattern) (targets_of w) y
-OfOne w (unary.Filter pattern) X y = X y × Those (has_text pattern) (targets_of w) y
-OfOne w (unary.Attr name pattern) X y = X y × Those (has_attribute name pattern) (targets_of w) y
-OfOne w (unary.Labels name) X y = Labels name (targets_of w) X y
+OfOne w unary.Deps X y = Deps w.edges X y
+OfOne w (unary.DepsWithin n) X y = DepsWithin w.edges X n y
+OfOne w (unary.Kind pattern) X y = X y × Those (has_kind pattern) w.targets y
+OfOne w (unary.Filter pattern) X y = X y × Those (has_text pattern) w.targets y
+OfOne w (unary.Attr name pattern) X y = X y × Those (has_attribute name pattern) w.targets y
+OfOne w (unary.Labels name) X y = Labels name w.targets X y
 
 -- what a function of two sets gives
 abbrev pub OfTwo : GraphParts → Binary → (ℕ → Type 0) → (ℕ → Type 0) → ℕ → Type 0
-OfTwo w binary.Rdeps U X y = Rdeps (edges_of w) U X y
-OfTwo w (binary.RdepsWithin n) U X y = RdepsWithin (edges_of w) U X n y
-OfTwo w binary.Allpaths A B y = OnPaths (edges_of w) A B y
+OfTwo w binary.Rdeps U X y = Rdeps w.edges U X y
+OfTwo w (binary.RdepsWithin n) U X y = RdepsWithin w.edges U X n y
+OfTwo w binary.Allpaths A B y = OnPaths w.edges A B y
 
 -- union, intersection and difference
 abbrev pub Combined : SetOperator → (ℕ → Type 0) → (ℕ → Type 0) → ℕ → Type 0

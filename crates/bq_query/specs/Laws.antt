@@ -9,7 +9,6 @@ use Rattle.bq_query_check.specs.Formula.{Formula, variable, let_in, combined, on
 use Rattle.bq_package_target.specs.declared.target.Target.{Target}
 use Rattle.bq_query_target_sets.specs.Order.{by_text}
 use Rattle.bq_query_target_graph.specs.Graph.{GraphParts}
-use Rattle.bq_query.specs.Graph.{count_of}
 use Rattle.bq_query.specs.Stands.{Stands, Bound}
 
 -- union, intersection and difference are those of sets
@@ -34,7 +33,7 @@ pub record Keep (w : GraphParts) (a : Formula) (name pattern : List ℕ) (bound 
 
 -- `let name = a in $name` is a
 abbrev pub IsItself : GraphParts → Formula → Bound → Type 0
-IsItself w a bound = (marks : List Bool) → IsSet (count_of w) marks (Stands w a bound) → (y : ℕ) → Stands w (let_in a (variable (length bound))) bound y ↔ Stands w a bound y
+IsItself w a bound = (marks : List Bool) → IsSet (length w.targets) marks (Stands w a bound) → (y : ℕ) → Stands w (let_in a (variable (length bound))) bound y ↔ Stands w a bound y
 
 -- the label of each target of the answer comes before those of the targets after it, so none is there twice
 abbrev pub LabelsAscend : List Target → List ℕ → Type 0

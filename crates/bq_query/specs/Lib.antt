@@ -1,4 +1,3 @@
-pub mod Graph
 pub mod Functions
 pub mod Stands
 pub mod Faults

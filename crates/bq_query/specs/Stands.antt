@@ -6,7 +6,6 @@ use Rattle.bq_query_graph.specs.Marks.{IsSet, Marked}
 use Rattle.bq_query_check.specs.Formula.{Formula, named, variable, let_in, combined, one, two}
 use Rattle.bq_query_target_sets.specs.Words.{Those, one_names}
 use Rattle.bq_query_target_graph.specs.Graph.{GraphParts}
-use Rattle.bq_query.specs.Graph.{targets_of, count_of}
 use Rattle.bq_query.specs.Functions.{OfOne, OfTwo, Combined}
 
 -- the sets that lets bind, as marks of the targets
@@ -15,13 +14,13 @@ Bound = List (List Bool)
 
 -- each is a set of the targets
 abbrev pub AreSets : GraphParts → Bound → Type 0
-AreSets w bound = All (λ set. length set ≡ count_of w) bound
+AreSets w bound = All (λ set. length set ≡ length w.targets) bound
 
 -- target y is in the set
 abbrev pub Stands : GraphParts → Formula → Bound → ℕ → Type 0
-Stands w (named patterns) bound y = Those (one_names patterns) (targets_of w) y
+Stands w (named patterns) bound y = Those (one_names patterns) w.targets y
 Stands w (variable k) bound y = Marked (slice_index_or bound k []) y
-Stands w (let_in a b) bound y = (set : List Bool) × IsSet (count_of w) set (Stands w a bound) × Stands w b (bound ++ set ∷ []) y
+Stands w (let_in a b) bound y = (set : List Bool) × IsSet (length w.targets) set (Stands w a bound) × Stands w b (bound ++ set ∷ []) y
 Stands w (combined o a b) bound y = Combined o (Stands w a bound) (Stands w b bound) y
 Stands w (one f a) bound y = OfOne w f (Stands w a bound) y
 Stands w (two f a b) bound y = OfTwo w f (Stands w a bound) (Stands w b bound) y

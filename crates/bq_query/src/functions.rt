@@ -2,7 +2,6 @@
 
 ghost use Rattle.std.specs.Prelude.{◌≡◌, length, IfOk};
 ghost use Rattle.bq_query_graph.specs.Marks.{IsSet, Marked};
-ghost use Rattle.bq_query.specs.Graph.{count_of};
 ghost use Rattle.bq_query.specs.Functions.{OfOne, OfTwo, Combined};
 
 use bq_query_check::{Binary, Unary};
@@ -26,8 +25,8 @@ pub fn of_one(
     function: &Unary,
     x: &[bool],
 ) -> Result<Vec<bool>, AllocError>
-    requires { length x.now ≡ count_of graph.now }
-    ensures { IfOk result (λ r. IsSet (count_of graph.now) r.items (OfOne graph.now function.now (Marked x.now))) }
+    requires { length x.now ≡ length graph.now.targets }
+    ensures { IfOk result (λ r. IsSet (length graph.now.targets) r.items (OfOne graph.now function.now (Marked x.now))) }
 {
     let edges = graph.graph();
     let targets = graph.targets();
@@ -49,9 +48,9 @@ pub fn of_two(
     x: &[bool],
     y: &[bool],
 ) -> Result<Vec<bool>, AllocError>
-    requires x { length x.now ≡ count_of graph.now }
-    requires y { length y.now ≡ count_of graph.now }
-    ensures { IfOk result (λ r. IsSet (count_of graph.now) r.items (OfTwo graph.now function (Marked x.now) (Marked y.now))) }
+    requires x { length x.now ≡ length graph.now.targets }
+    requires y { length y.now ≡ length graph.now.targets }
+    ensures { IfOk result (λ r. IsSet (length graph.now.targets) r.items (OfTwo graph.now function (Marked x.now) (Marked y.now))) }
 {
     let edges = graph.graph();
     match function {
@@ -69,9 +68,9 @@ pub fn combined(
     x: &[bool],
     y: &[bool],
 ) -> Result<Vec<bool>, AllocError>
-    requires x { length x.now ≡ count_of graph.now }
-    requires y { length y.now ≡ count_of graph.now }
-    ensures { IfOk result (λ r. IsSet (count_of graph.now) r.items (Combined operator (Marked x.now) (Marked y.now))) }
+    requires x { length x.now ≡ length graph.now.targets }
+    requires y { length y.now ≡ length graph.now.targets }
+    ensures { IfOk result (λ r. IsSet (length graph.now.targets) r.items (Combined operator (Marked x.now) (Marked y.now))) }
 {
     match operator {
         SetOperator::Union => union(alloc, x, y),

@@ -3,7 +3,6 @@
 ghost use Rattle.std.specs.Prelude.{◌≡◌, ◌++◌, ◌∷◌, [], length, map};
 ghost use Rattle.bq_query_check.specs.Formula as formula;
 ghost use Rattle.bq_query_check.specs.Formula.{Formula, formula_of, step_of, chained, AreClosed};
-ghost use Rattle.bq_query.specs.Graph.{count_of};
 ghost use Rattle.bq_query.specs.Stands.{AreSets};
 ghost use Rattle.bq_query.specs.Faults.{Answers, AreBound, Has};
 
@@ -59,7 +58,7 @@ fn chain_of(
     first: Vec<bool>,
     operations: &[ChainStep],
 ) -> Result<Vec<bool>, QueryErr>
-    requires first { length first.items ≡ count_of graph.now }
+    requires first { length first.items ≡ length graph.now.targets }
     requires closed { AreClosed (length bound.old) (map step_of operations.now) }
     requires sets { AreSets graph.now bound.old }
     ensures { (x : Formula) → Has graph.now bound.old x first.items → Answers (λ v. v.items) graph.now (chained x (map step_of operations.now)) bound.old bound.old result bound.new }

@@ -9,7 +9,7 @@ use Rattle.bq_query_lex.specs.declared.function.QueryFunction.{QueryFunction}
 use Rattle.bq_query_lex.specs.declared.function.QueryFunction.TheVariants as fn
 use Rattle.bq_query_tree.specs.declared.tree.Query.{Query}
 use Rattle.bq_query_verdict.specs.Verdict as spec
-use Rattle.bq_query_verdict.specs.Verdict.{fits, function_by}
+use Rattle.bq_query_verdict.specs.Verdict.{Fault, fits}
 use Rattle.bq_query_check.specs.declared.formula.Unary.{Unary}
 use Rattle.bq_query_check.specs.declared.formula.Binary.{Binary}
 use Rattle.bq_query_check.specs.declared.call.SetFunction.{SetFunction}
@@ -31,8 +31,11 @@ is_called fn.Rdeps (AreArgumentsOf.one_argument (IsArgumentOf.set a) (AreArgumen
 is_called fn.Rdeps (AreArgumentsOf.one_argument (IsArgumentOf.set a) (AreArgumentsOf.one_argument (IsArgumentOf.set b) (AreArgumentsOf.one_argument (IsArgumentOf.limit n) AreArgumentsOf.no_argument))) e = (_, refl)
 is_called f h e = absurd (false≢true e)
 
+abbrev by_function : List ℕ → ℕ → Option QueryFunction → Fault
+by_function name n o = elim o [ Some f ↦ if fits f n then None else Some Arguments | None ↦ Some (spec.unknown name) ]
+
 pub function_fits : (name : List ℕ) (n : ℕ) (f : QueryFunction) → spec.function name n ≡ None → function_named name ≡ Some f → fits f n ≡ true
-function_fits name n f none known = fits_by (fits f n) (ap (λ o. function_by o name n) (sym known) ∙ none)
+function_fits name n f none known = fits_by (fits f n) (ap (by_function name n) (sym known) ∙ none)
   where
     some_none : Some Arguments ≡ None → ⊥
     some_none e = cc

@@ -1,8 +1,9 @@
 -- What must hold, one after another.
 use Rattle.std.proofs.Common.{◌≡◌, List, [], ◌∷◌, ◌++◌, ℕ, None, Some, Result, Ok, Err, inl, inr, refl, sym, subst}
 use Rattle.std.specs.List.{AllByRecursion}
+use Rattle.std.specs.Option.{option_or}
 use Rattle.bq_query_lex.specs.declared.query_error.QueryErr.{QueryErr}
-use Rattle.bq_query_target_pattern.specs.Reading.{first_of, word_fault, words_fault}
+use Rattle.bq_query_target_pattern.specs.Reading.{word_fault, words_fault}
 use Rattle.bq_query_verdict.specs.Verdict.{Fault, Need}
 use Rattle.bq_query_check.specs.Checked.{Holds, FirstFails, Reads}
 
@@ -31,6 +32,6 @@ module _ {A : Type 0} where
 pub one_word : (w : List ℕ) → words_fault (w ∷ []) ≡ word_fault w
 one_word w = first_alone (word_fault w)
   where
-    first_alone : (f : Fault) → first_of f None ≡ f
+    first_alone : (f : Fault) → option_or f None ≡ f
     first_alone None = refl
     first_alone (Some why) = refl

@@ -15,7 +15,7 @@ pub syntax_is_wrong : (text : List ℕ) → ((x : Query) → IsQuery text x → 
 syntax_is_wrong text none = IsWrong.no_tree refl none
 
 -- what is read of a tree has its variables bound
-pub read_checks : (text : List ℕ) (x : Query) (q : CheckedQuery) → IsQuery text x → AllByRecursion Holds (needs x) → IsFormulaOf [] x (formula_of q.set) → IsChecked text q
+pub read_checks : (text : List ℕ) (x : Query) (q : CheckedQuery) → IsQuery text x → AllByRecursion Holds (needs x) → IsFormulaOf [] x (formula_of q.set) → IsChecked text (formula_of q.set)
 read_checks text x q parsed sound formula = record { tree = x; parsed = parsed; sound = sound; formula = formula }
 
 pub fault_is_wrong : (text : List ℕ) (x : Query) (why : QueryErr) → IsQuery text x → FirstFails (needs x) why → IsWrong text why

@@ -9,7 +9,7 @@ use Rattle.bq_query_tree.specs.declared.tree.Query.{Query}
 use Rattle.bq_query_parse.specs.Parses.{IsQuery}
 use Rattle.bq_query_verdict.specs.Verdict.{Need, no_fault, regex, needs}
 use Rattle.bq_query_check.specs.declared.checked.CheckedQuery.{CheckedQuery}
-use Rattle.bq_query_check.specs.Formula.{formula_of}
+use Rattle.bq_query_check.specs.Formula.{Formula, formula_of}
 use Rattle.bq_query_check.specs.FormulaOf.{IsFormulaOf}
 
 -- there is no such fault, or the text is a pattern
@@ -32,16 +32,16 @@ pub data IsWrong (text : List ℕ) (why : QueryErr) : Type 0 where
   no_tree : why ≡ e.Syntax → ((x : Query) → IsQuery text x → ⊥) → IsWrong text why
   fault : (x : Query) → IsQuery text x → FirstFails (needs x) why → IsWrong text why
 
--- the text has a tree with no fault, and the query is what the tree says
-pub record IsChecked (text : List ℕ) (query : CheckedQuery) : Type 0 where
+-- the text has a tree with no fault, and the formula is what the tree says
+pub record IsChecked (text : List ℕ) (x : Formula) : Type 0 where
   pub tree : Query
   pub parsed : IsQuery text tree
   pub sound : AllByRecursion Holds (needs tree)
-  pub formula : IsFormulaOf [] tree (formula_of query.set)
+  pub formula : IsFormulaOf [] tree x
 
 -- what reading a text ensures, out of memory aside
 abbrev pub Checks : List ℕ → Result CheckedQuery QueryErr → Type 0
-Checks text (Ok query) = IsChecked text query
+Checks text (Ok query) = IsChecked text (formula_of query.set)
 Checks text (Err why) = why ≢ e.Memory → IsWrong text why
 
 -- what reading a part of a tree ensures, out of memory aside: all that must hold of it does, and what is read is this, or the first that

@@ -32,14 +32,16 @@ deps_as g all xs below long e m ms same =
 pub deps_within_as : (g : List (List ℕ)) (all xs : List Bool) (n : ℕ) → AreBelow g → length xs ≡ length g → Everything g all → (ms : List Bool) → IsSet (length g) ms (EndsWithin (Step g all) (Both xs all) n) → IsSet (length g) ms (DepsWithin g (Marked xs) n)
 deps_within_as g all xs n below long e ms =
     set_as (EndsWithin (Step g all) (Both xs all) n) (DepsWithin g (Marked xs) n) (length g) (length g) ms refl
-    (λ y r. record { from = r.from; starts = r.starts.0; through = r.through; path = path_map (Step g all) (Pair g) (λ a b p. p.0) r.from r.through y r.path; few = r.few })
-    (λ y r. record {
-      from = r.from;
-      starts = (r.starts, marked_all (length g) r.from all e (omega (arith, marked_below xs r.from r.starts, long)));
-      through = r.through;
-      path = path_map (Pair g) (Step g all) (λ a b p. (p, marked_all (length g) b all e (below a b p))) r.from r.through y r.path;
-      few = r.few;
-    })
+    (λ y (e, few). (record { from = e.from; starts = e.starts.0; through = e.through; path = path_map (Step g all) (Pair g) (λ a b p. p.0) e.from e.through y e.path }, few))
+    (λ y (r, few). (
+      record {
+        from = r.from;
+        starts = (r.starts, marked_all (length g) r.from all e (omega (arith, marked_below xs r.from r.starts, long)));
+        through = r.through;
+        path = path_map (Pair g) (Step g all) (λ a b p. (p, marked_all (length g) b all e (below a b p))) r.from r.through y r.path;
+      },
+      few,
+    ))
 
 -- d marks deps(u)
 pub rdeps_as : (g h : List (List ℕ)) → (U : ℕ → Type 0) → (xs d : List Bool) → AreTurned g h → IsSet (length g) d (Deps g U) → (ms : List Bool) → IsSet (length h) ms (Ends (Step h d) (Both xs d)) → IsSet (length g) ms (Rdeps g U (Marked xs))
@@ -58,16 +60,17 @@ rdeps_as g h U xs d t s ms =
 pub rdeps_within_as : (g h : List (List ℕ)) → (U : ℕ → Type 0) → (xs d : List Bool) (n : ℕ) → AreTurned g h → IsSet (length g) d (Deps g U) → (ms : List Bool) → IsSet (length h) ms (EndsWithin (Step h d) (Both xs d) n) → IsSet (length g) ms (RdepsWithin g U (Marked xs) n)
 rdeps_within_as g h U xs d n t s ms =
     set_as (EndsWithin (Step h d) (Both xs d) n) (RdepsWithin g U (Marked xs) n) (length h) (length g) ms t.long
-    (λ y r. let f = forth (Pair g) (Deps g U) r.from r.through y (path_map (Step h d) (Back (Pair g) (Deps g U)) (λ a b p. (t.from b a p.0, (s.1 b).0 p.1)) r.from r.through y r.path) ((s.1 r.from).0 r.starts.1) in
-    record { to = r.from; ends = r.starts.0; through = f.through; path = f.path; inside = f.inside; few = omega (arith, f.long, r.few) })
-    (λ y r. let f = turned (Pair g) (Deps g U) y r.through r.to r.path r.inside in
-    record {
-      from = r.to;
-      starts = (r.ends, (s.1 r.to).1 f.ends);
-      through = f.through;
-      path = path_map (Back (Pair g) (Deps g U)) (Step h d) (λ a b p. (t.to b a p.0, (s.1 b).1 p.1)) r.to f.through y f.path;
-      few = omega (arith, f.long, r.few);
-    })
+    (λ y (r, few). let f = forth (Pair g) (Deps g U) r.from r.through y (path_map (Step h d) (Back (Pair g) (Deps g U)) (λ a b p. (t.from b a p.0, (s.1 b).0 p.1)) r.from r.through y r.path) ((s.1 r.from).0 r.starts.1) in
+    (record { to = r.from; ends = r.starts.0; through = f.through; path = f.path; inside = f.inside }, omega (arith, f.long, few)))
+    (λ y (r, few). let f = turned (Pair g) (Deps g U) y r.through r.to r.path r.inside in (
+      record {
+        from = r.to;
+        starts = (r.ends, (s.1 r.to).1 f.ends);
+        through = f.through;
+        path = path_map (Back (Pair g) (Deps g U)) (Step h d) (λ a b p. (t.to b a p.0, (s.1 b).1 p.1)) r.to f.through y f.path;
+      },
+      omega (arith, f.long, few),
+    ))
 
 always : (xs : List ℕ) → AllByRecursion (λ _. Unit {0}) xs
 always [] = tt

@@ -22,12 +22,12 @@ no_edge g x y from (u ∷ us) l p m = absurd (omega (arith, l))
 pub grown : (g : List (List ℕ)) (x : List Bool) → DepsGrows g x
 grown g x =
     record {
-      none = λ y. (λ d. no_edge g x y d.from d.through d.few d.path d.starts, λ m. record { from = y; starts = m; through = []; path = refl; few = omega arith });
+      none = λ y. (λ d. no_edge g x y d.0.from d.0.through d.1 d.0.path d.0.starts, λ m. (record { from = y; starts = m; through = []; path = refl }, omega arith));
       grows = λ n m y l d. ends_weaker (Pair g) (Marked x) n m y l d;
       all = λ below y. (
-        λ d. record { from = d.from; starts = d.starts; through = d.through; path = d.path },
+        λ d. d.0,
         λ d. let s = simple (Pair g) (length g) below d.from d.through y d.path in
-            record { from = d.from; starts = d.starts; through = s.through; path = s.path; few = simple_few (Pair g) (length g) d.from y s },
+            (record { from = d.from; starts = d.starts; through = s.through; path = s.path }, simple_few (Pair g) (length g) d.from y s),
       );
     }
 
@@ -39,8 +39,8 @@ meet g u x =
         λ r. record { to = r.1.to; ends = r.1.ends; through = r.1.through; path = r.1.path; inside = stays g (Marked u) y r.1.through r.1.to r.0 r.1.path },
       );
       within = λ n y. (
-        λ r. (r.inside.0, record { to = r.to; ends = r.ends; through = r.through; path = r.path; few = r.few }),
-        λ r. record { to = r.1.to; ends = r.1.ends; through = r.1.through; path = r.1.path; inside = stays g (Marked u) y r.1.through r.1.to r.0 r.1.path; few = r.1.few },
+        λ r. (r.0.inside.0, record { to = r.0.to; ends = r.0.ends; through = r.0.through; path = r.0.path; few = r.1 }),
+        λ r. (record { to = r.1.to; ends = r.1.ends; through = r.1.through; path = r.1.path; inside = stays g (Marked u) y r.1.through r.1.to r.0 r.1.path }, r.1.few),
       );
     }
 

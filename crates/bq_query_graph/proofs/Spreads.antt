@@ -58,8 +58,8 @@ pub stands_none : (E : ℕ → ℕ → Type 0) → (S : ℕ → Type 0) → (ms 
 stands_none E S ms q held d =
     record {
       held = held;
-      sound = λ y m. record { from = y; starts = (d y).0 m; through = []; path = refl; few = omega arith };
-      full = λ y r. (d y).1 (only E S y r.from r.through r.few r.path r.starts);
+      sound = λ y m. (record { from = y; starts = (d y).0 m; through = []; path = refl }, omega arith);
+      full = λ y (r, few). (d y).1 (only E S y r.from r.through few r.path r.starts);
       closed = λ k l. absurd (omega (arith, l));
       within = omega arith;
     }
@@ -73,10 +73,10 @@ listed_at : (ms : List Bool) (q : List ℕ) (z : ℕ) → Held ms q → Marked m
 listed_at ms q z held m = let c = (held z).0 m in (c.0, c.1, get_or_default q c.0 0 z c.1 ∙ c.2)
 
 full_more : (g : List (List ℕ)) (allowed : List Bool) → (S : ℕ → Type 0) → (n : ℕ) (ms : List Bool) (q : List ℕ) (head : ℕ) (ns : List Bool) (r : List ℕ) → Stands (Step g allowed) S n ms q head → Grew (After g allowed q head (length q)) ms q ns r → (x : ℕ) → S x → (us : List ℕ) → (y : ℕ) → length us ≤ n + 1 → IsPath (Step g allowed) x us y → Marked ns y
-full_more g allowed S n ms q head ns r st gr x s [] y l p = gr.kept y (st.full y (record { from = x; starts = s; through = []; path = p; few = omega arith }))
+full_more g allowed S n ms q head ns r st gr x s [] y l p = gr.kept y (st.full y (record { from = x; starts = s; through = []; path = p }, omega arith))
 full_more g allowed S n ms q head ns r st gr x s (u ∷ us) y l p =
     let e = last_edge (Step g allowed) x u us y p in
-    let m = st.full e.before (record { from = x; starts = s; through = e.through; path = e.path; few = omega (arith, e.long, l) }) in
+    let m = st.full e.before (record { from = x; starts = s; through = e.through; path = e.path }, omega (arith, e.long, l)) in
     let c = listed_at ms q e.before st.held m in
     done_with g allowed S n ms q head ns r st gr c.0 c.1 y (subst (λ w. Step g allowed w y) (sym c.2) e.edge)
 
@@ -89,7 +89,7 @@ stands_more g allowed S n ms q head ns r st gr =
         | inl o ↦ ends_weaker E S n (n + 1) y (omega arith) (st.sound y o)
         | inr p ↦ ends_more E S n (get_or q p.at 0) y (st.sound (get_or q p.at 0) ((st.held (get_or q p.at 0)).1 (Contains-get_or q p.at 0 p.early))) p.step
       ];
-      full = λ y e. full_more g allowed S n ms q head ns r st gr e.from e.starts e.through y e.few e.path;
+      full = λ y (e, few). full_more g allowed S n ms q head ns r st gr e.from e.starts e.through y few e.path;
       closed = λ k l y e. done_with g allowed S n ms q head ns r st gr k l y (subst (λ w. E w y) (gr.front k l) e);
       within = gr.longer;
     }
@@ -98,17 +98,17 @@ stands_more g allowed S n ms q head ns r st gr =
 pub stands_end : (E : ℕ → ℕ → Type 0) → (S : ℕ → Type 0) → (n : ℕ) (ms : List Bool) (q : List ℕ) (head : ℕ) → length q ≤ head → Stands E S n ms q head → (x : ℕ) → S x → (us : List ℕ) → (y : ℕ) → IsPath E x us y → Marked ms y
 stands_end E S n ms q head l st x s us y p =
     along E (Marked ms) (λ a b m e. let c = listed_at ms q a st.held m in st.closed c.0 (omega (arith, c.1, l)) b (subst (λ w. E w b) (sym c.2) e)) x us y p
-    (st.full x (record { from = x; starts = s; through = []; path = refl; few = omega arith }))
+    (st.full x (record { from = x; starts = s; through = []; path = refl }, omega arith))
 
 pub within_end : (E : ℕ → ℕ → Type 0) → (S : ℕ → Type 0) → (n m : ℕ) (ms : List Bool) (q : List ℕ) (head : ℕ) → n ≤ m → length q ≤ head → Stands E S n ms q head → (y : ℕ) → Decides (get_or ms y false) (EndsWithin E S m y)
-within_end E S n m ms q head small l st y = (λ h. ends_weaker E S n m y small (st.sound y h), λ e. stands_end E S n ms q head l st e.from e.starts e.through y e.path)
+within_end E S n m ms q head small l st y = (λ h. ends_weaker E S n m y small (st.sound y h), λ (e, few). stands_end E S n ms q head l st e.from e.starts e.through y e.path)
 
 pub within_all : (E : ℕ → ℕ → Type 0) → (S : ℕ → Type 0) → (n : ℕ) (ms : List Bool) (q : List ℕ) (head : ℕ) → Stands E S n ms q head → (y : ℕ) → Decides (get_or ms y false) (EndsWithin E S n y)
 within_all E S n ms q head st y = (st.sound y, st.full y)
 
 pub closure_end : (E : ℕ → ℕ → Type 0) → (S : ℕ → Type 0) → (n : ℕ) (ms : List Bool) (q : List ℕ) (head : ℕ) → length q ≤ head → Stands E S n ms q head → (y : ℕ) → Decides (get_or ms y false) (Ends E S y)
 closure_end E S n ms q head l st y = (
-  λ h. let e = st.sound y h in record { from = e.from; starts = e.starts; through = e.through; path = e.path },
+  λ h. (st.sound y h).0,
   λ e. stands_end E S n ms q head l st e.from e.starts e.through y e.path,
 )
 

@@ -62,7 +62,7 @@ forth E D z (v ∷ vs) x p d = let r = forth E D v vs x p.1 p.0.1 in
 
 -- sets of ends
 pub ends_more : (E : ℕ → ℕ → Type 0) → (S : ℕ → Type 0) → (n x y : ℕ) → EndsWithin E S n x → E x y → EndsWithin E S (n + 1) y
-ends_more E S n x y r e = record { from = r.from; starts = r.starts; through = r.through ++ y ∷ []; path = path_more E r.from r.through x y r.path e; few = omega (arith, length_push r.through y, r.few) }
+ends_more E S n x y (r, few) e = (record { from = r.from; starts = r.starts; through = r.through ++ y ∷ []; path = path_more E r.from r.through x y r.path e }, omega (arith, length_push r.through y, few))
 
 pub ends_weaker : (E : ℕ → ℕ → Type 0) → (S : ℕ → Type 0) → (n m y : ℕ) → n ≤ m → EndsWithin E S n y → EndsWithin E S m y
-ends_weaker E S n m y l r = record { from = r.from; starts = r.starts; through = r.through; path = r.path; few = omega (arith, l, r.few) }
+ends_weaker E S n m y l (r, few) = (r, omega (arith, l, few))

@@ -8,7 +8,7 @@ row g a = slice_index_or g a []
 
 -- (a, b) is a pair of the graph
 abbrev pub Pair : List (List ℕ) → ℕ → ℕ → Type 0
-Pair g a b = Contains (row g a) b
+Pair g a b = Contains (slice_index_or g a []) b
 
 -- x ∷ us is a path that ends in z: neighbours are pairs. It has as many edges as us has targets
 abbrev pub IsPath : (ℕ → ℕ → Type 0) → ℕ → List ℕ → ℕ → Type 0
@@ -23,12 +23,8 @@ pub record Ends (E : ℕ → ℕ → Type 0) (S : ℕ → Type 0) (y : ℕ) : Ty
   pub path : IsPath E from through y
 
 -- y is the end of a path of at most n edges that starts in S
-pub record EndsWithin (E : ℕ → ℕ → Type 0) (S : ℕ → Type 0) (n : ℕ) (y : ℕ) : Type 0 where
-  pub from : ℕ
-  pub starts : S from
-  pub through : List ℕ
-  pub path : IsPath E from through y
-  pub few : length through ≤ n
+abbrev pub EndsWithin : (ℕ → ℕ → Type 0) → (ℕ → Type 0) → ℕ → ℕ → Type 0
+EndsWithin E S n y = (e : Ends E S y) × (length e.through ≤ n)
 
 -- deps(x), deps(x, n)
 abbrev pub Deps : List (List ℕ) → (ℕ → Type 0) → ℕ → Type 0
@@ -47,13 +43,8 @@ pub record Rdeps (g : List (List ℕ)) (U X : ℕ → Type 0) (y : ℕ) : Type 0
   pub inside : AllByRecursion (Deps g U) (y ∷ through)
 
 -- rdeps(u, x, n)
-pub record RdepsWithin (g : List (List ℕ)) (U X : ℕ → Type 0) (n : ℕ) (y : ℕ) : Type 0 where
-  pub to : ℕ
-  pub ends : X to
-  pub through : List ℕ
-  pub path : IsPath (Pair g) y through to
-  pub inside : AllByRecursion (Deps g U) (y ∷ through)
-  pub few : length through ≤ n
+abbrev pub RdepsWithin : List (List ℕ) → (ℕ → Type 0) → (ℕ → Type 0) → ℕ → ℕ → Type 0
+RdepsWithin g U X n y = (r : Rdeps g U X y) × (length r.through ≤ n)
 
 -- allpaths(a, b): y lies in deps(a) and starts a path that ends in b
 pub record OnPaths (g : List (List ℕ)) (A B : ℕ → Type 0) (y : ℕ) : Type 0 where

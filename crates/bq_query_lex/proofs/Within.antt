@@ -8,8 +8,9 @@ use Rattle.std.proofs.lemmas.List.Sums.{prefix_len-le-length, passes_at_first}
 use Rattle.std.proofs.lemmas.Bool.{cond_both, and_parts, and_from, ltb-true, eqb-true}
 use Rattle.bq_query_lex.specs.declared.token.QueryTokenKind.{QueryTokenKind}
 use Rattle.bq_query_lex.specs.declared.lexis.QueryPiece.{QueryPiece}
+use Rattle.bq_query_lex.specs.declared.token.QueryTokenKind.TheVariants.{Quoted}
 use Rattle.bq_query_lex.specs.declared.lexis.QueryPiece.TheVariants.{End, Blank, Found, Unknown}
-use Rattle.bq_query_lex.specs.Lexis.{is_blank, is_quote, is_word_byte, begins_word, punctuation, word_kind, word_of, word_piece, quoted_of, quoted_piece, other_piece, piece_by, piece_of}
+use Rattle.bq_query_lex.specs.Lexis.{is_blank, is_quote, is_word_byte, begins_word, punctuation, word_kind, word_piece, quoted_piece, other_piece, piece_of}
 use Rattle.bq_query_lex.specs.Reading.{IsWithin}
 use Rattle.bq_query_lex.specs.Laws.{IsSpelled, mark, quoted, bare, first_begins}
 
@@ -42,6 +43,9 @@ first_of_run : (b : ℕ) (bs : List ℕ) (n : ℕ) → 0 < n → begins_word b �
 first_of_run b bs zero l e = absurd (omega arith)
 first_of_run b bs (suc n) l e = e
 
+abbrev word_of : Option QueryTokenKind → ℕ → QueryPiece
+word_of o n = elim o [ Some kind ↦ Found kind n | None ↦ Unknown ]
+
 word_at : (o : Option QueryTokenKind) (b : ℕ) (bs : List ℕ) (n : ℕ) → 0 < n → n ≡ prefix_len is_word_byte (b ∷ bs) → begins_word b ≡ true → word_kind (take n (b ∷ bs)) ≡ o → Front (word_of o n) (b ∷ bs)
 word_at None b bs n l e f g = nothing
 word_at (Some kind) b bs n l e f g =
@@ -63,6 +67,9 @@ quote_text q bs n l e =
     ap (λ m. take m (q ∷ bs)) (let r : n + 2 ≡ suc (n + 1) = omega arith in r)
     ∙ ap (λ (xs : List ℕ). q ∷ xs) (take_more bs n 0 l ∙ ap (λ c. take n bs ++ c ∷ []) e)
 
+abbrev quoted_of : Option ℕ → QueryPiece
+quoted_of o = elim o [ Some n ↦ Found Quoted (n + 2) | None ↦ Unknown ]
+
 at_quote : (q : ℕ) (bs : List ℕ) → is_quote q ≡ true → Front (quoted_piece q bs) (q ∷ bs)
 unfolding quoted_piece
 at_quote q bs e =
@@ -77,6 +84,9 @@ at_other b bs =
     let P : QueryPiece → Type 0 = λ p. Front p (b ∷ bs) in
     cond_both (is_quote b) (quoted_piece b bs) (cond (begins_word b) (word_piece (b ∷ bs)) Unknown) P (λ e. at_quote b bs e)
     (λ e. cond_both (begins_word b) (word_piece (b ∷ bs)) Unknown P (λ f. at_word b bs f) (λ f. nothing))
+
+abbrev piece_by : Option QueryTokenKind → ℕ → List ℕ → QueryPiece
+piece_by o b bs = elim o [ Some kind ↦ Found kind 1 | None ↦ other_piece b bs ]
 
 at_mark : (o : Option QueryTokenKind) (b : ℕ) (bs : List ℕ) → lookup (nat_eq b) punctuation ≡ o → Front (piece_by o b bs) (b ∷ bs)
 at_mark (Some kind) b bs e = a_token (omega arith) (omega arith) (mark e refl)

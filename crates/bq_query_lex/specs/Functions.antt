@@ -1,6 +1,6 @@
 -- The functions of queries (Bazel query reference, "Functions"): their names and parameters.
-use Rattle.std.specs.Prelude.{ℕ, List, [], ◌∷◌, Bool, Option, codes, bytes_eq}
-use Rattle.std.specs.List.{list_any}
+use Rattle.std.specs.Prelude.{ℕ, List, [], ◌∷◌, Bool, true, false, Option, codes, bytes_eq}
+use Rattle.std.specs.List.{count_by, list_any}
 use Rattle.std.specs.Map.{lookup}
 use Rattle.bq_query_lex.specs.declared.function.QueryFunction.{QueryFunction}
 use Rattle.bq_query_lex.specs.declared.function.QueryFunction.TheVariants as f
@@ -37,12 +37,6 @@ parameters_of f.Kind = Pattern ∷ Query ∷ []
 parameters_of f.Labels = Attribute ∷ Query ∷ []
 parameters_of f.Rdeps = Query ∷ Query ∷ Number ∷ []
 
--- how many arguments a function must have; the parameters after them may be left out
+-- how many arguments a function must have: only a number of edges may be left out
 abbrev pub mandatory_of : QueryFunction → ℕ
-mandatory_of f.Allpaths = 2
-mandatory_of f.Attr = 3
-mandatory_of f.Deps = 1
-mandatory_of f.Filter = 2
-mandatory_of f.Kind = 2
-mandatory_of f.Labels = 2
-mandatory_of f.Rdeps = 2
+mandatory_of function = count_by (λ kind. elim kind [ Number ↦ false | _ ↦ true ]) (parameters_of function)

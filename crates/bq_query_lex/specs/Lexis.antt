@@ -3,6 +3,7 @@
 -- Bytes by number: 9 the tab, 10 the newline, 13 the carriage return, 32 the space, 34 `"`, 36 `$`, 39 `'`, 40 `(`, 41 `)`, 42 `*`, 43 `+`, 44 `,`, 45 `-`, 61 `=`, 94 `^`, 95 `_`.
 use Rattle.std.specs.Prelude.{ℕ, ◌+◌, ◌==◌, ◌&&◌, ◌||◌, Bool, not, nat_le, nat_eq, bytes_eq, List, [], ◌∷◌, take, Option, Some, None, codes, position, false, if◌then◌else◌}
 use Rattle.std.specs.List.{list_all, list_any, prefix_len}
+use Rattle.std.specs.Option.{option_or}
 use Rattle.std.specs.Map.{lookup}
 use Rattle.bq_query_lex.specs.declared.token.QueryTokenKind.{QueryTokenKind}
 use Rattle.bq_query_lex.specs.declared.token.QueryTokenKind.TheVariants as k
@@ -53,43 +54,23 @@ abbrev pub plain_kind : List ℕ → Option QueryTokenKind
 plain_kind [] = None
 plain_kind (b ∷ bs) = if b == 36 then (if is_variable_name bs then Some k.Variable else None) else Some k.Word
 
--- the kind of a word
-abbrev pub keyword_or_plain : Option QueryTokenKind → List ℕ → Option QueryTokenKind
-keyword_or_plain (Some kind) word = Some kind
-keyword_or_plain None word = plain_kind word
-
 -- the kind of a word without quotes
 unfoldable pub word_kind : List ℕ → Option QueryTokenKind
-word_kind word = keyword_or_plain (lookup (bytes_eq word) keywords) word
+word_kind word = option_or (lookup (bytes_eq word) keywords) (plain_kind word)
 
--- a word of this kind and length, if it is one
-abbrev pub word_of : Option QueryTokenKind → ℕ → QueryPiece
-word_of (Some kind) n = Found kind n
-word_of None n = Unknown
-
--- the longest run of the bytes of words
+-- the longest run of the bytes of words, if it is a word
 unfoldable pub word_piece : List ℕ → QueryPiece
-word_piece text = let n = prefix_len is_word_byte text in word_of (word_kind (take n text)) n
+word_piece text = let n = prefix_len is_word_byte text in elim (word_kind (take n text)) [ Some kind ↦ Found kind n | None ↦ Unknown ]
 
--- a word in quotes, if the second quote is there
-abbrev pub quoted_of : Option ℕ → QueryPiece
-quoted_of (Some n) = Found k.Quoted (n + 2)
-quoted_of None = Unknown
-
--- "Quoting": all bytes up to the next quote of the same kind
+-- "Quoting": all bytes up to the next quote of the same kind, if there is one
 unfoldable pub quoted_piece : ℕ → List ℕ → QueryPiece
-quoted_piece quote rest = quoted_of (position (λ b. b == quote) rest)
+quoted_piece quote rest = elim (position (λ b. b == quote) rest) [ Some n ↦ Found k.Quoted (n + 2) | None ↦ Unknown ]
 
 -- what begins here, where no token of one byte does
 abbrev pub other_piece : ℕ → List ℕ → QueryPiece
 other_piece b bs = if is_quote b then quoted_piece b bs else (if begins_word b then word_piece (b ∷ bs) else Unknown)
 
--- what begins here, by its first byte
-abbrev pub piece_by : Option QueryTokenKind → ℕ → List ℕ → QueryPiece
-piece_by (Some kind) b bs = Found kind 1
-piece_by None b bs = other_piece b bs
-
 -- what is at the front of a text
 unfoldable pub piece_of : List ℕ → QueryPiece
 piece_of [] = End
-piece_of (b ∷ bs) = if is_blank b then Blank else piece_by (lookup (nat_eq b) punctuation) b bs
+piece_of (b ∷ bs) = if is_blank b then Blank else elim (lookup (nat_eq b) punctuation) [ Some kind ↦ Found kind 1 | None ↦ other_piece b bs ]

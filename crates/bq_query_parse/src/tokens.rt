@@ -1,6 +1,6 @@
 //! A place in the tokens of a query, and the steps that every production is made of.
 
-ghost use Rattle.std.specs.Prelude.{◌≡◌, All, length, IfOk};
+ghost use Rattle.std.specs.Prelude.{◌≡◌, All, drop, length, IfOk};
 ghost use Rattle.bq_query_tree.specs.Lexeme as lexeme;
 ghost use Rattle.bq_query_tree.specs.Turns.{Reads};
 ghost use Rattle.bq_query_tree.specs.Turns as turns;
@@ -35,7 +35,7 @@ fn unquoted(spelling: &[u8]) -> &[u8]
 
 /// Returns what comes after `$`.
 fn variable_name(spelling: &[u8]) -> &[u8]
-    ensures { result.now ≡ lexeme.variable_name spelling.now }
+    ensures { result.now ≡ drop 1 spelling.now }
 {
     match spelling {
         [] => &[],
@@ -175,7 +175,7 @@ impl<'a> QueryTokens<'a> {
 
     /// Takes the next token, without its `$`.
     pub fn variable(&mut self, alloc: Global) -> Result<Bytes, AllocError>
-        ensures { IfOk result (λ w. (w ≡ lexeme.variable_name (spec.spelling_of self.old)) × (self.new ≡ turns.next self.old)) }
+        ensures { IfOk result (λ w. (w ≡ drop 1 (spec.spelling_of self.old)) × (self.new ≡ turns.next self.old)) }
     {
         let name = Bytes::from_slice(alloc, variable_name(self.spelling()))?;
         self.advance();

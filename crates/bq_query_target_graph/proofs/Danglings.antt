@@ -1,5 +1,5 @@
 -- The lines that are put are those of the labels that name no target.
-use Rattle.std.proofs.Common.{◌≡◌, ◌<◌, ◌+◌, ◌∙◌, ◌↔◌, ℕ, Bool, true, false, cond, nat_lt, List, [], ◌∷◌, ◌++◌, Option, Some, None, length, take, get_or, position, refl, sym, ap, subst, inl, inr, arith, append-nil, if◌then◌else◌}
+use Rattle.std.proofs.Common.{◌≡◌, ◌<◌, ◌+◌, ◌∙◌, ◌↔◌, ℕ, Bool, true, false, cond, nat_lt, List, [], ◌∷◌, ◌++◌, Option, Some, None, length, take, get_or, position, if◌then◌else◌, refl, sym, ap, subst, inl, inr, arith, append-nil, if◌then◌else◌}
 use Rattle.std.specs.List.{flat_map, find, position_or_len, Contains, All}
 use Rattle.std.specs.List.Sorted.{IsPermutation}
 use Rattle.std.specs.Option.{unwrap_or}
@@ -30,7 +30,7 @@ use Rattle.bq_package_list.specs.Order.{id_of, PackagesAscend}
 use Rattle.bq_label_set.specs.Labels.{same_label, has_label}
 use Rattle.bq_query_target_graph.specs.Order.{all_targets, labels_of}
 use Rattle.bq_query_target_graph.specs.BuildFiles.{build_files, file_of}
-use Rattle.bq_query_target_graph.specs.Dangling.{dangling_line, line_by, dangling, dangling_in, dangling_of, all_dangling, dangling_lines, dangling_to, dangling_at, dangling_from, IsDangling}
+use Rattle.bq_query_target_graph.specs.Dangling.{dangling_line, dangling, dangling_in, dangling_of, all_dangling, dangling_lines, dangling_to, dangling_at, dangling_from, IsDangling}
 use Rattle.bq_query_target_graph.proofs.Ascends.{own_package}
 use Rattle.bq_query_target_graph.proofs.Files.{of_package}
 use Rattle.bq_query_target_graph.proofs.Lists.{next_taken}
@@ -93,7 +93,7 @@ module _ (known : LabelParts → Bool) (b l : LabelParts) (n : ℕ) (s : List Fa
   unfolding put_lines dangling
   own_label h = rw h refl
 
-  known_in : (own : Bool) → put_lines s (line_by (if own then true else true) (dangling_line b n l)) ≡ s
+  known_in : (own : Bool) → put_lines s (if own then [] else (if true then [] else dangling_line b n l ∷ [])) ≡ s
   unfolding put_lines
   known_in true = refl
   known_in false = refl
@@ -135,7 +135,7 @@ record IsLine (known : LabelParts → Bool) (b l : LabelParts) (n : ℕ) (x : Fa
   missing : known l ≡ false
   line : x ≡ dangling_line b n l
 
-line_of : (known : LabelParts → Bool) (b l : LabelParts) (n : ℕ) (x : FaultLine) (own has : Bool) → is_of (package_of b) l ≡ own → known l ≡ has → Contains (line_by (if own then true else has) (dangling_line b n l)) x → IsLine known b l n x
+line_of : (known : LabelParts → Bool) (b l : LabelParts) (n : ℕ) (x : FaultLine) (own has : Bool) → is_of (package_of b) l ≡ own → known l ≡ has → Contains (if own then [] else (if has then [] else dangling_line b n l ∷ [])) x → IsLine known b l n x
 line_of known b l n x true has e f c = absurd (none_in x c)
 line_of known b l n x false true e f c = absurd (none_in x c)
 line_of known b l n x false false e f c = elim (head_or_tail (dangling_line b n l) [] x c) [

@@ -1,5 +1,5 @@
 -- Fault F79: a label of another package that names no target there (Bazel, "Dependencies"). The target that names it stays.
-use Rattle.std.specs.Prelude.{◌≡◌, ℕ, List, [], ◌∷◌, Bool, true, false, if◌then◌else◌}
+use Rattle.std.specs.Prelude.{◌≡◌, ℕ, List, [], ◌∷◌, Bool, false, if◌then◌else◌}
 use Rattle.std.specs.List.{flat_map, Contains}
 use Rattle.bq_base.specs.declared.fault.FaultKind.TheVariants as f
 use Rattle.bq_label.specs.Label.{LabelParts, package_of, full_form}
@@ -16,14 +16,9 @@ use Rattle.bq_query_target_graph.specs.BuildFiles.{file_of}
 abbrev pub dangling_line : LabelParts → ℕ → LabelParts → FaultLine
 dangling_line b line l = record { label = full_form b; line = line; kind = f.DanglingLabel; detail = full_form l }
 
--- the line of a label that no target has
-abbrev pub line_by : Bool → FaultLine → List FaultLine
-line_by true x = []
-line_by false x = x ∷ []
-
 -- the line of a label, where it is of another package than the BUILD file's and none of the known ones
 unfoldable pub dangling : (LabelParts → Bool) → LabelParts → ℕ → LabelParts → List FaultLine
-dangling known b line l = line_by (if is_of (package_of b) l then true else known l) (dangling_line b line l)
+dangling known b line l = if is_of (package_of b) l then [] else (if known l then [] else dangling_line b line l ∷ [])
 
 -- the lines of the labels that a target depends on
 abbrev pub dangling_in : (LabelParts → Bool) → LabelParts → Target → List FaultLine

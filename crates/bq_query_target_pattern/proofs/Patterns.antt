@@ -1,6 +1,6 @@
 -- A word with dots is a pattern exactly where the dots follow a package.
 use Rattle.std.proofs.Common.{◌≡◌, ◌≢◌, ◌⊎◌, ◌∙◌, ℕ, ◌+◌, ◌-◌, ◌++◌, Bool, true, false, List, [], ◌∷◌, Option, Some, None, length, take, drop, codes, nat_eq, refl, sym, ap, append_assoc, arith, length-append, inl, inr}
-use Rattle.std.specs.Prelude.{◌||◌}
+use Rattle.std.specs.Prelude.{◌||◌, not, if◌then◌else◌}
 use Rattle.std.specs.List.{ends_with, list_any}
 use Rattle.std.proofs.Math.Seq.{take-append-add}
 use Rattle.std.proofs.lemmas.Bool.{cases_Bool, false≢true}
@@ -16,7 +16,8 @@ use Rattle.bq_label.proofs.Readings.{label_from_reading, no_colon, none_of, path
 use Rattle.bq_label.proofs.Segments.{path_joined}
 use Rattle.bq_query_lex.specs.declared.target_pattern.PatternForm.{PatternForm}
 use Rattle.bq_query_lex.specs.declared.target_pattern.PatternForm.TheVariants as form
-use Rattle.bq_query_lex.specs.TargetPatterns.{Ending, begins_pattern, endings, form_by, form_or, is_colon, package_part, part_before, word_form}
+use Rattle.bq_query_lex.specs.TargetPatterns.{begins_pattern, endings, form_by, is_colon, part_before, word_form}
+use Rattle.bq_query_lex.proofs.Endings.{Ending, form_or}
 use Rattle.bq_query_target_pattern.specs.Dots.{DotsFollowAPackage, IsDots, IsPattern, dots_by}
 use Rattle.bq_query_target_pattern.specs.Reading.{label_named}
 use Rattle.bq_query_target_pattern.proofs.Names.{same_cut, some_is}
@@ -141,6 +142,9 @@ module _ (word : List ℕ) where
     pub part_is : part ≡ front ++ kept
     pub none : list_any is_colon part ≡ false
 
+  abbrev package_part : List ℕ → Option (List ℕ)
+  package_part part = if not (list_any is_colon part) then Some part else None
+
   part_by : (part found : List ℕ) → package_part found ≡ Some part → (found ≡ part) × (list_any is_colon part ≡ false)
   part_by part found h = elim (cases_Bool (list_any is_colon found)) [
     | inl y ↦ let no : None ≡ Some part = sym (rw y refl) ∙ h in absurd (cc no)
@@ -164,19 +168,19 @@ module _ (word : List ℕ) where
 
   abbrev pub FirstFit : List Ending → PatternForm → List ℕ → Type 0
   FirstFit [] f part = ⊥
-  FirstFit (e ∷ es) f part = ((e.form ≡ f) × (part_before e.end e.dropped word ≡ Some part)) ⊎ ((part_before e.end e.dropped word ≡ None) × FirstFit es f part)
+  FirstFit (e ∷ es) f part = ((e.2 ≡ f) × (part_before e.0 e.1 word ≡ Some part)) ⊎ ((part_before e.0 e.1 word ≡ None) × FirstFit es f part)
 
-  fit_by : (e : Ending) (es : List Ending) (f : PatternForm) (part : List ℕ) (o : Option (List ℕ)) → part_before e.end e.dropped word ≡ o → (form_or e.form (form_by es word) o).0 ≡ f → (form_or e.form (form_by es word) o).1 ≡ part
+  fit_by : (e : Ending) (es : List Ending) (f : PatternForm) (part : List ℕ) (o : Option (List ℕ)) → part_before e.0 e.1 word ≡ o → (form_or e.2 (form_by es word) o).0 ≡ f → (form_or e.2 (form_by es word) o).1 ≡ part
       → ((form_by es word).0 ≡ f → (form_by es word).1 ≡ part → (form.Target ≡ f) ⊎ FirstFit es f part) → (form.Target ≡ f) ⊎ FirstFit (e ∷ es) f part
   fit_by e es f part None is hf hp more = elim (more hf hp) [ inl t ↦ inl t | inr m ↦ inr (inr (is, m)) ]
   fit_by e es f part (Some x) is hf hp more = inr (inl (hf, is ∙ ap Some hp))
 
   pub first_fit : (es : List Ending) (f : PatternForm) (part : List ℕ) → (form_by es word).0 ≡ f → (form_by es word).1 ≡ part → (form.Target ≡ f) ⊎ FirstFit es f part
   first_fit [] f part hf hp = inl hf
-  first_fit (e ∷ es) f part hf hp = fit_by e es f part (part_before e.end e.dropped word) refl hf hp (first_fit es f part)
+  first_fit (e ∷ es) f part hf hp = fit_by e es f part (part_before e.0 e.1 word) refl hf hp (first_fit es f part)
 
-  chosen_by : (e : Ending) (es : List Ending) (f : PatternForm) (part : List ℕ) (o : Option (List ℕ)) → ((e.form ≡ f) × (o ≡ Some part)) ⊎ ((o ≡ None) × (((form_by es word).0 ≡ f) × ((form_by es word).1 ≡ part)))
-      → ((form_or e.form (form_by es word) o).0 ≡ f) × ((form_or e.form (form_by es word) o).1 ≡ part)
+  chosen_by : (e : Ending) (es : List Ending) (f : PatternForm) (part : List ℕ) (o : Option (List ℕ)) → ((e.2 ≡ f) × (o ≡ Some part)) ⊎ ((o ≡ None) × (((form_by es word).0 ≡ f) × ((form_by es word).1 ≡ part)))
+      → ((form_or e.2 (form_by es word) o).0 ≡ f) × ((form_or e.2 (form_by es word) o).1 ≡ part)
   chosen_by e es f part None (inl h) = absurd (cc h.1)
   chosen_by e es f part (Some x) (inl h) = (h.0, some_is h.1)
   chosen_by e es f part None (inr h) = h.1
@@ -184,11 +188,11 @@ module _ (word : List ℕ) where
 
   chosen : (es : List Ending) (f : PatternForm) (part : List ℕ) → FirstFit es f part → ((form_by es word).0 ≡ f) × ((form_by es word).1 ≡ part)
   chosen [] f part h = absurd h
-  chosen (e ∷ es) f part (inl h) = chosen_by e es f part (part_before e.end e.dropped word) (inl h)
-  chosen (e ∷ es) f part (inr h) = chosen_by e es f part (part_before e.end e.dropped word) (inr (h.0, chosen es f part h.1))
+  chosen (e ∷ es) f part (inl h) = chosen_by e es f part (part_before e.0 e.1 word) (inl h)
+  chosen (e ∷ es) f part (inr h) = chosen_by e es f part (part_before e.0 e.1 word) (inr (h.0, chosen es f part h.1))
 
   -- no ending of another form is it
-  skipped : (e : Ending) (es : List Ending) (f : PatternForm) (part : List ℕ) → (e.form ≡ f → ⊥) → FirstFit (e ∷ es) f part → FirstFit es f part
+  skipped : (e : Ending) (es : List Ending) (f : PatternForm) (part : List ℕ) → (e.2 ≡ f → ⊥) → FirstFit (e ∷ es) f part → FirstFit es f part
   skipped e es f part never (inl h) = absurd (never h.0)
   skipped e es f part never (inr h) = h.1
 
@@ -242,7 +246,7 @@ module _ (word : List ℕ) (p : PackageParts) (hp : IsPackage p) (s : List ℕ) 
 
   module _ (f : PatternForm) (es : List Ending) (text : List ℕ) (spells : Spells p text) where
     abbrev Chosen : Type 0
-    Chosen = FirstFit word (record { end = root_end s; dropped = n; form = f } ∷ record { end = other_end s; dropped = m; form = f } ∷ es) f text
+    Chosen = FirstFit word ((root_end s, n, f) ∷ (other_end s, m, f) ∷ es) f text
 
     after_root : p.package ≡ [] → word ≡ text ++ 46 ∷ 46 ∷ 46 ∷ s → Chosen
     after_root root whole =
@@ -274,13 +278,13 @@ module _ (p : PackageParts) (word : List ℕ) (hp : IsPackage p) where
 
   -- a word that ends with another byte than these two endings
   past : (y z : ℕ) (ys zs : List ℕ) (n m : ℕ) (g f : PatternForm) (es : List Ending) (text : List ℕ) → (last_byte 0 word ≡ last_byte y ys → ⊥) → (last_byte 0 word ≡ last_byte z zs → ⊥) → FirstFit word es f text
-      → FirstFit word (record { end = y ∷ ys; dropped = n; form = g } ∷ record { end = z ∷ zs; dropped = m; form = g } ∷ es) f text
+      → FirstFit word ((y ∷ ys, n, g) ∷ (z ∷ zs, m, g) ∷ es) f text
   past y z ys zs n m g f es text no_first no_second h = inr (unfit_last word y ys n no_first, inr (unfit_last word z zs m no_second, h))
 
   -- no ending of this list has the form
   abbrev pub AllOther : List Ending → PatternForm → Type 0
   AllOther [] f = Unit {0}
-  AllOther (e ∷ es) f = (e.form ≡ f → ⊥) × AllOther es f
+  AllOther (e ∷ es) f = (e.2 ≡ f → ⊥) × AllOther es f
 
   pub skip_all : (skip es : List Ending) (f : PatternForm) (part : List ℕ) → AllOther skip f → FirstFit word (skip ++ es) f part → FirstFit word es f part
   skip_all [] es f part others h = h

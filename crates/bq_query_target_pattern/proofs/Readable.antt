@@ -16,8 +16,9 @@ use Rattle.bq_label.proofs.Readings.{first_of_two, label_from_reading, no_slash,
 use Rattle.bq_label.proofs.Segments.{last_cut, last_joined, path_joined, split_joined, two_true}
 use Rattle.bq_query_lex.specs.declared.target_pattern.PatternForm.{PatternForm}
 use Rattle.bq_query_lex.specs.declared.target_pattern.PatternForm.TheVariants as form
-use Rattle.bq_query_lex.specs.TargetPatterns.{Ending, begins_pattern, endings, form_by, form_or, is_colon, part_before, word_form}
+use Rattle.bq_query_lex.specs.TargetPatterns.{begins_pattern, endings, form_by, is_colon, part_before, word_form}
 use Rattle.bq_query_target_pattern.specs.declared.pattern.TargetPattern.TheVariants as pattern
+use Rattle.bq_query_lex.proofs.Endings.{Ending, form_or}
 use Rattle.bq_query_target_pattern.specs.Dots.{IsDots, dots_by}
 use Rattle.bq_query_target_pattern.specs.Reading.{PatternsReadAsLabels, label_named, pattern_by, pattern_of}
 use Rattle.bq_query_target_pattern.proofs.Patterns.{FirstFit, all_from, all_to, empty_no_path, first_fit, has_colon, label_in_it, named, other_end, parted, root_end, rules_from, rules_to, skip_all, spelled_by}
@@ -382,16 +383,16 @@ module _ (word : List ℕ) (begins : begins_pattern word ≡ true) where
   -- a word of no other form is named whole
   abbrev NoTarget : List Ending → Type 0
   NoTarget [] = Unit {0}
-  NoTarget (e ∷ es) = (e.form ≡ form.Target → ⊥) × NoTarget es
+  NoTarget (e ∷ es) = (e.2 ≡ form.Target → ⊥) × NoTarget es
 
-  whole_by : (e : Ending) (es : List Ending) (o : Option (List ℕ)) → (e.form ≡ form.Target → ⊥) → ((form_by es word).0 ≡ form.Target → (form_by es word).1 ≡ word)
-      → (form_or e.form (form_by es word) o).0 ≡ form.Target → (form_or e.form (form_by es word) o).1 ≡ word
+  whole_by : (e : Ending) (es : List Ending) (o : Option (List ℕ)) → (e.2 ≡ form.Target → ⊥) → ((form_by es word).0 ≡ form.Target → (form_by es word).1 ≡ word)
+      → (form_or e.2 (form_by es word) o).0 ≡ form.Target → (form_or e.2 (form_by es word) o).1 ≡ word
   whole_by e es None never more h = more h
   whole_by e es (Some x) never more h = absurd (never h)
 
   whole : (es : List Ending) → NoTarget es → (form_by es word).0 ≡ form.Target → (form_by es word).1 ≡ word
   whole [] none h = refl
-  whole (e ∷ es) none h = whole_by e es (part_before e.end e.dropped word) none.0 (whole es none.1) h
+  whole (e ∷ es) none h = whole_by e es (part_before e.0 e.1 word) none.0 (whole es none.1) h
 
   target_same : (word_form word).0 ≡ form.Target → is_some (label_named part) ≡ is_some (label_named word)
   target_same is =

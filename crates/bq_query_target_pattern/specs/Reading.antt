@@ -1,6 +1,6 @@
 -- Which pattern a word is (Bazel, "Target patterns"): its form, and the label or the package that it names.
 use Rattle.std.specs.Prelude.{◌≡◌, ◌≢◌, ℕ, true, List, [], ◌∷◌, map, Option, Some, None, is_some, Result, Ok, Err, if◌then◌else◌}
-use Rattle.std.specs.Option.{option_map}
+use Rattle.std.specs.Option.{option_map, option_or}
 use Rattle.bq_label.specs.Label.{LabelParts, package_at}
 use Rattle.bq_label.specs.Reading.{label_of, package_of_text}
 use Rattle.bq_query_lex.specs.declared.query_error.QueryErr.{QueryErr}
@@ -35,15 +35,10 @@ ArePatternsOf words patterns = map pattern_of words ≡ map Some patterns
 abbrev pub word_fault : List ℕ → Option QueryErr
 word_fault w = if begins_pattern w then (if is_some (label_named w) then None else Some e.Arguments) else Some (e.LeftOut w)
 
--- the first of two faults
-abbrev pub first_of : Option QueryErr → Option QueryErr → Option QueryErr
-first_of None g = g
-first_of (Some why) g = Some why
-
--- that of the first of them
+-- that of the first of them that has one
 abbrev pub words_fault : List (List ℕ) → Option QueryErr
 words_fault [] = None
-words_fault (w ∷ ws) = first_of (word_fault w) (words_fault ws)
+words_fault (w ∷ ws) = option_or (word_fault w) (words_fault ws)
 
 -- what was read, or Q8 where nothing was, out of memory aside
 abbrev pub IsReadAs : {A : Type 0} → Option A → Result A QueryErr → Type 0

@@ -1,7 +1,7 @@
 -- Targets and packages that a binary search finds, or doesn't.
 use Rattle.std.proofs.Common.{◌≡◌, ◌≢◌, ◌∙◌, ◌<◌, ◌+◌, ℕ, zero, suc, Bool, true, false, cond, List, [], ◌∷◌, length, drop, get_or, map, slice_set, Option, Some, None, refl, sym, ap, subst, arith, inl, inr}
 use Rattle.std.specs.Prelude.{◌&&◌, ◌||◌, bytes_eq}
-use Rattle.std.specs.Option.{is_some}
+use Rattle.std.specs.Option.{is_some, option_or}
 use Rattle.std.specs.List.{find}
 use Rattle.std.specs.List.Sorted.{IsStrictlySortedBy, IsNonDecreasingBy, IsPartitionPoint}
 use Rattle.std.proofs.lemmas.Bool.{cases_Bool, cases_lt, cases_eq}
@@ -19,10 +19,9 @@ use Rattle.bq_label.proofs.BuildFiles.{by_id}
 use Rattle.bq_label.proofs.Searches.{find_here, find_nowhere}
 use Rattle.bq_package_target.specs.declared.target.Target.{Target}
 use Rattle.bq_query_target_pattern.specs.declared.pattern.TargetPattern.{TargetPattern}
-use Rattle.bq_query_target_pattern.specs.Reading.{first_of}
 use Rattle.bq_query_target_sets.specs.Order.{text_of, is_text, AreInOrder}
-use Rattle.bq_query_target_sets.specs.Words.{Adds}
-use Rattle.bq_query_target_sets.specs.Missing.{is_package, has_package, missing, first_missing}
+use Rattle.bq_query_target_sets.specs.Words.{Adds, is_package}
+use Rattle.bq_query_target_sets.specs.Missing.{has_package, missing, first_missing}
 use Rattle.bq_query_target_sets.proofs.Ranks.{no_one, text_at, text_is, rises}
 use Rattle.bq_query_target_sets.proofs.Tests.{passes}
 
@@ -129,5 +128,5 @@ package_nowhere packages p order i partition = sym (ap is_some (find_nowhere (λ
 
 -- what is missing of the patterns from a place on
 pub missing_from : (packages : List PackageParts) (targets : List Target) (ps : List TargetPattern) (i : ℕ) (p : TargetPattern) → i < length ps → p ≡ get_or ps i p
-    → first_missing packages targets (drop i ps) ≡ first_of (missing packages targets p) (first_missing packages targets (drop (i + 1) ps))
+    → first_missing packages targets (drop i ps) ≡ option_or (missing packages targets p) (first_missing packages targets (drop (i + 1) ps))
 missing_from packages targets ps i p h e = ap (first_missing packages targets) (drop_more ps i p h ∙ ap (λ (q : TargetPattern). q ∷ drop (i + 1) ps) (sym e))

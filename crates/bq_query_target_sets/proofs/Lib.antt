@@ -4,10 +4,10 @@ pub mod Cuts
 pub mod Ranks
 -- tests of targets, as marks
 pub mod Tests
--- the targets of packages, and those beneath them
-pub mod Named
 -- what words name, in words of packages
 pub mod Packages
+-- the targets of packages, and those beneath them
+pub mod Named
 -- packages and targets that are found, or not
 pub mod Found
 -- the targets that attributes name, one rule after another

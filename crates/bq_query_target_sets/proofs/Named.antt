@@ -1,20 +1,23 @@
 -- The targets whose labels begin alike stand together.
-use Rattle.std.proofs.Common.{◌≡◌, ◌∙◌, ◌+◌, ◌<◌, ◌≤◌, ℕ, suc, Bool, true, false, List, [], ◌∷◌, ◌++◌, length, get_or, map, nat_le, nat_lt, refl, sym, ap, arith, inl, inr}
+use Rattle.std.proofs.Common.{◌≡◌, ◌∙◌, ◌+◌, ◌<◌, ◌≤◌, ◌⊎◌, ℕ, suc, Bool, true, false, List, [], ◌∷◌, ◌++◌, length, get_or, map, nat_le, nat_lt, Some, slice_get, refl, sym, ap, subst, arith, inl, inr}
 use Rattle.std.specs.Prelude.{◌&&◌, ◌||◌, not, nat_eq}
 use Rattle.std.specs.List.{starts_with}
-use Rattle.std.proofs.lemmas.Bool.{cases_lt, false≢true}
+use Rattle.std.proofs.lemmas.Bool.{and_parts, cases_eq, cases_lt, false≢true, leb-true, ltb-true}
+use Rattle.std.proofs.lemmas.Option.{get_or_from_slice_get, slice_get_within}
 use Rattle.std.proofs.lemmas.Bool.Decides.{nat_tests}
 use Rattle.std.proofs.lemmas.List.{get_or-map, get_or_past}
 use Rattle.std.specs.Ordering.{nat_cmp, ordering_then}
 use Rattle.std.specs.Cmp.Lexicographic.{slice_cmp}
 use Rattle.std.specs.declared.cmp.Ordering.TheVariants.{Less, Equal}
-use Rattle.bq_label.specs.Label.{PackageParts}
+use Rattle.bq_label.specs.Label.{PackageParts, IsLabel, IsPackage}
 use Rattle.bq_package_target.specs.declared.target.Target.{Target}
 use Rattle.bq_query_target_sets.specs.Order.{texts_of, is_below, IsPlaceOf}
-use Rattle.bq_query_target_sets.specs.Words.{Beginning, begins, own, beneath, is_wanted, names_in, Adds, Range}
+use Rattle.bq_query_target_sets.specs.Words.{Adds, Range, names}
+use Rattle.bq_query_target_sets.specs.Beginnings.{AddsValid, AreValid, Beginning, begins, own, beneath, is_wanted, names_in, pattern_at}
 use Rattle.bq_query_target_sets.proofs.Cuts.{begins_between, front_alike}
 use Rattle.bq_query_target_sets.proofs.Ranks.{no_one, text_at, text_is, below_less}
-use Rattle.bq_query_target_sets.proofs.Tests.{passes, passes_and, adds_as, adds_then}
+use Rattle.bq_query_target_sets.proofs.Packages.{same_named}
+use Rattle.bq_query_target_sets.proofs.Tests.{passes, passes_and, passes_at, adds_where, adds_then}
 
 before_is : (targets : List Target) (text : List ℕ) (at y : ℕ) → IsPlaceOf (texts_of targets) text at → length (texts_of targets) ≡ length targets → y < length targets → is_below (text_at targets y) text ≡ nat_lt y at
 before_is targets text at y place long h = elim (cases_lt y at) [
@@ -97,12 +100,59 @@ deep_by true false true = refl
 deep_by true false false = refl
 deep_by false b w = refl
 
-pub adds_shallow : (targets : List Target) (rules : Bool) (p : PackageParts) (before after : List Bool) → Adds (λ t. begins (own p) t && is_wanted rules t) targets before after → Adds (names_in false rules p) targets before after
-adds_shallow targets rules p before after adds =
-    adds_as (λ t. begins (own p) t && is_wanted rules t) (names_in false rules p) targets before after (λ t. shallow_by (begins (own p) t) (begins (beneath p) t) (is_wanted rules t)) adds
+-- ---- valid labels, one target after another
 
-pub adds_deep : (targets : List Target) (rules : Bool) (p : PackageParts) (before middle after : List Bool) → Adds (λ t. begins (own p) t && is_wanted rules t) targets before middle
-    → Adds (λ t. begins (beneath p) t && is_wanted rules t) targets middle after → Adds (names_in true rules p) targets before after
-adds_deep targets rules p before middle after first second =
-    adds_then (names_in true rules p) (λ t. begins (own p) t && is_wanted rules t) (λ t. begins (beneath p) t && is_wanted rules t) targets before middle after
-    (λ t. deep_by (begins (own p) t) (begins (beneath p) t) (is_wanted rules t)) first second
+pub valid_none : (test : Target → Bool) (targets : List Target) (from : ℕ) → AreValid test targets from from
+valid_none test targets from y t low high at h = absurd (omega (arith, low, high))
+
+pub valid_skip : (test : Target → Bool) (targets : List Target) (from at : ℕ) → passes test targets at ≡ false → AreValid test targets from at → AreValid test targets from (at + 1)
+valid_skip test targets from at out valid y t low high is h = elim (cases_eq y at) [
+  | inl same ↦
+      let inside : y < length targets = slice_get_within targets y t is in
+      let passed : passes test targets y ≡ true = passes_at test targets y t inside (sym (get_or_from_slice_get targets y t t is)) ∙ h in
+      absurd (false≢true (sym out ∙ (ap (passes test targets) (sym same) ∙ passed)))
+  | inr other ↦ valid y t low (omega (arith, high, other)) is h
+]
+
+pub valid_take : (test : Target → Bool) (targets : List Target) (from at : ℕ) (u : Target) → at < length targets → u ≡ get_or targets at u → IsLabel u.label
+    → AreValid test targets from at → AreValid test targets from (at + 1)
+valid_take test targets from at u inside read label valid y t low high is h = elim (cases_eq y at) [
+  | inl same ↦
+      let there : get_or targets at u ≡ t = get_or_from_slice_get targets at t u (ap (slice_get targets) (sym same) ∙ is) in
+      subst (λ (v : Target). IsLabel v.label) (read ∙ there) label
+  | inr other ↦ valid y t low (omega (arith, high, other)) is h
+]
+
+-- each of them that is wanted has a valid label, where that is so of the range
+pub range_valid : (targets : List Target) (b : Beginning) (rules : Bool) (from to : ℕ)
+    → IsPlaceOf (texts_of targets) (b.0 ++ b.1 ∷ []) from → IsPlaceOf (texts_of targets) (b.0 ++ (b.1 + 1) ∷ []) to → AreValid (is_wanted rules) targets from to
+    → (y : ℕ) (t : Target) → slice_get targets y ≡ Some t → (begins b t && is_wanted rules t) ≡ true → IsLabel t.label
+range_valid targets b rules from to low high valid y t at h =
+    let inside : y < length targets = slice_get_within targets y t at in
+    let is : t ≡ get_or targets y t = sym (get_or_from_slice_get targets y t t at) in
+    let both = and_parts (begins b t) (is_wanted rules t) h in
+    let range : (nat_le from y && nat_lt y to) ≡ true = sym (begins_at targets b from to low high y inside) ∙ (passes_at (begins b) targets y t inside is ∙ both.0) in
+    let ends = and_parts (nat_le from y) (nat_lt y to) range in
+    valid y t (leb-true from y ends.0) (ltb-true y to ends.1) at both.1
+
+-- ---- the targets of a package, and those beneath it
+
+either_valid : (a b w : Bool) → ((a || b) && w) ≡ true → ((a && w) ≡ true) ⊎ ((b && w) ≡ true)
+either_valid true b w h = inl h
+either_valid false b w h = inr h
+
+pub named_shallow : (targets : List Target) (rules : Bool) (p : PackageParts) (before after : List Bool) → IsPackage p → AddsValid (λ t. begins (own p) t && is_wanted rules t) targets before after
+    → Adds (names (pattern_at false rules p)) targets before after
+named_shallow targets rules p before after valid adds =
+    let test : Target → Bool = λ t. begins (own p) t && is_wanted rules t in
+    let shallow : (t : Target) → names_in false rules p t ≡ test t = λ t. shallow_by (begins (own p) t) (begins (beneath p) t) (is_wanted rules t) in
+    adds_where test (names (pattern_at false rules p)) targets before after
+    (λ y t at. same_named false rules p t valid (λ h. adds.valid y t at (sym (shallow t) ∙ h)) ∙ shallow t) adds.adds
+
+pub named_deep : (targets : List Target) (rules : Bool) (p : PackageParts) (before middle after : List Bool) → IsPackage p → AddsValid (λ t. begins (own p) t && is_wanted rules t) targets before middle
+    → AddsValid (λ t. begins (beneath p) t && is_wanted rules t) targets middle after → Adds (names (pattern_at true rules p)) targets before after
+named_deep targets rules p before middle after valid first second =
+    adds_where (names_in true rules p) (names (pattern_at true rules p)) targets before after
+    (λ y t at. same_named true rules p t valid (λ h. elim (either_valid (begins (own p) t) (begins (beneath p) t) (is_wanted rules t) h) [ inl k ↦ first.valid y t at k | inr k ↦ second.valid y t at k ]))
+    (adds_then (names_in true rules p) (λ t. begins (own p) t && is_wanted rules t) (λ t. begins (beneath p) t && is_wanted rules t) targets before middle after
+    (λ t. deep_by (begins (own p) t) (begins (beneath p) t) (is_wanted rules t)) first.adds second.adds)

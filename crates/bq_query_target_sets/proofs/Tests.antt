@@ -1,5 +1,5 @@
 -- Tests of targets, as marks of those that pass.
-use Rattle.std.proofs.Common.{◌≡◌, ◌∙◌, ◌+◌, ◌<◌, ◌≤◌, ℕ, zero, suc, Bool, true, false, List, [], ◌∷◌, ◌≢◌, ◌++◌, nat_le, nat_lt, slice_set, length, get_or, map, take, replicate, Result, Ok, Err, OnOk, refl, sym, ap, subst, arith, inl, inr}
+use Rattle.std.proofs.Common.{◌≡◌, ◌∙◌, ◌+◌, ◌<◌, ◌≤◌, ℕ, zero, suc, Bool, true, false, List, [], ◌∷◌, ◌≢◌, ◌++◌, nat_le, nat_lt, slice_set, length, get_or, map, take, replicate, Some, slice_get, Result, Ok, Err, OnOk, refl, sym, ap, subst, arith, inl, inr}
 use Rattle.std.specs.Prelude.{◌&&◌, ◌||◌}
 use Rattle.std.specs.List.{list_any}
 use Rattle.std.proofs.lemmas.Bool.{cases_eq, cases_lt}
@@ -29,6 +29,12 @@ passes_same f g e [] y = refl
 passes_same f g e (t ∷ ts) zero = e t
 passes_same f g e (t ∷ ts) (suc y) = passes_same f g e ts y
 
+-- the tests are the same of these targets
+passes_where : (f g : Target → Bool) (targets : List Target) → ((y : ℕ) (t : Target) → slice_get targets y ≡ Some t → f t ≡ g t) → (y : ℕ) → passes f targets y ≡ passes g targets y
+passes_where f g [] e y = refl
+passes_where f g (t ∷ ts) e zero = e zero t refl
+passes_where f g (t ∷ ts) e (suc y) = passes_where f g ts (λ k. e (suc k)) y
+
 pub passes_none : (f : Target → Bool) → ((t : Target) → f t ≡ false) → (targets : List Target) (y : ℕ) → passes f targets y ≡ false
 passes_none f e [] y = refl
 passes_none f e (t ∷ ts) zero = e t
@@ -51,6 +57,10 @@ adds_none f targets before after none same =
 pub adds_as : (f g : Target → Bool) (targets : List Target) (before after : List Bool) → ((t : Target) → g t ≡ f t) → Adds f targets before after → Adds g targets before after
 adds_as f g targets before after same adds =
     (adds.0, λ y. adds.1 y ∙ ap (λ b. get_or before y false || b) (sym (passes_same g f same targets y)))
+
+pub adds_where : (f g : Target → Bool) (targets : List Target) (before after : List Bool) → ((y : ℕ) (t : Target) → slice_get targets y ≡ Some t → g t ≡ f t) → Adds f targets before after → Adds g targets before after
+adds_where f g targets before after same adds =
+    (adds.0, λ y. adds.1 y ∙ ap (λ b. get_or before y false || b) (sym (passes_where g f targets same y)))
 
 -- one after another
 pub adds_then : (h f g : Target → Bool) (targets : List Target) (before middle after : List Bool) → ((t : Target) → h t ≡ (f t || g t)) → Adds f targets before middle → Adds g targets middle after → Adds h targets before after

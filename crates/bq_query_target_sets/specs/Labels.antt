@@ -1,15 +1,12 @@
 -- The targets that an attribute of a rule names (Bazel query reference, `labels`).
-use Rattle.std.specs.Prelude.{ℕ, Bool, List, [], ◌∷◌, Option, Some, None, slice_get, IsSomeAnd}
+use Rattle.std.specs.Prelude.{ℕ, Bool, List, [], ◌∷◌, Some, None, slice_get, IsSomeAnd, if◌then◌else◌}
 use Rattle.std.specs.List.{list_any}
 use Rattle.bq_label.specs.Label.{LabelParts, full_form}
 use Rattle.bq_value_rule_class.specs.declared.value.AttributeValue.{AttributeValue}
 use Rattle.bq_value_rule_class.specs.declared.value.AttributeValue.TheVariants as v
-use Rattle.bq_package_target.specs.declared.target.TargetKind.{TargetKind}
-use Rattle.bq_package_target.specs.declared.target.TargetKind.TheVariants as kind
 use Rattle.bq_package_target.specs.declared.target.Target.{Target}
-use Rattle.bq_package_target.specs.declared.value.GivenAttribute.{GivenAttribute}
 use Rattle.bq_query_target_sets.specs.Order.{is_text}
-use Rattle.bq_query_target_sets.specs.Words.{Those}
+use Rattle.bq_query_target_sets.specs.Words.{Those, is_rule}
 use Rattle.bq_query_target_sets.specs.Texts.{given}
 
 -- the labels in a value of type label, label_list, output or output_list
@@ -18,26 +15,11 @@ labels_in (v.Label l) = l ∷ []
 labels_in (v.LabelList ls) = ls
 labels_in (v.Output l) = l ∷ []
 labels_in (v.OutputList ls) = ls
-labels_in (v.String s) = []
-labels_in (v.Int n) = []
-labels_in (v.Bool b) = []
-labels_in (v.StringList ss) = []
+labels_in _ = []
 
--- the labels in an attribute, if it is there
-abbrev pub labels_by : Option GivenAttribute → List LabelParts
-labels_by None = []
-labels_by (Some a) = labels_in a.value
-
--- the labels that a target's attribute names; rules alone have attributes
-abbrev pub named_by : TargetKind → List ℕ → Target → List LabelParts
-named_by (kind.Rule rule class) name t = labels_by (given name t)
-named_by kind.Source name t = []
-named_by (kind.Generated rule) name t = []
-named_by kind.Group name t = []
-
--- the labels in an attribute of a rule
+-- the labels that a target's attribute names, if it is there; rules alone have attributes
 unfoldable pub labels_named : List ℕ → Target → List LabelParts
-labels_named name t = named_by t.kind name t
+labels_named name t = if is_rule t then elim (given name t) [ Some a ↦ labels_in a.value | None ↦ [] ] else []
 
 -- one of the labels is the target's
 abbrev pub is_among : List LabelParts → Target → Bool

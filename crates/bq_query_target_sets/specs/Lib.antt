@@ -1,5 +1,6 @@
 pub mod Order
 pub mod Words
+pub mod Beginnings
 pub mod Packages
 pub mod Missing
 pub mod Texts

@@ -20,7 +20,7 @@ has_text pattern t = is_found pattern (text_of t)
 
 -- `attr(name, pattern, ..)`
 abbrev pub has_attribute : List ℕ → List ℕ → Target → Bool
-has_attribute name pattern t = is_match pattern (attribute_text name t)
+has_attribute name pattern t = elim (attribute_text name t) [ Some text ↦ is_found pattern text | None ↦ false ]
 
 -- of the set x, the targets that pass the test
 abbrev pub Keeps : (Target → Bool) → List Target → List Bool → List Bool → Type 0

@@ -1,18 +1,14 @@
 -- What a pattern names that is not there (Q5, Q6), with what is printed of it: a label or a pattern in full.
-use Rattle.std.specs.Prelude.{ℕ, ◌++◌, ◌&&◌, Bool, List, [], ◌∷◌, Option, Some, None, is_some, bytes_eq, codes, if◌then◌else◌}
+use Rattle.std.specs.Prelude.{ℕ, ◌++◌, Bool, List, [], ◌∷◌, Option, Some, None, is_some, codes, if◌then◌else◌}
 use Rattle.std.specs.List.{find}
+use Rattle.std.specs.Option.{option_or}
 use Rattle.bq_label.specs.Label.{PackageParts, LabelParts, package_of, full_form}
 use Rattle.bq_query_lex.specs.declared.query_error.QueryErr.{QueryErr}
 use Rattle.bq_query_lex.specs.declared.query_error.QueryErr.TheVariants as e
 use Rattle.bq_query_target_pattern.specs.declared.pattern.TargetPattern.{TargetPattern}
 use Rattle.bq_query_target_pattern.specs.declared.pattern.TargetPattern.TheVariants as pattern
 use Rattle.bq_package_target.specs.declared.target.Target.{Target}
-use Rattle.bq_query_target_pattern.specs.Reading.{first_of}
-use Rattle.bq_query_target_sets.specs.Words.{package_text, has_label}
-
--- two packages are the same
-abbrev pub is_package : PackageParts → PackageParts → Bool
-is_package p q = bytes_eq q.repo p.repo && bytes_eq q.package p.package
+use Rattle.bq_query_target_sets.specs.Words.{package_text, has_label, is_package}
 
 -- there is a package
 abbrev pub has_package : List PackageParts → PackageParts → Bool
@@ -43,4 +39,4 @@ missing packages targets (pattern.AllBeneath p) = None
 -- the first of these patterns that names what is not there
 abbrev pub first_missing : List PackageParts → List Target → List TargetPattern → Option QueryErr
 first_missing packages targets [] = None
-first_missing packages targets (p ∷ ps) = first_of (missing packages targets p) (first_missing packages targets ps)
+first_missing packages targets (p ∷ ps) = option_or (missing packages targets p) (first_missing packages targets ps)

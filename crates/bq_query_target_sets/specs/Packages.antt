@@ -1,5 +1,5 @@
--- What words name, in words of packages: which targets are of a package or beneath it (Bazel, "Target patterns"). The laws say that `Words`
--- and the patterns as which words are read mean just this.
+-- What words name, in words of packages: which targets are of a package or beneath it (Bazel, "Target patterns"). The laws say that `Words`,
+-- the patterns as which words are read, and how labels begin (`Beginnings`) mean just this.
 use Rattle.std.specs.Prelude.{◌≡◌, ◌↔◌, ℕ, ◌++◌, Bool, true, false, List, [], ◌∷◌, Some}
 use Rattle.bq_label.specs.Label.{PackageParts, IsPackage, IsLabel, package_of}
 use Rattle.bq_label.specs.Reading.{package_of_text}
@@ -9,7 +9,8 @@ use Rattle.bq_query_lex.specs.TargetPatterns.{word_form}
 use Rattle.bq_query_target_pattern.specs.declared.pattern.TargetPattern.{TargetPattern}
 use Rattle.bq_query_target_pattern.specs.Reading.{label_named, pattern_of}
 use Rattle.bq_package_target.specs.declared.target.Target.{Target}
-use Rattle.bq_query_target_sets.specs.Words.{is_rule, is_wanted, names_in, names}
+use Rattle.bq_query_target_sets.specs.Words.{is_rule, names}
+use Rattle.bq_query_target_sets.specs.Beginnings.{is_wanted, names_in}
 
 -- ---- targets
 

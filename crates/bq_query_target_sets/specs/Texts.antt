@@ -1,7 +1,8 @@
 -- The texts in which patterns are looked for: of a target's kind, its label, and an attribute of it (Bazel query reference, `kind`,
 -- `filter`, `attr`).
 use Rattle.std.specs.Prelude.{ℕ, ◌++◌, List, [], ◌∷◌, map, Option, Some, None, bytes_eq, codes, if◌then◌else◌}
-use Rattle.std.specs.List.{find}
+use Rattle.std.specs.List.{find, flat_map}
+use Rattle.std.specs.Option.{option_and_then}
 use Rattle.std.specs.Fmt.{signed_decimal}
 use Rattle.bq_label.specs.Label.{full_form}
 use Rattle.bq_value_rule_class.specs.declared.attribute_type.AttributeType.{AttributeType}
@@ -15,6 +16,7 @@ use Rattle.bq_package_target.specs.declared.target.Target.{Target}
 use Rattle.bq_package_target.specs.declared.value.GivenAttribute.{GivenAttribute}
 use Rattle.bq_package_target.specs.Value.{attribute_type}
 use Rattle.bq_query_target_sets.specs.Order.{text_of}
+use Rattle.bq_query_target_sets.specs.Words.{class_of}
 use Rattle.bq_query_target_sets.specs.declared.text.Subject.{Subject}
 use Rattle.bq_query_target_sets.specs.declared.text.Subject.TheVariants as subject
 
@@ -25,15 +27,10 @@ kind_text kind.Source = codes "source file"
 kind_text (kind.Generated rule) = codes "generated file"
 kind_text kind.Group = codes "package group"
 
--- further items of a list, each after a comma
-abbrev pub further : List (List ℕ) → List ℕ
-further [] = []
-further (x ∷ xs) = codes ", " ++ (x ++ further xs)
-
 -- texts with commas between them
 abbrev pub items : List (List ℕ) → List ℕ
 items [] = []
-items (x ∷ xs) = x ++ further xs
+items (x ∷ xs) = x ++ flat_map (λ y. codes ", " ++ y) xs
 
 -- `[v1, v2]`
 unfoldable pub list_text : List (List ℕ) → List ℕ
@@ -52,15 +49,13 @@ value_text (v.OutputList ls) = list_text (map full_form ls)
 
 -- of an attribute that isn't given and has no default of its own; a label or output then has none
 unfoldable pub default_text : Option AttributeType → Option (List ℕ)
-default_text None = None
 default_text (Some t.String) = Some []
 default_text (Some t.Int) = Some (codes "0")
 default_text (Some t.Bool) = Some (codes "0")
 default_text (Some t.StringList) = Some (codes "[]")
-default_text (Some t.Label) = None
 default_text (Some t.LabelList) = Some (codes "[]")
-default_text (Some t.Output) = None
 default_text (Some t.OutputList) = Some (codes "[]")
+default_text _ = None
 
 -- what this attribute of the target has: what the call gives it, or the default that the rule gives it
 abbrev pub given : List ℕ → Target → Option GivenAttribute
@@ -71,16 +66,13 @@ abbrev pub text_by : Option GivenAttribute → Class → List ℕ → Option (Li
 text_by (Some a) class name = Some (value_text a.value)
 text_by None class name = default_text (attribute_type class name)
 
--- the text of a target's attribute; rules alone have attributes
-abbrev pub attribute_by : TargetKind → List ℕ → Target → Option (List ℕ)
-attribute_by (kind.Rule rule class) name t = text_by (given name t) class name
-attribute_by kind.Source name t = None
-attribute_by (kind.Generated rule) name t = None
-attribute_by kind.Group name t = None
-
--- of an attribute of a rule, by the class that the rule has
+-- the text of a rule's attribute; other targets have none
 unfoldable pub attribute_text : List ℕ → Target → Option (List ℕ)
-attribute_text name t = attribute_by t.kind name t
+attribute_text name t = option_and_then (λ class. text_by (given name t) class name) (class_of t)
+
+-- further items of a list, each after a comma
+abbrev pub further : List (List ℕ) → List ℕ
+further xs = flat_map (λ x. codes ", " ++ x) xs
 
 -- the text of a target that a pattern is looked for in, if it has one
 abbrev pub subject_text : Subject → Target → Option (List ℕ)

@@ -2,12 +2,14 @@
 //! packages beneath it, are together in the order of labels, since their labels begin alike.
 
 ghost use Rattle.std.specs.Prelude.{◌≡◌, ◌++◌, ◌∷◌, [], ◌&&◌, ◌<◌, ◌≤◌, length, IfOk, OnOk};
+ghost use Rattle.bq_label.specs.Label.{IsPackage};
 ghost use Rattle.std.specs.List.Sorted.{IsStrictlySortedBy};
 ghost use Rattle.bq_label.specs.Packages.{id_cmp};
 ghost use Rattle.bq_query_lex.specs.QueryError.{Meets};
 ghost use Rattle.bq_query_target_sets.specs.Missing.{missing};
 ghost use Rattle.bq_query_target_sets.specs.Order.{texts_of, AreInOrder, IsPlaceOf};
-ghost use Rattle.bq_query_target_sets.specs.Words.{Adds, Range, is_wanted, begins, own, beneath, has_label, names, names_in};
+ghost use Rattle.bq_query_target_sets.specs.Words.{Adds, Range, has_label, names};
+ghost use Rattle.bq_query_target_sets.specs.Beginnings.{AddsValid, AreValid, is_wanted, begins, own, beneath, pattern_at};
 
 use crate::missing::{needs_package, target_named};
 use crate::order::{place_of, target_of};
@@ -51,11 +53,14 @@ fn add_range(targets: &[Target], from: usize, to: usize, rules: bool, marks: &mu
     requires long { length marks.old.items ≡ length targets.now }
     ensures long { length marks.new.items ≡ length marks.old.items }
     ensures range { Range (is_wanted rules) targets.now from to marks.old.items marks.new.items }
+    ensures valid { AreValid (is_wanted rules) targets.now from to }
 {
     for at in from..to {
-        if !is_wanted(rules, &targets[at]) {
+        let target = &targets[at];
+        if !is_wanted(rules, target) {
             continue;
         }
+        let _ = target.label.repo(); // for the proof: a label is valid
         marks[at] = true;
     }
 }
@@ -87,7 +92,7 @@ fn add_beginning(
     requires order { AreInOrder targets.now }
     requires long { length marks.old.items ≡ length targets.now }
     requires last { last < 255 }
-    ensures { OnOk result (Adds (λ t. begins (start.now, last) t && is_wanted rules t) targets.now marks.old.items marks.new.items) }
+    ensures { OnOk result (AddsValid (λ t. begins (start.now, last) t && is_wanted rules t) targets.now marks.old.items marks.new.items) }
 {
     let from = place_before(alloc, targets, start, last)?;
     let to = place_before(alloc, targets, start, last + 1)?;
@@ -105,7 +110,8 @@ fn add_own(
 ) -> Result<(), AllocError>
     requires order { AreInOrder targets.now }
     requires long { length marks.old.items ≡ length targets.now }
-    ensures { OnOk result (Adds (λ t. begins (own id.now) t && is_wanted rules t) targets.now marks.old.items marks.new.items) }
+    ensures set { OnOk result (AddsValid (λ t. begins (own id.now) t && is_wanted rules t) targets.now marks.old.items marks.new.items) }
+    ensures valid { IsPackage id.now }
 {
     let text = package_text(alloc, id)?;
     add_beginning(alloc, targets, &text, b':', rules, marks)
@@ -121,7 +127,7 @@ fn add_beneath(
 ) -> Result<(), AllocError>
     requires order { AreInOrder targets.now }
     requires long { length marks.old.items ≡ length targets.now }
-    ensures { OnOk result (Adds (λ t. begins (beneath id.now) t && is_wanted rules t) targets.now marks.old.items marks.new.items) }
+    ensures { OnOk result (AddsValid (λ t. begins (beneath id.now) t && is_wanted rules t) targets.now marks.old.items marks.new.items) }
 {
     let text = beneath_text(alloc, id)?;
     add_beginning(alloc, targets, &text, b'/', rules, marks)
@@ -138,7 +144,7 @@ fn add_package(
 ) -> Result<(), AllocError>
     requires order { AreInOrder targets.now }
     requires long { length marks.old.items ≡ length targets.now }
-    ensures { OnOk result (Adds (names_in deep rules id.now) targets.now marks.old.items marks.new.items) }
+    ensures { OnOk result (Adds (names (pattern_at deep rules id.now)) targets.now marks.old.items marks.new.items) }
 {
     add_own(alloc, targets, id, rules, marks)?;
     if !deep {

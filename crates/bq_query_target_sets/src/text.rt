@@ -4,7 +4,7 @@ ghost use Rattle.std.specs.Prelude.{◌≡◌, ◌++◌, ◌∷◌, codes, map, 
 ghost use Rattle.std.specs.List.{find};
 ghost use Rattle.std.specs.Option.{option_copied, is_some};
 ghost use Rattle.std.specs.Fmt.{signed_decimal};
-ghost use Rattle.bq_label.specs.Label.{full_form};
+ghost use Rattle.bq_label.specs.Label.{IsPackage, full_form};
 ghost use Rattle.bq_query_target_sets.specs.Words.{package_text};
 ghost use Rattle.bq_query_target_sets.specs.Texts as spec;
 ghost use Rattle.bq_query_target_sets.specs.Texts.{further, kind_text, list_text, value_text, default_text, given, subject_text, attribute_text, text_by};
@@ -43,7 +43,8 @@ pub fn write_kind(kind: &TargetKind, text: &mut Vec<u8>) -> Result<(), AllocErro
 
 /// Returns `//package`, or `@repository//package`.
 pub fn package_text(alloc: Global, id: &PackageId) -> Result<Vec<u8>, AllocError>
-    ensures { IfOk result (λ text. text.items ≡ package_text id.now) }
+    ensures text { IfOk result (λ text. text.items ≡ package_text id.now) }
+    ensures valid { IsPackage id.now }
 {
     let mut text = Vec::new(alloc);
     if !id.repo().is_empty() {

@@ -1,10 +1,10 @@
 -- The grammar of queries, by the Bazel query reference, "Expressions: syntax and semantics of the grammar": a case for each
 -- production, under its production. `Inner` is a query inside one more parenthesis or let, of which `depth` more may be opened.
-use Rattle.std.specs.Prelude.{ℕ, zero, suc, List, [], ◌∷◌, ◌≡◌, ◌<◌, true, Option, Some, None}
+use Rattle.std.specs.Prelude.{ℕ, zero, suc, List, [], ◌∷◌, drop, ◌≡◌, ◌<◌, true, Option, Some, None}
 use Rattle.bq_query_lex.specs.declared.token.QueryTokenKind.{QueryTokenKind}
 use Rattle.bq_query_lex.specs.declared.token.QueryTokenKind.TheVariants as k
 use Rattle.bq_query_lex.specs.Lexis.{is_variable_name}
-use Rattle.bq_query_tree.specs.Lexeme.{Lexeme, unquoted, variable_name}
+use Rattle.bq_query_tree.specs.Lexeme.{Lexeme, unquoted}
 use Rattle.bq_query_tree.specs.Phrases.{Phrase, none, Repeat, CommaThen}
 use Rattle.bq_query_tree.specs.declared.tree.SetOperator.{SetOperator}
 use Rattle.bq_query_tree.specs.declared.tree.SetOperator.TheVariants as o
@@ -42,7 +42,7 @@ pub data AreArguments (Inner : Phrase Query) : List Lexeme → List Lexeme → L
 -- Operand = Word | variable | '(' Query ')' | 'set' '(' { Word } ')' | word '(' Arguments
 pub data IsOperand (depth : ℕ) (Inner : Phrase Query) : List Lexeme → List Lexeme → Query → Type 0 where
   word : {ts rest : List Lexeme} {w : List ℕ} → IsWord ts rest w → IsOperand depth Inner ts rest (q.Word w)
-  variable : {t : Lexeme} {rest : List Lexeme} {x : Query} → t.kind ≡ k.Variable → x ≡ q.Variable (variable_name t.spelling)
+  variable : {t : Lexeme} {rest : List Lexeme} {x : Query} → t.kind ≡ k.Variable → x ≡ q.Variable (drop 1 t.spelling)
       → IsOperand depth Inner (t ∷ rest) rest x
   parenthesized : {p c : Lexeme} {ts rest : List Lexeme} {x : Query} → 0 < depth → p.kind ≡ k.Open → Inner ts (c ∷ rest) x → c.kind ≡ k.Close
       → IsOperand depth Inner (p ∷ ts) rest (q.Parenthesized x)

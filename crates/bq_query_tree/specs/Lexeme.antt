@@ -1,5 +1,5 @@
 -- A token with its spelling, which is what the grammar reads.
-use Rattle.std.specs.Prelude.{ℕ, ◌-◌, Bool, List, [], ◌∷◌, length, take, slice_range}
+use Rattle.std.specs.Prelude.{ℕ, ◌-◌, Bool, List, [], ◌∷◌, length, map, take, slice_range}
 use denote.Enum.Bare.{sameb}
 use Rattle.bq_query_lex.specs.contracts.token.QueryTokenKind.{the_type}
 use Rattle.bq_query_lex.specs.declared.token.QueryToken.{QueryToken}
@@ -16,8 +16,7 @@ lexeme text t = record { kind = t.kind; spelling = slice_range text t.start t.en
 
 -- the tokens of a text, with their spellings
 abbrev pub lexemes : List ℕ → List QueryToken → List Lexeme
-lexemes text [] = []
-lexemes text (t ∷ ts) = lexeme text t ∷ lexemes text ts
+lexemes text ts = map (lexeme text) ts
 
 unfoldable pub same_kind : QueryTokenKind → QueryTokenKind → Bool
 same_kind = sameb the_type
@@ -26,8 +25,3 @@ same_kind = sameb the_type
 abbrev pub unquoted : List ℕ → List ℕ
 unquoted [] = []
 unquoted (q ∷ bs) = take (length bs - 1) bs
-
--- what comes after `$`
-abbrev pub variable_name : List ℕ → List ℕ
-variable_name [] = []
-variable_name (d ∷ bs) = bs

@@ -1,9 +1,9 @@
 -- Reading by recursive descent: what each production of the grammar finds in the tokens.
-use Rattle.std.specs.Prelude.{ℕ, zero, suc, List, [], ◌∷◌, ◌++◌, length, Bool, true, false, ◌==◌, Option, Some, None, if◌then◌else◌}
+use Rattle.std.specs.Prelude.{ℕ, zero, suc, List, [], ◌∷◌, ◌++◌, drop, length, Bool, true, false, ◌==◌, Option, Some, None, if◌then◌else◌}
 use Rattle.bq_query_lex.specs.declared.token.QueryTokenKind.{QueryTokenKind}
 use Rattle.bq_query_lex.specs.declared.token.QueryTokenKind.TheVariants as k
 use Rattle.bq_query_lex.specs.Lexis.{is_variable_name}
-use Rattle.bq_query_tree.specs.Lexeme.{Lexeme, same_kind, unquoted, variable_name}
+use Rattle.bq_query_tree.specs.Lexeme.{Lexeme, same_kind, unquoted}
 use Rattle.bq_query_tree.specs.Turns.{Found, Parse, ◌>>=◌, sees, next, expect, Turn, ended, goes, failed, turns, repeat}
 use Rattle.bq_query_tree.specs.Grammar.{operator, operation, chain_of}
 use Rattle.bq_query_tree.specs.declared.tree.SetOperator.{SetOperator}
@@ -89,7 +89,7 @@ word_or_call depth inner w ts = if sees k.Open ts then call depth inner w ts els
 abbrev pub operand_by : ℕ → Parse Query → QueryTokenKind → Lexeme → Parse Query
 operand_by depth inner k.Word t ts = word_or_call depth inner t.spelling ts
 operand_by depth inner k.Quoted t ts = Some (q.Word (unquoted t.spelling), ts)
-operand_by depth inner k.Variable t ts = Some (q.Variable (variable_name t.spelling), ts)
+operand_by depth inner k.Variable t ts = Some (q.Variable (drop 1 t.spelling), ts)
 operand_by depth inner k.Open t ts = parenthesized depth inner (t ∷ ts)
 operand_by depth inner k.Set t ts = set_of depth ts
 operand_by depth inner _ t ts = None

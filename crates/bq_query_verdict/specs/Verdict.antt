@@ -1,14 +1,16 @@
 -- What must hold of the tree of a query, in the order of its text: that there is no fault at a place, at one place that of the least number
 -- first, and that a text is a pattern. The first of these that doesn't hold is the query's error.
 use Rattle.std.specs.Prelude.{ℕ, ◌==◌, ◌&&◌, nat_le, not, Bool, List, [], ◌∷◌, ◌++◌, length, Option, Some, None, bytes_eq, if◌then◌else◌}
-use Rattle.std.specs.List.{list_any, list_all}
+use Rattle.std.specs.List.{flat_map, list_any, list_all}
+use Rattle.std.specs.Option.{option_map, option_or, unwrap_or}
+use Rattle.bq_source.specs.Lexis.{is_digit}
 use Rattle.bq_query_lex.specs.declared.query_error.QueryErr.{QueryErr}
 use Rattle.bq_query_lex.specs.declared.query_error.QueryErr.TheVariants as e
 use Rattle.bq_query_lex.specs.declared.function.QueryFunction.{QueryFunction}
 use Rattle.bq_query_lex.specs.declared.function.QueryArgumentKind.{QueryArgumentKind}
 use Rattle.bq_query_lex.specs.declared.function.QueryArgumentKind.TheVariants as kind
 use Rattle.bq_query_lex.specs.Functions.{function_named, is_left_out, parameters_of, mandatory_of}
-use Rattle.bq_query_target_pattern.specs.Reading.{first_of, word_fault, words_fault}
+use Rattle.bq_query_target_pattern.specs.Reading.{word_fault, words_fault}
 use Rattle.bq_query_tree.specs.declared.tree.Query.{Query, fold-Query}
 use Rattle.bq_query_tree.specs.declared.tree.SetOperation.{SetOperation, fold-SetOperation}
 use Rattle.bq_query_tree.specs.declared.tree.Query.TheOpen as tree
@@ -32,18 +34,9 @@ unknown name = if is_left_out name then e.LeftOut name else e.UnknownFunction na
 abbrev pub fits : QueryFunction → ℕ → Bool
 fits f n = nat_le (mandatory_of f) n && nat_le n (length (parameters_of f))
 
--- the fault of a call, by its function
-abbrev pub function_by : Option QueryFunction → List ℕ → ℕ → Fault
-function_by None name n = Some (unknown name)
-function_by (Some f) name n = if fits f n then None else Some e.Arguments
-
--- a function with a number of arguments
+-- the fault of the call of a function with a number of arguments
 abbrev pub function : List ℕ → ℕ → Fault
-function name n = function_by (function_named name) name n
-
--- a digit
-abbrev pub is_digit : ℕ → Bool
-is_digit b = nat_le 48 b && nat_le b 57
+function name n = elim (function_named name) [ Some f ↦ if fits f n then None else Some e.Arguments | None ↦ Some (unknown name) ]
 
 -- a number of edges: 1 to 9 digits
 abbrev pub is_number : List ℕ → Bool
@@ -65,29 +58,18 @@ pub record Part : Type 0 where
 
 -- an argument that has to be one word and is not: Q8 at its first token, where a lesser number is a fault of the token too
 abbrev pub no_word : Part → List (List ℕ) → Fault
-no_word x names = first_of (x.at_first names) (Some e.Arguments)
+no_word x names = option_or (x.at_first names) (Some e.Arguments)
 
--- a pattern has to be a word, and one that `regex` takes
-abbrev pub pattern_by : Option (List ℕ) → Part → List (List ℕ) → Need
-pattern_by (Some w) x names = regex w
-pattern_by None x names = no_fault (no_word x names)
+-- an argument that has to be a word, of which this must hold
+abbrev pub word_with : (List ℕ → Need) → Part → List (List ℕ) → Need
+word_with need x names = unwrap_or (option_map need x.word) (no_fault (no_word x names))
 
--- the name of an attribute has to be a word
-abbrev pub attribute_by : Option (List ℕ) → Part → List (List ℕ) → Fault
-attribute_by (Some w) x names = None
-attribute_by None x names = no_word x names
-
--- a number has to be a word of digits
-abbrev pub number_by : Option (List ℕ) → Part → List (List ℕ) → Fault
-number_by (Some w) x names = if is_number w then None else Some e.Arguments
-number_by None x names = no_word x names
-
--- an argument of a kind
+-- an argument of a kind: a regular expression, the name of an attribute and a number have to be words
 abbrev pub argument : QueryArgumentKind → Part → List (List ℕ) → List Need
 argument kind.Query x names = x.all names
-argument kind.Pattern x names = pattern_by x.word x names ∷ []
-argument kind.Attribute x names = no_fault (attribute_by x.word x names) ∷ []
-argument kind.Number x names = no_fault (number_by x.word x names) ∷ []
+argument kind.Pattern x names = word_with regex x names ∷ []
+argument kind.Attribute x names = word_with (λ w. no_fault None) x names ∷ []
+argument kind.Number x names = word_with (λ w. no_fault (if is_number w then None else Some e.Arguments)) x names ∷ []
 
 -- what arguments need, each by its kind, from the left
 abbrev pub arguments : List QueryArgumentKind → List Part → List (List ℕ) → List Need
@@ -97,17 +79,11 @@ arguments (k ∷ ks) (x ∷ xs) names = argument k x names ++ arguments ks xs na
 
 -- what these parts need, from the left
 abbrev pub parts : List Part → List (List ℕ) → List Need
-parts [] names = []
-parts (x ∷ xs) names = x.all names ++ parts xs names
-
--- what the arguments of a function must be, if there is one
-abbrev pub parameters_by : Option QueryFunction → List QueryArgumentKind
-parameters_by None = []
-parameters_by (Some f) = parameters_of f
+parts xs names = flat_map (λ x. x.all names) xs
 
 -- a call needs a function that takes so many arguments, and what they need
 abbrev pub call : List ℕ → List Part → List (List ℕ) → List Need
-call name xs names = no_fault (function name (length xs)) ∷ arguments (parameters_by (function_named name)) xs names
+call name xs names = no_fault (function name (length xs)) ∷ arguments (unwrap_or (option_map parameters_of (function_named name)) []) xs names
 
 -- a part that is no word, with no fault at its first token
 abbrev pub larger : (List (List ℕ) → List Need) → Part

@@ -5,6 +5,7 @@ ghost use Rattle.std.specs.List.{list_any, list_all};
 ghost use Rattle.bq_query_lex.specs.Functions as table;
 ghost use Rattle.bq_query_lex.specs.QueryError.{Meets};
 ghost use Rattle.bq_query_target_pattern.specs.Reading.{word_fault};
+ghost use Rattle.bq_source.specs.Lexis.{is_digit};
 ghost use Rattle.bq_query_verdict.specs.Verdict as spec;
 
 use bq_base::Bytes;
@@ -78,13 +79,13 @@ pub fn function(name: &Bytes, count: usize) -> Result<QueryFunction, QueryErr>
 }
 
 fn is_digit(b: u8) -> bool
-    ensures { result ≡ spec.is_digit b }
+    ensures { result ≡ is_digit b }
 {
     b.is_ascii_digit()
 }
 
 fn are_digits(word: &[u8]) -> bool
-    ensures { result ≡ list_all spec.is_digit word.now }
+    ensures { result ≡ list_all is_digit word.now }
 {
     word.iter().all(|b| is_digit(*b))
 }

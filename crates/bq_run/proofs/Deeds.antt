@@ -1,15 +1,19 @@
 -- What a call does that ends early, and what a run over a bundle's workspace is.
 use Rattle.std.proofs.Common.{◌≡◌, ◌⊎◌, ℕ, List, [], Option, None, Some, Result, Err, inl, inr, refl, subst, sym}
-use Rattle.std.specs.Prelude.{IfSome}
+use Rattle.std.specs.Prelude.{IfSome, MatchOption}
 use Rattle.std.specs.Io.KnownBytes.{Keeps}
 use Rattle.bq_label.specs.declared.workspace.File.{File}
 use Rattle.bq_run_report.specs.declared.ending.Status.{Status}
 use Rattle.bq_run.specs.Bundle.{bundle_of}
-use Rattle.bq_run.specs.Run.{Run, DoesOne, IsRunFrom, IsRunOf, IsRunOver}
+use Rattle.bq_run.specs.Run.{Run, DoesOne, IsRunOf, IsRunOver}
 use Rattle.bq_run.specs.declared.error.RunErr.{RunErr}
 use Rattle.bq_run.specs.declared.error.RunErr.TheVariants as run
 use Rattle.bq_run.specs.declared.options.Options.{Options}
 use Rattle.bq_run.proofs.Transfers.{Appends-none}
+
+-- a run over the files of a bundle, or over a bundle that is none
+abbrev pub IsRunFrom : Options → Option (List File) → Run → Type 0
+IsRunFrom options b what = MatchOption b (what ≡ record { faults = []; answer = []; end = Err run.Bundle }) (λ files. IsRunOver options files what)
 
 keeps_itself : (known : Option (List ℕ)) → Keeps known known
 keeps_itself None = tt

@@ -15,7 +15,7 @@ use Rattle.bq_load_by_name.specs.Views.{OutcomeView}
 use Rattle.bq_load_by_name.specs.Results.{Loaded, LoadsByNames}
 use Rattle.bq_load_by_name.proofs.Outcomes.{outcomes_agree}
 use Rattle.bq_query_check.specs.Checked.{IsChecked}
-use Rattle.bq_query_check.specs.declared.checked.CheckedQuery.{CheckedQuery}
+use Rattle.bq_query_check.specs.Formula.{Formula}
 use Rattle.bq_run_report.specs.Report.{Inside, ReportView, Reports, inside}
 use Rattle.bq_run.specs.WorkspaceRun.{IsReportOn, inside_by, loaded_in}
 use Rattle.bq_run.specs.declared.options.Options.{Options}
@@ -29,10 +29,10 @@ loaded_inside bs os l is =
     ∙ ap (λ (b : List FaultLine). inside_of (inside_by bs os).prints b l.packages) is.faults
     ∙ ap (λ (c : List PackageTargets). inside_of (inside_by bs os).prints (inside_by bs os).faults c) is.packages
 
-pub loaded_report : (o : Options) (files : List File) (query : CheckedQuery) (rules : Rules) (l : Loaded) (r : ReportView) → IsChecked o.query.items query → schema_in files ≡ Ok rules
-    → LoadsByNames files rules o.max_steps (Ok l) → Reports (inside l) query o.output r → IsReportOn o files r
-loaded_report o files query rules l r checked schema loads reports =
-    IsReportOn.loaded query rules loads.0 loads.1 checked schema loads.2 (subst (λ (i : Inside). Reports i query o.output r) (loaded_inside _ _ l loads.3) reports)
+pub loaded_report : (o : Options) (files : List File) (x : Formula) (rules : Rules) (l : Loaded) (r : ReportView) → IsChecked o.query.items x → schema_in files ≡ Ok rules
+    → LoadsByNames files rules o.max_steps (Ok l) → Reports (inside l) x o.output r → IsReportOn o files r
+loaded_report o files x rules l r checked schema loads reports =
+    IsReportOn.loaded x rules loads.0 loads.1 checked schema loads.2 (subst (λ (i : Inside). Reports i x o.output r) (loaded_inside _ _ l loads.3) reports)
 
 -- what is inside a workspace whose modules gave this by slots is what they give by names
 module _ (files : List File) (rules : Rules) (limit : ℕ) (g : GraphParts) (is : IsReadGraph (inputs_of files rules) g) where

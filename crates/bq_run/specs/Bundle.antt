@@ -1,13 +1,8 @@
 -- The text form of a workspace: header lines, each followed by its file.
 use Rattle.std.specs.Prelude.{◌≡◌, ◌<◌, ◌-◌, ◌++◌, ◌==◌, ◌&&◌, ℕ, Bool, true, nat_le, nat_eq, List, [], ◌∷◌, Option, None, Some, length, take, drop, map, slice_index, codes, option_and_then, if◌then◌else◌}
-use Rattle.std.specs.List.{starts_with, list_all}
+use Rattle.std.specs.List.{starts_with, list_all, onto_first}
 use Rattle.bq_label.specs.Workspace.{workspace_of}
 use Rattle.bq_label.specs.declared.workspace.File.{File}
-
--- the byte goes onto the first line
-abbrev pub onto_first : ℕ → List (List ℕ) → List (List ℕ)
-onto_first b [] = (b ∷ []) ∷ []
-onto_first b (l ∷ ls) = (b ∷ l) ∷ ls
 
 -- the lines of a text, each with its newline, which the last may lack
 abbrev pub lines : List ℕ → List (List ℕ)

@@ -1,5 +1,5 @@
 -- What a run writes for the bytes that it reads, and how it ends.
-use Rattle.std.specs.Prelude.{◌≡◌, ◌⊎◌, ◌≤◌, ℕ, false, List, [], Option, None, Some, Result, Ok, Err, if◌then◌else◌}
+use Rattle.std.specs.Prelude.{◌≡◌, ◌⊎◌, ◌≤◌, ℕ, false, List, [], Option, MatchOption, Result, Ok, Err, if◌then◌else◌}
 use Rattle.std.specs.Io.KnownBytes.{Appends, Keeps}
 use Rattle.bq_label.specs.declared.workspace.File.{File}
 use Rattle.bq_run_report.specs.Ending.{is_unanswered, names_nothing}
@@ -37,14 +37,10 @@ run_report r = run_by r.faults r.answer r.end
 abbrev pub IsRunOver : Options → List File → Run → Type 0
 IsRunOver options files what = (r : ReportView) × IsReportOn options files r × (what ≡ run_report r)
 
--- a run over the files of a bundle, or over a bundle that is none (E2 to E5)
-abbrev pub IsRunFrom : Options → Option (List File) → Run → Type 0
-IsRunFrom options None what = what ≡ record { faults = []; answer = []; end = Err run.Bundle }
-IsRunFrom options (Some files) what = IsRunOver options files what
-
--- a run over the bytes of a bundle
+-- a run over the bytes of a bundle, or over a bundle that is none (E2 to E5)
 unfoldable pub IsRunOf : Options → List ℕ → Run → Type 0
-IsRunOf options input what = IsRunFrom options (bundle_of input) what
+IsRunOf options input what =
+    MatchOption (bundle_of input) (what ≡ record { faults = []; answer = []; end = Err run.Bundle }) (λ files. IsRunOver options files what)
 
 -- out of memory and failing devices aside, the call ends as the definition does
 abbrev pub EndsAs : Result Status RunErr → Result Status RunErr → Type 0
@@ -74,13 +70,9 @@ pub record Does (what : Run) (result : Result Status RunErr) (f f' a a' : Option
   pub ends : EndsAs result what.end
   pub writes : Writes result what.faults what.answer f f' a a'
 
--- memory was refused, or the reader failed
-abbrev pub IsGivenUp : Result Status RunErr → Type 0
-IsGivenUp result = (result ≡ Err run.Memory) ⊎ (result ≡ Err run.Read)
-
 -- What a call did that ends so, where the run is one of these: nothing is written where memory was refused or the reader failed.
 pub data DoesOne (IsIt : Run → Type 0) (result : Result Status RunErr) (f f' a a' : Option (List ℕ)) : Type 0 where
-  gave_up : IsGivenUp result → Keeps f f' → Keeps a a' → DoesOne IsIt result f f' a a'
+  gave_up : (result ≡ Err run.Memory) ⊎ (result ≡ Err run.Read) → Keeps f f' → Keeps a a' → DoesOne IsIt result f f' a a'
   ran : (what : Run) → IsIt what → Does what result f f' a a' → DoesOne IsIt result f f' a a'
 
 -- an error with which nothing is written

@@ -17,7 +17,7 @@ use Rattle.bq_load_by_name.specs.Parsed.{parsed_in}
 use Rattle.bq_load_by_name.specs.Results.{outcomes}
 use Rattle.bq_query_lex.specs.declared.query_error.QueryErr.{QueryErr}
 use Rattle.bq_query_check.specs.Checked.{IsChecked, IsWrong}
-use Rattle.bq_query_check.specs.declared.checked.CheckedQuery.{CheckedQuery}
+use Rattle.bq_query_check.specs.Formula.{Formula}
 use Rattle.bq_run_report.specs.Report.{Inside, ReportView, Reports}
 use Rattle.bq_run_report.specs.declared.ending.NoAnswer.{NoAnswer}
 use Rattle.bq_run_report.specs.declared.ending.NoAnswer.TheVariants.{Query, Schema, TooManyModules}
@@ -40,9 +40,9 @@ pub data IsReportOn (o : Options) (files : List File) (r : ReportView) : Type 0 
   -- Q1 to Q4, Q7, Q8
   wrong_query : (why : QueryErr) → IsWrong o.query.items why → r ≡ refused (Query why) → IsReportOn o files r
   -- E6
-  wrong_schema : (query : CheckedQuery) (line : ℕ) → IsChecked o.query.items query → schema_in files ≡ Err line → r ≡ refused (Schema line) → IsReportOn o files r
+  wrong_schema : (x : Formula) (line : ℕ) → IsChecked o.query.items x → schema_in files ≡ Err line → r ≡ refused (Schema line) → IsReportOn o files r
   -- E7
-  too_many : (query : CheckedQuery) (rules : Rules) → IsChecked o.query.items query → schema_in files ≡ Ok rules → AreTooMany (inputs_of files rules)
+  too_many : (x : Formula) (rules : Rules) → IsChecked o.query.items x → schema_in files ≡ Ok rules → AreTooMany (inputs_of files rules)
       → r ≡ refused TooManyModules → IsReportOn o files r
-  loaded : (query : CheckedQuery) (rules : Rules) (labels : List LabelParts) (edges : Loads) → IsChecked o.query.items query → schema_in files ≡ Ok rules
-      → IsLoadGraph (inputs_of files rules) labels edges → Reports (loaded_in files rules o.max_steps labels edges) query o.output r → IsReportOn o files r
+  loaded : (x : Formula) (rules : Rules) (labels : List LabelParts) (edges : Loads) → IsChecked o.query.items x → schema_in files ≡ Ok rules
+      → IsLoadGraph (inputs_of files rules) labels edges → Reports (loaded_in files rules o.max_steps labels edges) x o.output r → IsReportOn o files r

@@ -3,6 +3,7 @@
 ghost use Rattle.std.specs.Prelude.{◌≡◌, Ok, IfOk};
 ghost use Rattle.bq_load_by_name.specs.Schema.{schema_in};
 ghost use Rattle.bq_query_check.specs.Checked.{IsChecked};
+ghost use Rattle.bq_query_check.specs.Formula.{formula_of};
 ghost use Rattle.bq_run_report.specs.Report.{report_view};
 ghost use Rattle.bq_run.specs.Run.{IsInRange};
 ghost use Rattle.bq_run.specs.WorkspaceRun.{IsReportOn, refused};
@@ -41,7 +42,7 @@ fn report_by<T: Threads + Wait + RandomSource + Sync>(
     options: &Options,
 ) -> Result<Report, AllocError>
     requires in_range { IsInRange options.now }
-    requires query { IsChecked options.now.query.items question.query.now }
+    requires query { IsChecked options.now.query.items (formula_of question.query.now.set) }
     requires schema { schema_in workspace.now ≡ Ok schema.now }
     requires form { question.form ≡ options.now.output }
     ensures { IfOk result (λ r. IsReportOn options.now workspace.now (report_view r)) }
@@ -62,7 +63,7 @@ fn report_query<T: Threads + Wait + RandomSource + Sync>(
     options: &Options,
 ) -> Result<Report, AllocError>
     requires in_range { IsInRange options.now }
-    requires query { IsChecked options.now.query.items query.now }
+    requires query { IsChecked options.now.query.items (formula_of query.now.set) }
     ensures { IfOk result (λ r. IsReportOn options.now workspace.now (report_view r)) }
 {
     match schema_of(alloc, workspace) {

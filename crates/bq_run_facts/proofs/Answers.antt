@@ -8,13 +8,13 @@ use Rattle.bq_query_check.specs.declared.checked.CheckedQuery.{CheckedQuery}
 use Rattle.bq_query_target_graph.specs.Graph.{GraphParts}
 use Rattle.bq_query_verdict.specs.Verdict.{Fault}
 use Rattle.bq_query.specs.Faults.{fault_in}
-use Rattle.bq_query.specs.Graph.{targets_of}
 use Rattle.bq_query.specs.Printed.{printed}
 use Rattle.bq_query.specs.declared.print.OutputForm.{OutputForm}
 use Rattle.bq_run_report.specs.declared.ending.NoAnswer.{NoAnswer}
 use Rattle.bq_run_report.specs.declared.ending.Status.{Status}
 use Rattle.bq_run_report.specs.Ending.{status_by}
-use Rattle.bq_run_report.specs.Report.{Inside, ReplyView, ReportView, RepliesBy, Reports, all_faults}
+use Rattle.bq_run_report.specs.Report.{Inside, ReplyView, ReportView, Reports, all_faults}
+use Rattle.bq_run_report.proofs.Parts.{RepliesBy}
 use Rattle.bq_run.specs.WorkspaceRun.{IsReportOn, loaded_in, refused}
 use Rattle.bq_run.specs.declared.options.Options.{Options}
 use Rattle.bq_run_facts.specs.Facts.{IsFactsBy, IsFactsOn, TellsBy, TellsFacts}
@@ -37,23 +37,23 @@ refusal r why e = ap (λ (s : ReportView). report_at s.faults [] s.end) e
 replies : (f : Fault) (packages : List BuildFile) (w : GraphParts) (query : CheckedQuery) (form : OutputForm) (further : List ℕ) (status : Status) (text : List ℕ) (end : Result Status NoAnswer)
     → TellsBy f packages w (Some query) further status (reply_at text end) → (answer : List ℕ) × RepliesBy f w (formula_of query.set) form status (reply_at answer end)
 replies None packages w query form further status text end (numbers, meant, is) =
-    let answer = printed form (targets_of w) numbers in
+    let answer = printed form w.targets numbers in
     (answer, (numbers, meant, ap (λ (s : ReplyView). reply_at answer s.end) is))
 replies (Some why) packages w query form further status text end is = ([], ap (λ (s : ReplyView). reply_at [] s.end) is)
 
 reports : (packages : List BuildFile) (modules : List ℕ) (i : Inside) (query : CheckedQuery) (form : OutputForm) (r : ReportView) → TellsFacts packages modules i (Some query) r
-    → (answer : List ℕ) × Reports i query form (record { faults = r.faults; answer = answer; end = r.end })
+    → (answer : List ℕ) × Reports i (formula_of query.set) form (record { faults = r.faults; answer = answer; end = r.end })
 reports packages modules i query form r tells =
     let w = tells.graph in
     let found = replies (fault_in w (formula_of query.set)) packages w query form _ (status_by (all_faults i)) r.answer r.end tells.reply in
     (found.0, record { graph = w; made = tells.made; faults = tells.faults; reply = found.1 })
 
-by_query : (o : Options) (files : List File) (query : CheckedQuery) (r : ReportView) → IsChecked o.query.items query → IsFactsBy o.max_steps files (Some query) r → HasAnswer o files r
-by_query o files query r checked (IsFactsBy.wrong_schema line e is) = ([], IsReportOn.wrong_schema query line checked e (refusal r _ is))
-by_query o files query r checked (IsFactsBy.too_many rules e many is) = ([], IsReportOn.too_many query rules checked e many (refusal r _ is))
+by_query : (o : Options) (files : List File) (query : CheckedQuery) (r : ReportView) → IsChecked o.query.items (formula_of query.set) → IsFactsBy o.max_steps files (Some query) r → HasAnswer o files r
+by_query o files query r checked (IsFactsBy.wrong_schema line e is) = ([], IsReportOn.wrong_schema (formula_of query.set) line checked e (refusal r _ is))
+by_query o files query r checked (IsFactsBy.too_many rules e many is) = ([], IsReportOn.too_many (formula_of query.set) rules checked e many (refusal r _ is))
 by_query o files query r checked (IsFactsBy.loaded rules g e found tells) =
     let answered = reports _ _ (loaded_in files rules o.max_steps g.labels g.edges) query o.output r tells in
-    (answered.0, IsReportOn.loaded query rules g.labels g.edges checked e found.graph answered.1)
+    (answered.0, IsReportOn.loaded (formula_of query.set) rules g.labels g.edges checked e found.graph answered.1)
 
 same_text : (a b : List ℕ) → Some a ≡ Some b → a ≡ b
 same_text a b e = cc

@@ -34,7 +34,7 @@ abbrev pub IsAsked : Option (List ℕ) → Option CheckedQuery → Type 0
 IsAsked None None = Unit {0}
 IsAsked None (Some query) = ⊥
 IsAsked (Some text) None = ⊥
-IsAsked (Some text) (Some query) = IsChecked text query
+IsAsked (Some text) (Some query) = IsChecked text (formula_of query.set)
 
 -- the first of the query's words that names what is not there
 abbrev pub fault_by : GraphParts → Option CheckedQuery → Fault

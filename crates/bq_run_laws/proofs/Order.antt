@@ -6,7 +6,7 @@ use Rattle.bq_label.specs.declared.workspace.File.{File}
 use Rattle.bq_query_lex.specs.declared.query_error.QueryErr.{QueryErr}
 use Rattle.bq_query_lex.specs.declared.query_error.QueryErr.TheVariants.{BadRegex}
 use Rattle.bq_query_check.specs.Checked.{Holds, FirstFails, IsChecked, IsWrong}
-use Rattle.bq_query_check.specs.declared.checked.CheckedQuery.{CheckedQuery}
+use Rattle.bq_query_check.specs.Formula.{Formula}
 use Rattle.bq_query_parse.proofs.Texts.{one_tree}
 use Rattle.bq_query_tree.specs.declared.tree.Query.{Query}
 use Rattle.bq_query_verdict.specs.Verdict.{Need, no_fault, regex, needs}
@@ -33,7 +33,7 @@ excluded (no_fault fault ∷ ns) why other (inl f) h = none_some why (sym h.0 �
 excluded (regex text ∷ ns) why other (inl f) h = other f.0
 excluded (n ∷ ns) why other (inr r) h = excluded ns why other r.1 h.1
 
-not_both : (text : List ℕ) (why : QueryErr) (query : CheckedQuery) → why ≢ BadRegex → IsWrong text why → IsChecked text query → ⊥
+not_both : (text : List ℕ) (why : QueryErr) (query : Formula) → why ≢ BadRegex → IsWrong text why → IsChecked text query → ⊥
 not_both text why query other (IsWrong.no_tree e none) c = none c.tree c.parsed
 not_both text why query other (IsWrong.fault x parsed f) c =
     excluded (needs x) why other f (subst (λ (y : Query). AllByRecursion Holds (needs y)) (one_tree text c.tree x c.parsed parsed) c.sound)
@@ -71,7 +71,7 @@ module _ (o : Options) (files : List File) (what : Run) (over : IsRunOver o file
   wrong_first why wrong other (IsReportOn.too_many query rules c s m e) = absurd (not_both o.query.items why query other wrong c)
   wrong_first why wrong other (IsReportOn.loaded query rules labels edges c s l r) = absurd (not_both o.query.items why query other wrong c)
 
-  right : (line : ℕ) → what.end ≡ Err (run.Schema line) → IsReportOn o files over.0 → (query : CheckedQuery) × IsChecked o.query.items query
+  right : (line : ℕ) → what.end ≡ Err (run.Schema line) → IsReportOn o files over.0 → (query : Formula) × IsChecked o.query.items query
   right line e (IsReportOn.wrong_query why is f) = absurd (no_query line why (sym (end_as (refused (refusal.Query why)) f) ∙ e))
   right line e (IsReportOn.wrong_schema query l c s f) = (query, c)
   right line e (IsReportOn.too_many query rules c s m f) = (query, c)
@@ -86,7 +86,7 @@ module _ (o : Options) (files : List File) (what : Run) (over : IsRunOver o file
 pub wrong_query_first : (o : Options) (files : List File) (what : Run) (why : QueryErr) → IsWrong o.query.items why → why ≢ BadRegex → IsRunOver o files what → EndsWithWrongQuery o what
 wrong_query_first o files what why wrong other over = wrong_first o files what over why wrong other over.1
 
-pub right_query : (o : Options) (files : List File) (what : Run) (line : ℕ) → IsRunOver o files what → what.end ≡ Err (run.Schema line) → (query : CheckedQuery) × IsChecked o.query.items query
+pub right_query : (o : Options) (files : List File) (what : Run) (line : ℕ) → IsRunOver o files what → what.end ≡ Err (run.Schema line) → (query : Formula) × IsChecked o.query.items query
 right_query o files what line over e = right o files what over line e over.1
 
 pub wrong_schema_first : (o : Options) (files : List File) (what : Run) (line : ℕ) → schema_in files ≡ Err line → IsRunOver o files what → (what.end ≡ Err (run.Schema line)) ⊎ EndsWithWrongQuery o what

@@ -10,7 +10,8 @@ use Rattle.bq_run_report.specs.declared.ending.NoAnswer.{NoAnswer}
 use Rattle.bq_run_report.specs.declared.ending.NoAnswer.TheVariants as refusal
 use Rattle.bq_run_report.specs.declared.ending.Status.{Status}
 use Rattle.bq_run.specs.Bundle.{bundle_of}
-use Rattle.bq_run.specs.Run.{Run, run_by, IsRunOver, IsRunFrom, IsRunOf, IsSilent}
+use Rattle.bq_run.specs.Run.{Run, run_by, IsRunOver, IsRunOf, IsSilent}
+use Rattle.bq_run.proofs.Deeds.{IsRunFrom}
 use Rattle.bq_run.specs.declared.error.RunErr.{RunErr}
 use Rattle.bq_run.specs.declared.error.RunErr.TheVariants as run
 use Rattle.bq_run.specs.declared.options.Options.{Options}

@@ -6,7 +6,7 @@ ghost use Rattle.bq_load_discover.specs.Schema.{schema_in};
 ghost use Rattle.bq_query_lex.specs.declared.query_error.QueryErr.{QueryErr};
 ghost use Rattle.bq_query_lex.specs.declared.query_error.QueryErr.TheVariants.{BadRegex};
 ghost use Rattle.bq_query_check.specs.Checked.{IsChecked, IsWrong};
-ghost use Rattle.bq_query_check.specs.declared.checked.CheckedQuery.{CheckedQuery};
+ghost use Rattle.bq_query_check.specs.Formula.{Formula};
 ghost use Rattle.bq_run_report.specs.Ending.{names_nothing};
 ghost use Rattle.bq_run_report.specs.Report.{Inside, fault_text};
 ghost use Rattle.bq_run.specs.declared.options.Options.{Options};
@@ -25,7 +25,7 @@ pub fn bundles_come_first()
 /// said, so this is of Q1, Q2, Q3, Q7 and Q8. A wrong schema (E6) is the error only if the query isn't wrong.
 pub fn queries_come_before_the_schema()
     ensures wrong { (o : Options) (files : List File) (what : Run) (why : QueryErr) → IsWrong o.query.items why → why ≢ BadRegex → IsRunOver o files what → EndsWithWrongQuery o what }
-    ensures right { (o : Options) (files : List File) (what : Run) (line : ℕ) → IsRunOver o files what → what.end ≡ Err (run.Schema line) → (query : CheckedQuery) × IsChecked o.query.items query }
+    ensures right { (o : Options) (files : List File) (what : Run) (line : ℕ) → IsRunOver o files what → what.end ≡ Err (run.Schema line) → (x : Formula) × IsChecked o.query.items x }
 {}
 
 /// A wrong schema is E6 with its first bad line, whatever the modules are, unless the query is wrong.

@@ -2,7 +2,7 @@
 pub mod SamePairs
 -- lists of numbers in order, with the same members
 pub mod OneList
--- a workspace and a query have one report
-pub mod OneReport
 -- the report that a session and a reply are parts of
 pub mod Parts
+-- a workspace and a query have one report
+pub mod OneReport

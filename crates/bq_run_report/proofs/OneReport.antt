@@ -1,8 +1,7 @@
 -- A workspace that is loaded and a query have one report.
 use Rattle.std.proofs.Common.{◌≡◌, ◌∙◌, ℕ, List, [], None, Some, Result, Ok, ap, subst, sym}
 use Rattle.bq_label.specs.Label.{PackageParts}
-use Rattle.bq_query_check.specs.Formula.{Formula, formula_of}
-use Rattle.bq_query_check.specs.declared.checked.CheckedQuery.{CheckedQuery}
+use Rattle.bq_query_check.specs.Formula.{Formula}
 use Rattle.bq_query_verdict.specs.Verdict.{Fault}
 use Rattle.bq_package_target.specs.declared.target.Target.{Target}
 use Rattle.bq_query_target_graph.specs.Graph.{GraphParts}
@@ -14,7 +13,8 @@ use Rattle.bq_run_report.specs.declared.ending.NoAnswer.{NoAnswer}
 use Rattle.bq_run_report.specs.declared.ending.Status.{Status}
 use Rattle.bq_run_report.specs.Ending.{status_by}
 use Rattle.bq_run_report.specs.Laws.{OneReport}
-use Rattle.bq_run_report.specs.Report.{IsAnswer, Inside, ReplyView, Replies, RepliesBy, ReportView, all_faults}
+use Rattle.bq_run_report.specs.Report.{IsAnswer, Inside, ReplyView, Replies, ReportView, all_faults}
+use Rattle.bq_run_report.proofs.Parts.{RepliesBy}
 use Rattle.bq_run_report.proofs.OneList.{one_list}
 use Rattle.bq_run_report.proofs.SamePairs.{PairsIn, same_fault, same_set, graph}
 
@@ -45,9 +45,9 @@ module _ (ts : List Target) (ps : List PackageParts) (g h : List (List ℕ)) (to
       let here = subst (λ (f : Fault). RepliesBy f (graph ts ps h) x form status s) (sym (same_fault ts ps g h x)) b in
       same_reply_by (fault_in (graph ts ps g) x) x form status r s a here
 
-module _ (i : Inside) (query : CheckedQuery) (form : OutputForm) where
+module _ (i : Inside) (f : Formula) (form : OutputForm) where
   replies : GraphParts → ReportView → Type 0
-  replies g r = Replies g (formula_of query.set) form (status_by (all_faults i)) (reply_at r.answer r.end)
+  replies g r = Replies g f form (status_by (all_faults i)) (reply_at r.answer r.end)
 
   same_reports : (g h : GraphParts) (r s : ReportView) → IsGraphOf i.packages g → IsGraphOf i.packages h → replies g r → replies h s → reply_at r.answer r.end ≡ reply_at s.answer s.end
   unfolding replies
@@ -56,7 +56,6 @@ module _ (i : Inside) (query : CheckedQuery) (form : OutputForm) where
       let p : h.packages ≡ g.packages = other.packages ∙ sym made.packages in
       let to : PairsIn g.edges h.edges = λ x y c. (other.pairs x y).1 (subst (λ (ts : List Target). DependsOn ts x y) (sym t) ((made.pairs x y).0 c)) in
       let from : PairsIn h.edges g.edges = λ x y c. (made.pairs x y).1 (subst (λ (ts : List Target). DependsOn ts x y) t ((other.pairs x y).0 c)) in
-      let f = formula_of query.set in
       let status = status_by (all_faults i) in
       let reply = reply_at s.answer s.end in
       let moved : Replies (graph g.targets h.packages h.edges) f form status reply =
@@ -67,9 +66,9 @@ module _ (i : Inside) (query : CheckedQuery) (form : OutputForm) where
 
 pub one_report : OneReport
 unfolding report_at reply_at replies
-one_report i query form r s a b =
+one_report i x form r s a b =
     let faults : r.faults ≡ s.faults = a.faults ∙ sym b.faults in
-    let reply = same_reports i query form a.graph b.graph r s a.made b.made a.reply b.reply in
+    let reply = same_reports i x form a.graph b.graph r s a.made b.made a.reply b.reply in
     let one : report_at r.faults (reply_at r.answer r.end) ≡ report_at s.faults (reply_at s.answer s.end) =
     ap (λ (v : ReplyView). report_at r.faults v) reply ∙ ap (λ (fs : List ℕ). report_at fs (reply_at s.answer s.end)) faults in
     one

@@ -39,7 +39,8 @@ module _ (g h : List (List ℕ)) (to : PairsIn g h) where
   deps_in P Q f y e = record { from = e.from; starts = f e.from e.starts; through = e.through; path = path_in e.from e.through y e.path }
 
   deps_within_in : (n : ℕ) (P Q : ℕ → Type 0) → Within P Q → Within (DepsWithin g P n) (DepsWithin h Q n)
-  deps_within_in n P Q f y e = record { from = e.from; starts = f e.from e.starts; through = e.through; path = path_in e.from e.through y e.path; few = e.few }
+  unfolding deps_in
+  deps_within_in n P Q f y (e, few) = (deps_in P Q f y e, few)
 
   all_in : (U V : ℕ → Type 0) → Within U V → (xs : List ℕ) → AllByRecursion (Deps g U) xs → AllByRecursion (Deps h V) xs
   all_in U V f [] a = tt
@@ -50,8 +51,8 @@ module _ (g h : List (List ℕ)) (to : PairsIn g h) where
       record { to = e.to; ends = k e.to e.ends; through = e.through; path = path_in y e.through e.to e.path; inside = all_in U V f (y ∷ e.through) e.inside }
 
   rdeps_within_in : (n : ℕ) (U V X Y : ℕ → Type 0) → Within U V → Within X Y → Within (RdepsWithin g U X n) (RdepsWithin h V Y n)
-  rdeps_within_in n U V X Y f k y e =
-      record { to = e.to; ends = k e.to e.ends; through = e.through; path = path_in y e.through e.to e.path; inside = all_in U V f (y ∷ e.through) e.inside; few = e.few }
+  unfolding rdeps_in
+  rdeps_within_in n U V X Y f k y (e, few) = (rdeps_in U V X Y f k y e, few)
 
   paths_in : (A C B D : ℕ → Type 0) → Within A C → Within B D → Within (OnPaths g A B) (OnPaths h C D)
   paths_in A C B D f k y e = record { reached = deps_in A C f y e.reached; to = e.to; ends = k e.to e.ends; through = e.through; path = path_in y e.through e.to e.path }

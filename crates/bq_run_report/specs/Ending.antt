@@ -4,7 +4,7 @@ use Rattle.bq_base_fault_line.specs.declared.fault_line.FaultLine.{FaultLine}
 use Rattle.bq_query_lex.specs.declared.query_error.QueryErr.{QueryErr}
 use Rattle.bq_query_lex.specs.declared.query_error.QueryErr.TheVariants as e
 use Rattle.bq_run_report.specs.declared.ending.NoAnswer.{NoAnswer}
-use Rattle.bq_run_report.specs.declared.ending.NoAnswer.TheVariants.{Query, Schema, TooManyModules}
+use Rattle.bq_run_report.specs.declared.ending.NoAnswer.TheVariants.{Query}
 use Rattle.bq_run_report.specs.declared.ending.Status.{Status}
 use Rattle.bq_run_report.specs.declared.ending.Status.TheVariants.{Answered, WithFaults}
 
@@ -12,19 +12,12 @@ use Rattle.bq_run_report.specs.declared.ending.Status.TheVariants.{Answered, Wit
 abbrev pub names_nothing : QueryErr → Bool
 names_nothing (e.NoSuchTarget label) = true
 names_nothing (e.NoSuchPackage pattern) = true
-names_nothing e.Syntax = false
-names_nothing (e.UnknownFunction name) = false
-names_nothing (e.LeftOut word) = false
-names_nothing e.BadRegex = false
-names_nothing (e.UnboundVariable name) = false
-names_nothing e.Arguments = false
-names_nothing e.Memory = false
+names_nothing _ = false
 
 -- the query is valid and names what is not there
 abbrev pub is_unanswered : NoAnswer → Bool
 is_unanswered (Query error) = names_nothing error
-is_unanswered (Schema line) = false
-is_unanswered TooManyModules = false
+is_unanswered _ = false
 
 -- with these fault lines
 abbrev pub status_by : List FaultLine → Status

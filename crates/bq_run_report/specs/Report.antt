@@ -1,6 +1,6 @@
 -- What a run over a workspace that is loaded writes, and how it ends.
-use Rattle.std.specs.Prelude.{◌≡◌, ℕ, ◌++◌, List, [], None, Some, Result, Ok, Err}
-use Rattle.std.specs.List.{flat_map}
+use Rattle.std.specs.Prelude.{◌≡◌, ◌↔◌, ℕ, ◌++◌, List, [], None, Some, Result, Ok, Err}
+use Rattle.std.specs.List.{Contains, flat_map}
 use Rattle.std.specs.List.Sorted.{IsStrictlyIncreasing}
 use Rattle.bq_load.specs.declared.loaded.Loaded.{Loaded}
 use Rattle.bq_base_fault_line.specs.declared.fault_line.FaultLine.{FaultLine}
@@ -10,13 +10,9 @@ use Rattle.bq_package_target.specs.Package.{PackageTargets}
 use Rattle.bq_query_target_graph.specs.Graph.{GraphParts}
 use Rattle.bq_query_target_graph.specs.Edges.{IsGraphOf}
 use Rattle.bq_query_target_graph.specs.Dangling.{dangling_lines}
-use Rattle.bq_query_verdict.specs.Verdict.{Fault}
-use Rattle.bq_query_check.specs.declared.checked.CheckedQuery.{CheckedQuery}
-use Rattle.bq_query_check.specs.Formula.{Formula, formula_of}
-use Rattle.bq_query.specs.Graph.{targets_of}
+use Rattle.bq_query_check.specs.Formula.{Formula}
 use Rattle.bq_query.specs.Stands.{Stands}
 use Rattle.bq_query.specs.Faults.{fault_in}
-use Rattle.bq_query.specs.Answer.{AreThose}
 use Rattle.bq_query.specs.Printed.{printed}
 use Rattle.bq_query.specs.declared.print.OutputForm.{OutputForm}
 use Rattle.bq_run_report.specs.Ending.{status_by}
@@ -60,7 +56,7 @@ pub record IsOver (i : Inside) (s : Session) : Type 0 where
 -- the targets that a query stands for, by number, in the order of their labels
 pub record IsAnswer (w : GraphParts) (x : Formula) (v : List ℕ) : Type 0 where
   pub ascending : IsStrictlyIncreasing v
-  pub members : AreThose (Stands w x []) v
+  pub members : (y : ℕ) → Contains v y ↔ Stands w x [] y
 
 -- the answer's text, and how the run ends
 pub record ReplyView : Type 0 where
@@ -70,14 +66,12 @@ pub record ReplyView : Type 0 where
 abbrev pub reply_view : Reply → ReplyView
 reply_view r = record { text = r.text.items; end = r.end }
 
--- the lines of the answer, where no word of the query names what is not there
-abbrev pub RepliesBy : Fault → GraphParts → Formula → OutputForm → Status → ReplyView → Type 0
-RepliesBy None w x form status reply = (v : List ℕ) × IsAnswer w x v × (reply ≡ record { text = printed form (targets_of w) v; end = Ok status })
-RepliesBy (Some why) w x form status reply = reply ≡ record { text = []; end = Err (Query why) }
-
--- the reply to a query over a graph: its fault, or the lines of its answer
+-- the reply to a query over a graph: the lines of its answer, or the fault of a word that names what is not there
 abbrev pub Replies : GraphParts → Formula → OutputForm → Status → ReplyView → Type 0
-Replies w x form status reply = RepliesBy (fault_in w x) w x form status reply
+Replies w x form status reply = elim (fault_in w x) [
+  | None ↦ (v : List ℕ) × IsAnswer w x v × (reply ≡ record { text = printed form w.targets v; end = Ok status })
+  | Some why ↦ reply ≡ record { text = []; end = Err (Query why) }
+]
 
 -- ---- the report
 
@@ -91,9 +85,9 @@ pub record ReportView : Type 0 where
 abbrev pub report_view : Report → ReportView
 report_view r = record { faults = r.faults; answer = r.answer.items; end = r.end }
 
--- the report on a workspace and on this query
-pub record Reports (i : Inside) (query : CheckedQuery) (form : OutputForm) (r : ReportView) : Type 0 where
+-- the report on a workspace and on the query of this formula
+pub record Reports (i : Inside) (x : Formula) (form : OutputForm) (r : ReportView) : Type 0 where
   pub graph : GraphParts
   pub made : IsGraphOf i.packages graph
   pub faults : r.faults ≡ fault_text i
-  pub reply : Replies graph (formula_of query.set) form (status_by (all_faults i)) (record { text = r.answer; end = r.end })
+  pub reply : Replies graph x form (status_by (all_faults i)) (record { text = r.answer; end = r.end })

@@ -1,6 +1,7 @@
 //! The report on a loaded workspace.
 
 ghost use Rattle.std.specs.Prelude.{IfOk};
+ghost use Rattle.bq_query_check.specs.Formula.{formula_of};
 ghost use Rattle.bq_run_report.specs.Report.{Reports, inside, report_view};
 
 use crate::ending::{NoAnswer, Status};
@@ -26,7 +27,7 @@ pub fn report_on(
     loaded: Loaded,
     question: Question<'_>,
 ) -> Result<Report, AllocError>
-    ensures { IfOk result (λ r. Reports (inside loaded) question.entry.query.now question.entry.form (report_view r)) }
+    ensures { IfOk result (λ r. Reports (inside loaded) (formula_of question.entry.query.now.set) question.entry.form (report_view r)) }
 {
     let Session {
         faults,

@@ -2,8 +2,7 @@
 use Rattle.std.proofs.Common.{◌≤◌, ℕ, List, [], Err, refl, sym, subst, inl, inr, length}
 use Rattle.bq_query.specs.declared.print.OutputForm.{OutputForm}
 use Rattle.bq_query_check.specs.Checked.{IsChecked, IsWrong}
-use Rattle.bq_query_check.specs.Formula.{formula_of}
-use Rattle.bq_query_check.specs.declared.checked.CheckedQuery.{CheckedQuery}
+use Rattle.bq_query_check.specs.Formula.{Formula}
 use Rattle.bq_query_lex.specs.declared.query_error.QueryErr.{QueryErr}
 use Rattle.bq_run_report.specs.Ending.{status_by}
 use Rattle.bq_run_report.specs.Report.{Inside, ReplyView, ReportView, Replies, Reports, all_faults, fault_text}
@@ -16,21 +15,21 @@ use Rattle.bq_run_session.specs.Queries.{max_query_bytes}
 use Rattle.bq_run_session.specs.Session.{IsAnswerIn}
 use Rattle.bq_run_report.specs.declared.session.Session.{Session}
 
-pub answered : (s : Session) (form : OutputForm) (text : List ℕ) (query : CheckedQuery) (reply : ReplyView) → length text ≤ max_query_bytes → IsChecked text query
-    → Replies s.graph (formula_of query.set) form s.status reply → IsAnswerIn s form text reply
-answered s form text query reply fits checked replies files limit i loaded over =
+pub answered : (s : Session) (form : OutputForm) (text : List ℕ) (x : Formula) (reply : ReplyView) → length text ≤ max_query_bytes → IsChecked text x
+    → Replies s.graph x form s.status reply → IsAnswerIn s form text reply
+answered s form text x reply fits checked replies files limit i loaded over =
     let report : ReportView = record { faults = fault_text i; answer = reply.text; end = reply.end } in
-    let inside : Replies s.graph (formula_of query.set) form (status_by (all_faults i)) reply = subst (λ (status : Status). Replies s.graph (formula_of query.set) form status reply) over.status replies in
+    let inside : Replies s.graph x form (status_by (all_faults i)) reply = subst (λ (status : Status). Replies s.graph x form status reply) over.status replies in
     IsAnswerTo.ran fits (fault_text i) (inr refl) (λ o asks.
-    let reports : Reports i query o.output report = record {
+    let reports : Reports i x o.output report = record {
       graph = s.graph;
       made = over.graph;
       faults = refl;
-      reply = subst (λ (f : OutputForm). Replies s.graph (formula_of query.set) f (status_by (all_faults i)) reply) (sym asks.output) inside;
+      reply = subst (λ (f : OutputForm). Replies s.graph x f (status_by (all_faults i)) reply) (sym asks.output) inside;
     } in
-    let over_files : Reports (loaded_in files loaded.rules limit loaded.labels loaded.edges) query o.output report = subst (λ (j : Inside). Reports j query o.output report) loaded.inside reports in
-    IsReportOn.loaded query loaded.rules loaded.labels loaded.edges (subst (λ t. IsChecked t query) (sym asks.text) checked) loaded.schema loaded.discovered
-    (subst (λ (n : ℕ). Reports (loaded_in files loaded.rules n loaded.labels loaded.edges) query o.output report) (sym asks.steps) over_files))
+    let over_files : Reports (loaded_in files loaded.rules limit loaded.labels loaded.edges) x o.output report = subst (λ (j : Inside). Reports j x o.output report) loaded.inside reports in
+    IsReportOn.loaded x loaded.rules loaded.labels loaded.edges (subst (λ t. IsChecked t x) (sym asks.text) checked) loaded.schema loaded.discovered
+    (subst (λ (n : ℕ). Reports (loaded_in files loaded.rules n loaded.labels loaded.edges) x o.output report) (sym asks.steps) over_files))
 
 -- the reply to a query that is refused
 abbrev pub refused_view : NoAnswer → ReplyView

@@ -1,6 +1,7 @@
 -- What is chosen, target by target.
-use Rattle.std.proofs.Common.{◌≡◌, ◌≢◌, ◌∙◌, ◌↔◌, ◌⊎◌, ◌||◌, ℕ, zero, suc, Bool, true, false, List, [], ◌∷◌, ◌++◌, cond, Option, Some, None, slice_get, bytes_eq, IsSomeAnd, inl, inr, refl, sym, ap, subst}
+use Rattle.std.proofs.Common.{◌≡◌, ◌≢◌, ◌∙◌, ◌↔◌, ◌⊎◌, ◌||◌, ℕ, zero, suc, Bool, true, false, List, [], ◌∷◌, ◌++◌, cond, Option, Some, None, slice_get, bytes_eq, is_some, if◌then◌else◌, IsSomeAnd, inl, inr, refl, sym, ap, subst}
 use Rattle.std.specs.List.{AllByRecursion, Contains, find}
+use Rattle.std.specs.Option.{option_and_then}
 use Rattle.std.proofs.lemmas.Bool.{false≢true}
 use Rattle.std.proofs.lemmas.Slice.Eq.{bytes_eq-Decides}
 use Rattle.bq_label.specs.Label.{LabelParts, full_form}
@@ -15,14 +16,13 @@ use Rattle.bq_package_target.specs.declared.target.TargetKind.{TargetKind}
 use Rattle.bq_package_target.specs.declared.target.TargetKind.TheVariants as k
 use Rattle.bq_package_target.specs.declared.value.GivenAttribute.{GivenAttribute}
 use Rattle.bq_package_target_laws.proofs.Writing.{none_in}
-use Rattle.bq_query_target_sets.specs.Labels.{labels_in, labels_by, named_by, labels_named, is_among}
+use Rattle.bq_query_target_sets.specs.Labels.{labels_in, labels_named, is_among}
 use Rattle.bq_query_target_sets.specs.Matching.{is_match, has_kind, has_text, has_attribute}
 use Rattle.bq_query_target_sets.specs.Order.{is_text}
-use Rattle.bq_query_target_sets.specs.Texts.{kind_text, value_text, given, text_by, attribute_by, attribute_text}
+use Rattle.bq_query_target_sets.specs.Texts.{kind_text, value_text, given, text_by, attribute_text}
 use Rattle.bq_query_target_sets.specs.Words.{Those}
 use Rattle.bq_query.specs.Stands.{Bound}
 use Rattle.bq_query_target_graph.specs.Graph.{GraphParts}
-use Rattle.bq_query.specs.Graph.{targets_of}
 use Rattle.bq_query_laws.specs.Queries.Chosen.{IsTargetWith, IsKind, KindMatches, HoldsLabel, FirstGiven, IsAttributeText, AttributeMatches, RuleNames, Choose}
 
 -- ---- tests of targets
@@ -162,6 +162,13 @@ finds_none name (b ∷ bs) h =
     ap (λ t. cond t (Some b) (find (λ c. bytes_eq c.name name) bs)) (is_false (bytes_eq b.name name) (λ t. h.0 ((bytes_eq-Decides b.name name).0 t)))
     ∙ finds_none name bs h.1
 
+-- of a target of this kind
+abbrev class_by : TargetKind → Option Class
+class_by kind = elim kind [ k.Rule rule class ↦ Some class | _ ↦ None ]
+
+abbrev attribute_by : TargetKind → List ℕ → Target → Option (List ℕ)
+attribute_by kind name t = option_and_then (λ class. text_by (given name t) class name) (class_by kind)
+
 attribute_is : (name : List ℕ) (t : Target) (text : List ℕ) → attribute_text name t ≡ Some text → IsAttributeText t name text
 unfolding attribute_text
 attribute_is name t text same = by t.kind refl same
@@ -205,6 +212,12 @@ record Named (name : List ℕ) (r : Target) (l : LabelParts) : Type 0 where
   attribute : GivenAttribute
   gives : FirstGiven r name attribute
   holds : HoldsLabel l attribute.value
+
+abbrev labels_by : Option GivenAttribute → List LabelParts
+labels_by o = elim o [ Some a ↦ labels_in a.value | None ↦ [] ]
+
+abbrev named_by : TargetKind → List ℕ → Target → List LabelParts
+named_by kind name t = if is_some (class_by kind) then labels_by (given name t) else []
 
 named : (name : List ℕ) (r : Target) (l : LabelParts) → Contains (labels_named name r) l → Named name r l
 unfolding labels_named
@@ -284,7 +297,7 @@ rule_names name r t = (
 
 pub choose : (w : GraphParts) (a : Formula) (pattern name : List ℕ) (bound : Bound) (y : ℕ) → Choose w a pattern name bound y
 choose w a pattern name bound y =
-    let ts = targets_of w in
+    let ts = w.targets in
     let kinds = those_with (has_kind pattern) (KindMatches pattern) (kind_matches pattern) ts y in
     let texts = those_with (has_text pattern) (λ t. is_found pattern (full_form t.label) ≡ true) (λ t. (λ h. h, λ h. h)) ts y in
     let attributes = those_with (has_attribute name pattern) (AttributeMatches pattern name) (attribute_matches pattern name) ts y in

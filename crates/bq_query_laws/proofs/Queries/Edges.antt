@@ -59,14 +59,9 @@ module _ (ps : List PackageTargets) (g : GraphParts) (made : IsGraphOf ps g) whe
 
     reached_within : (n : ℕ) → DepsWithin g.edges X n y ↔ ((k : ℕ) × (k ≤ n) × IsReached g.targets k X y)
     reached_within n = (
-      λ e. (length e.through, e.few, record { from = e.from; starts = e.starts; lead = leads e.from e.through y e.path }),
-      λ h. let p = path_of h.0 h.2.from y h.2.lead in record {
-        from = h.2.from;
-        starts = h.2.starts;
-        through = p.through;
-        path = p.path;
-        few = subst (λ (k : ℕ). k ≤ n) (sym p.long) h.1;
-      },
+      λ (e, few). (length e.through, few, record { from = e.from; starts = e.starts; lead = leads e.from e.through y e.path }),
+      λ h. let p = path_of h.0 h.2.from y h.2.lead in
+          (record { from = h.2.from; starts = h.2.starts; through = p.through; path = p.path }, subst (λ (k : ℕ). k ≤ n) (sym p.long) h.1),
     )
 
   module _ (U X : ℕ → Type 0) (y : ℕ) where
@@ -84,15 +79,11 @@ module _ (ps : List PackageTargets) (g : GraphParts) (made : IsGraphOf ps g) whe
 
     leads_into_within : (n : ℕ) → RdepsWithin g.edges U X n y ↔ (Deps g.edges U y × ((k : ℕ) × (k ≤ n) × LeadsInto g.targets k X y))
     leads_into_within n = (
-      λ e. (e.inside.0, (length e.through, e.few, record { to = e.to; ends = e.ends; lead = leads y e.through e.to e.path })),
-      λ h. let i = h.1.2 in let p = path_of h.1.0 y i.to i.lead in record {
-        to = i.to;
-        ends = i.ends;
-        through = p.through;
-        path = p.path;
-        inside = all_inside g.edges U y p.through i.to h.0 p.path;
-        few = subst (λ (k : ℕ). k ≤ n) (sym p.long) h.1.1;
-      },
+      λ (e, few). (e.inside.0, (length e.through, few, record { to = e.to; ends = e.ends; lead = leads y e.through e.to e.path })),
+      λ h. let i = h.1.2 in let p = path_of h.1.0 y i.to i.lead in (
+        record { to = i.to; ends = i.ends; through = p.through; path = p.path; inside = all_inside g.edges U y p.through i.to h.0 p.path },
+        subst (λ (k : ℕ). k ≤ n) (sym p.long) h.1.1,
+      ),
     )
 
     on_paths : OnPaths g.edges U X y ↔ (Deps g.edges U y × ((k : ℕ) × LeadsInto g.targets k X y))

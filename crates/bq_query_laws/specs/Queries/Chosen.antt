@@ -15,7 +15,6 @@ use Rattle.bq_package_target.specs.Value.{attribute_type}
 use Rattle.bq_query_target_sets.specs.Texts.{value_text, default_text}
 use Rattle.bq_query.specs.Stands.{Stands, Bound}
 use Rattle.bq_query_target_graph.specs.Graph.{GraphParts}
-use Rattle.bq_query.specs.Graph.{targets_of}
 
 -- the target with this number has this property
 abbrev pub IsTargetWith : List Target → ℕ → (Target → Type 0) → Type 0
@@ -81,10 +80,10 @@ pub record RuleNames (name : List ℕ) (r t : Target) : Type 0 where
 
 pub record Choose (w : GraphParts) (a : Formula) (pattern name : List ℕ) (bound : Bound) (y : ℕ) : Type 0 where
   -- kind(pattern, a)
-  pub kind : Stands w (one (unary.Kind pattern) a) bound y ↔ (Stands w a bound y × IsTargetWith (targets_of w) y (KindMatches pattern))
+  pub kind : Stands w (one (unary.Kind pattern) a) bound y ↔ (Stands w a bound y × IsTargetWith w.targets y (KindMatches pattern))
   -- filter(pattern, a)
-  pub filter : Stands w (one (unary.Filter pattern) a) bound y ↔ (Stands w a bound y × IsTargetWith (targets_of w) y (λ t. is_found pattern (full_form t.label) ≡ true))
+  pub filter : Stands w (one (unary.Filter pattern) a) bound y ↔ (Stands w a bound y × IsTargetWith w.targets y (λ t. is_found pattern (full_form t.label) ≡ true))
   -- attr(name, pattern, a)
-  pub attr : Stands w (one (unary.Attr name pattern) a) bound y ↔ (Stands w a bound y × IsTargetWith (targets_of w) y (AttributeMatches pattern name))
+  pub attr : Stands w (one (unary.Attr name pattern) a) bound y ↔ (Stands w a bound y × IsTargetWith w.targets y (AttributeMatches pattern name))
   -- labels(name, a)
-  pub labels : Stands w (one (unary.Labels name) a) bound y ↔ ((z : ℕ) × Stands w a bound z × IsTargetWith (targets_of w) z (λ r. IsTargetWith (targets_of w) y (RuleNames name r)))
+  pub labels : Stands w (one (unary.Labels name) a) bound y ↔ ((z : ℕ) × Stands w a bound z × IsTargetWith w.targets z (λ r. IsTargetWith w.targets y (RuleNames name r)))

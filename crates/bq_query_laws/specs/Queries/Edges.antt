@@ -10,7 +10,6 @@ use Rattle.bq_query_target_graph.specs.Edges.{IsGraphOf}
 use Rattle.bq_package_target_laws.specs.Names.{Depends}
 use Rattle.bq_query.specs.Stands.{Stands, Bound}
 use Rattle.bq_query_target_graph.specs.Graph.{GraphParts}
-use Rattle.bq_query.specs.Graph.{targets_of}
 
 -- an edge: the first target writes the label of the second
 pub record IsEdge (ts : List Target) (a b : ℕ) : Type 0 where
@@ -40,15 +39,15 @@ pub record LeadsInto (ts : List Target) (n : ℕ) (X : ℕ → Type 0) (y : ℕ)
 -- over the graph of packages, what each of them stands for by the edges
 pub record AreByEdges (w : GraphParts) (a b : Formula) (n : ℕ) (bound : Bound) (y : ℕ) : Type 0 where
   -- deps(a)
-  pub deps : Stands w (one unary.Deps a) bound y ↔ ((k : ℕ) × IsReached (targets_of w) k (Stands w a bound) y)
+  pub deps : Stands w (one unary.Deps a) bound y ↔ ((k : ℕ) × IsReached w.targets k (Stands w a bound) y)
   -- deps(a, n)
-  pub deps_within : Stands w (one (unary.DepsWithin n) a) bound y ↔ ((k : ℕ) × (k ≤ n) × IsReached (targets_of w) k (Stands w a bound) y)
+  pub deps_within : Stands w (one (unary.DepsWithin n) a) bound y ↔ ((k : ℕ) × (k ≤ n) × IsReached w.targets k (Stands w a bound) y)
   -- rdeps(a, b)
-  pub rdeps : Stands w (two binary.Rdeps a b) bound y ↔ (Stands w (one unary.Deps a) bound y × ((k : ℕ) × LeadsInto (targets_of w) k (Stands w b bound) y))
+  pub rdeps : Stands w (two binary.Rdeps a b) bound y ↔ (Stands w (one unary.Deps a) bound y × ((k : ℕ) × LeadsInto w.targets k (Stands w b bound) y))
   -- rdeps(a, b, n)
-  pub rdeps_within : Stands w (two (binary.RdepsWithin n) a b) bound y ↔ (Stands w (one unary.Deps a) bound y × ((k : ℕ) × (k ≤ n) × LeadsInto (targets_of w) k (Stands w b bound) y))
+  pub rdeps_within : Stands w (two (binary.RdepsWithin n) a b) bound y ↔ (Stands w (one unary.Deps a) bound y × ((k : ℕ) × (k ≤ n) × LeadsInto w.targets k (Stands w b bound) y))
   -- allpaths(a, b)
-  pub allpaths : Stands w (two binary.Allpaths a b) bound y ↔ (Stands w (one unary.Deps a) bound y × ((k : ℕ) × LeadsInto (targets_of w) k (Stands w b bound) y))
+  pub allpaths : Stands w (two binary.Allpaths a b) bound y ↔ (Stands w (one unary.Deps a) bound y × ((k : ℕ) × LeadsInto w.targets k (Stands w b bound) y))
 
 abbrev pub FunctionsByEdges : Type 0
 FunctionsByEdges = (ps : List PackageTargets) (w : GraphParts) (a b : Formula) (n : ℕ) (bound : Bound) (y : ℕ) → IsGraphOf ps w → AreByEdges w a b n bound y

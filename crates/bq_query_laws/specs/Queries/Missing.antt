@@ -7,7 +7,6 @@ use Rattle.bq_query_check.specs.Formula.{Formula, named, variable, let_in, combi
 use Rattle.bq_query_target_sets.specs.Missing.{missing}
 use Rattle.bq_query.specs.Faults.{fault_in}
 use Rattle.bq_query_target_graph.specs.Graph.{GraphParts}
-use Rattle.bq_query.specs.Graph.{targets_of, packages_of}
 
 -- the target patterns of a query, one after another
 abbrev pub target_patterns : Formula → List TargetPattern
@@ -20,7 +19,7 @@ target_patterns (two f a b) = target_patterns a ++ target_patterns b
 
 -- what the pattern names that is not there
 abbrev pub missing_of : GraphParts → TargetPattern → Option QueryErr
-missing_of w p = missing (packages_of w) (targets_of w) p
+missing_of w p = missing w.packages w.targets p
 
 -- nothing is missing of these patterns
 abbrev pub AreThere : GraphParts → List TargetPattern → Type 0

@@ -5,7 +5,6 @@ use Rattle.std.proofs.lemmas.Result.{err_from_is_err_and}
 use Rattle.bq_query_graph.specs.Marks.{IsSet, Marked}
 use Rattle.bq_query_check.specs.declared.formula.SetExpr.TheFolds.{the_lemmas}
 use Rattle.bq_query_check.specs.Formula.{Formula, Step, formula_of, step_of, chained, named, variable, let_in, one, two, AreClosed}
-use Rattle.bq_query.specs.Graph.{count_of}
 use Rattle.bq_query.specs.Functions.{OfOne, OfTwo, Combined}
 use Rattle.bq_query.specs.Stands.{Bound, AreSets}
 use Rattle.bq_query.specs.Faults.{Has, AreBound, fault_in}
@@ -30,7 +29,7 @@ one_of-returns t c =
     let f = c.args.function.now in
     let x = c.in_ok-x.x.items in
     let r = c.in_ok-of_one.field-0.items in
-    let s : IsSet (count_of w) r (OfOne w f (Marked x)) = subst (λ (ms : List Bool). IsSet (count_of w) r (OfOne w f (Marked ms))) c.deref.ensures.value c.in_ok-of_one.ensures in
+    let s : IsSet (length w.targets) r (OfOne w f (Marked x)) = subst (λ (ms : List Bool). IsSet (length w.targets) r (OfOne w f (Marked ms))) c.deref.ensures.value c.in_ok-of_one.ensures in
     (has_one w c.args.bound.now f (formula_of c.args.argument.now) x r c.in_ok-x.ensures.0 s, c.in_ok-x.ensures.1)
 
 -- ---- variables have sets
@@ -102,9 +101,9 @@ chain_of-loop-operation-preserved t c =
     let r = c.in_ok-set.set.items in
     let kept = c.loop-operation.invariant.kept in
     let has = subst (λ (bs : Bound). Has w bs (formula_of item.operand) operand) kept c.in_ok-operand.ensures.0 in
-    let made : IsSet (count_of w) r (Combined item.operator (Marked set) (Marked c.deref-in-loop-operation.result.now)) =
-    subst (λ (ms : List Bool). IsSet (count_of w) r (Combined item.operator (Marked ms) (Marked c.deref-in-loop-operation.result.now))) c.deref.ensures.value c.in_ok-set.ensures in
-    let combined = subst (λ (ms : List Bool). IsSet (count_of w) r (Combined item.operator (Marked set) (Marked ms))) c.deref-in-loop-operation.ensures.value made in
+    let made : IsSet (length w.targets) r (Combined item.operator (Marked set) (Marked c.deref-in-loop-operation.result.now)) =
+    subst (λ (ms : List Bool). IsSet (length w.targets) r (Combined item.operator (Marked ms) (Marked c.deref-in-loop-operation.result.now))) c.deref.ensures.value c.in_ok-set.ensures in
+    let combined = subst (λ (ms : List Bool). IsSet (length w.targets) r (Combined item.operator (Marked set) (Marked ms))) c.deref-in-loop-operation.ensures.value made in
     record {
       so_far = λ x h. one_more w env (chained x (map step_of os)) o rest set operand r
           (subst (λ (ss : List Step). SoFar w env (chained x (map step_of os)) ss set) left (c.loop-operation.invariant.so_far x h)) has.none has.stands combined;
@@ -157,7 +156,7 @@ set_of-chain_of-requires t c =
     let os = c.as_slice-operations.result.now in
     let says : formula_of c.args.query.now ≡ chained (formula_of c.get-first.result.now) (map step_of c.as_slice-operations.result.now) = first_of (search (rules, the_lemmas), grind (arith, common_steps, chain_says), grind (arith, common_steps)) in
     let h = bound_as w (formula_of c.args.query.now) (chained x (map step_of os)) c.args.bound.now c.set_of-in-Chain.new.bound says c.in_ok-set-in-Chain.ensures.1 c.requires in
-    let first : length c.in_ok-set-in-Chain.set.items ≡ count_of w = c.in_ok-set-in-Chain.ensures.0.stands.0 in
+    let first : length c.in_ok-set-in-Chain.set.items ≡ length w.targets = c.in_ok-set-in-Chain.ensures.0.stands.0 in
     let closed : AreClosed (length c.set_of-in-Chain.new.bound) (map step_of c.as_slice-operations.result.now) = rest_closed w x os c.set_of-in-Chain.new.bound h in
     let sets : AreSets w c.set_of-in-Chain.new.bound = h.sets in
     (first_of (search rules, search (rules, the_lemmas), omega arith, grind (arith, common_steps)), search rules)
@@ -205,9 +204,9 @@ set_of-returns-in_ok-of_two-in-Two t c =
     let x = c.in_ok-x-in-Two.x.items in
     let y = c.in_ok-y-in-Two.y.items in
     let r = c.in_ok-of_two-in-Two.field-0.items in
-    let s : IsSet (count_of w) r (OfTwo w f (Marked x) (Marked c.deref-in-Two.result.now)) =
-    subst (λ (ms : List Bool). IsSet (count_of w) r (OfTwo w f (Marked ms) (Marked c.deref-in-Two.result.now))) c.deref.ensures.value c.in_ok-of_two-in-Two.ensures in
-    let u : IsSet (count_of w) r (OfTwo w f (Marked x) (Marked y)) = subst (λ (ms : List Bool). IsSet (count_of w) r (OfTwo w f (Marked x) (Marked ms))) c.deref-in-Two.ensures.value s in
+    let s : IsSet (length w.targets) r (OfTwo w f (Marked x) (Marked c.deref-in-Two.result.now)) =
+    subst (λ (ms : List Bool). IsSet (length w.targets) r (OfTwo w f (Marked ms) (Marked c.deref-in-Two.result.now))) c.deref.ensures.value c.in_ok-of_two-in-Two.ensures in
+    let u : IsSet (length w.targets) r (OfTwo w f (Marked x) (Marked y)) = subst (λ (ms : List Bool). IsSet (length w.targets) r (OfTwo w f (Marked x) (Marked ms))) c.deref-in-Two.ensures.value s in
     let h = both_answered w f a b bs c.set_of-in-Two.new.bound c.set_of-in-Two-2.new.bound x y r c.in_ok-x-in-Two.ensures c.in_ok-y-in-Two.ensures u in
     (subst (λ (z : Formula). Has w bs z r) (sym says) h.0, h.1)
 

@@ -1,6 +1,5 @@
-use Rattle.std.proofs.Common.{List, [], Bool, subst}
+use Rattle.std.proofs.Common.{List, [], Bool, length, subst}
 use Rattle.bq_query_graph.specs.Marks.{IsSet, Held}
-use Rattle.bq_query.specs.Graph.{count_of}
 use Rattle.bq_query_check.specs.Formula.{formula_of}
 use Rattle.bq_query.specs.Stands.{Stands, Bound}
 use Rattle.bq_query.proofs.Members.{those, inside}
@@ -13,7 +12,7 @@ returns-clause-within c =
     let set = c.in_ok-set.set.items in
     let v = c.in_ok-members.field-0.items in
     let held : Held set v = subst (λ (ms : List Bool). Held ms v) c.deref.ensures.value c.in_ok-members.ensures.members in
-    inside (count_of w) (Stands w f c.new-bound.result) set v c.in_ok-set.ensures.0.stands held
+    inside (length w.targets) (Stands w f c.new-bound.result) set v c.in_ok-set.ensures.0.stands held
 
 pub returns-clause-members : goal.returns-clause-members
 returns-clause-members c =
@@ -22,5 +21,5 @@ returns-clause-members c =
     let set = c.in_ok-set.set.items in
     let v = c.in_ok-members.field-0.items in
     let held : Held set v = subst (λ (ms : List Bool). Held ms v) c.deref.ensures.value c.in_ok-members.ensures.members in
-    let stands : IsSet (count_of w) set (Stands w f []) = subst (λ (bs : Bound). IsSet (count_of w) set (Stands w f bs)) c.new-bound.ensures c.in_ok-set.ensures.0.stands in
-    those (count_of w) (Stands w f []) set v stands held
+    let stands : IsSet (length w.targets) set (Stands w f []) = subst (λ (bs : Bound). IsSet (length w.targets) set (Stands w f bs)) c.new-bound.ensures c.in_ok-set.ensures.0.stands in
+    those (length w.targets) (Stands w f []) set v stands held

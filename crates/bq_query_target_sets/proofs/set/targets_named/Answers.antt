@@ -2,8 +2,8 @@ use Rattle.std.proofs.Common.{◌≡◌, ◌∙◌, ◌+◌, refl, sym, ap, subs
 use Rattle.std.proofs.lemmas.Grind.{common_steps}
 use Rattle.std.proofs.lemmas.List.{take_more, drop_all}
 use Rattle.std.proofs.lemmas.Result.{err_from_is_err_and}
+use Rattle.std.specs.Option.{option_or}
 use Rattle.bq_query_lex.specs.declared.query_error.QueryErr.{QueryErr}
-use Rattle.bq_query_target_pattern.specs.Reading.{first_of as first}
 use Rattle.bq_query_target_pattern.specs.declared.pattern.TargetPattern.{TargetPattern}
 use Rattle.bq_query_target_sets.specs.Missing.{first_missing}
 use Rattle.bq_query_target_sets.specs.Words.{Adds, one_names, names}
@@ -29,7 +29,7 @@ loop-pattern-preserved c =
       set = adds_next names c.args.patterns.now i (get_or c.args.patterns.now i p) targets c.in_ok-marks.marks.items c.loop-pattern.marks.items c.add_pattern.new.marks.items
           (take_more c.args.patterns.now i p c.loop-pattern-test.true) c.loop-pattern.invariant.set
           (subst (λ (q : TargetPattern). Adds (names q) targets c.loop-pattern.marks.items c.add_pattern.new.marks.items) same c.in_ok-add_pattern.ensures.set);
-      fault = sym (missing_from packages targets c.args.patterns.now i p c.loop-pattern-test.true same ∙ ap (λ (f : Option QueryErr). first f rest) c.in_ok-add_pattern.ensures.fault) ∙ c.loop-pattern.invariant.fault;
+      fault = sym (missing_from packages targets c.args.patterns.now i p c.loop-pattern-test.true same ∙ ap (λ (f : Option QueryErr). option_or f rest) c.in_ok-add_pattern.ensures.fault) ∙ c.loop-pattern.invariant.fault;
     }
 
 pub returns-in_err-add_pattern-clause-fault : goal.returns-in_err-add_pattern-clause-fault
@@ -41,7 +41,7 @@ returns-in_err-add_pattern-clause-fault c =
     let rest = first_missing packages targets (drop (i + 1) c.args.patterns.now) in
     let e = err_from_is_err_and c.from_residual-in_err-add_pattern.result c.from_residual-in_err-add_pattern.ensures.1 in
     rw (e.1, e.2) (λ other. sym c.loop-pattern.invariant.fault
-    ∙ (missing_from packages targets c.args.patterns.now i item c.loop-pattern-test.true c.pattern-item.is ∙ ap (λ (f : Option QueryErr). first f rest) (c.in_err-add_pattern.ensures.fault other)))
+    ∙ (missing_from packages targets c.args.patterns.now i item c.loop-pattern-test.true c.pattern-item.is ∙ ap (λ (f : Option QueryErr). option_or f rest) (c.in_err-add_pattern.ensures.fault other)))
 
 pub returns-clause-fault : goal.returns-clause-fault
 returns-clause-fault c =

@@ -1,5 +1,6 @@
 use Rattle.std.proofs.Common.{rules, subst}
 use Rattle.std.proofs.lemmas.Result.{IfOk-weaker}
+use Rattle.bq_query_check.specs.Formula.{formula_of}
 use Rattle.bq_run_report.specs.Report.{Inside, Reports, report_view}
 use Rattle.bq_run.specs.WorkspaceRun.{IsReportOn}
 use Rattle.bq_run.proofs.Loads.{loaded_report}
@@ -9,7 +10,7 @@ pub returns-in-Ok : goal.returns-in-Ok
 returns-in-Ok g c =
     let o = c.args.options.now in
     let l = c.in-Ok.loaded in
-    let query = c.args.question.query.now in
+    let query = formula_of c.args.question.query.now.set in
     let inside : Inside = record { prints = l.prints; faults = l.faults; packages = l.packages } in
     IfOk-weaker c.report_on.result (λ r. Reports inside query c.args.question.form (report_view r)) (λ r. IsReportOn o c.args.workspace.now (report_view r))
     (λ r h. loaded_report o c.args.workspace.now query c.args.schema.now l (report_view r) c.requires.query c.requires.schema c.in-Ok.ensures
@@ -18,4 +19,4 @@ returns-in-Ok g c =
 
 pub returns-in-Err-TooManyModules : goal.returns-in-Err-TooManyModules
 returns-in-Err-TooManyModules g c =
-    IsReportOn.too_many c.args.question.query.now c.args.schema.now c.requires.query c.requires.schema (c.in-Err-TooManyModules.ensures.0 (search rules)) c.refused_report.ensures
+    IsReportOn.too_many (formula_of c.args.question.query.now.set) c.args.schema.now c.requires.query c.requires.schema (c.in-Err-TooManyModules.ensures.0 (search rules)) c.refused_report.ensures

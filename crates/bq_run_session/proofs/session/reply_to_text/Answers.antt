@@ -12,7 +12,7 @@ returns-in-Ok c =
     let form = c.args.form in
     let query = c.in-Ok.query in
     IfOk-weaker c.reply_to-reply.result (λ r. Replies s.graph (formula_of query.set) form s.status (reply_view r)) (λ r. IsAnswerIn s form c.args.query.now (reply_view r))
-    (λ r h. answered s form c.args.query.now query (reply_view r) c.requires c.in-Ok.ensures h) c.reply_to-reply.ensures
+    (λ r h. answered s form c.args.query.now (formula_of query.set) (reply_view r) c.requires c.in-Ok.ensures h) c.reply_to-reply.ensures
 
 pub returns-in_ok-refusal_of-in-Err : goal.returns-in_ok-refusal_of-in-Err
 returns-in_ok-refusal_of-in-Err c =
