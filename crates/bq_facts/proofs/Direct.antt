@@ -61,6 +61,6 @@ pub direct_deps_are_deps : (g : List (List ℕ)) (x : ℕ) (ds : List ℕ) → D
 direct_deps_are_deps g x ds direct y = (
   λ has.
       let both = (direct.each y).0 has in
-      (record { from = x; starts = refl; through = y ∷ []; path = (both.0, refl); few = omega arith }, both.1),
-  λ h. (direct.each y).1 (first_edge g x h.0.from h.0.through y h.0.starts h.0.path h.0.few h.1, h.1),
+      ((record { from = x; starts = refl; through = y ∷ []; path = (both.0, refl) }, omega arith), both.1),
+  λ ((e, few), other). (direct.each y).1 (first_edge g x e.from e.through y e.starts e.path few other, other),
 )
