@@ -9,12 +9,23 @@ use std::marker::Model;
 
 /// The modules of a workspace, and which loads which, with its packages. Contracts see the labels in order, the modules in the same
 /// order, for each module the numbers of those that it loads, and the packages.
-#[derive(Drop)]
 pub struct LoadGraph {
     labels: Vec<Label>,
     modules: Vec<Module>,
     edges: Graph,
     packages: Packages,
+}
+
+impl Drop for LoadGraph {
+    // PROOF: a drop that is written out is proved here alone, and a derived one in each crate that drops a load graph
+    fn drop(self) {
+        let LoadGraph {
+            labels: _,
+            modules: _,
+            edges: _,
+            packages: _,
+        } = self;
+    }
 }
 
 impl Model for LoadGraph {
@@ -83,19 +94,24 @@ impl LoadGraph {
         &self.edges
     }
 
-    /// Returns the modules by their numbers, the edges, and the packages.
-    pub fn into_parts(self) -> (Vec<Module>, Graph, Packages)
-        ensures modules { result.0.items ≡ self.modules }
-        ensures edges { result.1 ≡ self.edges }
-        ensures packages { result.2 ≡ self.packages }
-        ensures valid { IsNumbered self }
+    /// Returns the packages of the workspace.
+    pub fn packages(&self) -> &Packages
+        ensures { result.now ≡ self.now.packages }
+    {
+        &self.packages
+    }
+
+    /// Returns the packages of the workspace, once nobody needs its modules. Drops them with their code, to lower the
+    /// peak of memory.
+    pub fn into_packages(self) -> Packages
+        ensures { result ≡ self.packages }
     {
         let LoadGraph {
             labels: _,
-            modules,
-            edges,
+            modules: _,
+            edges: _,
             packages,
         } = self;
-        (modules, edges, packages)
+        packages
     }
 }
