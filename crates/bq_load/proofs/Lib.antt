@@ -2,8 +2,8 @@
 pub mod Ascending
 -- a map of the places of names, and what is found by it
 mod ByName
--- which modules have code
-pub mod Coding
+-- a load graph that is copied
+pub mod Copied
 -- what may cross threads
 pub mod Crossing
 -- what is found for elements, one after another
@@ -16,7 +16,7 @@ pub mod Joined
 mod Lined
 -- modules with their outcomes, one after another
 pub mod Listed
--- what a module evaluates to, by its source, its code and what it gets
+-- what a module evaluates to, by what its file is and what it gets
 pub mod Meanings
 -- maps of the places of names, one for each of some modules
 mod Placed

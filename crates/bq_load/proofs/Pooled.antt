@@ -10,32 +10,32 @@ use Rattle.bq_load_workers.specs.declared.pool.FinishedModule.{FinishedModule as
 use Rattle.bq_load_module.specs.declared.outcome.LoadedModule.{LoadedModule}
 use Rattle.bq_load_module.specs.declared.outcome.FailedModule.{FailedModule}
 use Rattle.bq_load.specs.declared.pool.Evaluated.{Evaluated}
-use Rattle.bq_load.specs.declared.source.Source.{Source}
+use Rattle.bq_load_discover.specs.declared.modules.Module.{Module}
 use Rattle.bq_load.specs.Views.{ModuleView, FailedView, outcome_view}
-use Rattle.bq_load.specs.Sources.{LoadingParts}
+use Rattle.bq_load.specs.Loading.{LoadingParts}
 use Rattle.bq_load.specs.Evaluation.{means}
 use Rattle.bq_load.specs.Results.{outcome_by, outcome_of, outcomes_from, outcomes}
 use Rattle.bq_load.specs.Pool.{package_of_file, IsEvaluated, HaveFinished}
 
 module _ (x : LoadingParts) (p : Loads) where
-  outcome_from : (k : ℕ) (ss : List Source) (i : ℕ) (s : Source) → slice_get ss i ≡ Some s → slice_get (outcomes_from x p k ss) i ≡ Some (outcome_of x p (k + i) s)
+  outcome_from : (k : ℕ) (ss : List Module) (i : ℕ) (s : Module) → slice_get ss i ≡ Some s → slice_get (outcomes_from x p k ss) i ≡ Some (outcome_of x p (k + i) s)
   outcome_from k [] i s e = absurd (cc)
   outcome_from k (t ∷ ss) zero s e =
       let same : t ≡ s = cc in
       let here : k ≡ k + 0 = omega arith in
-      ap (λ (n : ℕ). Some (outcome_of x p n t)) here ∙ ap (λ (u : Source). Some (outcome_of x p (k + 0) u)) same
+      ap (λ (n : ℕ). Some (outcome_of x p n t)) here ∙ ap (λ (u : Module). Some (outcome_of x p (k + 0) u)) same
   outcome_from k (t ∷ ss) (suc i) s e = let there : k + 1 + i ≡ k + suc i = omega arith in outcome_from (k + 1) ss i s e ∙ ap (λ (n : ℕ). Some (outcome_of x p n s)) there
 
-  outcome_there : (m : ℕ) (s : Source) → slice_get x.sources m ≡ Some s → slice_get (outcomes x p) m ≡ Some (outcome_of x p m s)
+  outcome_there : (m : ℕ) (s : Module) → slice_get x.modules m ≡ Some s → slice_get (outcomes x p) m ≡ Some (outcome_of x p m s)
   unfolding outcomes
-  outcome_there m s e = let same : 0 + m ≡ m = omega arith in outcome_from 0 x.sources m s e ∙ ap (λ (n : ℕ). Some (outcome_of x p n s)) same
+  outcome_there m s e = let same : 0 + m ≡ m = omega arith in outcome_from 0 x.modules m s e ∙ ap (λ (n : ℕ). Some (outcome_of x p n s)) same
 
   -- a module with what it comes to by its outcome along loads
-  pub evaluated_is : (m : ℕ) (s : Source) → m < length x.sources → s ≡ get_or x.sources m s → (along : Outcome ModuleView FailedView) → along ≡ outcome (means x) p m
-      → (e : Evaluated) → e.module ≡ m → outcome_view e.outcome ≡ outcome_by x m s along → e.package ≡ package_of_file (outcome_view e.outcome) → IsEvaluated x p e
+  pub evaluated_is : (m : ℕ) (s : Module) → m < length x.modules → s ≡ get_or x.modules m s → (along : Outcome ModuleView FailedView) → along ≡ outcome (means x) p m
+      → (e : Evaluated) → e.module ≡ m → outcome_view e.outcome ≡ outcome_by x s along → e.package ≡ package_of_file (outcome_view e.outcome) → IsEvaluated x p e
   evaluated_is m s h read along is e number by own = record {
     outcome = subst (λ (n : ℕ). slice_get (outcomes x p) n ≡ Some (outcome_view e.outcome)) (sym number)
-        (outcome_there m s (slice_get_read x.sources (length x.sources) m s refl h read) ∙ ap Some (sym (by ∙ ap (outcome_by x m s) is)));
+        (outcome_there m s (slice_get_read x.modules (length x.modules) m s refl h read) ∙ ap Some (sym (by ∙ ap (outcome_by x s) is)));
     «package» = own;
   }
 

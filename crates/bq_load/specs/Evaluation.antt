@@ -21,10 +21,12 @@ use Rattle.bq_load_module.specs.Calls.{HeldPackage, outside, declaring, meaning}
 use Rattle.bq_load_front.specs.Parsed.{kind_of}
 pub use Rattle.bq_load_module.specs.Run.{package_left, module_with, module_by}
 unfoldable pub use Rattle.bq_load_module.specs.Run.{module_after}
+use Rattle.bq_load_front.specs.declared.front.Front.{Front}
+use Rattle.bq_load_discover.specs.declared.modules.Module.{Module}
 use Rattle.bq_load.specs.declared.loading.Loading.{Loading}
-use Rattle.bq_load.specs.declared.source.Source.{Source}
 use Rattle.bq_load.specs.Views.{ModuleView, FailedView, not_evaluated}
-use Rattle.bq_load.specs.Sources.{LoadingParts, loading_of}
+use Rattle.bq_load.specs.Codes.{codes_of}
+use Rattle.bq_load.specs.Loading.{LoadingParts, loading_of}
 use Rattle.bq_load.specs.Imports.{LoadedParts, imports}
 
 -- ---- a file that is evaluated
@@ -39,7 +41,7 @@ kept_first x l = kept_by x l (kind_of l)
 
 -- the statements of a file run as the module of this number, with these modules loaded and a value for each clause of its loads
 unfoldable pub evaluation : LoadingParts → ℕ → LabelParts → Resolved → List ModuleView → List Datum → Run (State × HeldPackage) Frame
-evaluation x m l file modules values = module_run x.names meaning x.code m file (map (λ v. v.frozen) modules) values x.limit (kept_first x l)
+evaluation x m l file modules values = module_run x.names meaning (codes_of x.modules) m file (map (λ v. v.frozen) modules) values x.limit (kept_first x l)
 
 -- the statements of this module's file run, where the host begins as for the file of this label
 abbrev pub hosted_run : Loading → LabelParts → ResolvedModule → Run (State × HeldPackage) Frame
@@ -51,34 +53,26 @@ file_after x m l file modules values = module_after file values (evaluation x m 
 
 -- ---- a module
 
-abbrev pub loaded_parts : LoadingParts → Source → List ModuleView → LoadedParts
-loaded_parts x s modules = record { files = with_labels [] s.loads; modules = modules; code = x.code }
+abbrev pub loaded_parts : LoadingParts → Front → List ModuleView → LoadedParts
+loaded_parts x front modules = record { files = with_labels [] front.loads; modules = modules; code = codes_of x.modules }
 
 abbrev pub by_imports : LoadingParts → ℕ → LabelParts → Resolved → List ModuleView → Result (List Datum) Fault → Result ModuleView FailedView
 by_imports x m l file modules (Err why) = Err (not_evaluated why)
 by_imports x m l file modules (Ok values) = file_after x m l file modules values
 
-unfoldable pub file_means : LoadingParts → ℕ → Source → Resolved → List ModuleView → Result ModuleView FailedView
-file_means x m s file modules = by_imports x m s.label file modules (imports (loaded_parts x s modules) [] file.loads s.loads)
+unfoldable pub file_means : LoadingParts → ℕ → LabelParts → Front → List ModuleView → Result ModuleView FailedView
+file_means x m l front modules = by_imports x m l front.code modules (imports (loaded_parts x front modules) [] front.code.loads front.loads)
 
--- a module without a file, which no load graph has, is F31
-abbrev pub or_no_file : Option Fault → Fault
-or_no_file None = fault_at f.NoSuchFile 0
-or_no_file (Some why) = why
+-- the outcome of a module, by what its file is on its own
+abbrev pub by_front : LoadingParts → ℕ → LabelParts → List ModuleView → Result Front Fault → Result ModuleView FailedView
+by_front x m l modules (Err why) = Err (not_evaluated why)
+by_front x m l modules (Ok front) = file_means x m l front modules
 
-abbrev pub code_in : Option (Option Resolved) → Option Resolved
-code_in None = None
-code_in (Some code) = code
-
-abbrev pub by_code : LoadingParts → ℕ → Source → List ModuleView → Option Resolved → Result ModuleView FailedView
-by_code x m s modules None = Err (not_evaluated (or_no_file s.fault))
-by_code x m s modules (Some file) = file_means x m s file modules
-
--- the outcome of a module, by what it loads
-abbrev pub by_source : LoadingParts → ℕ → List ModuleView → Option Source → Result ModuleView FailedView
-by_source x m modules None = Err (not_evaluated (or_no_file None))
-by_source x m modules (Some s) = by_code x m s modules (code_in (slice_get x.code m))
+-- no module has a number past the last one; it would be F31
+abbrev pub by_module : LoadingParts → ℕ → List ModuleView → Option Module → Result ModuleView FailedView
+by_module x m modules None = Err (not_evaluated (fault_at f.NoSuchFile 0))
+by_module x m modules (Some s) = by_front x m s.label modules s.front
 
 -- what module m evaluates to, by the modules of the files that its loads name, each once, in the order in which they first name them
 unfoldable pub means : LoadingParts → ℕ → List ModuleView → Result ModuleView FailedView
-means x m modules = by_source x m modules (slice_get x.sources m)
+means x m modules = by_module x m modules (slice_get x.modules m)

@@ -16,6 +16,7 @@ use Rattle.bq_resolve_scope.specs.declared.code.Resolved.{Resolved}
 use Rattle.bq_value.specs.Datum.{Datum}
 use Rattle.bq_load_front.specs.Code.{◌>>=◌}
 use Rattle.bq_load_discover.specs.Edges.{number_in}
+use Rattle.bq_load_module.specs.Round.{lent_files}
 use Rattle.bq_load.specs.declared.imports.LoadedFiles.{LoadedFiles}
 use Rattle.bq_load_module.specs.declared.outcome.LoadedModule.{LoadedModule}
 use Rattle.bq_load.specs.Views.{ModuleView, module_view, module_views}
@@ -28,7 +29,7 @@ pub record LoadedParts : Type 0 where
   pub code : List (Option Resolved)
 
 abbrev pub loaded_of : LoadedFiles → LoadedParts
-loaded_of x = record { files = with_labels [] x.named.now; modules = module_views x.modules.now; code = x.code.now }
+loaded_of x = record { files = with_labels [] x.named.now; modules = module_views x.modules.now; code = lent_files x.code.now }
 
 -- the module of a file that a load names
 unfoldable pub module_named : LoadedParts → LabelParts → Option ModuleView

@@ -1,6 +1,6 @@
 pub mod Views
-pub mod Coded
-pub mod Sources
+pub mod Codes
+pub mod Loading
 pub mod Places
 pub mod Imports
 pub mod Evaluation

@@ -19,7 +19,7 @@ use Rattle.bq_load_discover.specs.Modules.{AreTooMany}
 use Rattle.bq_load_discover.specs.LoadGraph.{GraphParts, IsReadGraph, inputs_of}
 use Rattle.bq_load.specs.declared.loaded.Loaded.{Loaded}
 use Rattle.bq_load.specs.Views.{ModuleView, FailedView, OutcomeView, outcome_view}
-use Rattle.bq_load.specs.Sources.{LoadingParts, loading_in}
+use Rattle.bq_load.specs.Loading.{LoadingParts, loading_in}
 use Rattle.bq_load.specs.Results.{outcomes}
 
 -- ---- packages
@@ -95,7 +95,7 @@ pub record IsGathered (bs : List BuildFile) (os : List OutcomeView) (l : Loaded)
   pub faults : l.faults ≡ sorted_lines (fault_lines os)
   pub prints : l.prints ≡ print_lines os
 
--- what these sources and loads give
+-- what these modules and loads give
 abbrev pub IsLoaded : LoadingParts → Loads → Loaded → Type 0
 IsLoaded x p l = IsGathered x.packages (outcomes x p) l
 

@@ -8,7 +8,7 @@ use Rattle.bq_board.specs.Graph.{Loads}
 use Rattle.bq_load.specs.declared.pool.Evaluated.{Evaluated}
 use Rattle.bq_load.specs.declared.pool.Pool.{Pool}
 use Rattle.bq_load.specs.Views.{OutcomeView, outcome_view}
-use Rattle.bq_load.specs.Sources.{LoadingParts, loading_of}
+use Rattle.bq_load.specs.Loading.{LoadingParts, loading_of}
 use Rattle.bq_load.specs.Results.{outcomes}
 use Rattle.bq_load.specs.Loaded.{package_by}
 

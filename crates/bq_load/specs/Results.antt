@@ -8,15 +8,15 @@ use Rattle.bq_base.specs.declared.fault.FaultKind.TheVariants as f
 use Rattle.bq_base.specs.Fault.{fault_at}
 use Rattle.bq_label.specs.Label.{LabelParts, full_form}
 use Rattle.bq_resolve_scope.specs.declared.code.LoadStmt.{LoadStmt}
-use Rattle.bq_resolve_scope.specs.declared.code.Resolved.{Resolved}
 use Rattle.bq_board.specs.Graph.{Loads}
 use Rattle.bq_load_outcome_spec.specs.Outcome.{outcome}
 use Rattle.bq_load_outcome_spec.specs.declared.outcome.Outcome.{Outcome}
 use Rattle.bq_load_outcome_spec.specs.declared.outcome.Outcome.TheVariants as o
-use Rattle.bq_load.specs.declared.source.Source.{Source}
+use Rattle.bq_load_front.specs.declared.front.Front.{Front}
+use Rattle.bq_load_discover.specs.declared.modules.Module.{Module}
 use Rattle.bq_load.specs.Views.{ModuleView, FailedView, OutcomeView, not_evaluated}
-use Rattle.bq_load.specs.Sources.{LoadingParts}
-use Rattle.bq_load.specs.Evaluation.{means, code_in}
+use Rattle.bq_load.specs.Loading.{LoadingParts}
+use Rattle.bq_load.specs.Evaluation.{means}
 
 -- the line of the first of these loads, which name these files, that names this one
 unfoldable pub line_of_load : LabelParts → List LoadStmt → List LabelParts → ℕ
@@ -24,38 +24,39 @@ line_of_load l [] ls = 0
 line_of_load l (s ∷ ss) [] = 0
 line_of_load l (s ∷ ss) (k ∷ ks) = if bytes_eq (full_form l) (full_form k) then s.line else line_of_load l ss ks
 
-abbrev pub line_by : LabelParts → Source → Option Resolved → ℕ
-line_by l s None = 0
-line_by l s (Some file) = line_of_load l file.loads s.loads
+-- a file with a fault of its own loads nothing
+abbrev pub line_by : LabelParts → Result Front Fault → ℕ
+line_by l (Err why) = 0
+line_by l (Ok front) = line_of_load l front.code.loads front.loads
 
-abbrev pub load_fault_by : FaultKind → Source → Option Resolved → Option Source → Fault
-load_fault_by kind s code None = fault_at kind 0
-load_fault_by kind s code (Some loaded) = record { kind = kind; line = line_by loaded.label s code; detail = full_form loaded.label }
+abbrev pub load_fault_by : FaultKind → Result Front Fault → Option Module → Fault
+load_fault_by kind front None = fault_at kind 0
+load_fault_by kind front (Some loaded) = record { kind = kind; line = line_by loaded.label front; detail = full_form loaded.label }
 
--- the fault of module m, which is read from this source, for its load of module k
-unfoldable pub load_fault : LoadingParts → ℕ → Source → FaultKind → ℕ → Fault
-load_fault x m s kind k = load_fault_by kind s (code_in (slice_get x.code m)) (slice_get x.sources k)
+-- the fault of a module whose file is this, for its load of module k
+unfoldable pub load_fault : LoadingParts → Result Front Fault → FaultKind → ℕ → Fault
+load_fault x front kind k = load_fault_by kind front (slice_get x.modules k)
 
-abbrev pub result_of : LoadingParts → ℕ → Source → Outcome ModuleView FailedView → Result ModuleView FailedView
-result_of x m s (o.Loaded v) = Ok v
-result_of x m s (o.Faulty e) = Err e
-result_of x m s (o.Cyclic k) = Err (not_evaluated (load_fault x m s f.CycleReached k))
-result_of x m s (o.TooDeep k) = Err (not_evaluated (load_fault x m s f.LoadDepth k))
-result_of x m s (o.LoadFailed k) = Err (not_evaluated (load_fault x m s f.LoadFailed k))
+abbrev pub result_of : LoadingParts → Result Front Fault → Outcome ModuleView FailedView → Result ModuleView FailedView
+result_of x front (o.Loaded v) = Ok v
+result_of x front (o.Faulty e) = Err e
+result_of x front (o.Cyclic k) = Err (not_evaluated (load_fault x front f.CycleReached k))
+result_of x front (o.TooDeep k) = Err (not_evaluated (load_fault x front f.LoadDepth k))
+result_of x front (o.LoadFailed k) = Err (not_evaluated (load_fault x front f.LoadFailed k))
 
 -- a module with what it comes to by this outcome along loads
-abbrev pub outcome_by : LoadingParts → ℕ → Source → Outcome ModuleView FailedView → OutcomeView
-outcome_by x m s along = record { label = s.label; result = result_of x m s along }
+abbrev pub outcome_by : LoadingParts → Module → Outcome ModuleView FailedView → OutcomeView
+outcome_by x s along = record { label = s.label; result = result_of x s.front along }
 
 -- a module's outcome by the recursion along loads
-abbrev pub outcome_of : LoadingParts → Loads → ℕ → Source → OutcomeView
-outcome_of x p m s = outcome_by x m s (outcome (means x) p m)
+abbrev pub outcome_of : LoadingParts → Loads → ℕ → Module → OutcomeView
+outcome_of x p m s = outcome_by x s (outcome (means x) p m)
 
 -- those of these modules, the first of which has this number
-abbrev pub outcomes_from : LoadingParts → Loads → ℕ → List Source → List OutcomeView
+abbrev pub outcomes_from : LoadingParts → Loads → ℕ → List Module → List OutcomeView
 outcomes_from x p m [] = []
 outcomes_from x p m (s ∷ ss) = outcome_of x p m s ∷ outcomes_from x p (m + 1) ss
 
 -- each module with its outcome
 unfoldable pub outcomes : LoadingParts → Loads → List OutcomeView
-outcomes x p = outcomes_from x p 0 x.sources
+outcomes x p = outcomes_from x p 0 x.modules

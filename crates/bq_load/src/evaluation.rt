@@ -8,19 +8,18 @@ ghost use Rattle.bq_base.specs.declared.fault.SourceErr.TheVariants.{Bad};
 ghost use Rattle.bq_load_front.specs.Code.{items};
 ghost use Rattle.bq_load_order.specs.Shown.{told};
 ghost use Rattle.bq_load.specs.Views.{module_view, failed_view, module_views};
-ghost use Rattle.bq_load.specs.Sources.{loading_of};
+ghost use Rattle.bq_load.specs.Codes.{codes_of};
+ghost use Rattle.bq_load.specs.Loading.{loading_of};
 ghost use Rattle.bq_load.specs.Imports.{imports};
 ghost use Rattle.bq_load.specs.Evaluation.{kept_first, hosted_run, file_after, module_after, loaded_parts};
 
 use crate::imports::LoadedFiles;
 use crate::loading::Loading;
-use crate::source::Source;
 use bq_base::SourceErr;
 use bq_label::Label;
-use bq_load_front::kind_of;
+use bq_load_front::{Front, kind_of};
 use bq_load_module::{BuildHost, FailedModule, LoadedModule, ResolvedModule, load_module};
 use bq_parse_grammar::FileKind;
-use bq_resolve_scope::Resolved;
 use bq_value::{Frozen, Value};
 use std::alloc::{AllocError, Global};
 use std::sync::Arc;
@@ -39,23 +38,12 @@ fn frozen_of(
     Ok(all)
 }
 
-/// Lends the code of modules.
-fn lent(alloc: Global, code: &[Option<Resolved>]) -> Result<Vec<Option<&Resolved>>, AllocError>
-    ensures { IfOk result (λ all. lent_files all.items ≡ code.now) }
-{
-    let mut all = Vec::with_capacity(alloc, code.len())?;
-    for each in code {
-        all.push(each.as_ref())?;
-    }
-    Ok(all)
-}
-
-/// A module that has code.
+/// A module that has code, with what its file is on its own.
 #[derive(Drop)]
 pub(crate) struct FileModule<'a> {
     pub number: u32,
-    pub source: &'a Source,
-    pub file: &'a Resolved,
+    pub label: &'a Label,
+    pub front: &'a Front,
 }
 
 impl<'a> Loading<'a> {
@@ -65,13 +53,13 @@ impl<'a> Loading<'a> {
         ensures { IfOk result (λ h. held_by h ≡ kept_first (loading_of self.now) label.now) }
     {
         match kind_of(label) {
-            FileKind::Bzl => BuildHost::outside(alloc, label.package_id(), &self.packages),
+            FileKind::Bzl => BuildHost::outside(alloc, label.package_id(), self.packages),
             FileKind::Build => {
                 let build_file = label.share()?;
                 BuildHost::inside(
                     alloc,
                     self.workspace,
-                    &self.packages,
+                    self.packages,
                     self.schema,
                     label.package_id(),
                     build_file,
@@ -87,7 +75,7 @@ impl<'a> Loading<'a> {
         label: &Label,
         module: &ResolvedModule<'_>,
     ) -> Result<Result<LoadedModule, FailedModule>, AllocError>
-        requires { lent_files «module».now.code.now ≡ self.now.code.items }
+        requires { lent_files «module».now.code.now ≡ codes_of self.now.modules.now }
         ensures { IfOk result (λ r. told module_view failed_view r ≡ module_after «module».now.file.now «module».now.imports.now (hosted_run self.now label.now «module».now)) }
     {
         let host = self.host(alloc, label)?;
@@ -103,19 +91,18 @@ impl<'a> Loading<'a> {
         modules: &[Arc<LoadedModule, Global>],
         imports: &[Value],
     ) -> Result<Result<LoadedModule, FailedModule>, AllocError>
-        ensures { IfOk result (λ r. told module_view failed_view r ≡ file_after (loading_of self.now) «module».now.number «module».now.source.now.label «module».now.file.now (module_views modules.now) imports.now) }
+        ensures { IfOk result (λ r. told module_view failed_view r ≡ file_after (loading_of self.now) «module».now.number «module».now.label.now «module».now.front.now.code (module_views modules.now) imports.now) }
     {
         let loaded = frozen_of(alloc, modules)?;
-        let code = lent(alloc, self.code.as_slice())?;
         let resolved = ResolvedModule {
             number: module.number,
-            file: module.file,
+            file: &module.front.code,
             loaded: loaded.as_slice(),
             imports,
-            code: code.as_slice(),
+            code: self.code.as_slice(),
         };
         // PROOF: the file is run as this module
-        Ok(self.run(alloc, &module.source.label, &resolved)?)
+        Ok(self.run(alloc, module.label, &resolved)?)
     }
 
     /// Returns what a file gets of the modules that it loads.
@@ -125,13 +112,13 @@ impl<'a> Loading<'a> {
         module: &FileModule<'_>,
         modules: &[Arc<LoadedModule, Global>],
     ) -> Result<Vec<Value>, SourceErr>
-        ensures { Gives items Bad result (imports (loaded_parts (loading_of self.now) «module».now.source.now (module_views modules.now)) [] «module».now.file.now.loads «module».now.source.now.loads) }
+        ensures { Gives items Bad result (imports (loaded_parts (loading_of self.now) «module».now.front.now (module_views modules.now)) [] «module».now.front.now.code.loads «module».now.front.now.loads) }
     {
         let loaded = LoadedFiles {
-            named: &module.source.loads,
+            named: &module.front.loads,
             modules,
             code: self.code.as_slice(),
         };
-        loaded.imports(alloc, module.file.loads.as_slice())
+        loaded.imports(alloc, module.front.code.loads.as_slice())
     }
 }

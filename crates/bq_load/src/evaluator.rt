@@ -3,12 +3,12 @@
 ghost use Rattle.std.specs.Prelude.{◌≡◌, map, IfOk};
 ghost use Rattle.bq_load_order.specs.Shown.{told};
 ghost use Rattle.bq_load.specs.Views.{ModuleView, FailedView, module_view, failed_view, module_views, not_evaluated};
-ghost use Rattle.bq_load.specs.Sources.{loading_of};
-ghost use Rattle.bq_load.specs.Evaluation.{file_means, by_code, means};
+ghost use Rattle.bq_load.specs.Loading.{loading_of};
+ghost use Rattle.bq_load.specs.Evaluation.{file_means, by_front, means};
 
 use crate::evaluation::FileModule;
 use crate::loading::Loading;
-use crate::source::share_fault;
+use crate::results::share_fault;
 use bq_base::{Fault, FaultKind, SourceErr};
 use bq_load_module::{FailedModule, LoadedModule};
 use bq_load_order::{Evaluate, Watch};
@@ -39,22 +39,23 @@ impl<'a> Evaluate for Loading<'a> {
         imports: &[Arc<LoadedModule, Global>],
         watch: &W,
     ) -> Result<Result<LoadedModule, FailedModule>, AllocError> {
-        let Some(source) = self.sources.get(m as usize) else {
+        let Some(module) = self.modules.get(m as usize) else {
             return Ok(not_evaluated(alloc, Fault::at(FaultKind::NoSuchFile, 0)));
         };
-        if let Some(fault) = &source.fault {
-            return Ok(not_evaluated(alloc, share_fault(fault)?));
-        }
-        let module = FileModule {
-            number: m,
-            source,
-            file: self.file_of(m, source),
+        let front = match &module.front {
+            Ok(front) => front,
+            Err(fault) => return Ok(not_evaluated(alloc, share_fault(fault)?)),
         };
-        match self.imports(alloc, &module, imports) {
+        let file = FileModule {
+            number: m,
+            label: &module.label,
+            front,
+        };
+        match self.imports(alloc, &file, imports) {
             Ok(values) => {
                 watch.begins(m);
                 // PROOF: these are the values
-                Ok(self.evaluated(alloc, &module, imports, &values)?)
+                Ok(self.evaluated(alloc, &file, imports, &values)?)
             }
             Err(SourceErr::Bad(fault)) => Ok(not_evaluated(alloc, fault)),
             Err(SourceErr::Memory) => Err(AllocError),

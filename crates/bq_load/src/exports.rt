@@ -5,6 +5,7 @@ ghost use Rattle.std.specs.Option.{option_copied, ForSome};
 ghost use Rattle.bq_base.specs.Gives.{Gives};
 ghost use Rattle.bq_base.specs.declared.fault.SourceErr.TheVariants.{Bad};
 ghost use Rattle.bq_value.specs.declared.error.EvalErr.TheVariants.{Bad as BadKind};
+ghost use Rattle.bq_load_module.specs.Round.{lent_files};
 ghost use Rattle.bq_load.specs.Views.{module_view};
 ghost use Rattle.bq_load.specs.Places.{HasPlaces};
 ghost use Rattle.bq_load.specs.Imports.{value_named, globals_by, names_by, global_of, global_by, is_private, exported, at_symbol, clause_values};
@@ -60,8 +61,8 @@ fn value_by<'v>(
 }
 
 /// Returns the names of the globals that the file of a module binds.
-pub(crate) fn globals_of(code: &[Option<Resolved>], number: u32) -> &[Bytes]
-    ensures { result.now ≡ globals_by (slice_get code.now number) }
+pub(crate) fn globals_of<'a>(code: &'a [Option<&'a Resolved>], number: u32) -> &'a [Bytes]
+    ensures { result.now ≡ globals_by (slice_get (lent_files code.now) number) }
 {
     match code.get(number as usize) {
         None => &[],
@@ -73,19 +74,19 @@ pub(crate) fn globals_of(code: &[Option<Resolved>], number: u32) -> &[Bytes]
 /// A module that a load names, and the code of all modules.
 #[derive(Clone, Copy)]
 pub(crate) struct Exports<'t, 'a> {
-    pub code: &'a [Option<Resolved>],
+    pub code: &'a [Option<&'a Resolved>],
     /// `None` if no such file is loaded.
     pub module: Option<&'a LoadedModule>,
     /// The places of its globals' names, if many clauses look for them.
     pub places: Option<&'t NamePlaces<'a>>,
-    ghost placed: { ForSome places (λ p. HasPlaces 0 (names_by code.now (option_map module_view (option_copied «module»))) p.now) },
+    ghost placed: { ForSome places (λ p. HasPlaces 0 (names_by (lent_files code.now) (option_map module_view (option_copied «module»))) p.now) },
 }
 
 impl<'t, 'a> Exports<'t, 'a> {
     /// Returns what the module exports by this name: F34, F33.
     #[tactic(auto, unfolding(crate::specs::Imports::exported))]
     fn exported(&self, name: &Bytes) -> Result<Value, EvalErr>
-        ensures { Gives (λ v. v) BadKind result (exported self.now.code.now (option_map module_view (option_copied self.now.module)) name.now) }
+        ensures { Gives (λ v. v) BadKind result (exported (lent_files self.now.code.now) (option_map module_view (option_copied self.now.module)) name.now) }
     {
         if name.as_slice().starts_with(b"_") {
             return Err(EvalErr::Bad(FaultKind::PrivateSymbol));
@@ -102,7 +103,7 @@ impl<'t, 'a> Exports<'t, 'a> {
 
     /// Returns the value of a clause of a load in this line, or its fault.
     fn clause_value(&self, line: u32, symbol: &Bytes) -> Result<Value, SourceErr>
-        ensures { Gives (λ v. v) Bad result (at_symbol line symbol.now (exported self.now.code.now (option_map module_view (option_copied self.now.module)) symbol.now)) }
+        ensures { Gives (λ v. v) Bad result (at_symbol line symbol.now (exported (lent_files self.now.code.now) (option_map module_view (option_copied self.now.module)) symbol.now)) }
     {
         match self.exported(symbol) {
             Ok(value) => Ok(value),
@@ -123,7 +124,7 @@ impl<'t, 'a> Exports<'t, 'a> {
         values: &mut Vec<Value>,
         clauses: &[LoadedSymbol],
     ) -> Result<(), SourceErr>
-        ensures { Gives (λ _. values.new.items) Bad result (clause_values self.now.code.now (option_map module_view (option_copied self.now.module)) line values.old.items clauses.now) }
+        ensures { Gives (λ _. values.new.items) Bad result (clause_values (lent_files self.now.code.now) (option_map module_view (option_copied self.now.module)) line values.old.items clauses.now) }
     {
         for clause in clauses {
             values.push(self.clause_value(line, &clause.symbol)?)?;

@@ -32,9 +32,9 @@ pub struct GateWatch<'a, G: Gate> {
 
 impl<'a, G: Gate> Watch for GateWatch<'a, G> {
     fn begins(&self, m: u32) {
-        match self.loading.sources.get(m as usize) {
+        match self.loading.modules.get(m as usize) {
             None => {}
-            Some(source) => self.gate.enter(&source.label),
+            Some(module) => self.gate.enter(&module.label),
         }
     }
 }

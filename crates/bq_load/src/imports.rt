@@ -5,6 +5,7 @@ ghost use Rattle.std.specs.Option.{option_copied};
 ghost use Rattle.bq_base.specs.Gives.{Gives};
 ghost use Rattle.bq_base.specs.declared.fault.SourceErr.TheVariants.{Bad};
 ghost use Rattle.bq_load_front.specs.Code.{items};
+ghost use Rattle.bq_load_module.specs.Round.{lent_files};
 ghost use Rattle.bq_load.specs.Views.{module_view, module_views};
 ghost use Rattle.bq_load.specs.Places.{HasPlaces, AllPlaced};
 ghost use Rattle.bq_load.specs.Imports.{loaded_of, names_in, names_of, clause_values, imports};
@@ -28,7 +29,7 @@ const FEW: usize = 100;
 pub struct LoadedFiles<'a> {
     pub named: &'a NamedFiles,
     pub modules: &'a [Arc<LoadedModule, Global>],
-    pub code: &'a [Option<Resolved>],
+    pub code: &'a [Option<&'a Resolved>],
 }
 
 impl<'a> LoadedFiles<'a> {
@@ -39,7 +40,7 @@ impl<'a> LoadedFiles<'a> {
         module: &LoadedModule,
         clauses: usize,
     ) -> Result<Option<NamePlaces<'a>>, AllocError>
-        ensures { IfOk result (λ places. IfSome places (HasPlaces 0 (names_in self.now.code.now (module_view «module».now)))) }
+        ensures { IfOk result (λ places. IfSome places (HasPlaces 0 (names_in (lent_files self.now.code.now) (module_view «module».now)))) }
     {
         let names = globals_of(self.code, module.frozen.module());
         if clauses.min(names.len()) <= FEW {
@@ -55,7 +56,7 @@ impl<'a> LoadedFiles<'a> {
         alloc: Global,
         clauses: &[usize],
     ) -> Result<Vec<Option<NamePlaces<'a>>>, AllocError>
-        ensures { IfOk result (λ all. AllPlaced (names_of self.now.code.now self.now.modules.now) all.items) }
+        ensures { IfOk result (λ all. AllPlaced (names_of (lent_files self.now.code.now) self.now.modules.now) all.items) }
     {
         let mut all = Vec::new(alloc);
         for (number, module) in self.modules.iter().enumerate() {
@@ -86,8 +87,8 @@ impl<'a> LoadedFiles<'a> {
         place: usize,
         values: &mut Vec<Value>,
     ) -> Result<(), SourceErr>
-        requires { AllPlaced (names_of self.now.code.now self.now.modules.now) places.now }
-        ensures { Gives (λ _. values.new.items) Bad result (clause_values self.now.code.now (slice_get (module_views self.now.modules.now) place) load.now.line values.old.items load.now.clauses) }
+        requires { AllPlaced (names_of (lent_files self.now.code.now) self.now.modules.now) places.now }
+        ensures { Gives (λ _. values.new.items) Bad result (clause_values (lent_files self.now.code.now) (slice_get (module_views self.now.modules.now) place) load.now.line values.old.items load.now.clauses) }
     {
         let exports = Exports {
             code: self.code,
@@ -105,7 +106,7 @@ impl<'a> LoadedFiles<'a> {
         places: &[Option<NamePlaces<'a>>],
         loads: &[LoadStmt],
     ) -> Result<Vec<Value>, SourceErr>
-        requires { AllPlaced (names_of self.now.code.now self.now.modules.now) places.now }
+        requires { AllPlaced (names_of (lent_files self.now.code.now) self.now.modules.now) places.now }
         ensures { Gives items Bad result (imports (loaded_of self.now) [] loads.now self.now.named.now) }
     {
         let mut values = Vec::new(alloc);

@@ -11,7 +11,6 @@
 //! In reading order:
 //!
 //! - `outcome`: a module with its outcome;
-//! - `source`: what is read of a module before it is evaluated;
 //! - `loading`: what decides the outcomes of all modules;
 //! - `places`: the places of names, where many are looked for;
 //! - `exports`: what a module exports to the files that load it;
@@ -42,12 +41,11 @@ mod packages;
 mod places;
 mod pool;
 mod results;
-mod source;
 mod work;
 
 pub use bq_load_module::{FailedModule, LoadedModule};
 pub use gate::{Gate, OpenGate};
-pub use load::{load_one_thread, load_with};
+pub use load::{load_graph_with, load_one_thread, load_with};
 pub use loaded::Loaded;
 pub use outcome::ModuleOutcome;
 pub use pool::{Evaluated, Pool, PoolSeat, Worked};

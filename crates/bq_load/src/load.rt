@@ -1,9 +1,10 @@
 //! The loading of a workspace.
 
-ghost use Rattle.std.specs.Prelude.{◌≡◌, ◌<◌, ◌≤◌, length, map, All, IfOk};
+ghost use Rattle.std.specs.Prelude.{◌≡◌, ◌<◌, ◌≤◌, map, All, IfOk};
 ghost use Rattle.bq_board.specs.Seats.{IsSeatOf};
+ghost use Rattle.bq_load_discover.specs.LoadGraph.{IsReadGraph, inputs_of};
 ghost use Rattle.bq_load.specs.Views.{outcome_view};
-ghost use Rattle.bq_load.specs.Sources.{loading_of};
+ghost use Rattle.bq_load.specs.Loading.{loading_in};
 ghost use Rattle.bq_load.specs.Results.{outcomes};
 ghost use Rattle.bq_load.specs.Loaded.{IsLoaded, LoadsWorkspace};
 ghost use Rattle.bq_load.specs.Pool.{parts_of, loads_of};
@@ -13,9 +14,8 @@ use crate::loaded::Loaded;
 use crate::loading::Loading;
 use crate::outcome::ModuleOutcome;
 use crate::pool::Pool;
-use bq_board::Graph;
 use bq_label::Workspace;
-use bq_load_discover::{LoadErr, discover, discover_by_workers};
+use bq_load_discover::{LoadErr, LoadGraph, discover, discover_by_workers};
 use bq_load_order::{Unwatched, outcomes_one_thread};
 use bq_load_workers::MAX_WORKERS;
 use bq_package_schema::Schema;
@@ -25,39 +25,28 @@ use std::marker::Sync;
 use std::sync::Wait;
 use std::thread::Threads;
 
-/// Returns the modules with their outcomes, by one thread.
+/// Returns the modules of a load graph with their outcomes, by one thread.
+#[tactic(auto, using(crate::proofs::Joined::outcomes_of_same))]
 fn modules_one_thread(
     alloc: Global,
-    loading: &Loading<'_>,
-    edges: &Graph,
+    workspace: &Workspace,
+    schema: &Schema,
+    limit: u64,
+    seed: Seed,
+    graph: &LoadGraph,
 ) -> Result<Vec<ModuleOutcome>, AllocError>
-    requires wide { length edges.now ≡ length loading.now.sources.items }
-    ensures { IfOk result (λ os. map outcome_view os.items ≡ outcomes (loading_of loading.now) edges.now) }
+    requires { IsReadGraph (inputs_of workspace.now schema.now) graph.now }
+    ensures { IfOk result (λ os. map outcome_view os.items ≡ outcomes (loading_in workspace.now schema.now limit graph.now) graph.now.edges) }
 {
-    let found = outcomes_one_thread(alloc, loading, edges, &Unwatched)?;
-    loading.outcomes(alloc, edges, found.as_slice())
-}
-
-/// Loads the modules by one thread. Drops their code before the rest is made, to lower the peak of memory.
-#[tactic(auto, using(crate::proofs::Joined::gathered_is))]
-fn loaded_one_thread(
-    alloc: Global,
-    loading: Loading<'_>,
-    edges: Graph,
-) -> Result<Loaded, AllocError>
-    requires wide { length edges ≡ length loading.sources.items }
-    ensures { IfOk result (λ l. IsLoaded (loading_of loading.entry) edges l) }
-{
-    let modules = modules_one_thread(alloc, &loading, &edges)?;
-    let packages = loading.into_packages();
-    // PROOF: they give this
-    Ok(Loaded::gathered(alloc, &packages, modules)?)
+    let loading = Loading::of(alloc, workspace, schema, limit, seed, graph)?;
+    let found = outcomes_one_thread(alloc, &loading, graph.edges(), &Unwatched)?;
+    loading.outcomes(alloc, graph.edges(), found.as_slice())
 }
 
 /// Loads a workspace on one thread: each module is evaluated after all that it loads, with `limit` steps of its own. It
 /// is refused if there are too many modules or edges (L2), and if memory is refused (L1). It evaluates on the stack of
 /// its caller, which no call overflows if that is as large as `bq_load_workers::EVALUATION_STACK`.
-#[tactic(auto, using(crate::proofs::Joined::loaded_is))]
+#[tactic(auto, using(crate::proofs::Joined::gathered_is, crate::proofs::Joined::loaded_is))]
 pub fn load_one_thread(
     alloc: Global,
     workspace: &Workspace,
@@ -72,12 +61,61 @@ pub fn load_one_thread(
         Ok(graph) => graph,
         Err(why) => return Err(why),
     };
-    let (loading, edges) = Loading::of(alloc, workspace, schema, limit, seed, graph)?;
-    Ok(loaded_one_thread(alloc, loading, edges)?)
+    let modules = modules_one_thread(alloc, workspace, schema, limit, seed, &graph)?;
+    let packages = graph.into_packages();
+    Ok(Loaded::gathered(alloc, &packages, modules)?)
 }
 
-/// Loads a workspace by several workers, each in a thread of its own with the stack that evaluation may take, and
-/// notifies a gate of each evaluation. It returns what one thread returns, whatever the order of the workers' steps.
+/// Returns the modules of a load graph with their outcomes, by several workers.
+#[tactic(auto, using(crate::proofs::Joined::outcomes_of_same))]
+fn modules_with<R: Threads + Wait + Sync, G: Gate>(
+    rt: &R,
+    alloc: Global,
+    workspace: &Workspace,
+    schema: &Schema,
+    limit: u64,
+    seed: Seed,
+    graph: &LoadGraph,
+    workers: usize,
+    gate: &G,
+) -> Result<Vec<ModuleOutcome>, AllocError>
+    requires graph { IsReadGraph (inputs_of workspace.now schema.now) graph.now }
+    requires workers { (0 < workers) × (workers ≤ MAX_WORKERS) }
+    ensures { IfOk result (λ os. map outcome_view os.items ≡ outcomes (loading_in workspace.now schema.now limit graph.now) graph.now.edges) }
+{
+    let (pool, seats) = Pool::open(alloc, workspace, schema, limit, seed, graph, workers)?;
+    // PROOF: the pool is of this load graph
+    Ok(pool.outcomes(rt, alloc, seats, gate)?)
+}
+
+/// Loads the modules of a workspace's load graph by several workers, each in a thread of its own with the stack that
+/// evaluation may take, and notifies a gate of each evaluation. It returns the same whatever the order of the workers'
+/// steps. Drops the modules' code before the rest is made, to lower the peak of memory.
+#[tactic(auto, using(crate::proofs::Joined::gathered_is))]
+pub fn load_graph_with<R: Threads + Wait + Sync, G: Gate>(
+    rt: &R,
+    alloc: Global,
+    workspace: &Workspace,
+    schema: &Schema,
+    limit: u64,
+    seed: Seed,
+    graph: LoadGraph,
+    workers: usize,
+    gate: &G,
+) -> Result<Loaded, AllocError>
+    requires graph { IsReadGraph (inputs_of workspace.now schema.now) graph }
+    requires workers { (0 < workers) × (workers ≤ MAX_WORKERS) }
+    ensures { IfOk result (λ l. IsLoaded (loading_in workspace.now schema.now limit graph) graph.edges l) }
+{
+    let modules = modules_with(
+        rt, alloc, workspace, schema, limit, seed, &graph, workers, gate,
+    )?;
+    let packages = graph.into_packages();
+    // PROOF: they give this
+    Ok(Loaded::gathered(alloc, &packages, modules)?)
+}
+
+/// Loads a workspace by several workers, as [`load_graph_with`] does. It returns what one thread returns.
 #[tactic(auto, using(crate::proofs::Joined::loaded_is))]
 pub fn load_with<R: Threads + Wait + Sync, G: Gate>(
     rt: &R,
@@ -97,7 +135,7 @@ pub fn load_with<R: Threads + Wait + Sync, G: Gate>(
         Ok(graph) => graph,
         Err(why) => return Err(why),
     };
-    let (pool, seats) = Pool::open(alloc, workspace, schema, limit, seed, graph, workers)?;
-    // PROOF: the pool is of this load graph
-    Ok(pool.load(rt, alloc, seats, gate)?)
+    Ok(load_graph_with(
+        rt, alloc, workspace, schema, limit, seed, graph, workers, gate,
+    )?)
 }

@@ -1,11 +1,14 @@
 //! What decides the outcomes of all modules.
 
-ghost use Rattle.bq_load.specs.Coded.{AreCoded};
+ghost use Rattle.std.specs.Prelude.{◌≡◌, IfOk};
+ghost use Rattle.std.specs.Option.{option_copied};
+ghost use Rattle.bq_load_module.specs.Round.{lent_files};
+ghost use Rattle.bq_load.specs.Codes.{code_by, codes_of};
 
-use crate::source::{Source, Sources};
-use bq_board::Graph;
+use bq_base::Fault;
 use bq_label::{Packages, Workspace};
-use bq_load_discover::LoadGraph;
+use bq_load_discover::{LoadGraph, Module};
+use bq_load_front::Front;
 use bq_package_host::BuiltIns;
 use bq_package_schema::{Schema, rule_names};
 use bq_resolve_scope::Resolved;
@@ -16,85 +19,69 @@ use std::alloc::{AllocError, Global};
 #[derive(Drop)]
 pub struct Loading<'a> {
     pub workspace: &'a Workspace,
-    pub packages: Packages,
+    pub packages: &'a Packages,
     pub schema: &'a Schema,
     pub built_ins: BuiltIns,
-    pub sources: Vec<Source>,
-    /// The code of each module that has no fault of its own.
-    pub code: Vec<Option<Resolved>>,
+    pub modules: &'a [Module],
+    /// The code of each module that has no fault of its own, as evaluations borrow it.
+    pub code: Vec<Option<&'a Resolved>>,
     /// How many steps the evaluation of each module may take.
     pub limit: u64,
     /// What dicts hash their keys by.
     pub seed: Seed,
-    ghost coded: { AreCoded sources.items code.items },
+    ghost lent: { lent_files code.items ≡ codes_of modules.now },
 }
 
 impl<'a> Loading<'a> {
-    ghost use Rattle.std.specs.Prelude.{◌≡◌, None, Some, slice_get, length, IfOk};
-    ghost use Rattle.std.specs.Option.{option_copied};
+    ghost use Rattle.std.specs.Prelude.{length};
     ghost use Rattle.bq_load_discover.specs.LoadGraph.{IsReadGraph, inputs_of};
-    ghost use Rattle.bq_load.specs.Evaluation.{code_in};
-    ghost use Rattle.bq_load.specs.Sources.{loading_of, loading_in};
+    ghost use Rattle.bq_load.specs.Loading.{loading_of, loading_in};
 
-    /// Takes what decides the outcomes of the modules from a load graph, and which loads which.
-    #[tactic(auto, using(crate::proofs::Coding::all_coded, crate::proofs::Joined::decided, crate::proofs::Joined::as_wide))]
+    /// Takes what decides the outcomes of the modules from a load graph.
+    #[tactic(auto, using(crate::proofs::Joined::decided, crate::proofs::Joined::as_wide))]
     pub(crate) fn of(
         alloc: Global,
         workspace: &'a Workspace,
         schema: &'a Schema,
         limit: u64,
         seed: Seed,
-        graph: LoadGraph,
-    ) -> Result<(Loading<'a>, Graph), AllocError>
-        requires { IsReadGraph (inputs_of workspace.now schema.now) graph }
-        ensures decides { IfOk result (λ r. loading_of r.0 ≡ loading_in workspace.now schema.now limit graph) }
-        ensures edges { IfOk result (λ r. r.1 ≡ graph.edges) }
-        ensures wide { IfOk result (λ r. length r.1 ≡ length r.0.sources.items) }
+        graph: &'a LoadGraph,
+    ) -> Result<Loading<'a>, AllocError>
+        requires { IsReadGraph (inputs_of workspace.now schema.now) graph.now }
+        ensures decides { IfOk result (λ l. loading_of l ≡ loading_in workspace.now schema.now limit graph.now) }
+        ensures wide { IfOk result (λ l. length graph.now.edges ≡ length l.modules.now) }
     {
-        let built_ins = BuiltIns::new(alloc, rule_names(schema))?;
-        let (modules, edges, packages) = graph.into_parts();
-        let Sources { sources, code } = Sources::of(alloc, modules)?;
-        let loading = Loading {
+        let modules = graph.modules();
+        Ok(Loading {
             workspace,
-            packages,
+            packages: graph.packages(),
             schema,
-            built_ins,
-            sources,
-            code,
+            built_ins: BuiltIns::new(alloc, rule_names(schema))?,
+            modules,
+            code: codes_of(alloc, modules)?,
             limit,
             seed,
-        };
-        Ok((loading, edges))
+        })
     }
+}
 
-    /// Returns the packages, once all modules are evaluated. Drops their code, to lower the peak of memory.
-    pub(crate) fn into_packages(self) -> Packages
-        ensures { result ≡ self.entry.packages }
-    {
-        let Loading { packages, .. } = self;
-        packages
+/// Returns the code of a module, unless its file has a fault of its own.
+fn code_by(front: &Result<Front, Fault>) -> Option<&Resolved>
+    ensures { option_copied result ≡ code_by front.now }
+{
+    match front {
+        Ok(front) => Some(&front.code),
+        Err(_) => None,
     }
+}
 
-    /// Returns the code of a module.
-    pub(crate) fn code_of(&self, m: u32) -> Option<&Resolved>
-        ensures { option_copied result ≡ code_in (slice_get self.now.code.items m) }
-    {
-        match self.code.get(m as usize) {
-            None => None,
-            Some(None) => None,
-            Some(Some(file)) => Some(file),
-        }
+/// Returns the code of modules.
+fn codes_of(alloc: Global, modules: &[Module]) -> Result<Vec<Option<&Resolved>>, AllocError>
+    ensures { IfOk result (λ code. lent_files code.items ≡ codes_of modules.now) }
+{
+    let mut code = Vec::with_capacity(alloc, modules.len())?;
+    for each in modules {
+        code.push(code_by(&each.front))?;
     }
-    /// Returns the code of a module that has no fault of its own.
-    pub(crate) fn file_of(&self, m: u32, source: &Source) -> &Resolved
-        requires known { slice_get self.now.sources.items m ≡ Some source.now }
-        requires faultless { source.now.fault ≡ None }
-        ensures { code_in (slice_get self.now.code.items m) ≡ Some result.now }
-    {
-        let _ = source; // contracts alone speak of its fault
-        match self.code_of(m) {
-            Some(file) => file,
-            None => unreachable!(),
-        }
-    }
+    Ok(code)
 }

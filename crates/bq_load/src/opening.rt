@@ -8,18 +8,33 @@ ghost use Rattle.bq_load_outcome_spec.specs.Outcome.{outcome};
 ghost use Rattle.bq_load_workers.specs.Closing.{ClosesWith};
 ghost use Rattle.bq_load_workers.specs.Work.{IsImport};
 ghost use Rattle.bq_load.specs.Views.{module_view};
-ghost use Rattle.bq_load.specs.Sources.{loading_of, loading_in};
+ghost use Rattle.bq_load.specs.Loading.{loading_of, loading_in};
 ghost use Rattle.bq_load.specs.Evaluation.{means};
 ghost use Rattle.bq_load.specs.Pool.{parts_of, loads_of};
 
 use crate::loading::Loading;
 use crate::pool::{Pool, PoolSeat};
 use bq_board::{Graph, MAX_SEATS};
-use bq_label::{Packages, Workspace};
+use bq_label::Workspace;
 use bq_load_discover::LoadGraph;
 use bq_package_schema::Schema;
 use bq_value_seed::Seed;
 use std::alloc::{AllocError, Global};
+
+/// Copies which module loads which.
+#[tactic(auto, using(crate::proofs::Copied::next_row, crate::proofs::Copied::all_rows))]
+fn copy_of(alloc: Global, edges: &Graph) -> Result<Graph, AllocError>
+    ensures { IfOk result (λ copy. copy ≡ edges.now) }
+{
+    let mut rows = Vec::with_capacity(alloc, edges.len())?;
+    for m in 0..edges.len() {
+        rows.push(edges.row(m).to_vec(alloc)?)?;
+    }
+    match Graph::new(rows) {
+        Ok(copy) => Ok(copy),
+        Err(_) => Err(AllocError), // never: these are the rows of a graph
+    }
+}
 
 impl<'a> Pool<'a> {
     /// Opens a pool of the modules of the workspace's load graph, none of them begun, and its seats, which have done
@@ -30,17 +45,18 @@ impl<'a> Pool<'a> {
         schema: &'a Schema,
         limit: u64,
         seed: Seed,
-        graph: LoadGraph,
+        graph: &'a LoadGraph,
         seats: usize,
     ) -> Result<(Pool<'a>, Vec<PoolSeat<'a>>), AllocError>
-        requires graph { IsReadGraph (inputs_of workspace.now schema.now) graph }
+        requires graph { IsReadGraph (inputs_of workspace.now schema.now) graph.now }
         requires seats { (0 < seats) × (seats ≤ MAX_SEATS) }
-        ensures decides { IfOk result (λ r. parts_of r.0 ≡ loading_in workspace.now schema.now limit graph) }
-        ensures edges { IfOk result (λ r. loads_of r.0 ≡ graph.edges) }
+        ensures decides { IfOk result (λ r. parts_of r.0 ≡ loading_in workspace.now schema.now limit graph.now) }
+        ensures edges { IfOk result (λ r. loads_of r.0 ≡ graph.now.edges) }
         ensures count { IfOk result (λ r. vec_len r.1 ≡ seats) }
         ensures fresh { IfOk result (λ r. All (λ s. IsSeatOf r.0.shared.board s.place × (view_of s.place ≡ blank (base_of r.0.shared.board) r.0.shared.board.plan)) r.1.items) }
     {
-        let (loading, edges) = Loading::of(alloc, workspace, schema, limit, seed, graph)?;
+        let loading = Loading::of(alloc, workspace, schema, limit, seed, graph)?;
+        let edges = copy_of(alloc, graph.edges())?;
         let (shared, seats) = bq_load_workers::WorkerPool::open(alloc, loading, edges, seats)?;
         let pool = Pool { shared };
         Ok((pool, seats))
@@ -49,7 +65,7 @@ impl<'a> Pool<'a> {
     /// Returns what decides the outcomes of the modules.
     pub(crate) fn loading(&self) -> &Loading<'a>
         ensures value { result.now ≡ self.now.shared.evaluator }
-        ensures wide { length (loads_of self.now) ≡ length result.now.sources.items }
+        ensures wide { length (loads_of self.now) ≡ length result.now.modules.now }
     {
         self.shared.evaluator()
     }
@@ -59,15 +75,6 @@ impl<'a> Pool<'a> {
         ensures { result.now ≡ loads_of self.now }
     {
         self.shared.graph()
-    }
-
-    /// Returns the packages, once all modules are evaluated. Drops their code, to lower the peak of memory.
-    pub(crate) fn into_packages(self) -> Packages
-        ensures { result ≡ self.entry.shared.evaluator.packages }
-    {
-        let Pool { shared } = self;
-        let (loading, _) = shared.into_parts();
-        loading.into_packages()
     }
 
     /// Drops the pool, and the modules that were posted and that nobody fetched. Its board ends in a state that meets

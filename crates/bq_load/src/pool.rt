@@ -10,7 +10,7 @@ use bq_package_target::Package;
 #[derive(Drop)]
 pub struct Pool<'a> {
     pub(crate) shared: bq_load_workers::WorkerPool<Loading<'a>>,
-    ghost wide: { length shared.graph ≡ length shared.evaluator.sources.items },
+    ghost wide: { length shared.graph ≡ length shared.evaluator.modules.now },
 }
 
 /// The right to work in one pool. It may go to another thread.

@@ -1,27 +1,26 @@
 //! The outcomes of modules, with the faults of those that load a failed one.
 
 ghost use Rattle.std.specs.Prelude.{◌≡◌, ◌<◌, length, map, IfOk};
-ghost use Rattle.std.specs.Option.{option_copied};
 ghost use Rattle.bq_label.specs.Label.{full_form};
 ghost use Rattle.bq_load_outcome_spec.specs.Outcome.{outcome};
 ghost use Rattle.bq_load_order.specs.Shown.{shown as shown_outcome};
 ghost use Rattle.bq_load_order.specs.Slots.{Tabulates};
 ghost use Rattle.bq_load.specs.Views.{module_view, failed_view, result_view, outcome_view, not_evaluated};
-ghost use Rattle.bq_load.specs.Sources.{loading_of};
-ghost use Rattle.bq_load.specs.Evaluation.{means, code_in};
+ghost use Rattle.bq_load.specs.Loading.{loading_of};
+ghost use Rattle.bq_load.specs.Evaluation.{means};
 ghost use Rattle.bq_load.specs.Results.{line_of_load, line_by, load_fault, result_of, outcome_by, outcome_of, outcomes};
 
 use crate::loading::Loading;
 use crate::outcome::ModuleOutcome;
-use crate::source::{Source, share_fault};
 use bq_base::{Bytes, Fault, FaultKind};
 use bq_board::Graph;
 use bq_label::{Label, print_label};
-use bq_load_front::NamedFiles;
+use bq_load_discover::Module;
+use bq_load_front::{Front, NamedFiles};
 use bq_load_module::{FailedModule, LoadedModule};
 use bq_load_order::SharedOutcome;
 use bq_load_outcome_spec::Outcome;
-use bq_resolve_scope::{LoadStmt, Resolved};
+use bq_resolve_scope::LoadStmt;
 use std::alloc::{AllocError, Global};
 use std::sync::Arc;
 
@@ -41,12 +40,13 @@ fn line_of_load(label: &Label, loads: &[LoadStmt], files: &NamedFiles) -> u32
     0
 }
 
-fn line_by(label: &Label, source: &Source, code: Option<&Resolved>) -> u32
-    ensures { result ≡ line_by label.now source.now (option_copied code.entry) }
+/// Returns the line of the first load of this label in a file; 0 if the file has a fault of its own.
+fn line_by(label: &Label, front: &Result<Front, Fault>) -> u32
+    ensures { result ≡ line_by label.now front.now }
 {
-    match code {
-        None => 0,
-        Some(file) => line_of_load(label, file.loads.as_slice(), &source.loads),
+    match front {
+        Ok(front) => line_of_load(label, front.code.loads.as_slice(), &front.loads),
+        Err(_) => 0,
     }
 }
 
@@ -55,6 +55,17 @@ pub(crate) fn shown(alloc: Global, label: &Label) -> Result<Bytes, AllocError>
     ensures { IfOk result (λ text. text ≡ full_form label.now) }
 {
     Bytes::from_vec(alloc, print_label(alloc, label)?)
+}
+
+/// Shares a fault.
+pub(crate) fn share_fault(fault: &Fault) -> Result<Fault, AllocError>
+    ensures { IfOk result (λ f. f ≡ fault.now) }
+{
+    Ok(Fault {
+        kind: fault.kind,
+        line: fault.line,
+        detail: fault.detail.share()?,
+    })
 }
 
 /// Shares prints.
@@ -83,20 +94,18 @@ impl<'a> Loading<'a> {
     fn load_fault(
         &self,
         alloc: Global,
-        m: u32,
-        source: &Source,
+        front: &Result<Front, Fault>,
         kind: FaultKind,
         k: u32,
     ) -> Result<Fault, AllocError>
-        ensures { IfOk result (λ f. f ≡ load_fault (loading_of self.now) m source.now kind k) }
+        ensures { IfOk result (λ f. f ≡ load_fault (loading_of self.now) front.now kind k) }
     {
-        let Some(loaded) = self.sources.get(k as usize) else {
+        let Some(loaded) = self.modules.get(k as usize) else {
             return Ok(Fault::at(kind, 0));
         };
-        let line = line_by(&loaded.label, source, self.code_of(m));
         Ok(Fault {
             kind,
-            line,
+            line: line_by(&loaded.label, front),
             detail: shown(alloc, &loaded.label)?,
         })
     }
@@ -105,14 +114,13 @@ impl<'a> Loading<'a> {
     fn not_loaded(
         &self,
         alloc: Global,
-        m: u32,
-        source: &Source,
+        front: &Result<Front, Fault>,
         kind: FaultKind,
         k: u32,
     ) -> Result<FailedModule, AllocError>
-        ensures { IfOk result (λ f. failed_view f ≡ not_evaluated (load_fault (loading_of self.now) m source.now kind k)) }
+        ensures { IfOk result (λ f. failed_view f ≡ not_evaluated (load_fault (loading_of self.now) front.now kind k)) }
     {
-        let fault = self.load_fault(alloc, m, source, kind, k)?;
+        let fault = self.load_fault(alloc, front, kind, k)?;
         Ok(FailedModule::not_evaluated(alloc, fault))
     }
 
@@ -120,23 +128,22 @@ impl<'a> Loading<'a> {
     fn result_at(
         &self,
         alloc: Global,
-        m: u32,
-        source: &Source,
+        front: &Result<Front, Fault>,
         outcome: &SharedOutcome<LoadedModule, FailedModule>,
     ) -> Result<Result<Arc<LoadedModule, Global>, FailedModule>, AllocError>
-        ensures { IfOk result (λ r. result_view r ≡ result_of (loading_of self.now) m source.now (shown_outcome module_view failed_view outcome.now)) }
+        ensures { IfOk result (λ r. result_view r ≡ result_of (loading_of self.now) front.now (shown_outcome module_view failed_view outcome.now)) }
     {
         match outcome {
             Outcome::Loaded(module) => Ok(Ok(Arc::try_clone(module)?)),
             Outcome::Faulty(failed) => Ok(Err(share_failed(alloc, failed)?)),
             Outcome::Cyclic(k) => {
-                Ok(Err(self.not_loaded(alloc, m, source, FaultKind::CycleReached, *k)?))
+                Ok(Err(self.not_loaded(alloc, front, FaultKind::CycleReached, *k)?))
             }
             Outcome::TooDeep(k) => {
-                Ok(Err(self.not_loaded(alloc, m, source, FaultKind::LoadDepth, *k)?))
+                Ok(Err(self.not_loaded(alloc, front, FaultKind::LoadDepth, *k)?))
             }
             Outcome::LoadFailed(k) => {
-                Ok(Err(self.not_loaded(alloc, m, source, FaultKind::LoadFailed, *k)?))
+                Ok(Err(self.not_loaded(alloc, front, FaultKind::LoadFailed, *k)?))
             }
         }
     }
@@ -145,14 +152,13 @@ impl<'a> Loading<'a> {
     pub(crate) fn outcome_at(
         &self,
         alloc: Global,
-        m: u32,
-        source: &Source,
+        module: &Module,
         outcome: &SharedOutcome<LoadedModule, FailedModule>,
     ) -> Result<ModuleOutcome, AllocError>
-        ensures { IfOk result (λ o. outcome_view o ≡ outcome_by (loading_of self.now) m source.now (shown_outcome module_view failed_view outcome.now)) }
+        ensures { IfOk result (λ o. outcome_view o ≡ outcome_by (loading_of self.now) «module».now (shown_outcome module_view failed_view outcome.now)) }
     {
-        let label = source.label.share()?;
-        let result = self.result_at(alloc, m, source, outcome)?;
+        let label = module.label.share()?;
+        let result = self.result_at(alloc, &module.front, outcome)?;
         Ok(ModuleOutcome { label, result })
     }
 
@@ -163,16 +169,16 @@ impl<'a> Loading<'a> {
         alloc: Global,
         edges: &Graph,
         m: usize,
-        source: &Source,
+        module: &Module,
         found: &[SharedOutcome<LoadedModule, FailedModule>],
     ) -> Result<ModuleOutcome, AllocError>
         requires known { m < length edges.now }
         requires found { Tabulates (length edges.now) (outcome (means (loading_of self.now)) edges.now) (map (shown_outcome module_view failed_view) found.now) }
-        ensures { IfOk result (λ o. outcome_view o ≡ outcome_of (loading_of self.now) edges.now m source.now) }
+        ensures { IfOk result (λ o. outcome_view o ≡ outcome_of (loading_of self.now) edges.now m «module».now) }
     {
-        let _modules = edges.len(); // PROOF: there are no more than a number counts
+        let _ = edges; // contracts alone speak of them
         // PROOF: the outcome is by what was found
-        Ok(self.outcome_at(alloc, m as u32, source, &found[m])?)
+        Ok(self.outcome_at(alloc, module, &found[m])?)
     }
 
     /// Returns the modules with their outcomes.
@@ -183,13 +189,14 @@ impl<'a> Loading<'a> {
         edges: &Graph,
         found: &[SharedOutcome<LoadedModule, FailedModule>],
     ) -> Result<Vec<ModuleOutcome>, AllocError>
-        requires wide { length edges.now ≡ length self.now.sources.items }
+        requires wide { length edges.now ≡ length self.now.modules.now }
         requires found { Tabulates (length edges.now) (outcome (means (loading_of self.now)) edges.now) (map (shown_outcome module_view failed_view) found.now) }
         ensures { IfOk result (λ os. map outcome_view os.items ≡ outcomes (loading_of self.now) edges.now) }
     {
-        let mut all = Vec::with_capacity(alloc, edges.len())?;
-        for (m, source) in self.sources.iter().enumerate() {
-            all.push(self.outcome(alloc, edges, m, source, found)?)?;
+        let modules = self.modules;
+        let mut all = Vec::with_capacity(alloc, modules.len())?;
+        for (m, module) in modules.iter().enumerate() {
+            all.push(self.outcome(alloc, edges, m, module, found)?)?;
         }
         Ok(all)
     }

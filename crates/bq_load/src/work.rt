@@ -9,11 +9,9 @@ ghost use Rattle.bq_load_workers.specs.Brought.{AreRight};
 ghost use Rattle.bq_load.specs.Views.{module_view, failed_view, outcome_view};
 ghost use Rattle.bq_load.specs.Evaluation.{means};
 ghost use Rattle.bq_load.specs.Results.{outcomes};
-ghost use Rattle.bq_load.specs.Loaded.{IsLoaded};
 ghost use Rattle.bq_load.specs.Pool.{parts_of, loads_of, package_of_file, IsEvaluated, HaveFinished};
 
 use crate::gate::{Gate, GateWatch};
-use crate::loaded::Loaded;
 use crate::outcome::ModuleOutcome;
 use crate::packages::package_by;
 use crate::pool::{Evaluated, Pool, PoolSeat, Worked};
@@ -96,8 +94,8 @@ impl<'a> Pool<'a> {
     {
         let loading = self.loading();
         let module = brought.number;
-        let source = &loading.sources[module as usize];
-        let outcome = loading.outcome_at(alloc, module, source, &brought.outcome)?;
+        let read = &loading.modules[module as usize];
+        let outcome = loading.outcome_at(alloc, read, &brought.outcome)?;
         let package = package_of_file(alloc, &outcome)?;
         Ok(Evaluated {
             module,
@@ -122,24 +120,5 @@ impl<'a> Pool<'a> {
         let watch = GateWatch { gate, loading };
         let found = outcomes_by_workers(rt, alloc, &self.shared, seats, &watch)?;
         loading.outcomes(alloc, self.edges(), found.as_slice())
-    }
-
-    /// Loads all modules by the seats, each in a thread of its own, and notifies the gate of each evaluation. Drops
-    /// their code before the rest is made, to lower the peak of memory.
-    #[tactic(auto, using(crate::proofs::Joined::gathered_is))]
-    pub fn load<R: Threads + Wait + Sync, G: Gate>(
-        self,
-        rt: &R,
-        alloc: Global,
-        seats: Vec<PoolSeat<'a>>,
-        gate: &G,
-    ) -> Result<Loaded, AllocError>
-        requires { All (λ s. IsSeatOf self.shared.board s.place) seats.items }
-        ensures { IfOk result (λ l. IsLoaded (parts_of self.entry) (loads_of self.entry) l) }
-    {
-        let modules = self.outcomes(rt, alloc, seats, gate)?;
-        let packages = self.into_packages();
-        // PROOF: they give this
-        Ok(Loaded::gathered(alloc, &packages, modules)?)
     }
 }

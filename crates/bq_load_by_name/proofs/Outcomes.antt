@@ -7,30 +7,31 @@ use Rattle.bq_base.specs.declared.fault.FaultKind.TheVariants as f
 use Rattle.bq_label.specs.Label.{LabelParts, full_form}
 use Rattle.bq_label.specs.Packages.{packages_of}
 use Rattle.bq_resolve_scope.specs.declared.code.LoadStmt.{LoadStmt}
-use Rattle.bq_resolve_scope.specs.declared.code.Resolved.{Resolved}
-use Rattle.bq_resolve_by_name.specs.Files.{IsCodeOf}
 use Rattle.bq_resolve_by_name.specs.Loads.{written_load}
 use Rattle.bq_resolve_by_name.specs.Resolution.{Maybe}
 use Rattle.bq_resolve_by_name.proofs.Loads.{loads_kept}
 use Rattle.bq_board.specs.Graph.{Loads}
+use Rattle.bq_eval_by_name.proofs.Units.{in_place}
 use Rattle.bq_load_front.specs.Inputs.{InputParts}
+use Rattle.bq_load_front.specs.Agreement.{IsFrontOf}
 use Rattle.bq_load_front.specs.Parsed.{ParsedFront}
+use Rattle.bq_load_front.specs.declared.front.Front.{Front}
 use Rattle.bq_load_discover.specs.LoadGraph.{GraphParts, IsLoadGraph, IsReadGraph, inputs_of}
 use Rattle.bq_load_discover.specs.Module.{module_of}
+use Rattle.bq_load_discover.specs.declared.modules.Module.{Module}
 use Rattle.bq_load_outcome_spec.specs.Outcome.{outcome}
 use Rattle.bq_load_outcome_spec.specs.declared.outcome.Outcome.{Outcome}
 use Rattle.bq_load_outcome_spec.specs.declared.outcome.Outcome.TheVariants as o
-use Rattle.bq_load.specs.Evaluation.{code_in}
 use Rattle.bq_load.specs.Evaluation as evaluation
 use Rattle.bq_load.specs.Loaded.{IsGathered}
 use Rattle.bq_load.specs.Results as slots
-use Rattle.bq_load.specs.Sources.{LoadingParts, loading_in}
+use Rattle.bq_load.specs.Loading.{LoadingParts, loading_in}
 use Rattle.bq_load.specs.Views.{ModuleView, FailedView, not_evaluated}
-use Rattle.bq_load_by_name.specs.Agreement.{source_of, AreReadAs, with_modules, OutcomesAgree, WorkspacesAgree}
+use Rattle.bq_load_by_name.specs.Agreement.{IsReadAs, AreReadAs, with_modules, OutcomesAgree, WorkspacesAgree}
 use Rattle.bq_load_by_name.specs.Evaluation.{means}
-use Rattle.bq_load_by_name.specs.Parsed.{ParsedModule, ParsedParts, file_by, parsed_module}
+use Rattle.bq_load_by_name.specs.Parsed.{ParsedModule, ParsedParts, parsed_module}
 use Rattle.bq_load_by_name.specs.Results.{line_of_load, line_by, load_fault_by, load_fault, result_of, outcomes_from, outcomes}
-use Rattle.bq_load_by_name.proofs.Modules.{code_at, source_at, means_same}
+use Rattle.bq_load_by_name.proofs.Modules.{means_same}
 use Rattle.bq_load_by_name.proofs.Read.{modules_are_read}
 
 -- ---- the faults of loads
@@ -41,33 +42,35 @@ line_same l [] ls = refl
 line_same l (s ∷ ss) [] = refl
 line_same l (s ∷ ss) (k ∷ ks) = ap (λ n. if bytes_eq (full_form l) (full_form k) then s.line else n) (line_same l ss ks)
 
-line_is : (l : LabelParts) (s : ParsedModule) (r : Result ParsedFront Fault) (code : Option Resolved) → Maybe IsCodeOf (file_by r) code
-    → line_by l r ≡ slots.line_by l (source_of (record { label = s.label; front = r })) code
-line_is l s (Err why) None h = refl
-line_is l s (Err why) (Some code) h = absurd h
-line_is l s (Ok front) None h = absurd h
-line_is l s (Ok front) (Some code) h = ap (λ ns. line_of_load l ns front.loads) (sym (loads_kept front.file code h)) ∙ line_same l code.loads front.loads
+line_is : (l : LabelParts) (x : Result ParsedFront Fault) (r : Result Front Fault) → IsFrontOf x r → line_by l x ≡ slots.line_by l r
+line_is l (Err why) (Err told) h = refl
+line_is l (Err why) (Ok front) h = absurd h
+line_is l (Ok parsed) (Err told) h = absurd h
+line_is l (Ok parsed) (Ok front) h =
+    ap (λ ns. line_of_load l ns parsed.loads) (sym (loads_kept parsed.file front.code h.0)) ∙ line_same l front.code.loads parsed.loads
+    ∙ ap (slots.line_of_load l front.code.loads) (sym h.1)
 
 abbrev fault_on : FaultKind → List ℕ → ℕ → Fault
 fault_on kind detail line = record { kind = kind; line = line; detail = detail }
 
-fault_is : (kind : FaultKind) (s : ParsedModule) (code : Option Resolved) → Maybe IsCodeOf (file_by s.front) code → (loaded : Option ParsedModule)
-    → load_fault_by kind s.front loaded ≡ slots.load_fault_by kind (source_of s) code (option_map source_of loaded)
-fault_is kind s code h None = refl
-fault_is kind s code h (Some loaded) = ap (fault_on kind (full_form loaded.label)) (line_is loaded.label s s.front code h)
+fault_is : (kind : FaultKind) (x : Result ParsedFront Fault) (r : Result Front Fault) → IsFrontOf x r → (s : Option ParsedModule) (t : Option Module) → Maybe IsReadAs s t
+    → load_fault_by kind x s ≡ slots.load_fault_by kind r t
+fault_is kind x r is None None h = refl
+fault_is kind x r is None (Some t) h = absurd h
+fault_is kind x r is (Some s) None h = absurd h
+fault_is kind x r is (Some s) (Some t) h =
+    ap (λ (l : LabelParts). fault_on kind (full_form l) (line_by l x)) (sym h.0) ∙ ap (fault_on kind (full_form t.label)) (line_is t.label x r is)
 
-module _ (x : LoadingParts) (all : List ParsedModule) (are : AreReadAs all x) where
+module _ (x : LoadingParts) (all : List ParsedModule) (are : AreReadAs all x.modules) where
   abbrev named : ParsedParts
   named = with_modules x all
 
-  module _ (m : ℕ) (s : ParsedModule) (at : slice_get all m ≡ Some s) where
-    fault_same : (kind : FaultKind) (k : ℕ) → load_fault named s.front kind k ≡ slots.load_fault x m (source_of s) kind k
+  module _ (s : Result ParsedFront Fault) (r : Result Front Fault) (is : IsFrontOf s r) where
+    fault_same : (kind : FaultKind) (k : ℕ) → load_fault named s kind k ≡ slots.load_fault x r kind k
     unfolding load_fault slots.load_fault
-    fault_same kind k =
-        fault_is kind s (code_in (slice_get x.code m)) (code_at x all are m s at) (slice_get all k)
-        ∙ ap (slots.load_fault_by kind (source_of s) (code_in (slice_get x.code m))) (sym (source_at x all are k))
+    fault_same kind k = fault_is kind s r is (slice_get all k) (slice_get x.modules k) (in_place IsReadAs all x.modules k are)
 
-    result_same : (r : Outcome ModuleView FailedView) → result_of named s.front r ≡ slots.result_of x m (source_of s) r
+    result_same : (one : Outcome ModuleView FailedView) → result_of named s one ≡ slots.result_of x r one
     result_same (o.Loaded v) = refl
     result_same (o.Faulty e) = refl
     result_same (o.Cyclic k) = ap (λ why. Err (not_evaluated why)) (fault_same f.CycleReached k)
@@ -78,30 +81,25 @@ module _ (x : LoadingParts) (all : List ParsedModule) (are : AreReadAs all x) wh
   outcome_same : (p : Loads) (m : ℕ) → outcome (means named) p m ≡ outcome (evaluation.means x) p m
   outcome_same p m = λ i. outcome (λ l vs. means_same x all are l vs i) p m
 
-  -- these modules are those from this number on
-  abbrev AreFrom : ℕ → List ParsedModule → Type 0
-  AreFrom m ss = (i n : ℕ) → n ≡ m + i → slice_get ss i ≡ slice_get all n
-
-  from_same : (p : Loads) (m : ℕ) (ss : List ParsedModule) → AreFrom m ss → outcomes_from named p m ss ≡ slots.outcomes_from x p m (map source_of ss)
-  from_same p m [] from = refl
-  from_same p m (s ∷ ss) from =
-      let at : slice_get all m ≡ Some s = sym (from zero m (omega arith)) in
-      let one = ap (result_of named s.front) (outcome_same p m) ∙ result_same m s at (outcome (evaluation.means x) p m) in
-      let rest = from_same p (m + 1) ss (λ i n e. from (suc i) n (omega (arith, e))) in
-      λ i. record { label = s.label; result = one i } ∷ rest i
-
-  all_from : AreFrom 0 all
-  all_from i n e = let same : i ≡ n = omega (arith, e) in ap (slice_get all) same
+  from_same : (p : Loads) (m : ℕ) (ss : List ParsedModule) (ts : List Module) → AreReadAs ss ts → outcomes_from named p m ss ≡ slots.outcomes_from x p m ts
+  from_same p m [] [] h = refl
+  from_same p m [] (t ∷ ts) h = absurd h
+  from_same p m (s ∷ ss) [] h = absurd h
+  from_same p m (s ∷ ss) (t ∷ ts) h =
+      let label : s.label ≡ t.label = sym h.0.0 in
+      let one = ap (result_of named s.front) (outcome_same p m) ∙ result_same s.front t.front h.0.1 (outcome (evaluation.means x) p m) in
+      let rest = from_same p (m + 1) ss ts h.1 in
+      λ i. record { label = label i; result = one i } ∷ rest i
 
   pub outcomes_same : (p : Loads) → outcomes named p ≡ slots.outcomes x p
   unfolding outcomes slots.outcomes
-  outcomes_same p = from_same p 0 all all_from ∙ ap (slots.outcomes_from x p 0) (sym are.sources)
+  outcomes_same p = from_same p 0 all x.modules are
 
 -- ---- a workspace
 
 pub outcomes_agree : OutcomesAgree
 outcomes_agree files rules limit g is =
-    outcomes_same (loading_in files rules limit g) (map (parsed_module (inputs_of files rules)) g.labels) (modules_are_read files rules limit g is) g.edges
+    outcomes_same (loading_in files rules limit g) (map (parsed_module (inputs_of files rules)) g.labels) (modules_are_read files rules g is) g.edges
 
 -- the load graph, with what the code gives for each file
 abbrev pub read_graph : InputParts → List LabelParts → Loads → GraphParts

@@ -1,49 +1,40 @@
 -- The law of names for load graphs: the outcomes by names are the outcomes by slots.
-use Rattle.std.specs.Prelude.{◌≡◌, ◌↔◌, ℕ, List, map, Option, Some, None, Result, Ok, Err}
-use Rattle.bq_base.specs.declared.fault.Fault.{Fault}
+use Rattle.std.specs.Prelude.{◌≡◌, ◌↔◌, ℕ, List, map, Result}
 use Rattle.bq_label.specs.declared.workspace.File.{File}
 use Rattle.bq_package_schema.specs.Schema.{Rules}
-use Rattle.bq_load_front.specs.Parsed.{ParsedFront, loads_in}
+use Rattle.bq_resolve_by_name.specs.Resolution.{InOrder}
+use Rattle.bq_load_front.specs.Agreement.{IsFrontOf}
 use Rattle.bq_load_discover.specs.LoadGraph.{GraphParts, IsReadGraph, inputs_of}
+use Rattle.bq_load_discover.specs.declared.modules.Module.{Module}
 use Rattle.bq_load_discover.specs.declared.load_err.LoadErr.{LoadErr}
 use Rattle.bq_load.specs.Evaluation as slots
 use Rattle.bq_load.specs.Loaded.{LoadsWorkspace}
 use Rattle.bq_load.specs.Results as results
-use Rattle.bq_load.specs.Sources.{LoadingParts, loading_in}
+use Rattle.bq_load.specs.Loading.{LoadingParts, loading_in}
 use Rattle.bq_load.specs.Views.{ModuleView}
 use Rattle.bq_load.specs.declared.loaded.Loaded.{Loaded}
-use Rattle.bq_load.specs.declared.source.Source.{Source}
-use Rattle.bq_eval_by_name.specs.Agreement.{AreCodesOf}
 use Rattle.bq_load_by_name.specs.Evaluation.{means}
-use Rattle.bq_load_by_name.specs.Parsed.{ParsedModule, ParsedParts, parsed_files, parsed_module, parsed_in}
+use Rattle.bq_load_by_name.specs.Parsed.{ParsedModule, ParsedParts, parsed_module, parsed_in}
 use Rattle.bq_load_by_name.specs.Results.{outcomes, LoadsByNames}
 
-abbrev pub own_fault : Result ParsedFront Fault → Option Fault
-own_fault (Err why) = Some why
-own_fault (Ok front) = None
+-- the code reads a module as what its file is: with the same loads and the code that the file resolves to, or the same fault
+abbrev pub IsReadAs : ParsedModule → Module → Type 0
+IsReadAs s m = (m.label ≡ s.label) × IsFrontOf s.front m.front
 
--- what the code reads of a module before it is evaluated
-abbrev pub source_of : ParsedModule → Source
-source_of m = record { label = m.label; loads = loads_in m.front; fault = own_fault m.front }
+abbrev pub AreReadAs : List ParsedModule → List Module → Type 0
+AreReadAs ss ms = InOrder IsReadAs ss ms
 
--- the code reads these modules so: each has the same loads, or the same fault, and its code is what its file resolves to
-pub record AreReadAs (modules : List ParsedModule) (x : LoadingParts) : Type 0 where
-  pub sources : x.sources ≡ map source_of modules
-  pub codes : AreCodesOf (parsed_files modules) x.code
-
--- what is read of a load graph, with these modules in place of sources and code
+-- what is read of a load graph, with these modules in place of those that the code has read
 abbrev pub with_modules : LoadingParts → List ParsedModule → ParsedParts
 with_modules x modules = record { modules = modules; files = x.files; packages = x.packages; rules = x.rules; names = x.names; limit = x.limit }
 
 -- the modules of a load graph are read as what their files are
 abbrev pub ModulesAreRead : Type 0
-ModulesAreRead =
-    (files : List File) (rules : Rules) (limit : ℕ) (g : GraphParts) → IsReadGraph (inputs_of files rules) g
-    → AreReadAs (map (parsed_module (inputs_of files rules)) g.labels) (loading_in files rules limit g)
+ModulesAreRead = (files : List File) (rules : Rules) (g : GraphParts) → IsReadGraph (inputs_of files rules) g → AreReadAs (map (parsed_module (inputs_of files rules)) g.labels) g.modules
 
 -- A module evaluates by names to what it evaluates to by slots: whatever modules it loads, the same value, or the same fault.
 abbrev pub ModulesAgree : Type 0
-ModulesAgree = (x : LoadingParts) (all : List ParsedModule) → AreReadAs all x → (m : ℕ) (modules : List ModuleView) → means (with_modules x all) m modules ≡ slots.means x m modules
+ModulesAgree = (x : LoadingParts) (all : List ParsedModule) → AreReadAs all x.modules → (m : ℕ) (modules : List ModuleView) → means (with_modules x all) m modules ≡ slots.means x m modules
 
 -- The outcomes of the modules of a workspace, by the recursion along loads: their globals, cells, prints, faults and packages.
 abbrev pub OutcomesAgree : Type 0

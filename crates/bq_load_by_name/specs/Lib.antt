@@ -1,5 +1,5 @@
 pub use Rattle.bq_load.specs.Loaded
-pub use Rattle.bq_load.specs.Sources
+pub use Rattle.bq_load.specs.Loading
 pub use Rattle.bq_load.specs.Views
 pub use Rattle.bq_load_discover.specs.LoadGraph
 pub use Rattle.bq_load_discover.specs.Modules

@@ -3,7 +3,7 @@ pub mod Orders
 -- the first load of a file
 pub mod FirstLoad
 -- what is read of a module
-pub mod Sources
+pub mod Read
 -- the load that an outcome names
 pub mod Loads
 -- what a module exports

@@ -1,17 +1,19 @@
 //! What holds of modules that are loaded. The functions do nothing: their contracts are the laws.
 
-ghost use Rattle.std.specs.Prelude.{◌≡◌, ℕ, List, Option};
+ghost use Rattle.std.specs.Prelude.{◌≡◌, ℕ, List, Option, Result};
+ghost use Rattle.bq_base.specs.declared.fault.Fault.{Fault};
 ghost use Rattle.bq_base.specs.declared.fault.FaultKind.{FaultKind};
 ghost use Rattle.bq_board.specs.Graph.{Loads};
 ghost use Rattle.bq_load_outcome_spec.specs.Outcome.{outcome};
 ghost use Rattle.bq_resolve_scope.specs.Names.{Name};
 ghost use Rattle.bq_resolve_scope.specs.declared.code.LoadStmt.{LoadStmt};
 ghost use Rattle.bq_resolve_scope.specs.declared.code.Resolved.{Resolved};
-ghost use Rattle.bq_load.specs.declared.source.Source.{Source};
+ghost use Rattle.bq_load_front.specs.declared.front.Front.{Front};
+ghost use Rattle.bq_load_discover.specs.declared.modules.Module.{Module};
 ghost use Rattle.bq_load.specs.Evaluation.{means};
 ghost use Rattle.bq_load.specs.Imports.{exported};
 ghost use Rattle.bq_load.specs.Results.{load_fault, result_of};
-ghost use Rattle.bq_load.specs.Sources.{LoadingParts};
+ghost use Rattle.bq_load.specs.Loading.{LoadingParts};
 ghost use Rattle.bq_load.specs.Views.{ModuleView};
 ghost use Rattle.bq_builtin_refusal_laws.specs.Refusals.{first_fault, FailsForFirst};
 ghost use Rattle.bq_load_laws.specs.Outcomes.Exports.{ModulesExportTheirOwn};
@@ -27,13 +29,13 @@ pub fn symbols_are_refused_in_order()
 /// A module fails for the first of the reasons that are listed, and for nothing else: F35, F38, F36, and then its own
 /// fault.
 pub fn modules_fail_in_order()
-    ensures { (x : LoadingParts) (p : Loads) (m : ℕ) (s : Source) → failure (result_of x m s (outcome (means x) p m)) ≡ first_fault (loading x p m) }
+    ensures { (x : LoadingParts) (p : Loads) (m : ℕ) (front : Result Front Fault) → failure (result_of x front (outcome (means x) p m)) ≡ first_fault (loading x p m) }
 {}
 
 /// F35, F36 and F38 name the line of the file's first load of the module, even if later ones load it too, and the
 /// module's label. In a load graph there is such a load.
 pub fn faults_of_loads_name_the_first_load()
-    ensures first { (x : LoadingParts) (m k : ℕ) (s loaded : Source) (kind : FaultKind) (load : LoadStmt) → LoadsFirst x m k s loaded load → load_fault x m s kind k ≡ fault_at_load kind load loaded }
+    ensures first { (x : LoadingParts) (k : ℕ) (front : Result Front Fault) (loaded : Module) (kind : FaultKind) (load : LoadStmt) → LoadsFirst x k front loaded load → load_fault x front kind k ≡ fault_at_load kind load loaded }
     ensures loaded { ModulesNameTheirLoads }
 {}
 

@@ -6,10 +6,9 @@ use Rattle.bq_label.specs.declared.workspace.File.{File}
 use Rattle.bq_label.specs.Packages.{packages_of}
 use Rattle.bq_package_schema.specs.Schema.{Rules}
 use Rattle.bq_package_target.specs.Package.{PackageTargets}
-use Rattle.bq_board.specs.Graph.{Loads}
 use Rattle.bq_load_by_name.specs.LoadGraph.{GraphParts, IsReadGraph, inputs_of}
 use Rattle.bq_load_by_name.specs.Schema.{schema_in}
-use Rattle.bq_load_by_name.specs.Sources.{LoadingParts, loading_in}
+use Rattle.bq_load_by_name.specs.Loading.{loading_in}
 use Rattle.bq_load_by_name.specs.Loaded.{IsGathered, IsLoaded}
 use Rattle.bq_load_by_name.specs.Views.{OutcomeView}
 use Rattle.bq_load_by_name.specs.Results.{Loaded, LoadsByNames}
@@ -36,8 +35,5 @@ loaded_report o files x rules l r checked schema loads reports =
 
 -- what is inside a workspace whose modules gave this by slots is what they give by names
 module _ (files : List File) (rules : Rules) (limit : ℕ) (g : GraphParts) (is : IsReadGraph (inputs_of files rules) g) where
-  pub inside_by_names : (x : LoadingParts) (p : Loads) (l : Loaded) → x ≡ loading_in files rules limit g → p ≡ g.edges → IsLoaded x p l → inside l ≡ loaded_in files rules limit g.labels g.edges
-  inside_by_names x p l e d loaded =
-      let by_slots : IsLoaded (loading_in files rules limit g) g.edges l = subst (λ (q : Loads). IsLoaded (loading_in files rules limit g) q l) d (subst (λ (y : LoadingParts). IsLoaded y p l) e loaded) in
-      loaded_inside (packages_of files) _ l by_slots
-      ∙ sym (ap (inside_by (packages_of files)) (outcomes_agree files rules limit g is))
+  pub inside_by_names : (l : Loaded) → IsLoaded (loading_in files rules limit g) g.edges l → inside l ≡ loaded_in files rules limit g.labels g.edges
+  inside_by_names l by_slots = loaded_inside (packages_of files) _ l by_slots ∙ sym (ap (inside_by (packages_of files)) (outcomes_agree files rules limit g is))

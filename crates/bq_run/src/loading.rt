@@ -9,7 +9,7 @@ ghost use Rattle.bq_run.specs.WorkspaceRun.{loaded_in};
 
 use crate::options::Options;
 use bq_label::Workspace;
-use bq_load_by_name::{LoadErr, LoadGraph, Loaded, OpenGate, Pool, load_with};
+use bq_load_by_name::{LoadErr, LoadGraph, Loaded, OpenGate, load_graph_with, load_with};
 use bq_package_schema::Schema;
 use bq_value_seed::Seed;
 use std::alloc::{AllocError, Global};
@@ -56,7 +56,9 @@ pub fn load_graph<T: Threads + Wait + RandomSource + Sync>(
     requires graph { IsReadGraph (inputs_of workspace.now schema.now) graph }
     ensures { IfOk result (λ l. inside l ≡ loaded_in workspace.now schema.now options.now.max_steps graph.labels graph.edges) }
 {
-    let (pool, seats) = Pool::open(
+    // PROOF: what it gives is inside the workspace
+    Ok(load_graph_with(
+        rt,
         alloc,
         workspace,
         schema,
@@ -64,7 +66,6 @@ pub fn load_graph<T: Threads + Wait + RandomSource + Sync>(
         Seed::draw(rt),
         graph,
         options.jobs as usize,
-    )?;
-    // PROOF: the pool is of this load graph
-    Ok(pool.load(rt, alloc, seats, &OpenGate)?)
+        &OpenGate,
+    )?)
 }

@@ -22,7 +22,7 @@ use Rattle.bq_load_front.specs.Inputs.{InputParts}
 use Rattle.bq_load_discover.specs.LoadGraph.{GraphParts, IsReadGraph, inputs_of}
 use Rattle.bq_load_discover.proofs.Lists.{none_in}
 use Rattle.bq_load.specs.Results.{outcomes}
-use Rattle.bq_load.specs.Sources.{loading_in}
+use Rattle.bq_load.specs.Loading.{loading_in}
 use Rattle.bq_load_by_name.proofs.Outcomes.{outcomes_agree, read_graph, is_read_graph}
 use Rattle.bq_load_laws.specs.Packages.Declared.{IsLineOf, IsFile, DeclaresIn}
 use Rattle.bq_load_laws.proofs.Faults.Lines.{lines_in_graph}

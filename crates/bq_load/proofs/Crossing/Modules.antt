@@ -9,8 +9,9 @@ use Rattle.bq_base.proofs.fault.Fault.TheSendSync as Fault
 use Rattle.bq_base_names.proofs.name_set.NameSet.TheSendSync as Names
 use Rattle.bq_package_host.specs.contracts.built_ins.BuiltIns as BuiltIns
 use Rattle.bq_load_front.specs.contracts.named_files.NamedFiles as NamedFiles
+use Rattle.bq_load_front.specs.contracts.front.Front as Front
+use Rattle.bq_load_discover.specs.contracts.modules.Module as Module
 use Rattle.bq_load_module.specs.contracts.outcome.LoadedModule as LoadedModule
-use Rattle.bq_load.specs.contracts.source.Source as Source
 use Rattle.bq_load.specs.contracts.loading.Loading as Loading
 use Rattle.bq_load.specs.contracts.gate.GateWatch as GateWatch
 use Rattle.bq_load.proofs.Crossing.Values.{frozen_send, frozen_sync}
@@ -31,12 +32,15 @@ built_ins_sync = search (Names.the_send, Names.the_sync, crosses, sendable) dept
 pub named_files_sync : IsSync (NamedFiles.the_field).row
 named_files_sync = let ls = label_send in let ly = label_sync in search (crosses, sendable) depth 60 fits 20000
 
-pub source_sync : IsSync (Source.the_field).row
-source_sync = let ls = label_send in let ly = label_sync in let n = named_files_sync in search (Fault.the_sync, crosses, sendable) depth 60 fits 20000
+pub front_sync : IsSync (Front.the_field).row
+front_sync = let n = named_files_sync in let r = resolved_sync in search (crosses, sendable) depth 60 fits 20000
+
+pub module_sync : IsSync (Module.the_field).row
+module_sync = let l = label_sync in let f = front_sync in search (Fault.the_sync, crosses, sendable) depth 60 fits 20000
 
 pub loading_sync : (a : NamedLft) → IsSync (Loading.the_row a)
 loading_sync a =
-    let w = workspace_sync in let p = packages_sync in let s = schema_sync in let b = built_ins_sync in let o = source_sync in let r = resolved_sync in
+    let w = workspace_sync in let p = packages_sync in let s = schema_sync in let b = built_ins_sync in let m = module_sync in let r = resolved_sync in
     search (Seed.the_sync, KeyHasher.the_sync, crosses, sendable) depth 60 fits 20000
 
 pub watch_sync : (a : NamedLft) (T : RattleType) → IsSync T → IsSync (GateWatch.the_row a T)

@@ -1,7 +1,6 @@
 -- Along loads each module can call the functions of those that it loads, of those that these load, and so on.
 use Rattle.std.proofs.Common.{◌≡◌, ◌∙◌, ℕ, zero, suc, inl, inr, List, [], ◌∷◌, map, Option, Some, None, Result, Ok, Err, slice_get, option_map, Contains, refl, sym, ap, subst}
 use Rattle.std.specs.Prelude.{IfOk}
-use Rattle.std.proofs.lemmas.Option.{slice_get-map}
 use Rattle.bq_base.specs.declared.fault.Fault.{Fault}
 use Rattle.bq_parse_grammar.specs.declared.tree.FileKind.{FileKind}
 use Rattle.bq_parse_grammar.specs.declared.tree.FileKind.TheVariants as kinds
@@ -20,23 +19,24 @@ use Rattle.bq_eval_laws.proofs.Evaluations.Callable.{stay_callable}
 use Rattle.bq_package.specs.Calls.{meaning}
 use Rattle.bq_eval_package_laws.proofs.BuildFiles.Calls.{calls_own}
 use Rattle.bq_package_target.specs.Package.{PackageTargets, finished}
-use Rattle.bq_load_front.specs.Front.{front_of}
 use Rattle.bq_load_front.specs.Parsed.{kind_of}
 use Rattle.bq_load_front.specs.Inputs.{InputParts}
 use Rattle.bq_load_front.specs.declared.front.Front.{Front}
 use Rattle.bq_load_discover.specs.LoadGraph.{GraphParts, IsReadGraph, inputs_of}
 use Rattle.bq_load_discover.specs.Module.{module_of}
 use Rattle.bq_load_outcome_spec.specs.Outcome.{outcome}
-use Rattle.bq_load.specs.declared.source.Source.{Source}
-use Rattle.bq_load.specs.Evaluation.{kept_first, evaluation, package_left, module_with, module_by, module_after, loaded_parts, by_imports, file_means, code_in, by_code, by_source, means}
+use Rattle.bq_load_discover.specs.declared.modules.Module.{Module}
+use Rattle.bq_load.specs.Evaluation.{kept_first, evaluation, package_left, module_with, module_by, module_after, loaded_parts, by_imports, file_means, by_front, by_module, means}
 use Rattle.bq_load.specs.Imports.{imports}
-use Rattle.bq_load.specs.Sources.{LoadingParts, source_by, source_of, code_by, code_of, loading_in}
+use Rattle.bq_load.specs.Codes.{code_by, codes_of}
+use Rattle.bq_load.specs.Loading.{LoadingParts, loading_in}
 use Rattle.bq_load.specs.Views.{ModuleView, FailedView}
 use Rattle.bq_load_laws.specs.Packages.Packages.{IsOwnOf}
 use Rattle.bq_load_laws.proofs.Packages.Made.{made}
 use Rattle.bq_load_laws.specs.Calls.Calls.{AreLoaded, FunctionsOfLoadsAreCallable}
 use Rattle.bq_load_laws.proofs.Calls.Files.{loaded_is_bzl}
 use Rattle.bq_load_laws.proofs.Calls.Values.{all_have, evaluated_by}
+use Rattle.bq_load_laws.proofs.Outcomes.Read.{module_at, code_at}
 
 abbrev good : ModuleView → Result ModuleView FailedView
 good v = Ok v
@@ -62,7 +62,7 @@ is_among v (w ∷ ws) c = elim (head_or_tail w ws v c) [
 module _ (x : LoadingParts) (k : ℕ) (home : ℕ) where
   -- whoever loads it can call the functions of `home`
   abbrev ForLoaders : FrozenView → Type 0
-  ForLoaders f = (loader : ℕ) (others : List FrozenView) → Contains others f → IsCallable x.code loader others home
+  ForLoaders f = (loader : ℕ) (others : List FrozenView) → Contains others f → IsCallable (codes_of x.modules) loader others home
 
   by_end : (e : Ended) (p : Option PackageTargets) (v : ModuleView) → FrozenAre e ForLoaders → module_by e p ≡ Ok v → v.package ≡ None → ForLoaders v.frozen
   by_end (failed why prints) p v h is none = absurd (cc)
@@ -78,58 +78,39 @@ module _ (x : LoadingParts) (k : ℕ) (home : ℕ) where
 
   -- ---- a module by its file
 
-  module _ (modules : List ModuleView) (v : ModuleView) (callable : IsCallable x.code k (map frozen_of modules) home) (none : v.package ≡ None) where
-    by_run : (l : LabelParts) (file : Resolved) → slice_get x.code k ≡ Some (Some file) → (imported : List Datum) → module_after file imported (evaluation x k l file modules imported) ≡ Ok v → ForLoaders v.frozen
+  module _ (modules : List ModuleView) (v : ModuleView) (callable : IsCallable (codes_of x.modules) k (map frozen_of modules) home) (none : v.package ≡ None) where
+    by_run : (l : LabelParts) (file : Resolved) → slice_get (codes_of x.modules) k ≡ Some (Some file) → (imported : List Datum) → module_after file imported (evaluation x k l file modules imported) ≡ Ok v → ForLoaders v.frozen
     unfolding module_after evaluation
     by_run l file at imported is =
-        by_end (ended file imported (module_run x.names meaning x.code k file (map frozen_of modules) imported x.limit (kept_first x l)))
-        (package_left (kept_after (module_run x.names meaning x.code k file (map frozen_of modules) imported x.limit (kept_first x l)))) v
-        (stay_callable x.names meaning calls_own x.code k file at (map frozen_of modules) imported (kept_first x l) x.limit home callable) is none
+        by_end (ended file imported (module_run x.names meaning (codes_of x.modules) k file (map frozen_of modules) imported x.limit (kept_first x l)))
+        (package_left (kept_after (module_run x.names meaning (codes_of x.modules) k file (map frozen_of modules) imported x.limit (kept_first x l)))) v
+        (stay_callable x.names meaning calls_own (codes_of x.modules) k file at (map frozen_of modules) imported (kept_first x l) x.limit home callable) is none
 
-    by_values : (l : LabelParts) (file : Resolved) → slice_get x.code k ≡ Some (Some file) → (r : Result (List Datum) Fault) → by_imports x k l file modules r ≡ Ok v → ForLoaders v.frozen
+    by_values : (l : LabelParts) (file : Resolved) → slice_get (codes_of x.modules) k ≡ Some (Some file) → (r : Result (List Datum) Fault) → by_imports x k l file modules r ≡ Ok v → ForLoaders v.frozen
     by_values l file at (Err why) is = absurd (cc)
     by_values l file at (Ok imported) is = by_run l file at imported is
 
-    by_front : (l : LabelParts) (r : Result Front Fault) → slice_get x.code k ≡ Some (code_by r) → by_code x k (source_by l r) modules (code_by r) ≡ Ok v → ForLoaders v.frozen
+    of_front : (l : LabelParts) (r : Result Front Fault) → slice_get (codes_of x.modules) k ≡ Some (code_by r) → by_front x k l modules r ≡ Ok v → ForLoaders v.frozen
     unfolding file_means
-    by_front l (Err why) at is = absurd (cc)
-    by_front l (Ok front) at is =
-        let s : Source = record { label = l; loads = front.loads; fault = None } in
-        by_values l front.code at (imports (loaded_parts x s modules) [] front.code.loads front.loads) is
+    of_front l (Err why) at is = absurd (cc)
+    of_front l (Ok front) at is = by_values l front.code at (imports (loaded_parts x front modules) [] front.code.loads front.loads) is
 
-    by_module : (l : LabelParts) (r : Result Front Fault) → slice_get x.sources k ≡ Some (source_by l r) → slice_get x.code k ≡ Some (code_by r) → means x k modules ≡ Ok v → ForLoaders v.frozen
+    of_module : (s : Module) → slice_get x.modules k ≡ Some s → slice_get (codes_of x.modules) k ≡ Some (code_by s.front) → means x k modules ≡ Ok v → ForLoaders v.frozen
     unfolding means
-    by_module l r at there is =
-        let of_source : by_source x k modules (Some (source_by l r)) ≡ Ok v = ap (by_source x k modules) (sym at) ∙ is in
-        by_front l r there (ap (λ z. by_code x k (source_by l r) modules (code_in z)) (sym there) ∙ of_source)
+    of_module s at code is = of_front s.label s.front code (ap (by_module x k modules) (sym at) ∙ is)
 
 -- a .bzl file has no package
-module _ (x : LoadingParts) (k : ℕ) (modules : List ModuleView) (v : ModuleView) (is : means x k modules ≡ Ok v) where
-  abbrev HasOwn : FileKind → LabelParts → Type 0
-  HasOwn kind l = IsOwnOf kind l v.package
+module _ (x : LoadingParts) (k : ℕ) (modules : List ModuleView) (v : ModuleView) (is : means x k modules ≡ Ok v) (s : Module) (at : slice_get x.modules k ≡ Some s) where
+  its_own : IsOwnOf (kind_of s.label) s.label v.package
+  its_own = subst (λ z. IfOk z (λ w. IsOwnOf (kind_of s.label) s.label w.package)) is (made x k modules s at)
 
-  none_by : (l : LabelParts) (r : Result Front Fault) → slice_get x.sources k ≡ Some (source_by l r) → HasOwn (kind_of (source_by l r).label) (source_by l r).label
-  none_by l r at = subst (λ z. IfOk z (λ w. IsOwnOf (kind_of (source_by l r).label) (source_by l r).label w.package)) is (made x k modules (source_by l r) at)
-
-  has_none : (l : LabelParts) (r : Result Front Fault) → slice_get x.sources k ≡ Some (source_by l r) → kind_of l ≡ kinds.Bzl → v.package ≡ None
-  has_none l (Ok front) at bzl = subst (λ kind. HasOwn kind l) bzl (none_by l (Ok front) at)
-  has_none l (Err why) at bzl = subst (λ kind. HasOwn kind l) bzl (none_by l (Err why) at)
+  has_none : kind_of s.label ≡ kinds.Bzl → v.package ≡ None
+  has_none bzl = subst (λ kind. IsOwnOf kind s.label v.package) bzl its_own
 
 -- ---- paths
 
-module _ (inputs : InputParts) (g : GraphParts) (is : IsReadGraph inputs g) (x : LoadingParts) (sources : x.sources ≡ map source_of (map (module_of inputs) g.labels))
-    (codes : x.code ≡ map code_of (map (module_of inputs) g.labels)) (home : ℕ) where
-  source_at : (k : ℕ) (l : LabelParts) → slice_get g.labels k ≡ Some l → slice_get x.sources k ≡ Some (source_by l (front_of inputs l))
-  source_at k l at =
-      ap (λ (z : List Source). slice_get z k) sources ∙ slice_get-map source_of (map (module_of inputs) g.labels) k
-      ∙ ap (option_map source_of) (slice_get-map (module_of inputs) g.labels k ∙ ap (option_map (module_of inputs)) at)
-
-  code_at : (k : ℕ) (l : LabelParts) → slice_get g.labels k ≡ Some l → slice_get x.code k ≡ Some (code_by (front_of inputs l))
-  code_at k l at =
-      ap (λ (z : List (Option Resolved)). slice_get z k) codes ∙ slice_get-map code_of (map (module_of inputs) g.labels) k
-      ∙ ap (option_map code_of) (slice_get-map (module_of inputs) g.labels k ∙ ap (option_map (module_of inputs)) at)
-
-  along : (n m : ℕ) (l : LabelParts) → slice_get g.labels m ≡ Some l → (modules : List ModuleView) → AreLoaded x g.edges m modules → PathTo g.edges n m home → IsCallable x.code m (map frozen_of modules) home
+module _ (inputs : InputParts) (g : GraphParts) (is : IsReadGraph inputs g) (x : LoadingParts) (read : x.modules ≡ map (module_of inputs) g.labels) (home : ℕ) where
+  along : (n m : ℕ) (l : LabelParts) → slice_get g.labels m ≡ Some l → (modules : List ModuleView) → AreLoaded x g.edges m modules → PathTo g.edges n m home → IsCallable (codes_of x.modules) m (map frozen_of modules) home
   along zero m l at modules loaded same = inl (sym same)
   along (suc n) m l at modules loaded path =
       let k = path.0 in
@@ -137,12 +118,10 @@ module _ (inputs : InputParts) (g : GraphParts) (is : IsReadGraph inputs g) (x :
       let by = evaluated_by (means x) g.edges k has.value has.has in
       let file = loaded_is_bzl inputs g is m l at k path.1 in
       let before = along n k file.label file.at by.loaded by.are path.2 in
-      let source = source_at k file.label file.at in
-      let none = has_none x k by.loaded has.value by.gives file.label (front_of inputs file.label) source file.bzl in
-      by_module x k home by.loaded has.value before none file.label (front_of inputs file.label) source (code_at k file.label file.at) by.gives m (map frozen_of modules) (is_among has.value modules has.among)
+      let there = module_at inputs x g.labels read k file.label file.at in
+      let none = has_none x k by.loaded has.value by.gives (module_of inputs file.label) there file.bzl in
+      of_module x k home by.loaded has.value before none (module_of inputs file.label) there (code_at inputs x g.labels read k file.label file.at) by.gives m (map frozen_of modules) (is_among has.value modules has.among)
 
 pub callable_along_loads : FunctionsOfLoadsAreCallable
 callable_along_loads files rules limit g is m home l modules at loaded reaches =
-    let inputs = inputs_of files rules in
-    let x = loading_in files rules limit g in
-    along inputs g is x (ap (map source_of) is.read) (ap (map code_of) is.read) home reaches.0 m l at modules loaded reaches.1
+    along (inputs_of files rules) g is (loading_in files rules limit g) is.read home reaches.0 m l at modules loaded reaches.1

@@ -15,7 +15,7 @@ use Rattle.bq_base_fault_line.proofs.LineOrder.{same_lines}
 use Rattle.bq_load.specs.declared.loaded.Loaded.{Loaded}
 use Rattle.bq_load.specs.Loaded.{line_of, lines_by, lines_of, fault_lines, LoadsWorkspace}
 use Rattle.bq_load.specs.Results.{outcomes}
-use Rattle.bq_load.specs.Sources.{loading_in}
+use Rattle.bq_load.specs.Loading.{loading_in}
 use Rattle.bq_load.specs.Views.{ModuleView, FailedView, OutcomeView}
 use Rattle.bq_load_discover.specs.LoadGraph.{GraphParts, IsReadGraph, inputs_of}
 use Rattle.bq_load_front.specs.Inputs.{InputParts}

@@ -18,7 +18,7 @@ use Rattle.bq_load_front.specs.Laws.{HasCode}
 use Rattle.bq_load_discover.specs.LoadGraph.{inputs_of}
 use Rattle.bq_load_discover.proofs.Lists.{none_in}
 use Rattle.bq_load.specs.Results.{outcomes}
-use Rattle.bq_load.specs.Sources.{loading_in}
+use Rattle.bq_load.specs.Loading.{loading_in}
 use Rattle.bq_load.specs.Views.{ModuleView, FailedView}
 use Rattle.bq_load_line_laws.proofs.Tokens as tokens
 use Rattle.bq_load_line_laws.proofs.Pieces as pieces

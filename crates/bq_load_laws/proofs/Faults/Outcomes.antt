@@ -14,11 +14,12 @@ use Rattle.bq_eval.specs.Module.{Ended, evaluated as ran, failed, ended, kept_af
 use Rattle.bq_label.specs.declared.workspace.File.{File}
 use Rattle.bq_label.specs.Label.{LabelParts}
 use Rattle.bq_label.specs.Workspace.{IsWorkspace}
-use Rattle.bq_load.specs.declared.source.Source.{Source}
-use Rattle.bq_load.specs.Evaluation.{kept_first, evaluation, package_left, module_by, module_after, loaded_parts, by_imports, file_means, code_in, by_code, by_source, means}
+use Rattle.bq_load_discover.specs.declared.modules.Module.{Module}
+use Rattle.bq_load.specs.Evaluation.{kept_first, evaluation, package_left, module_by, module_after, loaded_parts, by_imports, file_means, by_front, by_module, means}
 use Rattle.bq_load.specs.Imports.{is_private, global_by, or_no_symbol, exported, at_symbol, clause_values, module_named, imports, LoadedParts}
 use Rattle.bq_load.specs.Results.{load_fault, result_of, outcomes_from, outcomes}
-use Rattle.bq_load.specs.Sources.{LoadingParts, source_by, source_of, code_by, code_of, loading_in}
+use Rattle.bq_load.specs.Codes.{code_by, codes_of}
+use Rattle.bq_load.specs.Loading.{LoadingParts, loading_in}
 use Rattle.bq_load.specs.Views.{ModuleView, FailedView, OutcomeView}
 use Rattle.bq_load_discover.specs.LoadGraph.{GraphParts, IsReadGraph, inputs_of}
 use Rattle.bq_load_discover.specs.Module.{module_of}
@@ -59,7 +60,7 @@ use Rattle.bq_load_laws.specs.Packages.Declared.{DeclaresAllIn, DeclaresItsTarge
 use Rattle.bq_load_laws.specs.Packages.Packages.{IsOwnOf}
 use Rattle.bq_load_laws.proofs.Faults.Texts.{among_all, IsFront, fronts_fail}
 use Rattle.bq_load_laws.proofs.Outcomes.Loads.{on_cycle, too_far, values_have, at_load}
-use Rattle.bq_load_laws.proofs.Outcomes.Sources.{source_at, code_at}
+use Rattle.bq_load_laws.proofs.Outcomes.Read.{module_at}
 use Rattle.bq_load_laws.proofs.Packages.Made.{Declares, IsMade, file_made}
 
 -- ---- symbols
@@ -107,13 +108,19 @@ imports_fail all x done (s ∷ ss) (l ∷ ls) inside =
 has_package : (p : PackageTargets) → Some p ≡ None → ⊥
 has_package p e = cc
 
+abbrev of_front : Front → Result Front Fault
+of_front front = Ok front
+
+same_front : (a b : Front) → of_front a ≡ of_front b → a ≡ b
+same_front a b e = cc
+
 and_false : (b : Bool) → (b && false) ≡ false
 and_false true = refl
 and_false false = refl
 
 -- each fault of the module of this number for a load is at the first such load in its file
 abbrev pub LoadsAreTold : InputParts → LoadingParts → Loads → ℕ → LabelParts → Type 0
-LoadsAreTold inputs x p m l = (front : Front) → front_of inputs l ≡ Ok front → (kind : FaultKind) (k : ℕ) → Has (row p m) k → IsAtItsLoad x m k (source_by l (front_of inputs l)) kind
+LoadsAreTold inputs x p m l = (front : Front) → front_of inputs l ≡ Ok front → (kind : FaultKind) (k : ℕ) → Has (row p m) k → IsAtItsLoad x k (front_of inputs l) kind
 
 -- ---- a file of a load graph
 
@@ -136,12 +143,12 @@ module _ (inputs : InputParts) where
   abbrev AreThere : List LabelParts → Type 0
   AreThere ls = (l : LabelParts) → Contains ls l → is_some (label_file inputs.files l) ≡ true
 
-  all_resolved : (ls : List LabelParts) → AreThere ls → AllByRecursion IfAny (map code_of (map (module_of inputs) ls))
+  all_resolved : (ls : List LabelParts) → AreThere ls → AllByRecursion IfAny (codes_of (map (module_of inputs) ls))
   all_resolved [] there = tt
   all_resolved (l ∷ ls) there =
       (resolved_by l (front_of inputs l) (fronts_fail inputs l (there l (at_head l ls))), all_resolved ls (λ k c. there k (in_tail l ls k c)))
 
-module _ (inputs : InputParts) (x : LoadingParts) (all : AllByRecursion IfAny x.code) where
+module _ (inputs : InputParts) (x : LoadingParts) (all : AllByRecursion IfAny (codes_of x.modules)) where
   abbrev Comes : LabelParts → Result ModuleView FailedView → Type 0
   Comes l r = ComesTo inputs l r
 
@@ -158,10 +165,10 @@ module _ (inputs : InputParts) (x : LoadingParts) (all : AllByRecursion IfAny x.
     run_fails : (values : List Datum) → IfErr (module_after front.code values (evaluation x m l front.code modules values)) (λ v. FailsIn inputs l v.fault)
     unfolding module_after evaluation
     run_fails values =
-        by_end (ended front.code values (module_run x.names meaning x.code m front.code (map (λ v. v.frozen) modules) values x.limit (kept_first x l)))
-        (package_left (kept_after (module_run x.names meaning x.code m front.code (map (λ v. v.frozen) modules) values x.limit (kept_first x l))))
-        (files_fail x.names meaning calls_refuse x.code all m front.code is_resolved (map (λ v. v.frozen) modules) values x.limit (kept_first x l))
-        (files_fail_at x.names meaning calls_own x.code m front.code (map (λ v. v.frozen) modules) values (kept_first x l) x.limit)
+        by_end (ended front.code values (module_run x.names meaning (codes_of x.modules) m front.code (map (λ v. v.frozen) modules) values x.limit (kept_first x l)))
+        (package_left (kept_after (module_run x.names meaning (codes_of x.modules) m front.code (map (λ v. v.frozen) modules) values x.limit (kept_first x l))))
+        (files_fail x.names meaning calls_refuse (codes_of x.modules) all m front.code is_resolved (map (λ v. v.frozen) modules) values x.limit (kept_first x l))
+        (files_fail_at x.names meaning calls_own (codes_of x.modules) m front.code (map (λ v. v.frozen) modules) values (kept_first x l) x.limit)
 
     by_package : (k : FileKind) (p : Option PackageTargets) → IsOwnOf k l p → Declares front.code.statements p → DeclaresAllIn inputs l p
     by_package k None own h = tt
@@ -179,32 +186,26 @@ module _ (inputs : InputParts) (x : LoadingParts) (all : AllByRecursion IfAny x.
     by_values (Err why) h = FailsIn.of_loads is.0 front.code is.1 is.2 h.0 h.1
     by_values (Ok values) h = by_run values
 
-  file_comes : (l : LabelParts) (front : Front) → IsFront inputs l (Ok front) → (m : ℕ) (modules : List ModuleView)
-      → Comes l (file_means x m (record { label = l; loads = front.loads; fault = None }) front.code modules)
+  file_comes : (l : LabelParts) (front : Front) → IsFront inputs l (Ok front) → (m : ℕ) (modules : List ModuleView) → Comes l (file_means x m l front modules)
   unfolding file_means
   file_comes l front is m modules =
-      let s : Source = record { label = l; loads = front.loads; fault = None } in
-      by_values l front is m modules (imports (loaded_parts x s modules) [] front.code.loads front.loads) (imports_fail front.code.loads (loaded_parts x s modules) [] front.code.loads front.loads (λ r c. c))
+      by_values l front is m modules (imports (loaded_parts x front modules) [] front.code.loads front.loads)
+      (imports_fail front.code.loads (loaded_parts x front modules) [] front.code.loads front.loads (λ r c. c))
 
-  by_front : (l : LabelParts) (r : Result Front Fault) → IsFront inputs l r → (m : ℕ) (modules : List ModuleView) → Comes l (by_code x m (source_by l r) modules (code_by r))
-  by_front l (Ok front) is m modules = file_comes l front is m modules
-  by_front l (Err why) is m modules = is
+  front_comes : (l : LabelParts) (r : Result Front Fault) → IsFront inputs l r → (m : ℕ) (modules : List ModuleView) → Comes l (by_front x m l modules r)
+  front_comes l (Ok front) is m modules = file_comes l front is m modules
+  front_comes l (Err why) is m modules = is
 
   -- ---- a module in its place
 
-  module _ (p : Loads) (m : ℕ) (l : LabelParts) (at : slice_get x.sources m ≡ Some (source_by l (front_of inputs l))) (there : slice_get x.code m ≡ Some (code_by (front_of inputs l)))
-      (none : (why : Fault) → front_of inputs l ≡ Err why → row p m ≡ []) (known : Known p) (told : LoadsAreTold inputs x p m l) (is_file : is_some (label_file inputs.files l) ≡ true) where
-    abbrev s : Source
-    s = source_by l (front_of inputs l)
-
+  module _ (p : Loads) (m : ℕ) (l : LabelParts) (at : slice_get x.modules m ≡ Some (module_of inputs l)) (none : (why : Fault) → front_of inputs l ≡ Err why → row p m ≡ []) (known : Known p)
+      (told : LoadsAreTold inputs x p m l) (is_file : is_some (label_file inputs.files l) ≡ true) where
     abbrev Holds : Outcome ModuleView FailedView → Type 0
-    Holds one = Comes l (result_of x m s one)
+    Holds one = Comes l (result_of x (front_of inputs l) one)
 
     means_comes : (modules : List ModuleView) → Comes l (means x m modules)
     unfolding means
-    means_comes modules =
-        subst (λ z. Comes l (by_source x m modules z)) (sym at)
-        (subst (λ z. Comes l (by_code x m s modules (code_in z))) (sym there) (by_front l (front_of inputs l) (fronts_fail inputs l is_file) m modules))
+    means_comes modules = subst (λ z. Comes l (by_module x m modules z)) (sym at) (front_comes l (front_of inputs l) (fronts_fail inputs l is_file) m modules)
 
     by_result : (r : Result ModuleView FailedView) → Comes l r → Holds (own r)
     by_result (Ok v) h = h
@@ -213,18 +214,15 @@ module _ (inputs : InputParts) (x : LoadingParts) (all : AllByRecursion IfAny x.
     -- a file that has a code may load modules that are cyclic, too deep or failed
     module _ (front : Front) (read : front_of inputs l ≡ Ok front) (is : IsFront inputs l (Ok front)) where
       -- at the first load of the module that it names
-      told_there : (kind : FaultKind) (k : ℕ) (i : IsAtItsLoad x m k s kind) → IsAtLoad front.code.loads (fault_at_load kind i.load i.loaded)
+      told_there : (kind : FaultKind) (k : ℕ) (i : IsAtItsLoad x k (front_of inputs l) kind) → IsAtLoad front.code.loads (fault_at_load kind i.load i.loaded)
       told_there kind k i =
           let of_file = i.first in
-          let same : of_file.file ≡ front.code = same_code of_file.file front.code (sym of_file.code ∙ (there ∙ ap (λ (z : Result Front Fault). Some (code_by z)) read)) in
+          let same : of_file.file ≡ front = same_front of_file.file front (sym of_file.read ∙ read) in
           let place = of_file.first in
-          let loads_are = ap (λ (z : Resolved). z.loads) (sym same) ∙ place.loads_are in
+          let loads_are = ap (λ (z : Front). z.code.loads) (sym same) ∙ place.loads_are in
           record { load = i.load; among = subst (λ (z : List LoadStmt). Contains z i.load) (sym loads_are) (among_all place.before i.load place.after); line = refl }
-        where
-          same_code : (a b : Resolved) → Some (Some a) ≡ Some (Some b) → a ≡ b
-          same_code a b e = cc
 
-      of_kind : (kind : FaultKind) (k : ℕ) → is_of_loads kind ≡ true → Has (row p m) k → FailsIn inputs l (load_fault x m s kind k)
+      of_kind : (kind : FaultKind) (k : ℕ) → is_of_loads kind ≡ true → Has (row p m) k → FailsIn inputs l (load_fault x (front_of inputs l) kind k)
       of_kind kind k h loads_it =
           let i = told front read kind k loads_it in
           subst (FailsIn inputs l) (sym i.fault) (FailsIn.of_loads is.0 front.code is.1 is.2 h (told_there kind k i))
@@ -271,27 +269,21 @@ module _ (inputs : InputParts) (x : LoadingParts) (all : AllByRecursion IfAny x.
 
 -- ---- all modules
 
-module _ (inputs : InputParts) (x : LoadingParts) (labels : List LabelParts) (sources : x.sources ≡ map source_of (map (module_of inputs) labels)) (codes : x.code ≡ map code_of (map (module_of inputs) labels)) (p : Loads)
+module _ (inputs : InputParts) (x : LoadingParts) (labels : List LabelParts) (read : x.modules ≡ map (module_of inputs) labels) (p : Loads)
     (none : (m : ℕ) (l : LabelParts) (why : Fault) → slice_get labels m ≡ Some l → front_of inputs l ≡ Err why → row p m ≡ []) (known : Known p)
     (told : (m : ℕ) (l : LabelParts) → slice_get labels m ≡ Some l → LoadsAreTold inputs x p m l) (all_there : AreThere inputs labels) where
-  all_code : AllByRecursion IfAny x.code
-  all_code = subst (AllByRecursion IfAny) (sym codes) (all_resolved inputs labels all_there)
+  all_code : AllByRecursion IfAny (codes_of x.modules)
+  all_code = subst (λ (z : List Module). AllByRecursion IfAny (codes_of z)) (sym read) (all_resolved inputs labels all_there)
 
-  from : (m : ℕ) (ls : List LabelParts) → ((i : ℕ) → slice_get labels (m + i) ≡ slice_get ls i) → AreThere inputs ls → AllByRecursion (IsComeTo inputs) (outcomes_from x p m (map source_of (map (module_of inputs) ls)))
+  from : (m : ℕ) (ls : List LabelParts) → ((i : ℕ) → slice_get labels (m + i) ≡ slice_get ls i) → AreThere inputs ls → AllByRecursion (IsComeTo inputs) (outcomes_from x p m (map (module_of inputs) ls))
   from m [] same there = tt
   from m (l ∷ ls) same there =
       let zero_more : m + 0 ≡ m = omega arith in
       let at : slice_get labels m ≡ Some l = ap (slice_get labels) (sym zero_more) ∙ same 0 in
-      (one l (front_of inputs l) refl (module_comes inputs x all_code p m l (source_at inputs x labels sources codes m l at) (code_at inputs x labels sources codes m l at) (λ why. none m l why at) known (told m l at) (there l (at_head l ls))), from (m + 1) ls next (λ k c. there k (in_tail l ls k c)))
+      (module_comes inputs x all_code p m l (module_at inputs x labels read m l at) (λ why. none m l why at) known (told m l at) (there l (at_head l ls)), from (m + 1) ls next (λ k c. there k (in_tail l ls k c)))
     where
       next : (i : ℕ) → slice_get labels (m + 1 + i) ≡ slice_get ls i
       next i = let more : m + 1 + i ≡ m + suc i = omega arith in ap (slice_get labels) more ∙ same (suc i)
-
-      -- whatever is read of the file, the source has its label
-      one : (l : LabelParts) (r : Result Front Fault) → front_of inputs l ≡ r → ComesTo inputs l (result_of x m (source_by l r) (outcome (means x) p m))
-          → ComesTo inputs (source_by l r).label (result_of x m (source_by l r) (outcome (means x) p m))
-      one l (Ok front) e h = h
-      one l (Err why) e h = h
 
 from_zero : (i : ℕ) → 0 + i ≡ i
 from_zero i = omega arith
@@ -302,12 +294,9 @@ unfolding outcomes
 outcomes_come files rules limit g w is =
     let inputs = inputs_of files rules in
     let x = loading_in files rules limit g in
-    let read : g.modules ≡ map (module_of inputs) g.labels = is.read in
-    let sources : x.sources ≡ map source_of (map (module_of inputs) g.labels) = ap (map source_of) read in
-    let codes : x.code ≡ map code_of (map (module_of inputs) g.labels) = ap (map code_of) read in
     let there : AreThere inputs g.labels = λ l c. let h = modules_have_files files rules l w (is.graph.modules.only l c) in there_is_file files l h.0 h.1 in
-    subst (λ ss. AllByRecursion (IsComeTo inputs) (outcomes_from x g.edges 0 ss)) (sym sources)
-    (from inputs x g.labels sources codes g.edges (λ m l why at bad. get_or_from_slice_get g.edges m [] [] (loads_nothing inputs g m l why is at bad)) is.graph.valid.1 (λ m l at front read. at_load files rules limit g is m l front at read) there 0 g.labels (λ i. ap (slice_get g.labels) (from_zero i)) there)
+    subst (λ ss. AllByRecursion (IsComeTo inputs) (outcomes_from x g.edges 0 ss)) (sym is.read)
+    (from inputs x g.labels is.read g.edges (λ m l why at bad. get_or_from_slice_get g.edges m [] [] (loads_nothing inputs g m l why is at bad)) is.graph.valid.1 (λ m l at front read. at_load files rules limit g is m l front at read) there 0 g.labels (λ i. ap (slice_get g.labels) (from_zero i)) there)
 
 -- ---- so it fails in a part of its file, or its file declares what is in its package
 

@@ -1,17 +1,19 @@
 -- A fault of a load names the first load of the file.
-use Rattle.std.proofs.Common.{◌≡◌, ◌∙◌, inl, inr, refl, sym, ap, subst, ℕ, suc, true, false, List, [], ◌∷◌, ◌++◌, length, Contains, arith}
+use Rattle.std.proofs.Common.{◌≡◌, ◌∙◌, inl, inr, refl, sym, ap, subst, ℕ, suc, true, false, List, [], ◌∷◌, ◌++◌, length, Result, Contains, arith}
 use Rattle.std.specs.Prelude.{bytes_eq}
 use Rattle.std.specs.List.{AllByRecursion}
 use Rattle.std.proofs.lemmas.Slice.Eq.{bytes_eq-Decides}
+use Rattle.bq_base.specs.declared.fault.Fault.{Fault}
 use Rattle.bq_base.specs.declared.fault.FaultKind.{FaultKind}
 use Rattle.bq_base.proofs.Choices.{by_bool}
 use Rattle.bq_label.proofs.Orders.{head_or_tail}
 use Rattle.bq_label_set.proofs.Added.{none_in}
 use Rattle.bq_label.specs.Label.{LabelParts, full_form}
 use Rattle.bq_resolve_scope.specs.declared.code.LoadStmt.{LoadStmt}
-use Rattle.bq_load.specs.declared.source.Source.{Source}
+use Rattle.bq_load_front.specs.declared.front.Front.{Front}
+use Rattle.bq_load_discover.specs.declared.modules.Module.{Module}
 use Rattle.bq_load.specs.Results.{line_of_load, load_fault}
-use Rattle.bq_load.specs.Sources.{LoadingParts}
+use Rattle.bq_load.specs.Loading.{LoadingParts}
 use Rattle.bq_load_laws.specs.Outcomes.FirstLoad.{IsFirstLoadOf, LoadsFirst, fault_at_load}
 
 first_line : (l k : LabelParts) (load : LoadStmt) (before after : List LoadStmt) (other later : List LabelParts) → bytes_eq (full_form l) (full_form k) ≡ true → length before ≡ length other
@@ -22,15 +24,15 @@ first_line l k load [] after (j ∷ js) later form place others = absurd (omega 
 first_line l k load (b ∷ bs) after [] later form place others = absurd (omega (arith, place))
 first_line l k load (b ∷ bs) after (j ∷ js) later form place others = let other_form = others.0 in rw other_form (first_line l k load bs after js later form (omega (arith, place)) others.1)
 
-pub names_the_first : (x : LoadingParts) (m k : ℕ) (s loaded : Source) (kind : FaultKind) (load : LoadStmt) → LoadsFirst x m k s loaded load → load_fault x m s kind k ≡ fault_at_load kind load loaded
+pub names_the_first : (x : LoadingParts) (k : ℕ) (front : Result Front Fault) (loaded : Module) (kind : FaultKind) (load : LoadStmt) → LoadsFirst x k front loaded load → load_fault x front kind k ≡ fault_at_load kind load loaded
 unfolding load_fault
-names_the_first x m k s loaded kind load l =
+names_the_first x k front loaded kind load l =
     let first = l.first in
-    let code = l.code in
+    let read = l.read in
     let known = l.known in
-    let line : line_of_load loaded.label l.file.loads s.loads ≡ load.line =
+    let line : line_of_load loaded.label l.file.code.loads l.file.loads ≡ load.line =
     (λ i. line_of_load loaded.label (first.loads_are i) (first.files_are i)) ∙ first_line loaded.label first.named load first.before first.after first.other first.later first.form first.place first.others in
-    rw (code, known, line) refl
+    rw (read, known, line) refl
 
 -- ---- there is one
 

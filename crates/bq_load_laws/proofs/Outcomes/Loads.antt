@@ -34,15 +34,15 @@ use Rattle.bq_package_schema.specs.Schema.{Rules}
 use Rattle.bq_load_discover.specs.LoadGraph.{GraphParts, IsReadGraph, inputs_of}
 use Rattle.bq_load_discover.specs.Module.{module_of}
 use Rattle.bq_load_discover.specs.Modules.{edges_from}
-use Rattle.bq_load.specs.declared.source.Source.{Source}
+use Rattle.bq_load_discover.specs.declared.modules.Module.{Module}
 use Rattle.bq_load.specs.Evaluation.{means}
-use Rattle.bq_load.specs.Sources.{LoadingParts, source_by, source_of, code_by, code_of, loading_in}
+use Rattle.bq_load.specs.Loading.{LoadingParts, loading_in}
 use Rattle.bq_load.specs.Views.{ModuleView, FailedView}
 use Rattle.bq_load_laws.specs.Outcomes.FirstLoad.{LoadsFirst, IsAtItsLoad, NamesItsLoad, ModulesNameTheirLoads}
 use Rattle.bq_load_laws.proofs.Calls.Files.{labelled, row_of}
 use Rattle.bq_load_laws.proofs.Graphs.Nothing.{loads_nothing}
 use Rattle.bq_load_laws.proofs.Outcomes.FirstLoad.{has_first, names_the_first}
-use Rattle.bq_load_laws.proofs.Outcomes.Sources.{its_label, source_by_label, source_at, code_at}
+use Rattle.bq_load_laws.proofs.Outcomes.Read.{module_by_label, module_at}
 
 -- ---- the module that an outcome names is loaded
 
@@ -148,32 +148,20 @@ module _ (files : List File) (rules : Rules) (limit : ℕ) (g : GraphParts) (is 
   abbrev x : LoadingParts
   x = loading_in files rules limit g
 
-  abbrev read_from : LabelParts → Source
-  read_from l = source_by l (front_of inputs l)
-
-  sources : x.sources ≡ map source_of (map (module_of inputs) g.labels)
-  sources = ap (map source_of) is.read
-
-  codes : x.code ≡ map code_of (map (module_of inputs) g.labels)
-  codes = ap (map code_of) is.read
-
   -- its fault for a load is at the first load of that module in its file
-  pub at_load : (m : ℕ) (l : LabelParts) (front : Front) → slice_get g.labels m ≡ Some l → front_of inputs l ≡ Ok front → (kind : FaultKind) (k : ℕ) → Has (row g.edges m) k → IsAtItsLoad x m k (read_from l) kind
+  pub at_load : (m : ℕ) (l : LabelParts) (front : Front) → slice_get g.labels m ≡ Some l → front_of inputs l ≡ Ok front → (kind : FaultKind) (k : ℕ) → Has (row g.edges m) k → IsAtItsLoad x k (front_of inputs l) kind
   at_load m l front at e kind k h =
       let r = labelled g.labels (row g.edges m) (edges_from inputs l) (row_of inputs g is m l at) k h in
-      let loaded = read_from r.label in
-      let loads_are : (read_from l).loads ≡ front.loads = ap (λ (z : Result Front Fault). (source_by l z).loads) e in
+      let loaded = module_of inputs r.label in
       let there : Contains (loads_of inputs l) r.label = elim ((the_labels_added [] (loads_of inputs l) r.label).0 r.among) [ inl nothing ↦ absurd (none_in r.label nothing) | inr one ↦ one ] in
-      let among : Contains (read_from l).loads r.label = subst (λ (z : List LabelParts). Contains z r.label) (sym (loads_agree inputs l) ∙ ap loads_by e ∙ sym loads_are) there in
-      let among_them : Contains (read_from l).loads loaded.label = subst (Contains (read_from l).loads) (sym (its_label r.label (front_of inputs r.label))) among in
-      let first = has_first loaded.label front.code.loads (read_from l).loads (wide inputs l front e ∙ ap length (sym loads_are)) among_them in
-      let code : slice_get x.code m ≡ Some (Some front.code) = code_at inputs x g.labels sources codes m l at ∙ ap (λ (z : Result Front Fault). Some (code_by z)) e in
-      let is_first : LoadsFirst x m k (read_from l) loaded first.load = record { file = front.code; code = code; known = source_at inputs x g.labels sources codes k r.label r.at; first = first.is } in
-      record { loaded = loaded; load = first.load; first = is_first; fault = names_the_first x m k (read_from l) loaded kind first.load is_first }
+      let among : Contains front.loads r.label = subst (λ (z : List LabelParts). Contains z r.label) (sym (loads_agree inputs l) ∙ ap loads_by e) there in
+      let first = has_first r.label front.code.loads front.loads (wide inputs l front e) among in
+      let is_first : LoadsFirst x k (front_of inputs l) loaded first.load = record { file = front; read = e; known = module_at inputs x g.labels is.read k r.label r.at; first = first.is } in
+      record { loaded = loaded; load = first.load; first = is_first; fault = names_the_first x k (front_of inputs l) loaded kind first.load is_first }
 
   module _ (m : ℕ) (l : LabelParts) (at : slice_get g.labels m ≡ Some l) where
-    by_outcome : (one : Outcome ModuleView FailedView) → NamesOne (means x) g.edges is.graph.valid.1 m one → ((kind : FaultKind) (k : ℕ) → Has (row g.edges m) k → IsAtItsLoad x m k (read_from l) kind)
-        → NamesItsLoad x m (read_from l) one
+    by_outcome : (one : Outcome ModuleView FailedView) → NamesOne (means x) g.edges is.graph.valid.1 m one → ((kind : FaultKind) (k : ℕ) → Has (row g.edges m) k → IsAtItsLoad x k (front_of inputs l) kind)
+        → NamesItsLoad x (front_of inputs l) one
     by_outcome (o.Loaded v) h told = tt
     by_outcome (o.Faulty e) h told = tt
     by_outcome (o.Cyclic k) h told = told f.CycleReached k h
@@ -181,29 +169,29 @@ module _ (files : List File) (rules : Rules) (limit : ℕ) (g : GraphParts) (is 
     by_outcome (o.LoadFailed k) h told = told f.LoadFailed k h
 
     -- a file without a code loads nothing
-    by_front : (r : Result Front Fault) → front_of inputs l ≡ r → (kind : FaultKind) (k : ℕ) → Has (row g.edges m) k → IsAtItsLoad x m k (read_from l) kind
+    by_front : (r : Result Front Fault) → front_of inputs l ≡ r → (kind : FaultKind) (k : ℕ) → Has (row g.edges m) k → IsAtItsLoad x k (front_of inputs l) kind
     by_front (Ok front) e kind k h = at_load m l front at e kind k h
     by_front (Err why) e kind k h =
         let none : row g.edges m ≡ [] = get_or_from_slice_get g.edges m [] [] (loads_nothing inputs g m l why is at e) in
         let never : Has [] k = subst (λ (z : List ℕ). Has z k) none h in
         absurd (omega (arith, never))
 
-    told_at_its_load : NamesItsLoad x m (read_from l) (outcome (means x) g.edges m)
+    told_at_its_load : NamesItsLoad x (front_of inputs l) (outcome (means x) g.edges m)
     told_at_its_load = by_outcome (outcome (means x) g.edges m) (names_one (means x) g.edges is.graph.valid.1 m) (by_front (front_of inputs l) refl)
 
-  abbrev some_source : Source → Option Source
-  some_source s = Some s
+  abbrev some_module : Module → Option Module
+  some_module s = Some s
 
-  same_source : (s t : Source) → some_source s ≡ some_source t → s ≡ t
-  same_source s t e = cc
+  same_module : (s t : Module) → some_module s ≡ some_module t → s ≡ t
+  same_module s t e = cc
 
-  by_label : (m : ℕ) (s : Source) → slice_get x.sources m ≡ some_source s → (label : Option LabelParts) → slice_get g.labels m ≡ label → NamesItsLoad x m s (outcome (means x) g.edges m)
+  by_label : (m : ℕ) (s : Module) → slice_get x.modules m ≡ some_module s → (label : Option LabelParts) → slice_get g.labels m ≡ label → NamesItsLoad x s.front (outcome (means x) g.edges m)
   by_label m s from None e =
-      let nothing : slice_get x.sources m ≡ option_map source_of (option_map (module_of inputs) None) = source_by_label inputs x g.labels sources m ∙ ap (λ (z : Option LabelParts). option_map source_of (option_map (module_of inputs) z)) e in
+      let nothing : slice_get x.modules m ≡ option_map (module_of inputs) None = module_by_label inputs x g.labels is.read m ∙ ap (option_map (module_of inputs)) e in
       absurd (cc)
   by_label m s from (Some l) e =
-      let one : some_source (read_from l) ≡ some_source s = sym (source_at inputs x g.labels sources codes m l e) ∙ from in
-      subst (λ (z : Source). NamesItsLoad x m z (outcome (means x) g.edges m)) (same_source (read_from l) s one) (told_at_its_load m l e)
+      let one : some_module (module_of inputs l) ≡ some_module s = sym (module_at inputs x g.labels is.read m l e) ∙ from in
+      subst (λ (z : Module). NamesItsLoad x z.front (outcome (means x) g.edges m)) (same_module (module_of inputs l) s one) (told_at_its_load m l e)
 
 pub modules_name_their_loads : ModulesNameTheirLoads
 modules_name_their_loads files rules limit g is m s from = by_label files rules limit g is m s from (slice_get g.labels m) refl

@@ -13,11 +13,13 @@ use Rattle.bq_load_outcome_spec.proofs.Solution.{solved}
 use Rattle.bq_resolve_scope.specs.Names.{Name}
 use Rattle.bq_resolve_scope.specs.declared.code.Resolved.{Resolved}
 use Rattle.bq_value.specs.Datum.{Datum}
-use Rattle.bq_load.specs.declared.source.Source.{Source}
-use Rattle.bq_load.specs.Evaluation.{means, code_in}
+use Rattle.bq_base.specs.declared.fault.Fault.{Fault}
+use Rattle.bq_load_front.specs.declared.front.Front.{Front}
+use Rattle.bq_load_discover.specs.declared.modules.Module.{Module}
+use Rattle.bq_load.specs.Evaluation.{means}
 use Rattle.bq_load.specs.Imports.{is_private, global_by, or_no_symbol, exported}
 use Rattle.bq_load.specs.Results.{load_fault_by, load_fault, result_of}
-use Rattle.bq_load.specs.Sources.{LoadingParts}
+use Rattle.bq_load.specs.Loading.{LoadingParts}
 use Rattle.bq_load.specs.Views.{ModuleView, FailedView}
 use Rattle.bq_builtin_refusal_laws.specs.Refusals.{when, fault_in, first_fault, FailsForFirst}
 use Rattle.bq_load_laws.specs.Outcomes.Orders.{exporting, failure, load_failed, own_failure, loading}
@@ -37,26 +39,26 @@ exported_in_order code m name = elim (by_bool (is_private name)) [
 
 -- ---- modules
 
-module _ (x : LoadingParts) (p : Loads) (m : ℕ) (s : Source) where
+module _ (x : LoadingParts) (p : Loads) (m : ℕ) (front : Result Front Fault) where
   -- a fault of a load is of this kind
-  of_kind : (kind : FaultKind) (k : ℕ) → (load_fault x m s kind k).kind ≡ kind
+  of_kind : (kind : FaultKind) (k : ℕ) → (load_fault x front kind k).kind ≡ kind
   unfolding load_fault
-  of_kind kind k = by_source (slice_get x.sources k)
+  of_kind kind k = by_module (slice_get x.modules k)
     where
-      by_source : (o : Option Source) → (load_fault_by kind s (code_in (slice_get x.code m)) o).kind ≡ kind
-      by_source None = refl
-      by_source (Some loaded) = refl
+      by_module : (o : Option Module) → (load_fault_by kind front o).kind ≡ kind
+      by_module None = refl
+      by_module (Some loaded) = refl
 
-  by_value : (r : Result ModuleView FailedView) → failure (result_of x m s (own r)) ≡ first_fault (failure r ∷ [])
+  by_value : (r : Result ModuleView FailedView) → failure (result_of x front (own r)) ≡ first_fault (failure r ∷ [])
   by_value (Ok v) = refl
   by_value (Err v) = refl
 
-  by_values : (r : Result (List ModuleView) ℕ) → failure (result_of x m s (evaluated (means x m) r)) ≡ first_fault (load_failed r ∷ own_failure x m r ∷ [])
+  by_values : (r : Result (List ModuleView) ℕ) → failure (result_of x front (evaluated (means x m) r)) ≡ first_fault (load_failed r ∷ own_failure x m r ∷ [])
   by_values (Ok vs) = by_value (means x m vs)
   by_values (Err l) = ap Some (of_kind LoadFailed l)
 
   by_graph : (at : ℕ → Outcome ModuleView FailedView)
-      → failure (result_of x m s (by_loads (means x) p at m)) ≡ first_fault (when (is_cyclic p m) CycleReached ∷ when (is_too_deep p m) LoadDepth ∷ load_failed (values at (row p m)) ∷ own_failure x m (values at (row p m)) ∷ [])
+      → failure (result_of x front (by_loads (means x) p at m)) ≡ first_fault (when (is_cyclic p m) CycleReached ∷ when (is_too_deep p m) LoadDepth ∷ load_failed (values at (row p m)) ∷ own_failure x m (values at (row p m)) ∷ [])
   unfolding by_loads
   by_graph at = elim (by_bool (is_cyclic p m)) [
     | inl t ↦ rw t (ap Some (of_kind CycleReached _))
@@ -66,5 +68,5 @@ module _ (x : LoadingParts) (p : Loads) (m : ℕ) (s : Source) where
     ]
   ]
 
-  pub failed_in_order : failure (result_of x m s (outcome (means x) p m)) ≡ first_fault (loading x p m)
-  failed_in_order = ap (λ o. failure (result_of x m s o)) ((solved (means x) p).0 m) ∙ by_graph (outcome (means x) p)
+  pub failed_in_order : failure (result_of x front (outcome (means x) p m)) ≡ first_fault (loading x p m)
+  failed_in_order = ap (λ o. failure (result_of x front o)) ((solved (means x) p).0 m) ∙ by_graph (outcome (means x) p)

@@ -18,7 +18,7 @@ use Rattle.bq_load_discover.specs.LoadGraph.{GraphParts, IsReadGraph, inputs_of}
 use Rattle.bq_load_discover.proofs.Lists.{in_filter_map}
 use Rattle.bq_load.specs.Loaded.{labels_of, own_package, package_by, package_at, package_in, packages_in}
 use Rattle.bq_load.specs.Results.{outcomes}
-use Rattle.bq_load.specs.Sources.{loading_in}
+use Rattle.bq_load.specs.Loading.{loading_in}
 use Rattle.bq_load.specs.Views.{ModuleView, FailedView, OutcomeView}
 use Rattle.bq_load_laws.specs.Packages.Declared.{DeclaresIn, DeclaresAllIn, DeclaresItsTargets, PackagesDeclareTheirTargets}
 use Rattle.bq_load_laws.proofs.Faults.Outcomes.{outcomes_declare}

@@ -12,7 +12,6 @@ use Rattle.bq_board.specs.Counts.{Has}
 use Rattle.bq_board.specs.Cycles.{is_cyclic, starts_path}
 use Rattle.bq_board.specs.Depth.{max_load_depth, is_too_deep}
 use Rattle.bq_board.specs.Graph.{Loads, row}
-use Rattle.bq_load_front.specs.Front.{front_of}
 use Rattle.bq_load_front.specs.Parsed.{kind_of}
 use Rattle.bq_load_front.specs.Inputs.{InputParts}
 use Rattle.bq_load_discover.specs.LoadGraph.{GraphParts, IsReadGraph, inputs_of}
@@ -22,17 +21,17 @@ use Rattle.bq_load_outcome_spec.specs.Outcome.{first, values, own, evaluated, by
 use Rattle.bq_load_outcome_spec.specs.declared.outcome.Outcome.{Outcome}
 use Rattle.bq_load_outcome_spec.specs.declared.outcome.Outcome.TheVariants as o
 use Rattle.bq_load_outcome_spec.proofs.Solution.{values_same, outcome_is, solved}
-use Rattle.bq_load.specs.declared.source.Source.{Source}
+use Rattle.bq_load_discover.specs.declared.modules.Module.{Module}
 use Rattle.bq_load.specs.Evaluation.{means}
 use Rattle.bq_load.specs.Loaded.{own_package}
 use Rattle.bq_load.specs.Results.{result_of}
-use Rattle.bq_load.specs.Sources.{LoadingParts, source_of, source_by, code_of, loading_in}
+use Rattle.bq_load.specs.Loading.{LoadingParts, loading_in}
 use Rattle.bq_load.specs.Views.{ModuleView, FailedView}
 use Rattle.bq_load_laws.specs.Packages.Kept.{frozen_by, with_frozen, result_with, keeping, outcome_with, OutcomesStay, ResultsTellTheSame}
 use Rattle.bq_load_laws.specs.Packages.Packages.{IsOwnOf}
 use Rattle.bq_load_laws.proofs.Calls.Files.{loaded_is_bzl}
 use Rattle.bq_load_laws.proofs.Graphs.Nothing.{At, both}
-use Rattle.bq_load_laws.proofs.Outcomes.Sources.{source_at, its_label}
+use Rattle.bq_load_laws.proofs.Outcomes.Read.{module_at}
 use Rattle.bq_load_laws.proofs.Packages.Outcomes.{has_its_own}
 
 -- a module that isn't there loads nothing
@@ -63,12 +62,10 @@ module _ (files : List File) (rules : Rules) (limit : ℕ) (g : GraphParts) (is 
   no_package m k h v e =
       let l = loader m k h (slice_get g.edges m) refl in
       let b = loaded_is_bzl inputs g is m l.element l.there k h in
-      let s : Source = source_by b.label (front_of inputs b.label) in
-      let label_is : s.label ≡ b.label = its_label b.label (front_of inputs b.label) in
-      let from : slice_get x.sources k ≡ Some s = source_at inputs x g.labels (ap (map source_of) is.read) (ap (map code_of) is.read) k b.label b.at in
-      let its_own : IsOwnOf (kind_of s.label) s.label v.package =
-      subst (λ (z : Outcome ModuleView FailedView). IfOk (result_of x k s z) (λ w. IsOwnOf (kind_of s.label) s.label w.package)) e (has_its_own x g.edges k s from) in
-      subst (λ (z : FileKind). IsOwnOf z s.label v.package) (ap kind_of label_is ∙ b.bzl) its_own
+      let s : Module = module_of inputs b.label in
+      let its_own : IsOwnOf (kind_of b.label) b.label v.package =
+      subst (λ (z : Outcome ModuleView FailedView). IfOk (result_of x s.front z) (λ w. IsOwnOf (kind_of b.label) b.label w.package)) e (has_its_own x g.edges k s (module_at inputs x g.labels is.read k b.label b.at)) in
+      subst (λ (z : FileKind). IsOwnOf z b.label v.package) b.bzl its_own
 
   -- ---- so what modules with one keep is nothing to those that load
 

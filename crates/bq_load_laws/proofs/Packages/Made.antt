@@ -18,11 +18,11 @@ use Rattle.bq_package_target.specs.declared.target.Target.{Target}
 use Rattle.bq_package_target.specs.Package.{PackageTargets, no_targets, files, own_labels, finished}
 use Rattle.bq_package.specs.Calls.{Declaring, HeldPackage, outside, declaring, package_in}
 use Rattle.bq_load_front.specs.Parsed.{kind_of}
-use Rattle.bq_load.specs.declared.source.Source.{Source}
+use Rattle.bq_load_front.specs.declared.front.Front.{Front}
 use Rattle.bq_load.specs.Views.{ModuleView, FailedView}
-use Rattle.bq_load.specs.Sources.{LoadingParts}
+use Rattle.bq_load.specs.Loading.{LoadingParts}
 use Rattle.bq_load.specs.Imports.{imports}
-use Rattle.bq_load.specs.Evaluation.{kept_by, evaluation, module_after, loaded_parts, by_imports, file_means, code_in, by_code, by_source, means}
+use Rattle.bq_load.specs.Evaluation.{kept_by, evaluation, module_after, loaded_parts, by_imports, file_means, by_front, by_module, means}
 use Rattle.bq_load.specs.Loaded.{own_package}
 use Rattle.bq_load_laws.specs.Packages.Declared.{HasDeclared}
 use Rattle.bq_load_laws.specs.Packages.Packages.{IsOwnOf, FilesMakeTheirPackages, PackagesCount}
@@ -93,18 +93,17 @@ imported_own x m l file modules (Err why) = tt
 imported_own x m l file modules (Ok values) =
     its_own_alone (kind_of l) l file.statements (module_after file values (evaluation x m l file modules values)) (file_made x m l file modules values)
 
-file_own : (x : LoadingParts) (m : ℕ) (s : Source) (file : Resolved) (modules : List ModuleView) → IfOk (file_means x m s file modules) (Own (kind_of s.label) s.label)
+file_own : (x : LoadingParts) (m : ℕ) (l : LabelParts) (front : Front) (modules : List ModuleView) → IfOk (file_means x m l front modules) (Own (kind_of l) l)
 unfolding file_means
-file_own x m s file modules = imported_own x m s.label file modules (imports (loaded_parts x s modules) [] file.loads s.loads)
+file_own x m l front modules = imported_own x m l front.code modules (imports (loaded_parts x front modules) [] front.code.loads front.loads)
 
-code_own : (x : LoadingParts) (m : ℕ) (s : Source) (modules : List ModuleView) (code : Option Resolved) → IfOk (by_code x m s modules code) (Own (kind_of s.label) s.label)
-code_own x m s modules None = tt
-code_own x m s modules (Some file) = file_own x m s file modules
+front_own : (x : LoadingParts) (m : ℕ) (l : LabelParts) (modules : List ModuleView) (front : Result Front Fault) → IfOk (by_front x m l modules front) (Own (kind_of l) l)
+front_own x m l modules (Err why) = tt
+front_own x m l modules (Ok front) = file_own x m l front modules
 
 pub made : FilesMakeTheirPackages
 unfolding means
-made x m modules s e =
-    subst (λ o. IfOk (by_source x m modules o) (Own (kind_of s.label) s.label)) (sym e) (code_own x m s modules (code_in (slice_get x.code m)))
+made x m modules s e = subst (λ o. IfOk (by_module x m modules o) (Own (kind_of s.label) s.label)) (sym e) (front_own x m s.label modules s.front)
 
 -- ---- packages as they count
 

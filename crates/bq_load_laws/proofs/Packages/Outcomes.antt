@@ -9,20 +9,20 @@ use Rattle.bq_load_outcome_spec.specs.declared.outcome.Outcome.{Outcome}
 use Rattle.bq_load_outcome_spec.specs.declared.outcome.Outcome.TheVariants as o
 use Rattle.bq_load_outcome_spec.proofs.Solution.{outcome_is}
 use Rattle.bq_load_front.specs.Parsed.{kind_of}
-use Rattle.bq_load.specs.declared.source.Source.{Source}
+use Rattle.bq_load_discover.specs.declared.modules.Module.{Module}
 use Rattle.bq_load.specs.Views.{ModuleView, FailedView}
-use Rattle.bq_load.specs.Sources.{LoadingParts}
+use Rattle.bq_load.specs.Loading.{LoadingParts}
 use Rattle.bq_load.specs.Evaluation.{means}
 use Rattle.bq_load.specs.Results.{result_of}
 use Rattle.bq_load_laws.specs.Packages.Packages.{OutcomesHaveTheirPackages}
 use Rattle.bq_load_laws.proofs.Packages.Made.{Own, made}
 
-module _ (x : LoadingParts) (p : Loads) (m : ℕ) (s : Source) (e : slice_get x.sources m ≡ Some s) where
+module _ (x : LoadingParts) (p : Loads) (m : ℕ) (s : Module) (e : slice_get x.modules m ≡ Some s) where
   abbrev IsOwn : ModuleView → Type 0
   IsOwn = Own (kind_of s.label) s.label
 
   abbrev Holds : Outcome ModuleView FailedView → Type 0
-  Holds outcome = IfOk (result_of x m s outcome) IsOwn
+  Holds outcome = IfOk (result_of x s.front outcome) IsOwn
 
   by_result : (r : Result ModuleView FailedView) → IfOk r IsOwn → Holds (own r)
   by_result (Ok v) h = h

@@ -15,7 +15,7 @@ use Rattle.bq_load_discover.specs.LoadGraph.{GraphParts, IsReadGraph, inputs_of}
 use Rattle.bq_load.specs.declared.loaded.Loaded.{Loaded}
 use Rattle.bq_load.specs.Loaded.{LoadsWorkspace}
 use Rattle.bq_load.specs.Results.{outcomes}
-use Rattle.bq_load.specs.Sources.{loading_in}
+use Rattle.bq_load.specs.Loading.{loading_in}
 use Rattle.bq_load.specs.Views.{OutcomeView}
 use Rattle.bq_load_laws.specs.Faults.Parts.{FailsIn}
 

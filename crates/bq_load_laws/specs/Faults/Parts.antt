@@ -29,7 +29,7 @@ use Rattle.bq_load_discover.specs.LoadGraph.{GraphParts, IsReadGraph, inputs_of}
 use Rattle.bq_load.specs.declared.loaded.Loaded.{Loaded}
 use Rattle.bq_load.specs.Loaded.{LoadsWorkspace}
 use Rattle.bq_load.specs.Results.{outcomes}
-use Rattle.bq_load.specs.Sources.{loading_in}
+use Rattle.bq_load.specs.Loading.{loading_in}
 use Rattle.bq_load.specs.Views.{OutcomeView, outcome_view}
 
 -- ---- the faults of each part; those of names are F20 to F24 (`is_of_names`), and those of evaluation F37, F40 to F60 and F70 to F78 (`is_refusal`)

@@ -9,7 +9,7 @@ use Rattle.bq_board.specs.Depth.{is_too_deep}
 use Rattle.bq_load_outcome_spec.specs.Outcome.{outcome, values}
 use Rattle.bq_load.specs.Evaluation.{means}
 use Rattle.bq_load.specs.Imports.{is_private, global_by}
-use Rattle.bq_load.specs.Sources.{LoadingParts}
+use Rattle.bq_load.specs.Loading.{LoadingParts}
 use Rattle.bq_load.specs.Views.{ModuleView, FailedView}
 use Rattle.bq_builtin_refusal_laws.specs.Refusals.{Check, when}
 

@@ -11,7 +11,7 @@ use Rattle.bq_load_outcome_spec.specs.declared.outcome.Outcome.{Outcome}
 use Rattle.bq_load_outcome_spec.specs.declared.outcome.Outcome.TheVariants as o
 use Rattle.bq_load.specs.Evaluation.{means}
 use Rattle.bq_load.specs.Loaded.{package_by, lines_by, prints_by}
-use Rattle.bq_load.specs.Sources.{loading_in}
+use Rattle.bq_load.specs.Loading.{loading_in}
 use Rattle.bq_load.specs.Views.{ModuleView, FailedView}
 
 -- the module with this for its globals and cells, where it has a package, as BUILD files' modules have

@@ -6,9 +6,9 @@ use Rattle.bq_label.specs.Label.{LabelParts}
 use Rattle.bq_board.specs.Graph.{Loads}
 use Rattle.bq_package_target.specs.Package.{PackageTargets}
 use Rattle.bq_load_front.specs.Parsed.{kind_of}
-use Rattle.bq_load.specs.declared.source.Source.{Source}
+use Rattle.bq_load_discover.specs.declared.modules.Module.{Module}
 use Rattle.bq_load.specs.Views.{ModuleView}
-use Rattle.bq_load.specs.Sources.{LoadingParts}
+use Rattle.bq_load.specs.Loading.{LoadingParts}
 use Rattle.bq_load.specs.Evaluation.{means}
 use Rattle.bq_load.specs.Loaded.{package_by}
 use Rattle.bq_load.specs.Results.{outcome_of}
@@ -21,11 +21,11 @@ IsOwnOf kinds.Build l (Some p) = p.build_file ≡ l
 
 abbrev pub FilesMakeTheirPackages : Type 0
 FilesMakeTheirPackages =
-    (x : LoadingParts) (m : ℕ) (modules : List ModuleView) (s : Source) → slice_get x.sources m ≡ Some s → IfOk (means x m modules) (λ v. IsOwnOf (kind_of s.label) s.label v.package)
+    (x : LoadingParts) (m : ℕ) (modules : List ModuleView) (s : Module) → slice_get x.modules m ≡ Some s → IfOk (means x m modules) (λ v. IsOwnOf (kind_of s.label) s.label v.package)
 
 abbrev pub OutcomesHaveTheirPackages : Type 0
 OutcomesHaveTheirPackages =
-    (x : LoadingParts) (p : Loads) (m : ℕ) (s : Source) → slice_get x.sources m ≡ Some s → IfOk (outcome_of x p m s).result (λ v. IsOwnOf (kind_of s.label) s.label v.package)
+    (x : LoadingParts) (p : Loads) (m : ℕ) (s : Module) → slice_get x.modules m ≡ Some s → IfOk (outcome_of x p m s).result (λ v. IsOwnOf (kind_of s.label) s.label v.package)
 
 abbrev pub PackagesCount : Type 0
 PackagesCount = (l : LabelParts) (v : ModuleView) → IsOwnOf kinds.Build l v.package → Some (package_by l (Ok v)) ≡ v.package

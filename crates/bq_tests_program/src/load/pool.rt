@@ -2,6 +2,7 @@
 //! loads is there, whatever others are still in evaluation.
 ghost use Rattle.std.specs.Prelude.{◌≡◌, ◌<◌, ◌≤◌, All, IfOk, vec_len};
 ghost use Rattle.bq_board.specs.Seats.{IsSeatOf};
+ghost use Rattle.bq_load_discover.specs.LoadGraph.{IsReadGraph, inputs_of};
 
 use super::by_workers::{Wanted, load_so};
 use super::holding::Holding;
@@ -9,7 +10,7 @@ use super::workplace::{Returned, work_at_all};
 use super::{LIMIT, Property, Tree, text_has};
 use bq_board::MAX_SEATS;
 use bq_load::{Evaluated, OpenGate, Pool, PoolSeat};
-use bq_load_discover::{LoadErr, discover};
+use bq_load_discover::{LoadErr, LoadGraph, discover};
 use bq_value_seed::Seed;
 use std::sync::{Arc, Wait};
 use std::thread::Threads;
@@ -50,13 +51,17 @@ fn nobody_waits_for_what_it_does_not_load(rt: HostRuntime) -> Result<(), LoadErr
     Ok(())
 }
 
-/// Opens a pool.
-fn open(tree: Tree<'_>, seats: usize) -> Result<(Pool<'_>, Vec<PoolSeat<'_>>), LoadErr>
-    requires { (0 < seats) × (seats ≤ MAX_SEATS) }
+/// Opens a pool of the tree's load graph.
+fn open<'a>(
+    tree: Tree<'a>,
+    graph: &'a LoadGraph,
+    seats: usize,
+) -> Result<(Pool<'a>, Vec<PoolSeat<'a>>), LoadErr>
+    requires graph { IsReadGraph (inputs_of tree.workspace.now tree.schema.now) graph.now }
+    requires seats { (0 < seats) × (seats ≤ MAX_SEATS) }
     ensures count { IfOk result (λ r. vec_len r.1 ≡ seats) }
     ensures seats { IfOk result (λ r. All (λ s. IsSeatOf r.0.shared.board s.place) r.1.items) }
 {
-    let graph = discover(tree.alloc, tree.workspace, tree.schema)?;
     Ok(Pool::open(
         tree.alloc,
         tree.workspace,
@@ -72,7 +77,8 @@ fn open(tree: Tree<'_>, seats: usize) -> Result<(Pool<'_>, Vec<PoolSeat<'_>>), L
 pub fn threads_meet<R: Threads + Wait + Sync>(rt: &R, tree: Tree<'_>) -> Result<bool, LoadErr> {
     let gate = Holding::new();
     let returned = Returned::new(tree.alloc, 4)?;
-    let (pool, mut seats) = open(tree, 2)?;
+    let graph = discover(tree.alloc, tree.workspace, tree.schema)?;
+    let (pool, mut seats) = open(tree, &graph, 2)?;
     work_at_all(rt, tree.alloc, &pool, &mut seats, &gate, &returned);
     Ok(gate.both_met() && returned.is_whole(2))
 }
@@ -111,7 +117,8 @@ struct Seen {
 fn work_alone<R: Wait>(rt: &R, tree: Tree<'_>, seats: usize) -> Result<Seen, LoadErr>
     requires { (0 < seats) × (seats ≤ MAX_SEATS) }
 {
-    let (pool, mut seats) = open(tree, seats)?;
+    let graph = discover(tree.alloc, tree.workspace, tree.schema)?;
+    let (pool, mut seats) = open(tree, &graph, seats)?;
     let mut seat = seats.pop().unwrap();
     let worked = pool.work(rt, tree.alloc, &mut seat, &OpenGate)?;
     let before_close = owners(worked.modules.as_slice());

@@ -1,0 +1,20 @@
+-- What is read of a module of a load graph, by its label.
+use Rattle.std.proofs.Common.{◌≡◌, ◌∙◌, ℕ, List, map, Option, Some, slice_get, option_map, ap}
+use Rattle.std.proofs.lemmas.Option.{slice_get-map}
+use Rattle.bq_label.specs.Label.{LabelParts}
+use Rattle.bq_load_front.specs.Front.{front_of}
+use Rattle.bq_load_front.specs.Inputs.{InputParts}
+use Rattle.bq_load_discover.specs.declared.modules.Module.{Module}
+use Rattle.bq_load_discover.specs.Module.{module_of}
+use Rattle.bq_load.specs.Codes.{code_by, codes_of}
+use Rattle.bq_load.specs.Loading.{LoadingParts}
+
+module _ (inputs : InputParts) (x : LoadingParts) (labels : List LabelParts) (read : x.modules ≡ map (module_of inputs) labels) where
+  pub module_by_label : (m : ℕ) → slice_get x.modules m ≡ option_map (module_of inputs) (slice_get labels m)
+  module_by_label m = ap (λ (z : List Module). slice_get z m) read ∙ slice_get-map (module_of inputs) labels m
+
+  pub module_at : (m : ℕ) (l : LabelParts) → slice_get labels m ≡ Some l → slice_get x.modules m ≡ Some (module_of inputs l)
+  module_at m l at = module_by_label m ∙ ap (option_map (module_of inputs)) at
+
+  pub code_at : (m : ℕ) (l : LabelParts) → slice_get labels m ≡ Some l → slice_get (codes_of x.modules) m ≡ Some (code_by (front_of inputs l))
+  code_at m l at = slice_get-map (λ (z : Module). code_by z.front) x.modules m ∙ ap (option_map (λ (z : Module). code_by z.front)) (module_at m l at)
