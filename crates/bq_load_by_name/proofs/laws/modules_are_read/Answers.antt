@@ -2,4 +2,4 @@ use Rattle.bq_load_by_name.proofs.Read as read
 use Rattle.bq_load_by_name.proofs.laws.modules_are_read.Goals as goal
 
 pub returns : goal.returns
-returns c files rules limit g is = read.modules_are_read files rules limit g is
+returns c files rules g is = read.modules_are_read files rules g is
