@@ -83,7 +83,7 @@ const WRITE: &[u8] = b"bq: E3 Write\n";
 
 const NO_TARGET: &[u8] = b"bq: Q5 NoSuchTarget //a:none\n";
 
-fn given<'a>(
+fn make_given<'a>(
     faults: &'a [u8],
     answer: &'a [u8],
     line: &'a [u8],
@@ -129,7 +129,7 @@ fn fails_with_its_writer(rt: HostRuntime) -> Result<(), AllocError> {
             faults_writer: *faults_writer,
             quietly: *quietly,
         };
-        let wanted = given(faults, answer, line, *status, *failures);
+        let wanted = make_given(faults, answer, line, *status, *failures);
         let found = gives(&rt, rt.alloc(), query_on(BUNDLE, query, 4), failing, wanted)?;
         assert!(rt; found, "call {writer} or {faults_writer}");
     }
@@ -149,7 +149,7 @@ const FAILING_WRITERS: &[(&[u8], u64, u64, bool, &[u8], &[u8], &[u8], u8, u64)] 
 #[test]
 fn fails_with_its_reader(rt: HostRuntime) -> Result<(), AllocError> {
     for (first, last, faults, answer, line, status, failures) in FAILING_READER {
-        let wanted = given(faults, answer, line, *status, *failures);
+        let wanted = make_given(faults, answer, line, *status, *failures);
         for reader in *first..*last {
             let failing = Failing {
                 reader,
@@ -291,7 +291,7 @@ fn joined(alloc: Global, parts: &[&[u8]]) -> Result<Vec<u8>, AllocError> {
 fn fails_at_each_write(rt: HostRuntime) -> Result<(), AllocError> {
     for (bundle, query, writer, calls, faults, answer, line, status) in FAILING_AT_EACH {
         let faults = joined(rt.alloc(), faults)?;
-        let whole = given(&faults, answer, line, *status, 0);
+        let whole = make_given(&faults, answer, line, *status, 0);
         let counted = writer.calls(whole) == *calls;
         let found = fails_at_each(
             &rt,
