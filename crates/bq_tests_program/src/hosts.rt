@@ -151,6 +151,7 @@ fn run_over(
     whole: &mut Vec<u8>,
 ) -> Result<(), AllocError> {
     let lent = Lent {
+        file: Some(&below.file),
         code: &[Some(&below.file)],
         modules: &below.modules,
     };
@@ -161,6 +162,7 @@ fn run_over(
 fn run_chunk(setting: Setting<'_>, chunk: &[u8], whole: &mut Vec<u8>) -> Result<(), AllocError> {
     let Some((bzl, build)) = cut(chunk, b'|') else {
         let nothing = Lent {
+            file: None,
             code: &[],
             modules: &[],
         };

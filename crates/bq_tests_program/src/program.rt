@@ -135,6 +135,7 @@ pub struct Below {
 /// What is lent to a file that loads one module, or none: the module's file, and what it evaluated to.
 #[derive(Clone, Copy)]
 pub struct Lent<'a> {
+    pub file: Option<&'a Resolved>,
     pub code: &'a [Option<&'a Resolved>],
     pub modules: &'a [Arc<Frozen>],
 }
@@ -147,13 +148,27 @@ impl Below {
     }
 }
 
-/// The values of the symbols of all loads, where all of them are of the module that is lent.
+/// The values of the symbols of all loads, where all of them are of this file.
+fn add_all(
+    file: &Resolved,
+    modules: &[Arc<Frozen>],
+    loads: &[LoadStmt],
+    imports: &mut Vec<Value>,
+) -> Result<(), AllocError> {
+    if let [frozen] = modules {
+        for load in loads {
+            add_imports(file, frozen, load, imports)?;
+        }
+    }
+    Ok(())
+}
+
+/// The same, of the module that is lent.
 fn imports_of(alloc: Global, lent: Lent<'_>, loads: &[LoadStmt]) -> Result<Vec<Value>, AllocError> {
     let mut imports = Vec::new(alloc);
-    if let ([Some(file)], [frozen]) = (lent.code, lent.modules) {
-        for load in loads {
-            add_imports(file, frozen, load, &mut imports)?;
-        }
+    match lent.file {
+        Some(file) => add_all(file, lent.modules, loads, &mut imports)?,
+        None => {}
     }
     Ok(imports)
 }
@@ -199,6 +214,7 @@ fn frozen_of(
 ) -> Result<Option<Frozen>, AllocError> {
     let host = BuildHost::outside(setting.alloc, setting.own, setting.packages)?;
     let nothing = Lent {
+        file: None,
         code: &[],
         modules: &[],
     };
