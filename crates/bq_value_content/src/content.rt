@@ -28,7 +28,8 @@ pub struct Content {
 #[derive(Drop)]
 pub enum Body {
     List(Vec<Value>),
-    Dict(Dict),
+    /// In a box, so that moving a list moves few bytes.
+    Dict(Box<Dict>),
     /// A rule that a `.bzl` file declares. Nothing changes it.
     Rule(RuleClass),
 }
@@ -69,7 +70,7 @@ impl Body {
     {
         match self {
             Body::List(values) => Ok(Body::List(copies(alloc, values)?)),
-            Body::Dict(dict) => Ok(Body::Dict(dict.copy()?)),
+            Body::Dict(dict) => Ok(Body::Dict(Box::new(alloc, dict.copy()?)?)),
             Body::Rule(class) => Ok(Body::Rule(class.share()?)),
         }
     }
@@ -108,8 +109,9 @@ impl Held {
         }
     }
 
-    /// Returns what is held, to be changed.
-    fn own(&mut self) -> Result<&mut Body, AllocError>
+    /// Takes back what is shared, and returns it to be changed.
+    #[inline(never)]
+    fn take_back(&mut self) -> Result<&mut Body, AllocError>
         ensures* lends { sem 𝓛 (LendsOwn self.entry result) }
         ensures now { IfOk result (λ b. contents_of b.now ≡ held_of self.old) }
     {
@@ -122,7 +124,19 @@ impl Held {
         }
     }
 
+    /// Returns what is held, to be changed.
+    fn own(&mut self) -> Result<&mut Body, AllocError>
+        ensures* lends { sem 𝓛 (LendsOwn self.entry result) }
+        ensures now { IfOk result (λ b. contents_of b.now ≡ held_of self.old) }
+    {
+        match self {
+            Held::Own(body) => Ok(body),
+            Held::Shared(_, _) => self.take_back(),
+        }
+    }
+
     /// Makes what is held one that can be shared.
+    #[inline(never)]
     fn share(&mut self, alloc: Global) -> Result<(), AllocError>
         ensures { held_of self.new ≡ held_of self.old }
     {
@@ -154,12 +168,12 @@ impl Content {
         }
     }
 
-    pub fn dict(dict: Dict) -> Content
-        ensures { result ≡ pairs dict }
+    pub fn dict(alloc: Global, dict: Dict) -> Result<Content, AllocError>
+        ensures { IfOk result (λ c. c ≡ pairs dict) }
     {
-        Content {
-            held: Held::Own(Body::Dict(dict)),
-        }
+        Ok(Content {
+            held: Held::Own(Body::Dict(Box::new(alloc, dict)?)),
+        })
     }
 
     pub fn rule(class: RuleClass) -> Content
@@ -188,11 +202,16 @@ impl Content {
         self.held.own()
     }
 
+    /// Returns whether it has so few elements that walks copy them.
+    pub fn is_small(&self) -> bool {
+        self.body().len() <= FEW
+    }
+
     /// Makes it one that walks share, if it has more than a few elements.
     pub fn share(&mut self, alloc: Global) -> Result<(), AllocError>
         ensures { self.new ≡ self.old }
     {
-        if self.body().len() <= FEW {
+        if self.is_small() {
             return Ok(());
         }
         self.held.share(alloc)
