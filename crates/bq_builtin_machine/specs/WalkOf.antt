@@ -1,11 +1,13 @@
 -- What the fields of a walk stand for.
-use Rattle.std.specs.Prelude.{List, [], drop}
+use Rattle.std.specs.Prelude.{List, [], drop, map, reverse}
 use Rattle.bq_value.specs.Contents.{Contents, items, pairs, rule}
 use Rattle.bq_value.specs.ContentOf.{contents_of}
-use Rattle.bq_value.specs.Datum.{Datum}
+use Rattle.bq_value.specs.Datum.{Datum, int}
 use Rattle.bq_value.specs.Pairs.{keys}
 use Rattle.bq_builtin_machine.specs.declared.walk.Over.{Over}
 use Rattle.bq_builtin_machine.specs.declared.walk.Over.TheVariants as over
+use Rattle.bq_builtin_machine.specs.declared.walk.Shared.{Shared}
+use Rattle.bq_builtin_machine.specs.declared.walk.Shared.TheVariants as shared
 
 -- what a walk over this goes through
 abbrev pub walked : Contents → List Datum
@@ -13,7 +15,11 @@ walked (items xs) = xs
 walked (pairs ps) = keys ps
 walked (rule c) = []
 
+abbrev pub shared_left : Shared → List Datum
+shared_left (shared.Values values at) = drop at values.value.items
+shared_left (shared.Content body at) = drop at (walked (contents_of body.value))
+
 abbrev pub walk_left : Over → List Datum
-walk_left (over.Values values at) = drop at values.value.items
-walk_left (over.Content body at) = drop at (walked (contents_of body.value))
-walk_left (over.Elements elements) = elements
+walk_left (over.Few values) = reverse values.items
+walk_left (over.Range integers) = map int integers
+walk_left (over.Shared s) = shared_left s

@@ -3,14 +3,17 @@
 ghost use Rattle.std.specs.Prelude.{◌≡◌, IfOk, drop, Some};
 ghost use Rattle.bq_base.specs.Gives.{Gives};
 ghost use Rattle.bq_value.specs.declared.error.EvalErr.TheVariants.{Bad};
+ghost use Rattle.bq_value.specs.Datum.{cell};
 ghost use Rattle.bq_value.specs.Pairs.{keys};
 ghost use Rattle.bq_builtin_machine.specs.Action.{Does};
 ghost use Rattle.bq_builtin_machine.specs.Iteration.{content_elements, elements, begin_walk, end_walk, IsNext};
+ghost use Rattle.bq_builtin_machine.specs.WalkOf.{shared_left};
 
-use crate::iteration::{Elements, content_elements};
+use crate::iteration::content_elements;
 use crate::machine::Machine;
+use crate::range_walk::RangeWalk;
 use bq_base::FaultKind;
-use bq_value::{Body, Content, Dict, EvalErr, Node, Value};
+use bq_value::{Body, Cell, Content, Dict, EvalErr, Node, Value};
 use std::alloc::{AllocError, Global};
 use std::marker::Model;
 use std::sync::Arc;
@@ -24,12 +27,18 @@ pub struct Walk {
 
 #[derive(Drop)]
 enum Over {
+    /// A few elements, in reverse: the last one comes next.
+    Few(Vec<Value>),
+    Range(RangeWalk),
+    Shared(Shared),
+}
+
+#[derive(Drop)]
+enum Shared {
     /// These values, from this place on.
     Values(Arc<Vec<Value>>, usize),
     /// A list, or the keys of a dict, from this place on.
     Content(Arc<Body>, usize),
-    /// A few elements, or those of a range.
-    Elements(Elements),
 }
 
 impl Model for Walk {
@@ -72,38 +81,97 @@ pub fn next_key(dict: &Dict, at: &mut usize) -> Result<Option<Value>, AllocError
     Ok(Some(value))
 }
 
-/// Begins a walk over what a cell holds. Of a few elements it has copies.
+/// Begins a walk over a few elements.
+#[tactic(auto, using(crate::proofs::Reversed::reversed_twice))]
+fn over_few(mut values: Vec<Value>) -> Walk
+    ensures { result ≡ values.items }
+{
+    values.reverse();
+    Walk {
+        over: Over::Few(values),
+    }
+}
+
+/// Begins a walk over what a cell holds. It has a share of it, or copies if it isn't one that walks share.
 fn over_content(alloc: Global, content: &Content) -> Result<Walk, EvalErr>
     ensures { Gives (λ xs. xs) Bad result (content_elements (Some content.now)) }
 {
     if let Body::Rule(_) = content.body() {
         return Err(EvalErr::Bad(FaultKind::WrongType));
     }
-    let over = match content.shared()? {
-        Some(body) => Over::Content(body, 0),
-        None => Over::Elements(Elements::of(content_elements(alloc, content)?)),
-    };
-    Ok(Walk { over })
+    match content.shared()? {
+        Some(body) => Ok(Walk {
+            over: Over::Shared(Shared::Content(body, 0)),
+        }),
+        None => Ok(over_few(content_elements(alloc, content)?)),
+    }
 }
 
-impl Walk {
-    /// Takes the next one. Fails where 2^63 owners of it are alive.
-    pub fn next(&mut self) -> Result<Option<Value>, AllocError>
-        ensures { IfOk result (λ next. IsNext next self.old self.new) }
+impl Shared {
+    /// Takes the next one.
+    #[inline(never)]
+    fn next(&mut self) -> Result<Option<Value>, AllocError>
+        ensures { IfOk result (λ next. IsNext next (shared_left self.old) (shared_left self.new)) }
     {
-        match &mut self.over {
-            Over::Values(values, at) => next_value(values, at),
-            Over::Content(body, at) => match &**body {
+        match self {
+            Shared::Values(values, at) => next_value(values, at),
+            Shared::Content(body, at) => match &**body {
                 Body::List(values) => next_value(values, at),
                 Body::Dict(dict) => next_key(dict, at),
                 Body::Rule(_) => Ok(None),
             },
-            Over::Elements(elements) => Ok(elements.next()),
+        }
+    }
+}
+
+impl Walk {
+    /// Takes the next one. Fails where 2^63 owners of it are alive.
+    #[inline(always)]
+    #[tactic(auto, using(crate::proofs::Reversed::popped))]
+    pub fn next(&mut self) -> Result<Option<Value>, AllocError>
+        ensures { IfOk result (λ next. IsNext next self.old self.new) }
+    {
+        match &mut self.over {
+            Over::Few(values) => Ok(values.pop()),
+            Over::Range(integers) => match integers.next() {
+                Some(n) => Ok(Some(Value::int(n))),
+                None => Ok(None),
+            },
+            Over::Shared(shared) => shared.next(),
         }
     }
 }
 
 impl Machine {
+    /// Begins a walk over a list or dict of many elements.
+    #[inline(never)]
+    #[tactic(auto, unfolding(crate::specs::Iteration::elements))]
+    fn walk_many(&mut self, alloc: Global, at: Cell) -> Result<Walk, EvalErr>
+        ensures { Does (λ xs. xs) result self.new (elements (cell at.module at.number) self.old) }
+    {
+        self.store.share(alloc, at)?;
+        match self.store.content(at) {
+            Some(content) => over_content(alloc, content),
+            None => Err(EvalErr::Bad(FaultKind::WrongType)),
+        }
+    }
+
+    /// Begins a walk over a list or dict. Of a few elements it has copies.
+    #[tactic(auto, unfolding(crate::specs::Iteration::elements))]
+    fn walk_cell(&mut self, alloc: Global, at: Cell) -> Result<Walk, EvalErr>
+        ensures { Does (λ xs. xs) result self.new (elements (cell at.module at.number) self.old) }
+    {
+        match self.store.content(at) {
+            None => return Err(EvalErr::Bad(FaultKind::WrongType)),
+            Some(content) => {
+                if content.is_small() {
+                    return Ok(over_few(content_elements(alloc, content)?));
+                }
+            }
+        }
+        self.walk_many(alloc, at)
+    }
+
     /// Returns the elements that an iterable has now, to be walked while nothing changes it.
     #[tactic(auto, using(bq_value_datum::specs::Datum::list_of_data_of), unfolding(crate::specs::Iteration::elements))]
     fn walk(&mut self, alloc: Global, value: &Value) -> Result<Walk, EvalErr>
@@ -111,18 +179,12 @@ impl Machine {
     {
         match &value.node {
             Node::Tuple(items) => Ok(Walk {
-                over: Over::Values(items.clone()?, 0),
+                over: Over::Shared(Shared::Values(items.clone()?, 0)),
             }),
             Node::Range(range) => Ok(Walk {
-                over: Over::Elements(Elements::of_range(*range)),
+                over: Over::Range(RangeWalk::over(*range)),
             }),
-            Node::Cell(cell) => {
-                self.store.share(alloc, *cell)?;
-                match self.store.content(*cell) {
-                    Some(content) => over_content(alloc, content),
-                    None => Err(EvalErr::Bad(FaultKind::WrongType)),
-                }
-            }
+            Node::Cell(cell) => self.walk_cell(alloc, *cell),
             _ => Err(EvalErr::Bad(FaultKind::WrongType)),
         }
     }
