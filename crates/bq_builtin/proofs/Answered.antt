@@ -25,7 +25,7 @@ use Rattle.bq_value.specs.Cells.{StoreView, content_at}
 use Rattle.bq_builtin_machine.specs.Iteration.{elements_in, content_elements, range_integers}
 use Rattle.bq_builtin_machine.specs.Args.{Passed}
 use Rattle.bq_builtin_machine.proofs.Walking.{range_counted}
-use Rattle.bq_builtin.specs.Arguments.{without_names, by_place}
+use Rattle.bq_builtin.specs.Arguments.{by_place}
 use Rattle.bq_builtin.specs.Integers.{is_numeral, read_integer, length_in, content_length}
 use Rattle.bq_builtin.specs.Choosing.{beats, extreme}
 use Rattle.bq_builtin.specs.declared.choosing.ExtremeKind.{ExtremeKind}
@@ -33,6 +33,7 @@ use Rattle.bq_builtin.specs.declared.choosing.ExtremeKind.TheVariants.{Greatest,
 use Rattle.bq_builtin.specs.Sequences.{heads, rows, shortest, shortest_from, numbered, numbered_value}
 use Rattle.bq_builtin.proofs.Numerals.{own}
 use Rattle.bq_builtin.proofs.OfRanges.{extreme_of_ints}
+use Rattle.bq_builtin.proofs.Cases.{without_names}
 
 -- ---- lengths
 

@@ -1,3 +1,4 @@
+pub mod Cases
 -- what runs say
 pub mod Answering
 -- a stable sort gives the one list in order

@@ -11,14 +11,9 @@ abbrev pub and_then : {A B : Type 0} → Result A FaultKind → (A → Result B 
 and_then (Ok a) next = next a
 and_then (Err kind) next = Err kind
 
--- a result, refused where arguments were passed by name
-abbrev pub without_names : {A : Type 0} → List (List ℕ × Datum) → A → Result A FaultKind
-without_names [] a = Ok a
-without_names (n ∷ named) a = Err Args
-
 -- no argument by name
 unfoldable pub by_place : Passed → Result (List Datum) FaultKind
-by_place p = without_names p.named p.positional
+by_place p = elim p.named [ [] ↦ Ok p.positional | n ∷ named ↦ Err Args ]
 
 -- the argument of a function that takes one
 unfoldable pub one_argument : List Datum → Result Datum FaultKind

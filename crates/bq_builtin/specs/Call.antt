@@ -81,11 +81,6 @@ given_by f.Print args = print args
 given_by f.Fail args = fail args
 given_by f.Select args = stop fault.Select
 
--- a call of a predeclared value; one that is not a function can't be called
-abbrev pub called : Option BuiltInFunction → Passed → Action State Datum
-called (Some function) args = given_by function args
-called None args = stop fault.WrongType
-
 -- what is no function of the language can't be called (F40)
 unfoldable pub call_function : Predeclared → Passed → Action State Datum
-call_function function args = called (built_in function) args
+call_function function args = elim (built_in function) [ Some function ↦ given_by function args | None ↦ stop fault.WrongType ]

@@ -7,9 +7,10 @@ use Rattle.bq_value.specs.Same.{same}
 use Rattle.bq_value.specs.SameLaws.{same-true}
 use Rattle.bq_value.specs.Pairs.{found, put, without, HasNoKeyTwice}
 use Rattle.bq_value.proofs.Puts.{found_put}
-use Rattle.bq_builtin_collections.specs.Dict.{with_default, with_default_by, taken_out, taken_out_by}
+use Rattle.bq_builtin_collections.specs.Dict.{with_default, taken_out}
 use Rattle.bq_builtin_collections.specs.List.{and_then}
 use Rattle.bq_builtin_collections.specs.Laws.{Dict}
+use Rattle.bq_builtin_collections.proofs.Cases.{taken_out_by, with_default_by}
 
 answer_is : (v w : Datum) (ps qs : Dict) → ◌≡◌ {A = Result (Datum × Dict) FaultKind} (Ok (v, ps)) (Ok (w, qs)) → (v ≡ w) × (ps ≡ qs)
 answer_is v w ps qs e =

@@ -14,8 +14,9 @@ use Rattle.bq_builtin_machine.specs.Cells.{Change, changing, can_change, may_cha
 use Rattle.bq_builtin_operators.specs.Operand.{and_then}
 use Rattle.bq_builtin_operators.specs.Union.{put_all}
 use Rattle.bq_builtin_in_place.specs.InPlace.{dict_united}
-use Rattle.bq_builtin_collections.specs.PairsGiven.{Pairs, GivenView, pairs_signature, pairs_given, read, read_by, pairs_of_content, read_optional, first_value, nothing_read, all_pairs}
+use Rattle.bq_builtin_collections.specs.PairsGiven.{Pairs, GivenView, pairs_signature, pairs_given, read, read_by, read_optional, first_value, nothing_read, all_pairs}
 use Rattle.bq_builtin_collections.specs.Dict.{update}
+use Rattle.bq_builtin_collections.proofs.Cases.{pairs_of_content}
 
 set_there : (cs : List Contents) (number : ℕ) (c d : Contents) → slice_get cs number ≡ Some c → slice_get (set cs number d) number ≡ Some d
 set_there [] number c d h = absurd (cc)

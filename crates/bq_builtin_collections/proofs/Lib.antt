@@ -1,3 +1,4 @@
+pub mod Cases
 -- what changes a list or dict changes the machine
 pub mod Changes
 -- the first pair of a dict

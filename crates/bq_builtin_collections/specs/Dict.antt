@@ -24,14 +24,9 @@ use Rattle.bq_builtin_collections.specs.PairsGiven.{Pairs, pairs_given, all_pair
 abbrev pub DictChange : Type 0
 DictChange = Pairs → Result (Datum × Pairs) FaultKind
 
--- the pairs that a change left, as what a cell holds
-abbrev pub as_pairs : Result (Datum × Pairs) FaultKind → Result (Datum × Contents) FaultKind
-as_pairs (Ok r) = Ok (r.0, pairs r.1)
-as_pairs (Err kind) = Err kind
-
 -- a change of a dict, of a cell that has to hold one
 unfoldable pub on_pairs : DictChange → Change Datum
-on_pairs f (pairs ps) = as_pairs (f ps)
+on_pairs f (pairs ps) = elim (f ps) [ Ok r ↦ Ok (r.0, pairs r.1) | Err kind ↦ Err kind ]
 on_pairs f (items xs) = Err WrongType
 on_pairs f (rule c) = Err WrongType
 
@@ -63,28 +58,18 @@ abbrev pub or_no_key : Option Datum → Pairs → Result (Datum × Pairs) FaultK
 or_no_key (Some d) ps = Ok (d, ps)
 or_no_key None ps = Err NoKey
 
--- `pop`, by what the dict has at the key
-abbrev pub taken_out_by : Option Datum → Datum → Option Datum → DictChange
-taken_out_by (Some v) k d ps = Ok (v, without k ps)
-taken_out_by None k d ps = or_no_key d ps
-
 -- `pop(k)`, `pop(k, d)`: the key's pair is taken out, and its value is the answer; where the key isn't there, `d`, or F44
 unfoldable pub taken_out : Datum → Option Datum → DictChange
-taken_out k d ps = taken_out_by (found k ps) k d ps
+taken_out k d ps = elim (found k ps) [ Some v ↦ Ok (v, without k ps) | None ↦ or_no_key d ps ]
 
 -- `popitem()`: the first pair is taken out, and is the answer (F44)
 unfoldable pub first_out : DictChange
 first_out [] = Err NoKey
 first_out (p ∷ ps) = Ok (pair_tuple p, ps)
 
--- `setdefault`, by what the dict has at the key
-abbrev pub with_default_by : Option Datum → Datum → Datum → DictChange
-with_default_by (Some v) k d ps = Ok (v, ps)
-with_default_by None k d ps = and_then (within (length ps + 1)) (λ n. Ok (d, put k d ps))
-
 -- `setdefault(k, d)`: the key's value is the answer; a key that isn't there gets the value `d` (F54)
 unfoldable pub with_default : Datum → Datum → DictChange
-with_default k d ps = with_default_by (found k ps) k d ps
+with_default k d ps = elim (found k ps) [ Some v ↦ Ok (v, ps) | None ↦ and_then (within (length ps + 1)) (λ n. Ok (d, put k d ps)) ]
 
 abbrev pub edited : DictEdit → DictChange
 edited edit.Clear = emptied

@@ -20,14 +20,9 @@ use Rattle.bq_builtin_collections.specs.Arguments.{one_to_three, optional_intege
 abbrev pub ListChange : Type 0
 ListChange = List Datum → Result (Datum × List Datum) FaultKind
 
--- the elements that a change left, as what a cell holds
-abbrev pub as_items : Result (Datum × List Datum) FaultKind → Result (Datum × Contents) FaultKind
-as_items (Ok r) = Ok (r.0, items r.1)
-as_items (Err kind) = Err kind
-
 -- a change of a list, of a cell that has to hold one
 unfoldable pub on_items : ListChange → Change Datum
-on_items f (items xs) = as_items (f xs)
+on_items f (items xs) = elim (f xs) [ Ok r ↦ Ok (r.0, items r.1) | Err kind ↦ Err kind ]
 on_items f (pairs ps) = Err WrongType
 on_items f (rule c) = Err WrongType
 
@@ -48,14 +43,9 @@ extended ys xs = and_then (within (length xs + length ys)) (λ n. Ok (none, xs +
 unfoldable pub inserted : ℤ → Datum → ListChange
 inserted i v xs = and_then (within (length xs + 1)) (λ n. Ok (none, insert xs (clamped (length xs) i) v))
 
--- `pop`, by the element at the place
-abbrev pub taken_by : Option Datum → ℕ → ListChange
-taken_by (Some v) at xs = Ok (v, remove xs at)
-taken_by None at xs = Err Index
-
--- the element of that place is taken out, and is the answer
+-- the element of that place is taken out, if there is one, and is the answer
 abbrev pub taken : ℕ → ListChange
-taken at xs = taken_by (slice_get xs at) at xs
+taken at xs = elim (slice_get xs at) [ Some v ↦ Ok (v, remove xs at) | None ↦ Err Index ]
 
 -- `pop(i)`: the element of index `i` is taken out (F43)
 unfoldable pub popped : ℤ → ListChange
@@ -65,14 +55,9 @@ popped i xs = and_then (indexed (length xs) i) (λ at. taken at xs)
 unfoldable pub cleared : ListChange
 cleared xs = Ok (none, [])
 
--- the element at the place leaves the list, if there is one
-abbrev pub dropped_by : Option Datum → ℕ → ListChange
-dropped_by (Some v) at xs = Ok (none, remove xs at)
-dropped_by None at xs = Err Index
-
 -- the element of that place is taken out
 unfoldable pub dropped : ℕ → ListChange
-dropped at xs = dropped_by (slice_get xs at) at xs
+dropped at xs = elim (slice_get xs at) [ Some v ↦ Ok (none, remove xs at) | None ↦ Err Index ]
 
 abbrev pub edited : ListEdit → ListChange
 edited (edit.Append v) = appended v

@@ -31,15 +31,10 @@ pub record GivenView : Type 0 where
 
 -- ---- what is read
 
--- the values of a list or tuple (F40)
-abbrev pub values_of_content : Option Contents → Result (List Datum) FaultKind
-values_of_content (Some (items xs)) = Ok xs
-values_of_content _ = Err WrongType
-
--- the elements of what is given as a pair
+-- the elements of what is given as a pair, which is a list or a tuple (F40)
 abbrev pub parts_of : StoreView → Datum → Result (List Datum) FaultKind
 parts_of s (tuple xs) = Ok (list_of xs)
-parts_of s (cell home number) = values_of_content (content_at s home number)
+parts_of s (cell home number) = elim (content_at s home number) [ Some (items xs) ↦ Ok xs | _ ↦ Err WrongType ]
 parts_of s _ = Err WrongType
 
 -- a pair of two elements, if there are just two
@@ -65,14 +60,9 @@ abbrev pub take_elements : StoreView → List Datum → GivenView → Result Giv
 take_elements s [] g = Ok g
 take_elements s (v ∷ vs) g = and_then (take_element s v g) (take_elements s vs)
 
--- the pairs of a cell that holds a dict
-abbrev pub pairs_of_content : Option Contents → Option Pairs
-pairs_of_content (Some (pairs ps)) = Some ps
-pairs_of_content _ = None
-
 -- the pairs of a dict
 abbrev pub dict_of : StoreView → Datum → Option Pairs
-dict_of s (cell home number) = pairs_of_content (content_at s home number)
+dict_of s (cell home number) = elim (content_at s home number) [ Some (pairs ps) ↦ Some ps | _ ↦ None ]
 dict_of s _ = None
 
 -- reads an argument: a dict's pairs as they are, other values by their elements

@@ -1,3 +1,4 @@
+pub mod Cases
 -- One conversion of `%` after another.
 pub mod Filling
 -- One piece of a format after another.

@@ -83,23 +83,13 @@ filled (suc most) s d n values text = filled_by (filled most s) s d n values tex
 abbrev pub blank : DraftView
 blank = record { page = Some []; malformed = false }
 
--- the text, or F59, or F54
-abbrev pub finished_when : Bool → PageView → Result (List ℕ) FaultKind
-finished_when true page = Err Format
-finished_when false page = finished page
-
--- the text of a draft, or the fault that it met
+-- the text of a draft, or F59 where its format is malformed, or F54 where it is too long
 abbrev pub finished_draft : DraftView → Result (List ℕ) FaultKind
-finished_draft d = finished_when d.malformed d.page
-
--- a text, beside the steps left
-abbrev pub with_steps : ℕ → Result (List ℕ) FaultKind → Looked (List ℕ)
-with_steps n (Ok text) = Ok (text, n)
-with_steps n (Err kind) = Err kind
+finished_draft d = elim d.malformed [ true ↦ Err Format | false ↦ finished d.page ]
 
 -- the text of a draft, beside the steps left
 abbrev pub text_by : Looked DraftView → Looked (List ℕ)
-text_by (Ok (d, n)) = with_steps n (finished_draft d)
+text_by (Ok (d, n)) = elim (finished_draft d) [ Ok text ↦ Ok (text, n) | Err kind ↦ Err kind ]
 text_by (Err kind) = Err kind
 
 -- `format % values`: the text with all its conversions filled in

@@ -58,14 +58,9 @@ abbrev pub doubled : ℕ → List ℕ → Piece × List ℕ
 doubled b [] = (lone, [])
 doubled b (c ∷ cs) = if c == b then (byte b, cs) else (lone, (if b == 123 then [] else c ∷ cs))
 
--- the first piece of a text, and what stands behind it, by the field that begins here
-abbrev pub piece_by : ℕ → List ℕ → Option (List ℕ × List ℕ) → Piece × List ℕ
-piece_by b bs (Some p) = (field p.0, p.1)
-piece_by b bs None = if is_brace b then doubled b bs else (byte b, bs)
-
 -- the first piece, and what is after it
 unfoldable pub first_piece : ℕ → List ℕ → Piece × List ℕ
-first_piece b bs = piece_by b bs (field_of (b ∷ bs))
+first_piece b bs = elim (field_of (b ∷ bs)) [ Some p ↦ (field p.0, p.1) | None ↦ if is_brace b then doubled b bs else (byte b, bs) ]
 
 -- the pieces, at most this many
 unfoldable pub cut : ℕ → List ℕ → List Piece

@@ -14,11 +14,12 @@ use Rattle.bq_builtin_methods.specs.declared.list_method.ListMethod.{ListMethod}
 use Rattle.bq_builtin_methods.specs.declared.dict_method.DictMethod.{DictMethod}
 use Rattle.bq_builtin_methods.specs.declared.dict_method.DictMethod.TheVariants as m
 use Rattle.bq_builtin_methods.specs.declared.dict_method.PlacedMethod.{PlacedMethod}
-use Rattle.bq_builtin_methods.specs.Placed.{placed, placed_by}
+use Rattle.bq_builtin_methods.specs.Placed.{placed}
 use Rattle.bq_builtin_methods.specs.ListMethod.{list_method, list_call}
 use Rattle.bq_builtin_methods.specs.DictMethod.{dict_method, dict_call, placed_call}
 use Rattle.bq_builtin_methods.specs.Call.{if_found, call_of_string, call_of_list, call_of_dict, call_by, call_of_cell, call_method}
 use Rattle.bq_builtin_methods.specs.Laws.{has_methods, Refused}
+use Rattle.bq_builtin_methods.proofs.Cases.{placed_by}
 
 pub string_lacks : (name text : List ℕ) (args : Passed) (s : State) → string_method name ≡ None → Refused NoMethod s (call_method name (string text) args s)
 unfolding call_method call_of_string

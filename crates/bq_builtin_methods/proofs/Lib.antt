@@ -1,3 +1,4 @@
+pub mod Cases
 -- tables have a name for each of their methods
 pub mod Tables
 -- calls that are refused

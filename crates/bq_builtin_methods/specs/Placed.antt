@@ -5,11 +5,6 @@ use Rattle.bq_base.specs.declared.fault.FaultKind.TheVariants.{Args}
 use Rattle.bq_value.specs.Datum.{Datum}
 use Rattle.bq_builtin_machine.specs.Args.{Passed}
 
--- the arguments by place, where none is passed by name
-abbrev pub placed_by : List (List ℕ × Datum) → List Datum → Result (List Datum) FaultKind
-placed_by [] values = Ok values
-placed_by (argument ∷ others) values = Err Args
-
 -- the arguments by place, where none is passed by name (F52)
 unfoldable pub placed : Passed → Result (List Datum) FaultKind
-placed args = placed_by args.named args.positional
+placed args = elim args.named [ [] ↦ Ok args.positional | argument ∷ others ↦ Err Args ]

@@ -1,3 +1,4 @@
+pub mod Cases
 -- What a checked operation answers.
 pub mod Fits
 -- what a quotient leaves

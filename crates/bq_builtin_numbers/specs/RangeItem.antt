@@ -5,14 +5,9 @@ use Rattle.bq_base.specs.declared.fault.FaultKind.{FaultKind}
 use Rattle.bq_value.specs.Range.{range_count, range_element}
 use Rattle.bq_builtin_numbers.specs.Place.{indexed}
 
--- the element of a range by its number, if the index was in it
-abbrev pub element_by : ℤ → ℤ → Result ℕ FaultKind → Result ℤ FaultKind
-element_by start step (Ok number) = Ok (range_element start step number)
-element_by start step (Err e) = Err e
-
 -- the element at an index, or F43
 abbrev pub range_item : ℤ → ℤ → ℤ → ℤ → Result ℤ FaultKind
-range_item start stop step index = element_by start step (indexed (range_count start stop step) index)
+range_item start stop step index = elim (indexed (range_count start stop step) index) [ Ok number ↦ Ok (range_element start step number) | Err e ↦ Err e ]
 
 -- from the start on, and before the end
 abbrev pub is_between : ℤ → ℤ → ℤ → ℤ → Bool

@@ -14,24 +14,14 @@ shift_count (negsuc n) = Err BadValue
 unfoldable pub scaled : ℤ → ℕ → Result ℤ FaultKind
 scaled x n = fitted (x *ℤ pos (2 ^ n))
 
--- `x << n`, by the distance, if that is allowed
-abbrev pub scaled_by : ℤ → Result ℕ FaultKind → Result ℤ FaultKind
-scaled_by x (Ok n) = scaled x n
-scaled_by x (Err e) = Err e
-
 -- the quotient by that power of two, rounded down, which always fits
 unfoldable pub halved : ℤ → ℕ → ℤ
 halved x n = floor_quotient x (pos (2 ^ n))
 
--- `x >> n`, by the distance, if that is allowed
-abbrev pub halved_by : ℤ → Result ℕ FaultKind → Result ℤ FaultKind
-halved_by x (Ok n) = Ok (halved x n)
-halved_by x (Err e) = Err e
-
 -- `x << count`
 abbrev pub shifted_left : ℤ → ℤ → Result ℤ FaultKind
-shifted_left x count = scaled_by x (shift_count count)
+shifted_left x count = elim (shift_count count) [ Ok n ↦ scaled x n | Err e ↦ Err e ]
 
 -- `x >> count`
 abbrev pub shifted_right : ℤ → ℤ → Result ℤ FaultKind
-shifted_right x count = halved_by x (shift_count count)
+shifted_right x count = elim (shift_count count) [ Ok n ↦ Ok (halved x n) | Err e ↦ Err e ]

@@ -1,3 +1,4 @@
+pub mod Cases
 -- sequences that are joined, repeated and sliced
 pub mod Sequences
 -- which values unions have

@@ -23,11 +23,6 @@ abbrev pub among : Compares → ℕ → Datum → List Datum → Looked Bool
 among compare n v [] = Ok (false, n)
 among compare n v (x ∷ xs) = if_not (compare n v x) (λ m. among compare m v xs)
 
--- a key of a dict; a value that makes no key is refused (F45)
-abbrev pub among_keys : Looked Datum → List (Datum × Datum) → Looked Bool
-among_keys (Ok (key, n)) ps = Ok (is_some (found key ps), n)
-among_keys (Err kind) ps = Err kind
-
 -- a substring of a string; only a string is one
 unfoldable pub in_string : ℕ → Datum → List ℕ → Looked Bool
 in_string n (string sub) text = Ok (is_some (find sub text), n)
@@ -42,9 +37,9 @@ in_range n _ start stop step = Err WrongType
 unfoldable pub in_list : StoreView → ℕ → Datum → List Datum → Looked Bool
 in_list s n v xs = among (looked_equal s) n v xs
 
--- `v in ps`, of the keys of a dict, once `v` is found to be one
+-- `v in ps`, of the keys of a dict; a value that makes no key is refused (F45)
 unfoldable pub in_dict : ℕ → Datum → List (Datum × Datum) → Looked Bool
-in_dict n v ps = among_keys (keyed v (walked_at max_levels n v)) ps
+in_dict n v ps = elim (keyed v (walked_at max_levels n v)) [ Ok (key, n) ↦ Ok (is_some (found key ps), n) | Err kind ↦ Err kind ]
 
 -- `v in x`, by what the cell of `x` holds
 abbrev pub in_content : StoreView → ℕ → Datum → Option Contents → Looked Bool

@@ -28,22 +28,12 @@ abbrev pub int_of : Datum → Result ℤ FaultKind
 int_of (int n) = Ok n
 int_of _ = Err WrongType
 
--- the elements of a cell that has to hold a list
-abbrev pub list_of_content : Option Contents → Result (List Datum) FaultKind
-list_of_content (Some (items xs)) = Ok xs
-list_of_content _ = Err WrongType
-
--- the pairs of a cell that has to hold a dict
-abbrev pub dict_of_content : Option Contents → Result (List (Datum × Datum)) FaultKind
-dict_of_content (Some (pairs ps)) = Ok ps
-dict_of_content _ = Err WrongType
-
 -- the values of a list
 abbrev pub list_in : StoreView → Datum → Result (List Datum) FaultKind
-list_in s (cell home number) = list_of_content (content_at s home number)
+list_in s (cell home number) = elim (content_at s home number) [ Some (items xs) ↦ Ok xs | _ ↦ Err WrongType ]
 list_in s _ = Err WrongType
 
 -- the pairs of a dict
 abbrev pub dict_in : StoreView → Datum → Result (List (Datum × Datum)) FaultKind
-dict_in s (cell home number) = dict_of_content (content_at s home number)
+dict_in s (cell home number) = elim (content_at s home number) [ Some (pairs ps) ↦ Ok ps | _ ↦ Err WrongType ]
 dict_in s _ = Err WrongType

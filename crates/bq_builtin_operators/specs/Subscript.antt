@@ -17,13 +17,9 @@ abbrev pub or_fault : {A : Type 0} → FaultKind → Option A → Result A Fault
 or_fault kind (Some a) = Ok a
 or_fault kind None = Err kind
 
--- the element of that place; an index that is no integer is F40, and one without an element F43
-abbrev pub element_by : {A : Type 0} → List A → Result ℕ FaultKind → Result A FaultKind
-element_by xs place = and_then place (λ k. or_fault Index (slice_get xs k))
-
 -- the element at an index, which may count from the end
 unfoldable pub item_in : {A : Type 0} → List A → Datum → Result A FaultKind
-item_in xs index = and_then (int_of index) (λ i. element_by xs (indexed (length xs) i))
+item_in xs index = and_then (int_of index) (λ i. and_then (indexed (length xs) i) (λ k. or_fault Index (slice_get xs k)))
 
 -- a string of one byte
 unfoldable pub byte_in : List ℕ → Datum → Result Datum FaultKind
@@ -37,14 +33,9 @@ integer_in start stop step index = as_int (and_then (int_of index) (λ i. range_
 abbrev pub at_no_cost : ℕ → Result Datum FaultKind → Looked Datum
 at_no_cost n r = and_then r (λ v. Ok (v, n))
 
--- the value of a key; a value that makes no key is F45, a key that is not there F44
-abbrev pub value_by : List (Datum × Datum) → Looked Datum → Looked Datum
-value_by ps (Ok (key, n)) = at_no_cost n (or_fault NoKey (found key ps))
-value_by ps (Err kind) = Err kind
-
--- the value at a key, once the key was looked at
+-- the value at a key; a value that makes no key is F45, a key that is not there F44
 unfoldable pub value_in : ℕ → List (Datum × Datum) → Datum → Looked Datum
-value_in n ps key = value_by ps (keyed key (walked_at max_levels n key))
+value_in n ps key = elim (keyed key (walked_at max_levels n key)) [ Ok (key, n) ↦ at_no_cost n (or_fault NoKey (found key ps)) | Err kind ↦ Err kind ]
 
 -- `x[index]`, by what the cell of `x` holds
 abbrev pub content_item : ℕ → Option Contents → Datum → Looked Datum

@@ -1,3 +1,4 @@
+pub mod Cases
 -- a file's globals, each once, and their values
 pub mod Once
 pub mod Values

@@ -13,8 +13,9 @@ use Rattle.bq_eval.specs.Module as by_slots
 use Rattle.bq_eval.specs.Module.{or_none, values_from}
 use Rattle.bq_eval_by_name.specs.Agreement.{FrozenModulesKeepTheirGlobals}
 use Rattle.bq_resolve_by_name.specs.Files.{ParsedFile}
-use Rattle.bq_eval_by_name.specs.Evaluation.{values_named, value_of, frozen_values}
+use Rattle.bq_eval_by_name.specs.Evaluation.{values_named, frozen_values}
 use Rattle.bq_eval_by_name.proofs.Once.{globals_once}
+use Rattle.bq_eval_by_name.proofs.Cases.{value_of}
 
 -- ---- a frozen module's names are read through their places
 

@@ -39,14 +39,10 @@ frozen_units files loaded = λ n. frozen_unit (slice_get files n) (globals_among
 
 -- ---- after
 
--- the value of a global; by `globals_are_bound` each has one where a file ends
-abbrev pub value_of : Option (Option Datum) → Datum
-value_of None = none
-value_of (Some v) = or_none v
-
--- the values of a file's globals, in the order in which it first binds them, and then of what its loads bind: its functions use both
+-- the values of a file's globals, in the order in which it first binds them (each has one where a file ends), and then of what its loads bind: its
+-- functions use both
 unfoldable pub frozen_values : ParsedFile → List Datum → Env → List Datum
-frozen_values file imports globals = map (λ name. value_of (globals name)) (global_names file.statements) ++ imports
+frozen_values file imports globals = map (λ name. elim (globals name) [ None ↦ none | Some v ↦ or_none v ]) (global_names file.statements) ++ imports
 
 -- how an evaluation ends: with its frozen globals and its prints, or with a fault and the prints before it
 abbrev pub ended : {W : Type 0} → ParsedFile → List Datum → Run (State × W) Env → Ended

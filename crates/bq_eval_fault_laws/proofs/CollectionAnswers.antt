@@ -10,13 +10,15 @@ use Rattle.bq_builtin_numbers.specs.Length.{within}
 use Rattle.bq_builtin_numbers.specs.Place.{indexed}
 use Rattle.bq_builtin_collections.specs.Arguments.{no_argument, one_argument, two_arguments, optional_argument, one_or_two, integer, index_or_last, one_to_three, optional_integer}
 use Rattle.bq_builtin_collections.specs.Dict as dict
-use Rattle.bq_builtin_collections.specs.Dict.{DictChange, as_pairs, on_pairs, emptied, or_no_key, taken_out_by, taken_out, first_out, with_default_by, with_default}
+use Rattle.bq_builtin_collections.specs.Dict.{DictChange, on_pairs, emptied, or_no_key, taken_out, first_out, with_default}
 use Rattle.bq_builtin_collections.specs.List as list
-use Rattle.bq_builtin_collections.specs.List.{ListChange, as_items, on_items, and_then, appended, extended, inserted, taken_by, popped, cleared, dropped_by, dropped, place_by, place_value}
-use Rattle.bq_builtin_collections.specs.PairsGiven.{GivenView, values_of_content, parts_of, two, pair_in, with_pair, take_element, take_elements}
-use Rattle.bq_builtin_methods.specs.Placed.{placed_by, placed}
+use Rattle.bq_builtin_collections.specs.List.{ListChange, on_items, and_then, appended, extended, inserted, popped, cleared, dropped, place_by, place_value}
+use Rattle.bq_builtin_collections.specs.PairsGiven.{GivenView, parts_of, two, pair_in, with_pair, take_element, take_elements}
+use Rattle.bq_builtin_methods.specs.Placed.{placed}
 use Rattle.bq_eval_fault_laws.proofs.Fine.{Fine}
 use Rattle.bq_eval_fault_laws.proofs.Sequences.{within_fine, indexed_fine}
+use Rattle.bq_builtin_collections.proofs.Cases.{as_items, as_pairs, dropped_by, taken_by, taken_out_by, values_of_content, with_default_by}
+use Rattle.bq_builtin_methods.proofs.Cases.{placed_by}
 
 then_fine : {A B : Type 0} (r : Result A FaultKind) (next : A → Result B FaultKind) → Fine r → ((x : A) → Fine (next x)) → Fine (and_then r next)
 then_fine (Ok x) next h k = k x

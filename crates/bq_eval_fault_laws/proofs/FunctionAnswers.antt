@@ -12,7 +12,7 @@ use Rattle.bq_builtin_machine.specs.Args.{Passed}
 use Rattle.bq_builtin_machine.specs.Iteration.{elements_in}
 use Rattle.bq_builtin_numbers.specs.Integer.{fitted}
 use Rattle.bq_builtin_numbers.specs.Length.{max_len}
-use Rattle.bq_builtin.specs.Arguments.{and_then, without_names, by_place, one_argument, optional_argument, one_or_two, one_to_three, only_argument, only_argument_if_any, only_named, passed_once, one_and_named, integer, flag, text}
+use Rattle.bq_builtin.specs.Arguments.{and_then, by_place, one_argument, optional_argument, one_or_two, one_to_three, only_argument, only_argument_if_any, only_named, passed_once, one_and_named, integer, flag, text}
 use Rattle.bq_builtin.specs.Choosing.{integers_of, strings_of, extreme, choices, chosen, in_order, sorted}
 use Rattle.bq_builtin.specs.declared.choosing.ExtremeKind.{ExtremeKind}
 use Rattle.bq_builtin.specs.Elements.{room_for, listed, listed_if_any}
@@ -22,6 +22,7 @@ use Rattle.bq_builtin.specs.Texts.{content_type, type_name, type_of, separator_o
 use Rattle.bq_builtin.specs.Truths.{all, any, bool}
 use Rattle.bq_eval_fault_laws.proofs.Fine.{Fine, fine_cond}
 use Rattle.bq_eval_fault_laws.proofs.Sequences.{elements_fine, fitted_fine}
+use Rattle.bq_builtin.proofs.Cases.{without_names}
 
 then_fine : {A B : Type 0} (r : Result A FaultKind) (next : A → Result B FaultKind) → Fine r → ((x : A) → Fine (next x)) → Fine (and_then r next)
 then_fine (Ok x) next h k = k x

@@ -18,11 +18,10 @@ use Rattle.bq_builtin_numbers.specs.Division.{divided, remainder}
 use Rattle.bq_builtin_numbers.specs.Integer.{fits, fitted}
 use Rattle.bq_builtin_numbers.specs.Length.{max_len, within}
 use Rattle.bq_builtin_numbers.specs.Place.{indexed}
-use Rattle.bq_builtin_numbers.specs.RangeItem.{element_by}
-use Rattle.bq_builtin_numbers.specs.Shift.{shift_count, scaled, scaled_by, halved_by}
+use Rattle.bq_builtin_numbers.specs.Shift.{shift_count, scaled}
 use Rattle.bq_builtin_in_place.specs.InPlace.{list_extended, dict_united, element_set, pair_put}
 use Rattle.bq_builtin_operators.specs.Integers.{arithmetic, integers, signed}
-use Rattle.bq_builtin_operators.specs.Operand.{as_int, as_string, as_tuple, int_of, list_of_content, dict_of_content, list_in, dict_in}
+use Rattle.bq_builtin_operators.specs.Operand.{as_int, as_string, as_tuple, int_of, list_in, dict_in}
 use Rattle.bq_builtin_operators.specs.Operate.{list_slice}
 use Rattle.bq_builtin_operators.specs.Product.{list_product}
 use Rattle.bq_builtin_operators.specs.Sequence.{limited, joined, repeated}
@@ -31,6 +30,8 @@ use Rattle.bq_builtin_operators.specs.Subscript.{item_in, byte_in, integer_in}
 use Rattle.bq_builtin_operators.specs.Sum.{string_sum, tuple_sum, list_sum}
 use Rattle.bq_builtin_operators.specs.Union.{put_all, united, dict_union}
 use Rattle.bq_eval_fault_laws.proofs.Fine.{Fine, fine_then, fine_cond, fine_fault}
+use Rattle.bq_builtin_numbers.proofs.Cases.{element_by, halved_by, scaled_by}
+use Rattle.bq_builtin_operators.proofs.Cases.{dict_of_content, list_of_content}
 
 -- ---- operands
 

@@ -35,11 +35,11 @@ use Rattle.bq_package_typed_value.specs.declared.written.Written.{Written}
 use Rattle.bq_package_typed_value.specs.declared.written.Written.TheVariants as w
 use Rattle.bq_package_typed_value.specs.Steps.{and_then, in_turn}
 use Rattle.bq_package_typed_value.specs.Scope.{own_label_crosses, inside, all_inside}
-use Rattle.bq_package_typed_value.specs.Texts.{text_in, listed, elements_in, all_texts, texts_in}
-use Rattle.bq_package_typed_value.specs.LabelTexts.{label_found, named, without_colon, read, read_all, label, labels}
+use Rattle.bq_package_typed_value.specs.Texts.{text_in, elements_in, all_texts, texts_in}
+use Rattle.bq_package_typed_value.specs.LabelTexts.{named, without_colon, read, read_all, label, labels}
 use Rattle.bq_package_typed_value.specs.Written.{int_in, bool_of, bool_in, written_as}
 use Rattle.bq_package_typed_value.specs.Values.{typed, value_as}
-use Rattle.bq_package_attributes.specs.Arguments.{nothing_given, is_none, keyword, with_value, with_label, with_name, with_attribute_by, with_attribute, with_argument, with_arguments}
+use Rattle.bq_package_attributes.specs.Arguments.{nothing_given, is_none, keyword, with_value, with_label, with_name, with_attribute, with_argument, with_arguments}
 use Rattle.bq_package_attributes.specs.Declarations.{keywords_alone, gives_mandatory, defaults, if_whole, target_of, target, declaration}
 use Rattle.bq_package.specs.Place.{PlaceView}
 use Rattle.bq_package_typed_value.specs.Parameters.{argument}
@@ -49,6 +49,8 @@ use Rattle.bq_package.specs.Glob.{pattern, patterns, excludes_directories, allow
 use Rattle.bq_package.specs.Files.{files_named}
 use Rattle.bq_package.specs.Groups.{names_first, group, group_labels, group_of, group_named}
 use Rattle.bq_package.specs.Rules.{declared_target, target_by, rule_target}
+use Rattle.bq_package_typed_value.proofs.Cases.{label_found, listed}
+use Rattle.bq_package_attributes.proofs.Cases.{with_attribute_by}
 
 -- the fault is one of the table, where there is one
 abbrev pub IsRefusable : {A : Type 0} → Result A FaultKind → Type 0

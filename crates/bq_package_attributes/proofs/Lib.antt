@@ -1,3 +1,4 @@
+pub mod Cases
 -- a table that is read place by place
 pub mod Entries
 -- what the arguments of a call give is of its package

@@ -30,10 +30,11 @@ use Rattle.bq_package_typed_value.specs.Steps.{and_then}
 use Rattle.bq_package_typed_value.specs.Texts.{text_in}
 use Rattle.bq_package_typed_value.specs.LabelTexts.{label}
 use Rattle.bq_package_typed_value.specs.Values.{value_as}
-use Rattle.bq_package_attributes.specs.Arguments.{nothing_given, is_none, keyword, with_value, with_label, with_name, with_attribute_by, with_attribute, with_argument, with_arguments}
-use Rattle.bq_package_attributes.specs.Declarations.{keywords_alone, is_value, gives, is_met, gives_mandatory, default_of, default_for, defaults, if_whole, target_of, target, declaration}
+use Rattle.bq_package_attributes.specs.Arguments.{nothing_given, is_none, keyword, with_value, with_label, with_name, with_attribute, with_argument, with_arguments}
+use Rattle.bq_package_attributes.specs.Declarations.{keywords_alone, gives, is_met, gives_mandatory, default_of, default_for, defaults, if_whole, target_of, target, declaration}
 use Rattle.bq_package_attributes.specs.Laws.{has_attribute, MandatoryAttributesAreGiven, DefaultsAreGiven}
 use Rattle.bq_package_typed_value.proofs.Steps.{both_ok, then_ok, then_true}
+use Rattle.bq_package_attributes.proofs.Cases.{is_value, with_attribute_by}
 
 -- ---- one attribute more
 

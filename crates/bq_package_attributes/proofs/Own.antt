@@ -24,7 +24,8 @@ use Rattle.bq_package_typed_value.specs.Values.{value_as}
 use Rattle.bq_package_typed_value.proofs.Own.{HasOwnOutputs, name_label_own, value_own}
 use Rattle.bq_package_typed_value.proofs.Steps.{both_ok}
 use Rattle.bq_package_attributes.specs.declared.arguments.Given.{Given}
-use Rattle.bq_package_attributes.specs.Arguments.{is_none, with_value, with_label, with_name, with_attribute_by, with_attribute, with_argument, with_arguments, keyword}
+use Rattle.bq_package_attributes.specs.Arguments.{is_none, with_value, with_label, with_name, with_attribute, with_argument, with_arguments, keyword}
+use Rattle.bq_package_attributes.proofs.Cases.{with_attribute_by}
 
 -- ---- arguments
 

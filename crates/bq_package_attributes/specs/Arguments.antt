@@ -41,15 +41,12 @@ unfoldable pub with_name : PackageParts → List BuildFile → Datum → Given �
 with_name own packages v g =
     if is_none v then Ok g else and_then (text_in f.AttributeType v) (λ text. and_then (label own packages k.Name text) (λ l. Ok (with_label text l g)))
 
--- an attribute takes its value, by its type; `None` leaves it out
-abbrev pub with_attribute_by : PackageParts → List BuildFile → StoreView → Option AttributeType → List ℕ → Datum → Given → Result Given FaultKind
-with_attribute_by own packages store None name v g = Err f.NoAttribute
-with_attribute_by own packages store (Some kind) name v g =
-    if is_none v then Ok g else and_then (value_as own packages store kind v) (λ value. Ok (with_value name value g))
-
 -- any other argument: F71 where the rule has no such attribute, then the faults of its value
 unfoldable pub with_attribute : PackageParts → List BuildFile → StoreView → Class → List ℕ → Datum → Given → Result Given FaultKind
-with_attribute own packages store class name v g = with_attribute_by own packages store (attribute_type class name) name v g
+with_attribute own packages store class name v g = elim (attribute_type class name) [
+  | None ↦ Err f.NoAttribute
+  | Some kind ↦ if is_none v then Ok g else and_then (value_as own packages store kind v) (λ value. Ok (with_value name value g))
+]
 
 -- the name of a keyword argument, which stands as the key of a dict
 abbrev pub keyword : Datum → List ℕ

@@ -27,14 +27,9 @@ use Rattle.bq_package_attributes.specs.Arguments.{nothing_given, is_none, with_a
 abbrev pub keywords_alone : SignatureView
 keywords_alone = record { parameters = []; placed = 0; takes_rest = false; takes_keywords = true }
 
--- an argument was given, and not `None`
-abbrev pub is_value : Option Datum → Bool
-is_value None = false
-is_value (Some v) = not (is_none v)
-
 -- a keyword argument of that name is there, and isn't `None`
 abbrev pub gives : List (Datum × Datum) → List ℕ → Bool
-gives keywords name = is_value (found (string name) keywords)
+gives keywords name = elim (found (string name) keywords) [ None ↦ false | Some v ↦ not (is_none v) ]
 
 -- the attribute is given, if it has to be
 abbrev pub is_met : List (Datum × Datum) → List ℕ × Attribute → Bool

@@ -1,2 +1,3 @@
+pub mod Cases
 -- built-in functions and their names
 pub mod Named

@@ -8,8 +8,9 @@ use Rattle.bq_resolve_predeclared.specs.Predeclared.{name_of}
 use Rattle.bq_resolve_predeclared.specs.Laws.{EachNameIsFound}
 use Rattle.bq_resolve_scope.specs.Names.{Name}
 use Rattle.bq_resolve_scope.specs.Universe.{in_build, max_rules}
-use Rattle.bq_package_host.specs.BuiltIns.{rule_value, predeclared_value}
+use Rattle.bq_package_host.specs.BuiltIns.{predeclared_value}
 use Rattle.bq_package_host.specs.Laws.{AreRules, function_named, IsWhatItIsCalled, EachIsWhatItIsCalled}
+use Rattle.bq_package_host.proofs.Cases.{rule_value}
 
 named : (rules : List Name) (x : Predeclared) (name : Name) → EachNameIsFound → name_of x ≡ Some name → function_named rules name ≡ Some x
 unfolding function_named

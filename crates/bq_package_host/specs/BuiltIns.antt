@@ -6,16 +6,11 @@ use Rattle.bq_resolve_predeclared.specs.declared.predeclared.Predeclared.TheVari
 use Rattle.bq_resolve_scope.specs.Names.{Name}
 use Rattle.bq_value.specs.Datum.{Datum, none, boolean, predeclared, schema_rule, built_in, rule_function}
 
--- a rule that the schema hasn't stands for nothing; no program has it
-abbrev pub rule_value : ℕ → Option Name → Datum
-rule_value place None = none
-rule_value place (Some name) = built_in (schema_rule place name)
-
--- the value of a predeclared name, where the schema's rules have these names
+-- the value of a predeclared name, where the schema's rules have these names; no program has a rule that the schema hasn't
 unfoldable pub predeclared_value : List Name → Predeclared → Datum
 predeclared_value rules p.None = none
 predeclared_value rules p.True = boolean true
 predeclared_value rules p.False = boolean false
-predeclared_value rules (p.Host (h.Rule place)) = rule_value place (slice_get rules place)
+predeclared_value rules (p.Host (h.Rule place)) = elim (slice_get rules place) [ None ↦ none | Some name ↦ built_in (schema_rule place name) ]
 predeclared_value rules (p.RuleFunction f) = rule_function f
 predeclared_value rules x = built_in (predeclared x)

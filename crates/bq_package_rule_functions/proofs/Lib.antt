@@ -1,3 +1,4 @@
+pub mod Cases
 -- actions of a machine, beside what a host keeps
 pub mod Lifting
 -- no key of a dict is twice, so no attribute of its rule is

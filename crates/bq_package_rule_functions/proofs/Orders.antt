@@ -10,8 +10,9 @@ use Rattle.bq_builtin_machine.specs.Binding.{Binding, bind}
 use Rattle.bq_package_typed_value.specs.Parameters.{argument}
 use Rattle.bq_package_rule_functions.specs.Keywords.{rule_parameters, documented}
 use Rattle.bq_package_rule_functions.specs.Laws.{RulesAreRefusedInOrder, NoRuleIsDeclaredInABuildFile}
-use Rattle.bq_package_rule_functions.specs.Rule.{implemented, attributes_in, are_named, if_declared, class_of, class}
+use Rattle.bq_package_rule_functions.specs.Rule.{implemented, attributes_in, are_named, class_of, class}
 use Rattle.bq_package_typed_value.specs.Steps.{and_then}
+use Rattle.bq_package_rule_functions.proofs.Cases.{if_declared}
 
 by_names : (in_build named : Bool) (x : Class) → fault_in (if in_build || not named then Err BadValue else Ok x) ≡ first_fault (when (not named) BadValue ∷ when in_build BadValue ∷ [])
 by_names true true x = refl

@@ -60,10 +60,6 @@ may_be_named name = is_identifier name && not (is_some (common_attribute name))
 unfoldable pub are_named : Class → Bool
 are_named class = list_all (λ e. may_be_named e.0) class
 
--- a class is declared in a .bzl file, and with such names
-abbrev pub if_declared : Bool → Class → Result Class FaultKind
-if_declared in_build class = if in_build || not (are_named class) then Err BadValue else Ok class
-
 -- ---- the rule
 
 -- the attributes of the rule that a call declares, of the arguments of its parameters
@@ -71,7 +67,7 @@ unfoldable pub class_of : Bool → StoreView → List (Option Datum) → Result 
 class_of in_build store vs =
     and_then (implemented (argument vs 0)) (λ _.
     and_then (attributes_in store (argument vs 1)) (λ class.
-    and_then (documented (argument vs 2)) (λ _. if_declared in_build class)))
+    and_then (documented (argument vs 2)) (λ _. if in_build || not (are_named class) then Err BadValue else Ok class)))
 
 -- the class that a call of `rule` declares
 unfoldable pub class : Bool → StoreView → Passed → Result Class FaultKind

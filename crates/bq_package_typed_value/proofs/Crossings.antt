@@ -7,7 +7,8 @@ use Rattle.bq_label.specs.Label.{PackageParts, LabelParts, label_in, label_at, p
 use Rattle.bq_label.specs.Packages.{label_path, owner_of}
 use Rattle.bq_label.specs.Paths.{HasNoSlash, is_path}
 use Rattle.bq_package_target.specs.Target.{is_of}
-use Rattle.bq_package_typed_value.specs.Scope.{is_owned_by_other, crosses, own_label_crosses, ShortNamesCross}
+use Rattle.bq_package_typed_value.specs.Scope.{crosses, own_label_crosses, ShortNamesCross}
+use Rattle.bq_package_typed_value.proofs.Cases.{is_owned_by_other}
 
 same_other : (own : PackageParts) (n m : List ℕ) (v : Option BuildFile) → is_owned_by_other (label_in own n) v ≡ is_owned_by_other (label_in own m) v
 unfolding is_of

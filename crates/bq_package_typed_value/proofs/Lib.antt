@@ -1,3 +1,4 @@
+pub mod Cases
 -- what steps that succeed say of each of them, and of the last one
 pub mod Steps
 -- names without a slash cross into another package alike

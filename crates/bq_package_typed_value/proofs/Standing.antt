@@ -15,11 +15,12 @@ use Rattle.bq_label.proofs.Readings.{label_from_reading, reading_from_label}
 use Rattle.bq_package_target.specs.Target.{is_of}
 use Rattle.bq_package_typed_value.specs.declared.label_texts.TextKind.{TextKind}
 use Rattle.bq_package_typed_value.specs.declared.label_texts.TextKind.TheVariants as k
-use Rattle.bq_package_typed_value.specs.Scope.{is_owned_by_other, crosses, own_label_crosses, inside, all_inside}
+use Rattle.bq_package_typed_value.specs.Scope.{crosses, own_label_crosses, inside, all_inside}
 use Rattle.bq_package_typed_value.specs.LabelTexts.{named, without_colon, read, read_all, label, labels}
 use Rattle.bq_package_typed_value.specs.Taken.{NamesFile, bare, after_colon, StandsFor, StandsForNone, CrossesInto, StaysInside}
 use Rattle.bq_package_typed_value.proofs.Crossings.{in_own, own_is}
 use Rattle.bq_package_typed_value.proofs.Turns.{any_weaker, any_true, any_so, all_false, all_so, turned, answered_in_turn, refused_in_turn, zip_weaker}
+use Rattle.bq_package_typed_value.proofs.Cases.{is_owned_by_other}
 
 -- ---- one text
 

@@ -15,7 +15,7 @@ use Rattle.bq_value.specs.Datum.{Datum, none, boolean, int, string, tuple, range
 use Rattle.bq_value.specs.Contents.{Contents, items, pairs, rule}
 use Rattle.bq_value.specs.Cells.{StoreView, content_at}
 use Rattle.bq_package_typed_value.specs.declared.label_texts.TextKind.TheVariants as k
-use Rattle.bq_package_typed_value.specs.Texts.{text_in, listed, elements_in, all_texts, texts_in}
+use Rattle.bq_package_typed_value.specs.Texts.{text_in, elements_in, all_texts, texts_in}
 use Rattle.bq_package_typed_value.specs.Written.{int_in, bool_in, written_as}
 use Rattle.bq_package_typed_value.specs.Values.{typed, value_as}
 use Rattle.bq_package_typed_value.specs.Taken as w
@@ -23,6 +23,7 @@ use Rattle.bq_package_typed_value.specs.Taken.{IsListOf, is_tuple, is_list, IsLi
 use Rattle.bq_package_typed_value.specs.Laws.{EachTypeTakesItsValues, EachTypeRefusesOtherValues}
 use Rattle.bq_package_typed_value.proofs.Turns.{turned, answered_in_turn}
 use Rattle.bq_package_typed_value.proofs.Standing.{Labelled, one, crossed, nothing, labelled, AllLabelled, each, some_crossed, some_nothing, all_labelled, label_so, label_crosses_so, no_label_so, labels_so, labels_cross_so, no_labels_so}
+use Rattle.bq_package_typed_value.proofs.Cases.{listed}
 
 -- ---- values of one type
 

@@ -13,11 +13,6 @@ use Rattle.bq_package_typed_value.specs.declared.label_texts.TextKind.TheVariant
 use Rattle.bq_package_typed_value.specs.Steps.{and_then, in_turn}
 use Rattle.bq_package_typed_value.specs.Scope.{inside, all_inside}
 
--- a label that was read, or the fault that it is none
-abbrev pub label_found : Option LabelParts → Result LabelParts FaultKind
-label_found None = Err BadLabel
-label_found (Some l) = Ok l
-
 -- a target of this package by its name
 abbrev pub named : PackageParts → List ℕ → Result LabelParts FaultKind
 named own name = if is_path name then Ok (label_in own name) else Err BadName
@@ -29,7 +24,7 @@ without_colon (b ∷ bs) = if b == 58 then bs else b ∷ bs
 
 -- the label that a text stands for in a package
 unfoldable pub read : PackageParts → TextKind → List ℕ → Result LabelParts FaultKind
-read own k.Label text = label_found (label_of own text)
+read own k.Label text = elim (label_of own text) [ None ↦ Err BadLabel | Some l ↦ Ok l ]
 read own k.Name text = named own text
 read own k.Output text = named own (without_colon text)
 

@@ -11,11 +11,6 @@ required name = record { name = Some name; is_required = true }
 abbrev pub optional : List ℕ → ParameterView
 optional name = record { name = Some name; is_required = false }
 
--- what a parameter was given, if anything
-abbrev pub given_by : Option (Option Datum) → Option Datum
-given_by (Some v) = v
-given_by None = None
-
 -- the argument of a parameter, where it has one
 abbrev pub argument : List (Option Datum) → ℕ → Option Datum
-argument values i = given_by (slice_get values i)
+argument values i = elim (slice_get values i) [ Some v ↦ v | None ↦ None ]

@@ -9,14 +9,9 @@ use Rattle.bq_label.specs.Paths.{HasNoSlash}
 use Rattle.bq_label.specs.Packages.{label_path, owner_of}
 use Rattle.bq_package_target.specs.Target.{is_of}
 
--- a path lies in another package than its label's (F37)
-abbrev pub is_owned_by_other : LabelParts → Option BuildFile → Bool
-is_owned_by_other l None = false
-is_owned_by_other l (Some b) = not (is_of b.id l)
-
--- another package owns the path that the label names
+-- another package owns the path that the label names (F37)
 unfoldable pub crosses : List BuildFile → LabelParts → Bool
-crosses packages l = is_owned_by_other l (owner_of packages (label_path l))
+crosses packages l = elim (owner_of packages (label_path l)) [ None ↦ false | Some b ↦ not (is_of b.id l) ]
 
 -- the label is of this package, and crosses into another
 unfoldable pub own_label_crosses : PackageParts → List BuildFile → LabelParts → Bool

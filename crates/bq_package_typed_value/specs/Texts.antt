@@ -11,15 +11,10 @@ unfoldable pub text_in : FaultKind → Datum → Result (List ℕ) FaultKind
 text_in why (string text) = Ok text
 text_in why _ = Err why
 
--- the elements of a list, or this fault
-abbrev pub listed : FaultKind → Option Contents → Result (List Datum) FaultKind
-listed why (Some (items vs)) = Ok vs
-listed why _ = Err why
-
 -- the elements of a list or a tuple
 abbrev pub elements_in : FaultKind → StoreView → Datum → Result (List Datum) FaultKind
 elements_in why store (tuple vs) = Ok (list_of vs)
-elements_in why store (cell home number) = listed why (content_at store home number)
+elements_in why store (cell home number) = elim (content_at store home number) [ Some (items vs) ↦ Ok vs | _ ↦ Err why ]
 elements_in why store _ = Err why
 
 -- the strings that all of the values are

@@ -15,12 +15,13 @@ use Rattle.bq_builtin_machine.specs.State.{State}
 use Rattle.bq_builtin_in_place.specs.InPlace.{dict_united, pair_put, set_item, set_index}
 use Rattle.bq_builtin_collections.specs.Arguments.{no_argument, one_or_two, or_none}
 use Rattle.bq_builtin_collections.specs.Dict as dict
-use Rattle.bq_builtin_collections.specs.Dict.{DictChange, on_pairs, as_pairs, emptied, taken_out, first_out, with_default, key_to_change, pairs_in}
+use Rattle.bq_builtin_collections.specs.Dict.{DictChange, on_pairs, emptied, taken_out, first_out, with_default, key_to_change, pairs_in}
 use Rattle.bq_builtin_collections.specs.PairsGiven.{Pairs, GivenView, pairs_signature, first_value, nothing_read, dict_of, take_elements, read_by, read, read_optional, pairs_given, all_pairs}
 use Rattle.bq_builtin_refusal_laws.specs.Refusals.{Check, fault_of, fault_in, fault_after, first_fault, IsRefusedForFirst}
 use Rattle.bq_builtin_laws.specs.Collections.Laws.{IsDict}
 use Rattle.bq_builtin_laws.specs.Collections.Orders.{frozen, walked, no_key, clearing, taking_out, taking_first, setting_default, updating, setting_pair}
 use Rattle.bq_builtin_laws.proofs.Collections.Changing.{changing_refused, before_refused}
+use Rattle.bq_builtin_collections.proofs.Cases.{as_pairs}
 
 -- ---- arguments
 

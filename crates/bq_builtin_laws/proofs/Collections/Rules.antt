@@ -10,8 +10,9 @@ use Rattle.bq_builtin_machine.specs.Cells.{content, or_wrong, changing}
 use Rattle.bq_builtin_machine.specs.Iteration.{elements}
 use Rattle.bq_builtin_machine.specs.State.{State, stop_at}
 use Rattle.bq_builtin_in_place.specs.InPlace.{set_in, set_item, set_index, augment_sum, augment_union, augment, list_extended, dict_united}
-use Rattle.bq_builtin_operators.specs.Operand.{list_of_content, dict_of_content, dict_in}
+use Rattle.bq_builtin_operators.specs.Operand.{dict_in}
 use Rattle.bq_builtin_laws.specs.Collections.Laws.{IsRule}
+use Rattle.bq_builtin_operators.proofs.Cases.{dict_of_content, list_of_content}
 
 pub no_set : (home number : ℕ) (class : Class) (at v : Datum) (s : State) → IsRule s home number class → set_index (cell home number) at v s ≡ stopped (stop_at WrongType s)
 unfolding set_index set_item content

@@ -3,7 +3,8 @@ use Rattle.std.proofs.Common.{◌≡◌, refl, ℕ, Bool, true, false, List, Ok,
 use Rattle.bq_base.specs.declared.fault.FaultKind.TheVariants.{Format}
 use Rattle.bq_value_compare.specs.Looked.{Looked}
 use Rattle.bq_value_text.specs.Page.{PageView}
-use Rattle.bq_builtin_format.specs.Percent.{DraftView, onto, and_then, finished_when, with_steps, text_by}
+use Rattle.bq_builtin_format.specs.Percent.{DraftView, onto, and_then, text_by}
+use Rattle.bq_builtin_format.proofs.Cases.{finished_when, with_steps}
 
 -- a draft, and the steps that are left
 abbrev pub draft : DraftView → ℕ → Looked DraftView

@@ -12,9 +12,10 @@ use Rattle.bq_value.specs.Pairs.{found}
 use Rattle.bq_value_compare.specs.Looked.{Looked, max_levels}
 use Rattle.bq_value_compare.specs.KeyWalk.{walked_at, keyed}
 use Rattle.bq_builtin_machine.specs.Machine.{looked_equal}
-use Rattle.bq_builtin_operators.specs.Membership.{if_not, among, among_keys, in_list, in_dict, in_content, contained}
-use Rattle.bq_builtin_operators.specs.Subscript.{or_fault, at_no_cost, value_by, value_in, content_item, item_of}
+use Rattle.bq_builtin_operators.specs.Membership.{if_not, among, in_list, in_dict, in_content, contained}
+use Rattle.bq_builtin_operators.specs.Subscript.{or_fault, at_no_cost, value_in, content_item, item_of}
 use Rattle.bq_builtin_laws.specs.Operators.Members.{HasElements, IsEqualToOne, IsNotEqual, MembersAreEqualToAnElement, KeysHaveValues}
+use Rattle.bq_builtin_operators.proofs.Cases.{among_keys, value_by}
 
 abbrev answer : Bool → ℕ → Looked Bool
 answer so left = Ok (so, left)

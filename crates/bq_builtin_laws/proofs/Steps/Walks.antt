@@ -23,17 +23,19 @@ use Rattle.bq_builtin_format.specs.declared.argument.Numbering.{Numbering}
 use Rattle.bq_builtin_format.specs.Piece.{Piece, byte, field, lone, pieces}
 use Rattle.bq_builtin_format.specs.Argument.{argument, next_after, no_fields, numbering_after}
 use Rattle.bq_builtin_format.specs.Percent as percent
-use Rattle.bq_builtin_format.specs.Percent.{DraftView, and_write, spoiled, onto, decimal, takes_value, next_shown, converted, values_after, filled_by, filled, blank, finished_draft, with_steps, text_by, percent_of}
+use Rattle.bq_builtin_format.specs.Percent.{DraftView, and_write, spoiled, onto, decimal, takes_value, next_shown, converted, values_after, filled_by, filled, blank, finished_draft, text_by, percent_of}
 use Rattle.bq_builtin_format.specs.Method.{field_shown, unmixed, made, formatted}
 use Rattle.bq_builtin_string_parts.specs.Parts.{partition}
 use Rattle.bq_builtin_machine.specs.Machine.{looked_equal, looked_order}
 use Rattle.bq_builtin_numbers.specs.Place.{bound}
 use Rattle.bq_builtin_operators.specs.Comparing.{negated, by_order, compared}
-use Rattle.bq_builtin_operators.specs.Membership.{if_not, among, among_keys, in_string, in_range, in_list, in_dict, in_content, contained}
-use Rattle.bq_builtin_operators.specs.Subscript.{or_fault, byte_in, item_in, integer_in, at_no_cost, value_by, value_in, content_item, item_of}
+use Rattle.bq_builtin_operators.specs.Membership.{if_not, among, in_string, in_range, in_list, in_dict, in_content, contained}
+use Rattle.bq_builtin_operators.specs.Subscript.{or_fault, byte_in, item_in, integer_in, at_no_cost, value_in, content_item, item_of}
 use Rattle.bq_builtin_collections.specs.Search.{if_unequal, first_equal, found_between}
 use Rattle.bq_builtin.specs.Texts.{others_shown, values_shown, joined_texts}
 use Rattle.bq_builtin_laws.proofs.Steps.Texts.{repr_shown_takes, finish_takes, text_shown_takes}
+use Rattle.bq_builtin_format.proofs.Cases.{with_steps}
+use Rattle.bq_builtin_operators.proofs.Cases.{among_keys, value_by}
 
 -- ---- comparisons
 

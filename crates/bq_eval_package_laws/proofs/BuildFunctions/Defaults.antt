@@ -12,11 +12,12 @@ use Rattle.bq_value.specs.Cells.{StoreView, content_at}
 use Rattle.bq_package_typed_value.specs.declared.written.Written.{Written}
 use Rattle.bq_package_typed_value.specs.declared.written.Written.TheVariants as w
 use Rattle.bq_package_typed_value.specs.Steps.{and_then, in_turn}
-use Rattle.bq_package_typed_value.specs.Texts.{text_in, listed, elements_in, all_texts, texts_in}
+use Rattle.bq_package_typed_value.specs.Texts.{text_in, elements_in, all_texts, texts_in}
 use Rattle.bq_package_typed_value.specs.Written.{int_in, bool_of, bool_in, written_as}
 use Rattle.bq_package_typed_value.specs.Values.{typed, value_as}
 use Rattle.bq_package.specs.Calls.{own_of, packages_of, default_value}
 use Rattle.bq_eval_package_laws.specs.BuildFunctions.Defaults.{DefaultsAreTakenAsValues}
+use Rattle.bq_package_typed_value.proofs.Cases.{listed}
 
 -- both give one thing, or neither gives anything
 abbrev Alike : {A : Type 0} → Result A FaultKind → Result A FaultKind → Type 0

@@ -16,10 +16,11 @@ use Rattle.bq_builtin_machine.specs.Args.{Passed}
 use Rattle.bq_builtin_machine.specs.Binding.{bind}
 use Rattle.bq_package_typed_value.proofs.Steps.{both_ok}
 use Rattle.bq_package_attributes.specs.Arguments.{nothing_given, is_none, keyword, with_arguments}
-use Rattle.bq_package_attributes.specs.Declarations.{keywords_alone, is_value, is_met, gives, gives_mandatory, defaults, if_whole, target, declaration}
+use Rattle.bq_package_attributes.specs.Declarations.{keywords_alone, is_met, gives, gives_mandatory, defaults, if_whole, target, declaration}
 use Rattle.bq_package_attributes.proofs.Keywords.{keywords_keep_their_order}
 use Rattle.bq_eval_package_laws.specs.RuleCalls.CallPlace.{CallPlace, target_declared}
 use Rattle.bq_eval_package_laws.specs.RuleCalls.Given.{IsGivenBy, EachMandatoryIsGiven}
+use Rattle.bq_package_attributes.proofs.Cases.{is_value}
 
 -- ---- an argument that is there
 

@@ -17,11 +17,12 @@ use Rattle.bq_package_typed_value.specs.Steps.{and_then}
 use Rattle.bq_package_typed_value.specs.Texts.{text_in}
 use Rattle.bq_package_typed_value.specs.LabelTexts.{label}
 use Rattle.bq_package_typed_value.specs.Values.{value_as}
-use Rattle.bq_package_attributes.specs.Arguments.{nothing_given, is_none, with_value, with_label, with_name, with_attribute_by, with_attribute, keyword, with_argument, with_arguments}
+use Rattle.bq_package_attributes.specs.Arguments.{nothing_given, is_none, with_value, with_label, with_name, with_attribute, keyword, with_argument, with_arguments}
 use Rattle.bq_package_attributes.specs.Declarations.{keywords_alone, gives_mandatory, defaults, if_whole, target, declaration}
 use Rattle.bq_builtin_refusal_laws.specs.Refusals.{when, fault_in, fault_then, first_fault, FailsForFirst}
 use Rattle.bq_eval_package_laws.specs.RuleCalls.CallPlace.{CallPlace, argument_read, target_declared, GivesName, GivesAttribute}
 use Rattle.bq_eval_package_laws.specs.RuleCalls.Orders.{bad_value, giving, naming, missing, declaring}
+use Rattle.bq_package_attributes.proofs.Cases.{with_attribute_by}
 
 -- an answer that is changed, and else its fault
 changed_only : {A B : Type 0} (r : Result A FaultKind) (f : A → B) → fault_in (and_then r (λ a. Ok (f a))) ≡ first_fault (fault_in r ∷ [])

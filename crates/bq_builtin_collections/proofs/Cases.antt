@@ -1,0 +1,43 @@
+-- Parts of definitions, as words that proofs name.
+use Rattle.std.specs.Prelude.{Err, List, None, Ok, Option, Result, Some, length, remove, ℕ, ◌+◌}
+use Rattle.bq_base.specs.declared.fault.FaultKind.{FaultKind}
+use Rattle.bq_base.specs.declared.fault.FaultKind.TheVariants.{Index, WrongType}
+use Rattle.bq_builtin_numbers.specs.Length.{within}
+use Rattle.bq_value.specs.Contents.{Contents, items, pairs}
+use Rattle.bq_value.specs.Datum.{Datum, none}
+use Rattle.bq_value.specs.Pairs.{put, without}
+use Rattle.bq_builtin_collections.specs.Dict.{DictChange, or_no_key}
+use Rattle.bq_builtin_collections.specs.List.{ListChange, and_then}
+use Rattle.bq_builtin_collections.specs.PairsGiven.{Pairs}
+
+-- `setdefault`, by what the dict has at the key
+abbrev pub with_default_by : Option Datum → Datum → Datum → DictChange
+with_default_by o k d ps = elim o [ Some v ↦ Ok (v, ps) | None ↦ and_then (within (length ps + 1)) (λ n. Ok (d, put k d ps)) ]
+
+-- `pop`, by what the dict has at the key
+abbrev pub taken_out_by : Option Datum → Datum → Option Datum → DictChange
+taken_out_by o k d ps = elim o [ Some v ↦ Ok (v, without k ps) | None ↦ or_no_key d ps ]
+
+-- the pairs that a change left, as what a cell holds
+abbrev pub as_pairs : Result (Datum × Pairs) FaultKind → Result (Datum × Contents) FaultKind
+as_pairs o = elim o [ Ok r ↦ Ok (r.0, pairs r.1) | Err kind ↦ Err kind ]
+
+-- the element at the place leaves the list, if there is one
+abbrev pub dropped_by : Option Datum → ℕ → ListChange
+dropped_by o at xs = elim o [ Some v ↦ Ok (none, remove xs at) | None ↦ Err Index ]
+
+-- `pop`, by the element at the place
+abbrev pub taken_by : Option Datum → ℕ → ListChange
+taken_by o at xs = elim o [ Some v ↦ Ok (v, remove xs at) | None ↦ Err Index ]
+
+-- the elements that a change left, as what a cell holds
+abbrev pub as_items : Result (Datum × List Datum) FaultKind → Result (Datum × Contents) FaultKind
+as_items o = elim o [ Ok r ↦ Ok (r.0, items r.1) | Err kind ↦ Err kind ]
+
+-- the pairs of a cell that holds a dict
+abbrev pub pairs_of_content : Option Contents → Option Pairs
+pairs_of_content o = elim o [ Some (pairs ps) ↦ Some ps | _ ↦ None ]
+
+-- the values of a list or tuple (F40)
+abbrev pub values_of_content : Option Contents → Result (List Datum) FaultKind
+values_of_content o = elim o [ Some (items xs) ↦ Ok xs | _ ↦ Err WrongType ]

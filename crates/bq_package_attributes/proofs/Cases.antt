@@ -1,0 +1,24 @@
+-- Parts of definitions, as words that proofs name.
+use Rattle.std.specs.Prelude.{Bool, Err, List, None, Ok, Option, Result, Some, false, if◌then◌else◌, not, ℕ}
+use Rattle.bq_base.specs.declared.fault.FaultKind.{FaultKind}
+use Rattle.bq_base.specs.declared.fault.FaultKind.TheVariants as f
+use Rattle.bq_label.specs.Label.{PackageParts}
+use Rattle.bq_label.specs.declared.packages.BuildFile.{BuildFile}
+use Rattle.bq_package_typed_value.specs.Steps.{and_then}
+use Rattle.bq_package_typed_value.specs.Values.{value_as}
+use Rattle.bq_value.specs.Cells.{StoreView}
+use Rattle.bq_value.specs.Datum.{Datum}
+use Rattle.bq_value_rule_class.specs.declared.attribute_type.AttributeType.{AttributeType}
+use Rattle.bq_package_attributes.specs.Arguments.{is_none, with_value}
+use Rattle.bq_package_attributes.specs.declared.arguments.Given.{Given}
+
+-- an argument was given, and not `None`
+abbrev pub is_value : Option Datum → Bool
+is_value o = elim o [ None ↦ false | Some v ↦ not (is_none v) ]
+
+-- an attribute takes its value, by its type; `None` leaves it out
+abbrev pub with_attribute_by : PackageParts → List BuildFile → StoreView → Option AttributeType → List ℕ → Datum → Given → Result Given FaultKind
+with_attribute_by own packages store o name v g = elim o [
+  | None ↦ Err f.NoAttribute
+  | Some kind ↦ if is_none v then Ok g else and_then (value_as own packages store kind v) (λ value. Ok (with_value name value g))
+]
