@@ -6,12 +6,13 @@ use Rattle.bq_base_fault_line.specs.FaultLine.{sorted_lines}
 use Rattle.bq_label.specs.declared.workspace.File.{File}
 use Rattle.bq_label.specs.declared.packages.BuildFile.{BuildFile}
 use Rattle.bq_label.specs.Label.{LabelParts, package_of, full_form}
-use Rattle.bq_label.specs.Packages.{build_label}
+use Rattle.bq_label.specs.Packages.{build_label, packages_of}
 use Rattle.bq_label_set.specs.Labels.{with_labels}
 use Rattle.bq_package_schema.specs.Schema.{Rules}
 use Rattle.bq_package_target.specs.Target.{is_of}
 use Rattle.bq_package_target.specs.Package.{PackageTargets, no_targets}
 use Rattle.bq_board.specs.Graph.{Loads}
+use Rattle.bq_load_front.specs.Reading.{parsed_of}
 use Rattle.bq_load_discover.specs.declared.load_err.LoadErr.{LoadErr}
 use Rattle.bq_load_discover.specs.declared.load_err.LoadErr.TheVariants as e
 use Rattle.bq_load_discover.specs.Edges.{number_in}
@@ -101,7 +102,7 @@ IsLoaded x p l = IsGathered x.packages (outcomes x p) l
 
 -- there is no load graph, memory aside: there are too many modules or edges
 abbrev pub HasNoGraph : List File → Rules → LoadErr → Type 0
-HasNoGraph files rules why = (why ≡ e.TooManyModules → AreTooMany (inputs_of files rules)) × ((line : ℕ) → ¬ (why ≡ e.Schema line))
+HasNoGraph files rules why = (why ≡ e.TooManyModules → AreTooMany (packages_of files) (parsed_of (inputs_of files rules))) × ((line : ℕ) → ¬ (why ≡ e.Schema line))
 
 -- what loading the workspace returns, with `limit` steps for each module
 abbrev pub LoadsWorkspace : List File → Rules → ℕ → Result Loaded LoadErr → Type 0

@@ -7,6 +7,7 @@ use Rattle.bq_resolve_by_name.specs.Resolution.{Maybe}
 use Rattle.bq_load_front.specs.Agreement.{IsFrontOf}
 use Rattle.bq_load_front.specs.Inputs.{InputParts}
 use Rattle.bq_load_front.specs.Parsed.{ParsedFront}
+use Rattle.bq_load_front.specs.Reading.{parsed_of}
 use Rattle.bq_load_front.specs.declared.front.Front.{Front}
 use Rattle.bq_load_front.proofs.ByName.{fronts_agree}
 use Rattle.bq_load_discover.specs.LoadGraph.{inputs_of}
@@ -17,14 +18,14 @@ use Rattle.bq_eval_by_name.specs.Agreement.{AreCodesOf}
 use Rattle.bq_load_by_name.specs.Agreement.{AreReadAs, ModulesAreRead}
 use Rattle.bq_load_by_name.specs.Parsed.{ParsedModule, file_by, parsed_files, parsed_module}
 
-all_read : (inputs : InputParts) (ls : List LabelParts) → AreReadAs (map (parsed_module inputs) ls) (map (module_of inputs) ls)
+all_read : (inputs : InputParts) (ls : List LabelParts) → AreReadAs (map (parsed_module (parsed_of inputs)) ls) (map (module_of inputs) ls)
 all_read inputs [] = tt
 all_read inputs (l ∷ ls) = ((refl, fronts_agree inputs l), all_read inputs ls)
 
 pub modules_are_read : ModulesAreRead
 modules_are_read files rules g is =
     let inputs = inputs_of files rules in
-    subst (λ (ms : List Module). AreReadAs (map (parsed_module inputs) g.labels) ms) (sym is.read) (all_read inputs g.labels)
+    subst (λ (ms : List Module). AreReadAs (map (parsed_module (parsed_of inputs)) g.labels) ms) (sym is.read) (all_read inputs g.labels)
 
 -- ---- so they have the code of their files
 

@@ -4,6 +4,7 @@ use Rattle.bq_label.specs.declared.workspace.File.{File}
 use Rattle.bq_package_schema.specs.Schema.{Rules}
 use Rattle.bq_resolve_by_name.specs.Resolution.{InOrder}
 use Rattle.bq_load_front.specs.Agreement.{IsFrontOf}
+use Rattle.bq_load_front.specs.Reading.{parsed_of}
 use Rattle.bq_load_discover.specs.LoadGraph.{GraphParts, IsReadGraph, inputs_of}
 use Rattle.bq_load_discover.specs.declared.modules.Module.{Module}
 use Rattle.bq_load_discover.specs.declared.load_err.LoadErr.{LoadErr}
@@ -30,7 +31,7 @@ with_modules x modules = record { modules = modules; files = x.files; packages =
 
 -- the modules of a load graph are read as what their files are
 abbrev pub ModulesAreRead : Type 0
-ModulesAreRead = (files : List File) (rules : Rules) (g : GraphParts) → IsReadGraph (inputs_of files rules) g → AreReadAs (map (parsed_module (inputs_of files rules)) g.labels) g.modules
+ModulesAreRead = (files : List File) (rules : Rules) (g : GraphParts) → IsReadGraph (inputs_of files rules) g → AreReadAs (map (parsed_module (parsed_of (inputs_of files rules))) g.labels) g.modules
 
 -- A module evaluates by names to what it evaluates to by slots: whatever modules it loads, the same value, or the same fault.
 abbrev pub ModulesAgree : Type 0
@@ -40,7 +41,7 @@ ModulesAgree = (x : LoadingParts) (all : List ParsedModule) → AreReadAs all x.
 abbrev pub OutcomesAgree : Type 0
 OutcomesAgree =
     (files : List File) (rules : Rules) (limit : ℕ) (g : GraphParts) → IsReadGraph (inputs_of files rules) g
-    → outcomes (parsed_in files rules limit g.labels) g.edges ≡ results.outcomes (loading_in files rules limit g) g.edges
+    → outcomes (parsed_in files rules (parsed_of (inputs_of files rules)) limit g.labels) g.edges ≡ results.outcomes (loading_in files rules limit g) g.edges
 
 -- a workspace loads by names as by slots
 abbrev pub WorkspacesAgree : Type 0

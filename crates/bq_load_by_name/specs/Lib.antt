@@ -1,6 +1,7 @@
 pub use Rattle.bq_load.specs.Loaded
 pub use Rattle.bq_load.specs.Loading
 pub use Rattle.bq_load.specs.Views
+pub use Rattle.bq_load_front.specs.Reading
 pub use Rattle.bq_load_discover.specs.LoadGraph
 pub use Rattle.bq_load_discover.specs.Modules
 pub use Rattle.bq_load_discover.specs.Schema

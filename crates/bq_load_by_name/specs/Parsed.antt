@@ -8,9 +8,8 @@ use Rattle.bq_label.specs.Packages.{packages_of}
 use Rattle.bq_resolve_scope.specs.Names.{Name, with_each, with_name}
 use Rattle.bq_resolve_by_name.specs.Files.{ParsedFile}
 use Rattle.bq_package_schema.specs.Schema.{Rules}
-use Rattle.bq_load_front.specs.Inputs.{InputParts}
-use Rattle.bq_load_front.specs.Parsed.{ParsedFront, parsed_of}
-use Rattle.bq_load_discover.specs.LoadGraph.{inputs_of}
+use Rattle.bq_load_front.specs.Parsed.{ParsedFront}
+pub use Rattle.bq_load_front.specs.Parsed.{Fronts, AreFronts}
 
 -- a module, and what its file is on its own
 pub record ParsedModule : Type 0 where
@@ -39,10 +38,10 @@ parsed_files modules = map (λ m. file_by m.front) modules
 -- ---- of a load graph
 
 -- the parsed file of a module, unless that has a fault
-abbrev pub parsed_module : InputParts → LabelParts → ParsedModule
-parsed_module inputs l = record { label = l; front = parsed_of inputs l }
+abbrev pub parsed_module : Fronts → LabelParts → ParsedModule
+parsed_module fronts l = record { label = l; front = fronts l }
 
 -- what the files of a workspace, its schema and the labels of its modules decide
-abbrev pub parsed_in : List File → Rules → ℕ → List LabelParts → ParsedParts
-parsed_in files rules limit labels =
-    record { modules = map (parsed_module (inputs_of files rules)) labels; files = files; packages = packages_of files; rules = rules; names = with_each with_name [] rules.names; limit = limit }
+abbrev pub parsed_in : List File → Rules → Fronts → ℕ → List LabelParts → ParsedParts
+parsed_in files rules fronts limit labels =
+    record { modules = map (parsed_module fronts) labels; files = files; packages = packages_of files; rules = rules; names = with_each with_name [] rules.names; limit = limit }

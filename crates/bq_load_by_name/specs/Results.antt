@@ -1,7 +1,7 @@
 -- The outcome of each module by names, with its fault if it has no value. A module whose loads lead to a cycle is F35
 -- and names its first load that is cyclic; one that is too deep is F38 and names its first load at which a path of as
 -- many edges starts as there may be; one with a load that has no value is F36 and names the first of them.
-use Rattle.std.specs.Prelude.{ℕ, ◌+◌, List, [], ◌∷◌, Option, Some, None, Result, Ok, Err, slice_get, bytes_eq, if◌then◌else◌}
+use Rattle.std.specs.Prelude.{◌≡◌, ℕ, ◌+◌, List, [], ◌∷◌, Option, Some, None, Result, Ok, Err, slice_get, bytes_eq, if◌then◌else◌}
 use Rattle.bq_base.specs.declared.fault.Fault.{Fault}
 use Rattle.bq_base.specs.declared.fault.FaultKind.{FaultKind}
 use Rattle.bq_base.specs.declared.fault.FaultKind.TheVariants as f
@@ -12,14 +12,16 @@ use Rattle.bq_label.specs.Packages.{packages_of}
 use Rattle.bq_resolve_by_name.specs.Loads.{WrittenLoad, file_loads}
 use Rattle.bq_package_schema.specs.Schema.{Rules}
 use Rattle.bq_board.specs.Graph.{Loads}
-use Rattle.bq_load_front.specs.Parsed.{ParsedFront}
+use Rattle.bq_load_front.specs.Parsed.{ParsedFront, Fronts, AreFronts}
 use Rattle.bq_load_discover.specs.LoadGraph.{IsLoadGraph, inputs_of}
+use Rattle.bq_load_discover.specs.Modules.{AreTooMany}
 use Rattle.bq_load_discover.specs.declared.load_err.LoadErr.{LoadErr}
+use Rattle.bq_load_discover.specs.declared.load_err.LoadErr.TheVariants as e
 use Rattle.bq_load_outcome_spec.specs.Outcome.{outcome}
 use Rattle.bq_load_outcome_spec.specs.declared.outcome.Outcome.{Outcome}
 use Rattle.bq_load_outcome_spec.specs.declared.outcome.Outcome.TheVariants as o
 pub use Rattle.bq_load.specs.declared.loaded.Loaded.{Loaded}
-use Rattle.bq_load.specs.Loaded.{IsGathered, HasNoGraph}
+use Rattle.bq_load.specs.Loaded.{IsGathered}
 use Rattle.bq_load.specs.Views.{ModuleView, FailedView, OutcomeView, not_evaluated}
 use Rattle.bq_load_by_name.specs.Evaluation.{means}
 use Rattle.bq_load_by_name.specs.Parsed.{ParsedModule, ParsedParts, parsed_in}
@@ -65,8 +67,13 @@ outcomes_from x p m (s ∷ ss) = outcome_of x p m s ∷ outcomes_from x p (m + 1
 unfoldable pub outcomes : ParsedParts → Loads → List OutcomeView
 outcomes x p = outcomes_from x p 0 x.modules
 
--- what loading the workspace returns by names, with `limit` steps for each module
+-- there are too many modules or edges
+abbrev pub HaveTooMany : List File → Rules → Type 0
+HaveTooMany files rules = (fronts : Fronts) × AreFronts (inputs_of files rules) fronts × AreTooMany (packages_of files) fronts
+
+-- what loading the workspace returns by names, with `limit` steps for each module; memory aside
 abbrev pub LoadsByNames : List File → Rules → ℕ → Result Loaded LoadErr → Type 0
 LoadsByNames files rules limit (Ok l) =
-    (labels : List LabelParts) × (edges : Loads) × IsLoadGraph (inputs_of files rules) labels edges × IsGathered (packages_of files) (outcomes (parsed_in files rules limit labels) edges) l
-LoadsByNames files rules limit (Err why) = HasNoGraph files rules why
+    (fronts : Fronts) × AreFronts (inputs_of files rules) fronts × (labels : List LabelParts) × (edges : Loads) × IsLoadGraph (packages_of files) fronts labels edges
+    × IsGathered (packages_of files) (outcomes (parsed_in files rules fronts limit labels) edges) l
+LoadsByNames files rules limit (Err why) = (why ≡ e.TooManyModules → HaveTooMany files rules) × ((line : ℕ) → ¬ (why ≡ e.Schema line))

@@ -12,7 +12,7 @@ use Rattle.bq_label_set.proofs.Added.{numbers_stay, the_labels_added, each_label
 use Rattle.bq_board_plan.specs.Graph.{max_modules}
 use Rattle.bq_load_front.specs.Inputs.{InputParts}
 use Rattle.bq_load_front.specs.Front.{loads_by}
-use Rattle.bq_load_front.specs.Parsed.{loads_of}
+use Rattle.bq_load_front.specs.Reading.{parsed_of, loads_of}
 use Rattle.bq_load_front.proofs.ByName.{loads_agree}
 use Rattle.bq_load_discover.specs.declared.modules.Module.{Module}
 use Rattle.bq_load_discover.specs.Module.{module_of, labels_of, IsRead}
@@ -108,7 +108,7 @@ are_read inputs [] = tt
 are_read inputs (l ∷ ls) = (refl, are_read inputs ls)
 
 reached : (inputs : InputParts) (ls : List LabelParts) → ((b : BuildFile) (l : LabelParts) → Contains inputs.packages b → build_label b ≡ Some l → Contains ls l)
-    → ((m l : LabelParts) → Contains ls m → Contains (loads_of inputs m) l → Contains ls l) → (l : LabelParts) → IsModule inputs l → Contains ls l
+    → ((m l : LabelParts) → Contains ls m → Contains (loads_of inputs m) l → Contains ls l) → (l : LabelParts) → IsModule inputs.packages (parsed_of inputs) l → Contains ls l
 reached inputs ls builds closed l (IsModule.build b c g) = builds b l c g
 reached inputs ls builds closed l (IsModule.loaded m i c) = closed m l (reached inputs ls builds closed m i) c
 
@@ -129,5 +129,5 @@ ends inputs ls ms x h few =
 
 -- ---- too much is read
 
-pub too_many : (inputs : InputParts) (ls : List LabelParts) (ms : List Module) → Explores inputs ls ms → max_modules < length ms → AreTooMany inputs
+pub too_many : (inputs : InputParts) (ls : List LabelParts) (ms : List Module) → Explores inputs ls ms → max_modules < length ms → AreTooMany inputs.packages (parsed_of inputs)
 too_many inputs ls ms x h = AreTooMany.modules ls x.distinct (omega (arith, h, x.within)) x.only

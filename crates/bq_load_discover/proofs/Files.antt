@@ -6,13 +6,18 @@ use Rattle.bq_label.specs.declared.packages.BuildFile.{BuildFile}
 use Rattle.bq_label.specs.Paths.{is_path}
 use Rattle.bq_label.specs.Label.{LabelParts, label_in, last_segment, package_of}
 use Rattle.bq_label.specs.Packages.{build_label, packages_of, joined, IsPackageOf, IsFileOf}
+use Rattle.bq_label.specs.Workspace.{IsWorkspace}
 use Rattle.bq_label.proofs.BuildFiles.{package_words}
 use Rattle.bq_label.proofs.LabelFiles.{path_in_words}
 use Rattle.bq_load_label.proofs.Loads.{named}
 use Rattle.bq_load_label.proofs.Tests.{file_is_there}
 use Rattle.bq_load_front.specs.Inputs.{InputParts}
+use Rattle.bq_load_front.specs.Parsed.{Fronts}
+use Rattle.bq_load_front.specs.Reading.{parsed_of}
+use Rattle.bq_load_front.proofs.Fronts.{fronts_are}
 use Rattle.bq_load_front.proofs.Loads.{loaded_files}
 use Rattle.bq_load_discover.specs.Modules.{IsModule}
+use Rattle.bq_package_schema.specs.Schema.{Rules}
 use Rattle.bq_load_discover.specs.LoadGraph.{inputs_of}
 use Rattle.bq_load_discover.specs.Laws.{ModulesHaveFiles}
 
@@ -34,10 +39,15 @@ of_build_file files b l p e =
     } in
     (b.file, subst (λ (m : LabelParts). IsFileOf files m b.file) (label_is b l e) own)
 
-pub modules_have_files : ModulesHaveFiles
-modules_have_files files rules l w (IsModule.build b c e) = of_build_file files b l (package_words files b w c) e
-modules_have_files files rules l w (IsModule.loaded m i c) =
+as_read : (files : List File) (rules : Rules) (l : LabelParts) → IsWorkspace files → IsModule (packages_of files) (parsed_of (inputs_of files rules)) l → (f : File) × IsFileOf files l f
+as_read files rules l w (IsModule.build b c e) = of_build_file files b l (package_words files b w c) e
+as_read files rules l w (IsModule.loaded m i c) =
     let inputs : InputParts = inputs_of files rules in
     let n = loaded_files inputs m l c in
     let r = named files (packages_of files) (package_of m) n.load.line n.load.label l n.names in
     file_is_there files l r.1.file
+
+pub modules_have_files : ModulesHaveFiles
+modules_have_files files rules fronts l w are is =
+    let read : fronts ≡ parsed_of (inputs_of files rules) = fronts_are (inputs_of files rules) fronts are in
+    as_read files rules l w (subst (λ (f : Fronts). IsModule (packages_of files) f l) read is)

@@ -12,7 +12,7 @@ use Rattle.bq_label_set.proofs.Added.{those_that_differ}
 use Rattle.bq_board_plan.specs.Graph.{Loads, edges, max_modules, max_edges, Fits, IsGraph}
 use Rattle.bq_load_front.specs.Inputs.{InputParts}
 use Rattle.bq_load_front.specs.Front.{loads_by}
-use Rattle.bq_load_front.specs.Parsed.{loads_of}
+use Rattle.bq_load_front.specs.Reading.{parsed_of, loads_of}
 use Rattle.bq_load_discover.specs.declared.modules.Module.{Module}
 use Rattle.bq_load_discover.specs.Module.{labels_of, AreValid, label_cmp, module_cmp}
 use Rattle.bq_load_discover.specs.Modules.{IsModule, AreTooMany, edges_from}
@@ -48,7 +48,7 @@ module _ (inputs : InputParts) (found : List Module) (f : AreFound inputs found)
       let a = are_modules inputs found f ms p s v in
       a.all l (IsModule.loaded m (a.only m c) d)
 
-  rows : map (map (slice_get (labels_of ms))) (rows_of (labels_of ms) ms) ≡ map (λ m. map (λ l. Some l) (edges_from inputs m)) (labels_of ms)
+  rows : map (map (slice_get (labels_of ms))) (rows_of (labels_of ms) ms) ≡ map (λ m. map (λ l. Some l) (edges_from (parsed_of inputs) m)) (labels_of ms)
   rows = all_rows inputs (labels_of ms) (differ (labels_of ms) (modules_ascend found f.distinct ms p s v)) ms (still_read inputs found f ms p s v) all_loaded
 
   pub is_read_graph : (bs : List BuildFile) → bs ≡ inputs.packages → IsGraph (rows_of (labels_of ms) ms) → IsReadGraph inputs (record { labels = labels_of ms; modules = ms; edges = rows_of (labels_of ms) ms; packages = bs })
@@ -58,9 +58,9 @@ module _ (inputs : InputParts) (found : List Module) (f : AreFound inputs found)
     packages = b;
   }
 
-  pub too_many_edges : ¬ Fits (rows_of (labels_of ms) ms) → AreTooMany inputs
+  pub too_many_edges : ¬ Fits (rows_of (labels_of ms) ms) → AreTooMany inputs.packages (parsed_of inputs)
   too_many_edges n =
-      let counted : edges (rows_of (labels_of ms) ms) ≡ length (flat_map (edges_from inputs) (labels_of ms)) = edges_count (slice_get (labels_of ms)) (edges_from inputs) (rows_of (labels_of ms) ms) (labels_of ms) rows in
+      let counted : edges (rows_of (labels_of ms) ms) ≡ length (flat_map (edges_from (parsed_of inputs)) (labels_of ms)) = edges_count (slice_get (labels_of ms)) (edges_from (parsed_of inputs)) (rows_of (labels_of ms) ms) (labels_of ms) rows in
       let long : length (rows_of (labels_of ms) ms) ≡ length ms = length-map ms (λ (m : Module). row_of (labels_of ms) (loads_by m.front)) in
       let lists : length (rows_of (labels_of ms) ms) ≤ max_modules = omega (arith, long, length_permutation found ms p, f.few) in
       let many : max_edges < edges (rows_of (labels_of ms) ms) = lt_of_not-le (λ h. n (lists, h)) in
@@ -93,7 +93,7 @@ module _ (found : List Module) (d : IsDistinct same_label (labels_of found)) (sm
   held_graph g inputs f b = subst (λ (z : GraphParts). IsReadGraph inputs z) whole (is_read_graph inputs found f ms p s valid bs b (subst (λ (z : Loads). IsGraph z) same g))
 
 module _ (found ms : List Module) (p : IsPermutation found ms) (s : IsSorted module_cmp ms) (held again : List Module) (h : held ≡ ms) (a : again ≡ ms) (v : AreValid held) (ls seen : List LabelParts) (n : ls ≡ labels_of held) (k : seen ≡ ls) where
-  pub held_too_many : ¬ Fits (rows_of seen again) → (inputs : InputParts) → AreFound inputs found → AreTooMany inputs
+  pub held_too_many : ¬ Fits (rows_of seen again) → (inputs : InputParts) → AreFound inputs found → AreTooMany inputs.packages (parsed_of inputs)
   held_too_many none inputs f =
       let valid : AreValid ms = subst (λ (z : List Module). AreValid z) h v in
       let same : rows_of seen again ≡ rows_of (labels_of ms) ms = ap (λ (z : List LabelParts). rows_of z again) (k ∙ (n ∙ ap labels_of h)) ∙ ap (λ (z : List Module). rows_of (labels_of ms) z) a in

@@ -4,20 +4,23 @@ use Rattle.std.specs.List.{Contains, IsDistinct, flat_map}
 use Rattle.std.proofs.lemmas.List.{length-map}
 use Rattle.std.proofs.lemmas.Map.Made.{length-le_from_is_member}
 use Rattle.std.proofs.lemmas.Map.Views.{Contains-from_any, list_any-from_Contains}
+use Rattle.bq_label.specs.declared.packages.BuildFile.{BuildFile}
 use Rattle.bq_label.specs.Label.{LabelParts}
 use Rattle.bq_label.proofs.Orders.{same_ascending}
 use Rattle.bq_label_set.specs.Labels.{same_label, same_label-Decides, same_label-equiv}
 use Rattle.bq_label_set.proofs.Numbers.{the_number}
 use Rattle.bq_board_plan.specs.Graph.{Loads, edges}
-use Rattle.bq_load_front.specs.Inputs.{InputParts}
+use Rattle.bq_load_front.specs.Parsed.{Fronts}
+use Rattle.bq_load_front.proofs.Fronts.{same_fronts}
 use Rattle.bq_load_discover.specs.Module.{label_cmp, label_cmp_total}
 use Rattle.bq_load_discover.specs.Modules.{AreModules, AreTooMany, edges_from}
+use Rattle.bq_load_discover.specs.LoadGraph.{IsLoadGraph}
 use Rattle.bq_load_discover.specs.Laws.{OneLoadGraph, TooManyForALoadGraph}
 use Rattle.bq_load_discover.proofs.Ordered.{differ}
 use Rattle.bq_load_discover.proofs.Rows.{edges_count}
 
-pub same_modules : (inputs : InputParts) (ls ms : List LabelParts) → AreModules inputs ls → AreModules inputs ms → ls ≡ ms
-same_modules inputs ls ms a b = same_ascending label_cmp label_cmp_total ls ms a.ascending b.ascending (λ l c. b.all l (a.only l c)) (λ l c. a.all l (b.only l c))
+pub same_modules : (packages : List BuildFile) (fronts : Fronts) (ls ms : List LabelParts) → AreModules packages fronts ls → AreModules packages fronts ms → ls ≡ ms
+same_modules packages fronts ls ms a b = same_ascending label_cmp label_cmp_total ls ms a.ascending b.ascending (λ l c. b.all l (a.only l c)) (λ l c. a.all l (b.only l c))
 
 -- ---- the rows
 
@@ -68,24 +71,35 @@ module _ (ls : List LabelParts) (d : IsDistinct same_label ls) where
 
 -- ---- the graph
 
+module _ (packages : List BuildFile) (fronts : Fronts) where
+  one_graph : (ls ms : List LabelParts) (p q : Loads) → IsLoadGraph packages fronts ls p → IsLoadGraph packages fronts ms q → (ls ≡ ms) × (p ≡ q)
+  one_graph ls ms p q a b =
+      let labels : ls ≡ ms = same_modules packages fronts ls ms a.modules b.modules in
+      let rows : map (map (slice_get ms)) p ≡ map (λ l. map (λ k. Some k) (edges_from fronts l)) ms =
+      subst (λ (z : List LabelParts). map (map (slice_get z)) p ≡ map (λ l. map (λ k. Some k) (edges_from fronts l)) z) labels a.edges in
+      (labels, same_rows ms (differ ms b.modules.ascending) p q (edges_from fronts) ms rows b.edges)
+
 pub one_load_graph : OneLoadGraph
-one_load_graph inputs ls ms p q a b =
-    let labels : ls ≡ ms = same_modules inputs ls ms a.modules b.modules in
-    let rows : map (map (slice_get ms)) p ≡ map (λ l. map (λ k. Some k) (edges_from inputs l)) ms =
-    subst (λ (z : List LabelParts). map (map (slice_get z)) p ≡ map (λ l. map (λ k. Some k) (edges_from inputs l)) z) labels a.edges in
-    (labels, same_rows ms (differ ms b.modules.ascending) p q (edges_from inputs) ms rows b.edges)
+one_load_graph inputs a b is-a is-b ls ms p q x y =
+    let one : b ≡ a = same_fronts inputs b a is-b is-a in
+    one_graph inputs.packages a ls ms p q x (subst (λ (f : Fronts). IsLoadGraph inputs.packages f ms q) one y)
 
 among : (some ls : List LabelParts) → ((l : LabelParts) → Contains some l → Contains ls l) → IsDistinct same_label some → length some ≤ length ls
 among some ls f d = length-le_from_is_member same_label-equiv some ls d (λ q h.
     list_any-from_Contains same_label-equiv q ls (f q (Contains-from_any (λ x y e. (same_label-Decides x y).0 e) q some h)))
 
-pub too_many_for_a_load_graph : TooManyForALoadGraph
-too_many_for_a_load_graph inputs labels p (AreTooMany.modules some d many only) x =
+too_many : (packages : List BuildFile) (fronts : Fronts) (labels : List LabelParts) (p : Loads) → AreTooMany packages fronts → ¬ IsLoadGraph packages fronts labels p
+too_many packages fronts labels p (AreTooMany.modules some d many only) x =
     let few : length some ≤ length labels = among some labels (λ l c. x.modules.all l (only l c)) d in
-    let rows : length p ≡ length labels = sym (length-map p (map (slice_get labels))) ∙ (ap length x.edges ∙ length-map labels (λ l. map (λ k. Some k) (edges_from inputs l))) in
+    let rows : length p ≡ length labels = sym (length-map p (map (slice_get labels))) ∙ (ap length x.edges ∙ length-map labels (λ l. map (λ k. Some k) (edges_from fronts l))) in
     omega (arith, few, rows, many, x.valid.0.0)
-too_many_for_a_load_graph inputs labels p (AreTooMany.edges ls a many) x =
-    let same : ls ≡ labels = same_modules inputs ls labels a x.modules in
-    let counted : edges p ≡ length (flat_map (edges_from inputs) labels) = edges_count (slice_get labels) (edges_from inputs) p labels x.edges in
-    let here : length (flat_map (edges_from inputs) ls) ≡ length (flat_map (edges_from inputs) labels) = ap (λ (z : List LabelParts). length (flat_map (edges_from inputs) z)) same in
+too_many packages fronts labels p (AreTooMany.edges ls a many) x =
+    let same : ls ≡ labels = same_modules packages fronts ls labels a x.modules in
+    let counted : edges p ≡ length (flat_map (edges_from fronts) labels) = edges_count (slice_get labels) (edges_from fronts) p labels x.edges in
+    let here : length (flat_map (edges_from fronts) ls) ≡ length (flat_map (edges_from fronts) labels) = ap (λ (z : List LabelParts). length (flat_map (edges_from fronts) z)) same in
     omega (arith, counted, here, many, x.valid.0.1)
+
+pub too_many_for_a_load_graph : TooManyForALoadGraph
+too_many_for_a_load_graph inputs a b is-a is-b labels p many x =
+    let one : b ≡ a = same_fronts inputs b a is-b is-a in
+    too_many inputs.packages a labels p many (subst (λ (f : Fronts). IsLoadGraph inputs.packages f labels p) one x)

@@ -16,6 +16,7 @@ use Rattle.bq_label.proofs.Orders.{strict_from_sort}
 use Rattle.bq_label.proofs.Readings.{one_full_form}
 use Rattle.bq_label_set.specs.Labels.{same_label, same_label-Decides}
 use Rattle.bq_load_front.specs.Inputs.{InputParts}
+use Rattle.bq_load_front.specs.Reading.{parsed_of}
 use Rattle.bq_load_discover.specs.declared.modules.Module.{Module}
 use Rattle.bq_load_discover.specs.Module.{module_of, IsRead, labels_of, AreValid, label_cmp, label_cmp_total, module_cmp, module_cmp_total}
 use Rattle.bq_load_discover.specs.Modules.{AreModules}
@@ -87,7 +88,7 @@ module _ (inputs : InputParts) (found : List Module) (f : AreFound inputs found)
   moved : IsPermutation (labels_of found) (labels_of ms)
   moved = IsPermutation-map (λ (m : Module). m.label) found ms p
 
-  pub are_modules : AreModules inputs (labels_of ms)
+  pub are_modules : AreModules inputs.packages (parsed_of inputs) (labels_of ms)
   are_modules = record {
     ascending = modules_ascend found f.distinct ms p s v;
     all = λ l i. Contains-permutation (labels_of found) (labels_of ms) l moved (f.all l i);

@@ -12,7 +12,7 @@ use Rattle.bq_label_set.proofs.Numbers.{the_number}
 use Rattle.bq_board_plan.specs.Graph.{Loads, sources, edges}
 use Rattle.bq_load_front.specs.Inputs.{InputParts}
 use Rattle.bq_load_front.specs.Front.{loads_by}
-use Rattle.bq_load_front.specs.Parsed.{loads_of}
+use Rattle.bq_load_front.specs.Reading.{parsed_of, loads_of}
 use Rattle.bq_load_front.proofs.ByName.{loads_agree}
 use Rattle.bq_load_discover.specs.declared.modules.Module.{Module}
 use Rattle.bq_load_discover.specs.Module.{module_of}
@@ -55,18 +55,18 @@ module _ (inputs : InputParts) (ls : List LabelParts) (d : IsDistinct same_label
   AreKnown : List LabelParts → Type 0
   AreKnown ms = (m l : LabelParts) → Contains ms m → Contains (loads_of inputs m) l → Contains ls l
 
-  one_row : (m : LabelParts) → ((l : LabelParts) → Contains (loads_of inputs m) l → Contains ls l) → map (slice_get ls) (row_of ls (loads_by ((module_of inputs m).front))) ≡ map (λ l. Some l) (edges_from inputs m)
+  one_row : (m : LabelParts) → ((l : LabelParts) → Contains (loads_of inputs m) l → Contains ls l) → map (slice_get ls) (row_of ls (loads_by ((module_of inputs m).front))) ≡ map (λ l. Some l) (edges_from (parsed_of inputs) m)
   one_row m f = ap (λ (z : List LabelParts). map (slice_get ls) (row_of ls z)) (loads_are inputs m) ∙ row_is ls (loads_of inputs m) d f
 
-  rows_are : (ms : List LabelParts) → AreKnown ms → map (map (slice_get ls)) (rows_of ls (map (module_of inputs) ms)) ≡ map (λ m. map (λ l. Some l) (edges_from inputs m)) ms
+  rows_are : (ms : List LabelParts) → AreKnown ms → map (map (slice_get ls)) (rows_of ls (map (module_of inputs) ms)) ≡ map (λ m. map (λ l. Some l) (edges_from (parsed_of inputs) m)) ms
   unfolding AreKnown
   rows_are [] k = refl
   rows_are (m ∷ ms) k =
       ap (λ (z : List (Option LabelParts)). z ∷ map (map (slice_get ls)) (rows_of ls (map (module_of inputs) ms))) (one_row m (λ l c. k m l (at_head m ms) c))
-      ∙ ap (λ (z : List (List (Option LabelParts))). map (λ l. Some l) (edges_from inputs m) ∷ z) (rows_are ms (λ n l c e. k n l (in_tail m ms n c) e))
+      ∙ ap (λ (z : List (List (Option LabelParts))). map (λ l. Some l) (edges_from (parsed_of inputs) m) ∷ z) (rows_are ms (λ n l c e. k n l (in_tail m ms n c) e))
 
   pub all_rows : (ms : List Module) → ms ≡ map (module_of inputs) ls → ((m l : LabelParts) → Contains ls m → Contains (loads_of inputs m) l → Contains ls l)
-      → map (map (slice_get ls)) (rows_of ls ms) ≡ map (λ m. map (λ l. Some l) (edges_from inputs m)) ls
+      → map (map (slice_get ls)) (rows_of ls ms) ≡ map (λ m. map (λ l. Some l) (edges_from (parsed_of inputs) m)) ls
   unfolding AreKnown
   all_rows ms e k = ap (λ (z : List Module). map (map (slice_get ls)) (rows_of ls z)) e ∙ rows_are ls k
 

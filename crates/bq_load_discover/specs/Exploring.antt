@@ -9,7 +9,7 @@ use Rattle.bq_board_plan.specs.Graph.{max_modules}
 use Rattle.std.specs.Prelude.{Vec}
 use Rattle.std.specs.Global.{Global}
 use Rattle.bq_load_front.specs.Inputs.{InputParts}
-use Rattle.bq_load_front.specs.Parsed.{loads_of}
+use Rattle.bq_load_front.specs.Reading.{parsed_of, loads_of}
 use Rattle.bq_load_discover.specs.declared.modules.Module.{Module}
 use Rattle.bq_load_discover.specs.Module.{module_of, labels_of, IsRead}
 use Rattle.bq_load_discover.specs.Modules.{IsModule, AreTooMany}
@@ -20,7 +20,7 @@ pub record Explores (inputs : InputParts) (ls : List LabelParts) (ms : List Modu
   pub within : length ms ≤ length ls
   pub read : ms ≡ map (module_of inputs) (take (length ms) ls)
   pub distinct : IsDistinct same_label ls
-  pub only : (l : LabelParts) → Contains ls l → IsModule inputs l
+  pub only : (l : LabelParts) → Contains ls l → IsModule inputs.packages (parsed_of inputs) l
   pub builds : (b : BuildFile) (l : LabelParts) → Contains inputs.packages b → build_label b ≡ Some l → Contains ls l
   pub closed : (m l : LabelParts) → Contains (take (length ms) ls) m → Contains (loads_of inputs m) l → Contains ls l
 
@@ -42,15 +42,15 @@ pub record AreFound (inputs : InputParts) (ms : List Module) : Type 0 where
   pub few : length ms ≤ max_modules
   pub read : All (IsRead inputs) ms
   pub distinct : IsDistinct same_label (labels_of ms)
-  pub all : (l : LabelParts) → IsModule inputs l → Contains (labels_of ms) l
-  pub only : (l : LabelParts) → Contains (labels_of ms) l → IsModule inputs l
+  pub all : (l : LabelParts) → IsModule inputs.packages (parsed_of inputs) l → Contains (labels_of ms) l
+  pub only : (l : LabelParts) → Contains (labels_of ms) l → IsModule inputs.packages (parsed_of inputs) l
 
 -- all modules are read, or there are too many
 abbrev pub AllAreRead : InputParts → Bool → List Module → Type 0
 AllAreRead inputs true ms = AreFound inputs ms
-AllAreRead inputs false ms = AreTooMany inputs
+AllAreRead inputs false ms = AreTooMany inputs.packages (parsed_of inputs)
 
 -- all modules, or there are too many
 abbrev pub Finds : InputParts → Option (Vec Module Global) → Type 0
-Finds inputs None = AreTooMany inputs
+Finds inputs None = AreTooMany inputs.packages (parsed_of inputs)
 Finds inputs (Some ms) = AreFound inputs ms.items

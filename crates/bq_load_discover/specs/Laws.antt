@@ -2,22 +2,29 @@
 use Rattle.std.specs.Prelude.{◌≡◌, List}
 use Rattle.bq_label.specs.declared.workspace.File.{File}
 use Rattle.bq_label.specs.Label.{LabelParts}
-use Rattle.bq_label.specs.Packages.{IsFileOf}
 use Rattle.bq_label.specs.Workspace.{IsWorkspace}
 use Rattle.bq_package_schema.specs.Schema.{Rules}
 use Rattle.bq_board_plan.specs.Graph.{Loads}
+use Rattle.bq_label.specs.Packages.{packages_of, IsFileOf}
 use Rattle.bq_load_front.specs.Inputs.{InputParts}
+use Rattle.bq_load_front.specs.Parsed.{Fronts, AreFronts}
 use Rattle.bq_load_discover.specs.Modules.{IsModule, AreTooMany}
 use Rattle.bq_load_discover.specs.LoadGraph.{IsLoadGraph, inputs_of}
 
 -- two load graphs of one workspace are one
 abbrev pub OneLoadGraph : Type 0
-OneLoadGraph = (inputs : InputParts) (ls ms : List LabelParts) (p q : Loads) → IsLoadGraph inputs ls p → IsLoadGraph inputs ms q → (ls ≡ ms) × (p ≡ q)
+OneLoadGraph =
+    (inputs : InputParts) (a b : Fronts) → AreFronts inputs a → AreFronts inputs b
+    → (ls ms : List LabelParts) (p q : Loads) → IsLoadGraph inputs.packages a ls p → IsLoadGraph inputs.packages b ms q → (ls ≡ ms) × (p ≡ q)
 
 -- where there are too many modules or edges there is no load graph
 abbrev pub TooManyForALoadGraph : Type 0
-TooManyForALoadGraph = (inputs : InputParts) (labels : List LabelParts) (p : Loads) → AreTooMany inputs → ¬ IsLoadGraph inputs labels p
+TooManyForALoadGraph =
+    (inputs : InputParts) (a b : Fronts) → AreFronts inputs a → AreFronts inputs b
+    → (labels : List LabelParts) (p : Loads) → AreTooMany inputs.packages a → ¬ IsLoadGraph inputs.packages b labels p
 
 -- each module has a file, the one that its label names in its repository
 abbrev pub ModulesHaveFiles : Type 0
-ModulesHaveFiles = (files : List File) (rules : Rules) (l : LabelParts) → IsWorkspace files → IsModule (inputs_of files rules) l → (f : File) × IsFileOf files l f
+ModulesHaveFiles =
+    (files : List File) (rules : Rules) (fronts : Fronts) (l : LabelParts) → IsWorkspace files → AreFronts (inputs_of files rules) fronts → IsModule (packages_of files) fronts l
+    → (f : File) × IsFileOf files l f

@@ -9,6 +9,8 @@ use Rattle.bq_resolve_scope.specs.Names.{with_each, with_name}
 use Rattle.bq_package_schema.specs.Schema.{Rules}
 use Rattle.bq_board_plan.specs.Graph.{Loads, IsGraph}
 use Rattle.bq_load_front.specs.Inputs.{InputParts}
+use Rattle.bq_load_front.specs.Parsed.{Fronts}
+use Rattle.bq_load_front.specs.Reading.{parsed_of}
 use Rattle.bq_load_discover.specs.declared.modules.Module.{Module}
 use Rattle.bq_load_discover.specs.declared.load_err.LoadErr.{LoadErr}
 use Rattle.bq_load_discover.specs.declared.load_err.LoadErr.TheVariants as e
@@ -35,18 +37,18 @@ inputs_of files rules = record { files = files; packages = packages_of files; ru
 
 -- the load graph of a workspace: the labels of its modules in order, and for each the numbers of the modules that it loads, each once, in the
 -- order in which it first loads them
-pub record IsLoadGraph (inputs : InputParts) (labels : List LabelParts) (loads : Loads) : Type 0 where
-  pub modules : AreModules inputs labels
-  pub edges : map (map (slice_get labels)) loads ≡ map (λ l. map Some (edges_from inputs l)) labels
+pub record IsLoadGraph (packages : List BuildFile) (fronts : Fronts) (labels : List LabelParts) (loads : Loads) : Type 0 where
+  pub modules : AreModules packages fronts labels
+  pub edges : map (map (slice_get labels)) loads ≡ map (λ l. map Some (edges_from fronts l)) labels
   pub valid : IsGraph loads
 
 -- the load graph, with what the code gives for each file, and the packages
 pub record IsReadGraph (inputs : InputParts) (g : GraphParts) : Type 0 where
-  pub graph : IsLoadGraph inputs g.labels g.edges
+  pub graph : IsLoadGraph inputs.packages (parsed_of inputs) g.labels g.edges
   pub read : g.modules ≡ map (module_of inputs) g.labels
   pub packages : g.packages ≡ inputs.packages
 
 -- the load graph, or there are too many modules or edges; memory aside
 abbrev pub Discovers : InputParts → Result GraphParts LoadErr → Type 0
 Discovers inputs (Ok g) = IsReadGraph inputs g
-Discovers inputs (Err why) = (why ≡ e.TooManyModules → AreTooMany inputs) × ((line : ℕ) → ¬ (why ≡ e.Schema line))
+Discovers inputs (Err why) = (why ≡ e.TooManyModules → AreTooMany inputs.packages (parsed_of inputs)) × ((line : ℕ) → ¬ (why ≡ e.Schema line))

@@ -7,30 +7,29 @@ use Rattle.bq_label.specs.Label.{LabelParts}
 use Rattle.bq_label.specs.Packages.{build_label}
 use Rattle.bq_label_set.specs.Labels.{same_label, with_labels}
 use Rattle.bq_board_plan.specs.Graph.{max_modules, max_edges}
-use Rattle.bq_load_front.specs.Inputs.{InputParts}
-use Rattle.bq_load_front.specs.Parsed.{loads_of}
+use Rattle.bq_load_front.specs.Parsed.{Fronts, loads_in}
 use Rattle.bq_load_discover.specs.Module.{label_cmp}
 
--- the label is that of a module
-pub data IsModule (inputs : InputParts) : LabelParts → Type 0 where
-  build : {l : LabelParts} (b : BuildFile) → Contains inputs.packages b → build_label b ≡ Some l → IsModule inputs l
-  loaded : {l : LabelParts} (m : LabelParts) → IsModule inputs m → Contains (loads_of inputs m) l → IsModule inputs l
+-- the label is that of a module, where these are the packages, and what the files of labels are
+pub data IsModule (packages : List BuildFile) (fronts : Fronts) : LabelParts → Type 0 where
+  build : {l : LabelParts} (b : BuildFile) → Contains packages b → build_label b ≡ Some l → IsModule packages fronts l
+  loaded : {l : LabelParts} (m : LabelParts) → IsModule packages fronts m → Contains (loads_in (fronts m)) l → IsModule packages fronts l
 
 -- the labels of the BUILD files
 abbrev pub build_labels : List BuildFile → List LabelParts
 build_labels packages = filter_map build_label packages
 
 -- the modules, each once, in the order of their labels
-pub record AreModules (inputs : InputParts) (ls : List LabelParts) : Type 0 where
+pub record AreModules (packages : List BuildFile) (fronts : Fronts) (ls : List LabelParts) : Type 0 where
   pub ascending : IsStrictlySortedBy label_cmp ls
-  pub all : (l : LabelParts) → IsModule inputs l → Contains ls l
-  pub only : (l : LabelParts) → Contains ls l → IsModule inputs l
+  pub all : (l : LabelParts) → IsModule packages fronts l → Contains ls l
+  pub only : (l : LabelParts) → Contains ls l → IsModule packages fronts l
 
 -- what the module loads: two loads of one file are one edge, at its first place
-abbrev pub edges_from : InputParts → LabelParts → List LabelParts
-edges_from inputs l = with_labels [] (loads_of inputs l)
+abbrev pub edges_from : Fronts → LabelParts → List LabelParts
+edges_from fronts l = with_labels [] (loads_in (fronts l))
 
 -- more labels than a load graph may have are modules, or they have more edges
-pub data AreTooMany (inputs : InputParts) : Type 0 where
-  modules : (some : List LabelParts) → IsDistinct same_label some → max_modules < length some → ((l : LabelParts) → Contains some l → IsModule inputs l) → AreTooMany inputs
-  edges : (ls : List LabelParts) → AreModules inputs ls → max_edges < length (flat_map (edges_from inputs) ls) → AreTooMany inputs
+pub data AreTooMany (packages : List BuildFile) (fronts : Fronts) : Type 0 where
+  modules : (some : List LabelParts) → IsDistinct same_label some → max_modules < length some → ((l : LabelParts) → Contains some l → IsModule packages fronts l) → AreTooMany packages fronts
+  edges : (ls : List LabelParts) → AreModules packages fronts ls → max_edges < length (flat_map (edges_from fronts) ls) → AreTooMany packages fronts

@@ -24,7 +24,8 @@ use Rattle.bq_load_front.specs.Agreement.{IsFrontOf, FrontsAgree, LoadsAgree}
 use Rattle.bq_load_front.specs.Code.{code_of, ◌>>=◌}
 use Rattle.bq_load_front.specs.Front.{load_of, front_at, front_of, loads_by}
 use Rattle.bq_load_front.specs.Inputs.{InputParts, universe_of}
-use Rattle.bq_load_front.specs.Parsed.{ParsedFront, trees_of, file_from, file_of_text, file_named, labels_of, kind_of, front_from, parsed_of, loads_in, loads_of}
+use Rattle.bq_load_front.specs.Parsed.{ParsedFront, file_named, labels_of, kind_of, front_from, loads_in}
+use Rattle.bq_load_front.specs.Reading.{trees_of, file_from, file_of_text, parsed_of}
 use Rattle.bq_load_front.proofs.Cases.{parsed_at, unless_broken}
 
 -- ---- the text
@@ -122,5 +123,4 @@ same_loads (Err why) (Ok front) h = absurd h
 same_loads (Err why) (Err told) h = refl
 
 pub loads_agree : LoadsAgree
-unfolding loads_of
 loads_agree inputs l = same_loads (parsed_of inputs l) (front_of inputs l) (fronts_agree inputs l)

@@ -8,7 +8,8 @@ use Rattle.bq_label.specs.Label.{LabelParts}
 use Rattle.bq_resolve_by_name.specs.Files.{ParsedFile}
 use Rattle.bq_load_front.specs.Code.{◌>>=◌}
 use Rattle.bq_load_front.specs.Inputs.{InputParts, universe_of}
-use Rattle.bq_load_front.specs.Parsed.{ParsedFront, file_of_text, kind_of, front_from}
+use Rattle.bq_load_front.specs.Parsed.{ParsedFront, kind_of, front_from}
+use Rattle.bq_load_front.specs.Reading.{file_of_text}
 
 -- the file, unless it breaks one of these rules
 abbrev pub unless_broken : ParsedFile → List Fault → Result ParsedFile Fault

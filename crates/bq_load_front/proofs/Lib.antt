@@ -2,6 +2,7 @@ pub mod Tokens
 pub mod Codes
 pub mod Cases
 pub mod Texts
+pub mod Fronts
 pub mod Loads
 pub mod ByName
 pub mod Places

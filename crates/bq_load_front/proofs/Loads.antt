@@ -10,7 +10,8 @@ use Rattle.bq_resolve_by_name.specs.Files.{ParsedFile}
 use Rattle.bq_resolve_by_name.specs.Loads.{WrittenLoad, file_loads}
 use Rattle.bq_load_front.specs.Code.{◌>>=◌}
 use Rattle.bq_load_front.specs.Inputs.{InputParts, universe_of}
-use Rattle.bq_load_front.specs.Parsed.{ParsedFront, file_of_text, file_named, labels_of, kind_of, front_from, parsed_of, loads_in, loads_of}
+use Rattle.bq_load_front.specs.Parsed.{ParsedFront, file_named, labels_of, kind_of, front_from, loads_in}
+use Rattle.bq_load_front.specs.Reading.{file_of_text, parsed_of}
 use Rattle.bq_load_front.proofs.Cases.{parsed_at}
 use Rattle.bq_load_front.specs.Laws.{named, IsFirstBadLoad, IsNamed, AreRead, LoadedFiles, LoadsOfFiles}
 
@@ -155,5 +156,5 @@ module _ (inputs : InputParts) (m l : LabelParts) where
   of_text (Some x) c = of_file (file_of_text (universe_of inputs (kind_of m)) x.content) c
 
 pub loaded_files : LoadedFiles
-unfolding loads_of parsed_of
+unfolding parsed_of
 loaded_files inputs m l c = of_text inputs m l (label_file inputs.files m) c

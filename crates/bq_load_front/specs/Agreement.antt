@@ -6,7 +6,8 @@ use Rattle.bq_resolve_by_name.specs.Files.{IsCodeOf}
 use Rattle.bq_load_front.specs.declared.front.Front.{Front}
 use Rattle.bq_load_front.specs.Front.{front_of, loads_by}
 use Rattle.bq_load_front.specs.Inputs.{InputParts}
-use Rattle.bq_load_front.specs.Parsed.{ParsedFront, parsed_of, loads_of}
+use Rattle.bq_load_front.specs.Parsed.{ParsedFront}
+use Rattle.bq_load_front.specs.Reading.{parsed_of, loads_of}
 
 -- the code of the file and the same loads, or the same fault
 abbrev pub IsFrontOf : Result ParsedFront Fault → Result Front Fault → Type 0

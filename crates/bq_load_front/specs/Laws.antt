@@ -1,5 +1,5 @@
 -- Words of the laws.
-use Rattle.std.specs.Prelude.{◌≡◌, ◌↔◌, ℕ, List, [], ◌∷◌, ◌++◌, map, Some, Result, Ok, Err}
+use Rattle.std.specs.Prelude.{◌≡◌, ◌↔◌, ℕ, List, [], ◌∷◌, ◌++◌, map, Result, Ok, Err}
 use Rattle.std.specs.List.{Contains}
 use Rattle.bq_base.specs.declared.fault.Fault.{Fault}
 use Rattle.bq_source.specs.declared.token.Token.{Token}
@@ -13,10 +13,10 @@ use Rattle.bq_resolve_scope.specs.Universe.{UniverseParts}
 use Rattle.bq_resolve_scope.specs.Files.{resolved}
 use Rattle.bq_resolve_by_name.specs.Files.{ParsedFile}
 use Rattle.bq_resolve_by_name.specs.Loads.{WrittenLoad}
-use Rattle.bq_resolve_by_name.specs.Violations.{first, violations}
 use Rattle.bq_load_front.specs.Code.{code_of}
 use Rattle.bq_load_front.specs.Inputs.{InputParts}
-use Rattle.bq_load_front.specs.Parsed.{file_of_text, file_named, labels_of, loads_of}
+use Rattle.bq_load_front.specs.Parsed.{ParsedFront, ReadsAsFile, IsFront, file_named, labels_of}
+use Rattle.bq_load_front.specs.Reading.{file_of_text, parsed_of, loads_of}
 
 -- the text reads as tokens, these as statements, and the names of these stand for what the code says
 pub record HasCode (universe : UniverseParts) (text : List ℕ) (code : Resolved) : Type 0 where
@@ -32,25 +32,12 @@ pub data HasFault (universe : UniverseParts) (text : List ℕ) (why : Fault) : T
   of_statements : (tokens : List Token) → Lexes text (Ok tokens) → Parses universe.kind (lexemes text tokens) (Err why) → HasFault universe text why
   of_names : (tokens : List Token) (trees : List TopLevel) → Lexes text (Ok tokens) → Parses universe.kind (lexemes text tokens) (Ok trees) → resolved universe trees ≡ Err why → HasFault universe text why
 
--- the text reads as tokens, these as the statements of this file, and no rule of names and flow is broken
-pub record IsTextOf (universe : UniverseParts) (text : List ℕ) (file : ParsedFile) : Type 0 where
-  pub tokens : List Token
-  pub reads : Lexes text (Ok tokens)
-  pub parses : Parses universe.kind (lexemes text tokens) (Ok file.statements)
-  pub known : file.universe ≡ universe
-  pub keeps : violations universe file.statements ≡ []
-
--- the text has this fault: of its tokens, else of its statements, else the first rule of names and flow that is broken
-pub data BreaksFirst (universe : UniverseParts) (text : List ℕ) (why : Fault) : Type 0 where
-  in_tokens : Lexes text (Err why) → BreaksFirst universe text why
-  in_statements : (tokens : List Token) → Lexes text (Ok tokens) → Parses universe.kind (lexemes text tokens) (Err why) → BreaksFirst universe text why
-  in_names : (tokens : List Token) (trees : List TopLevel) → Lexes text (Ok tokens) → Parses universe.kind (lexemes text tokens) (Ok trees) → first (violations universe trees) ≡ Some why → BreaksFirst universe text why
-
 abbrev pub FilesOfTexts : Type 0
-FilesOfTexts =
-    (universe : UniverseParts) (text : List ℕ)
-    → ((file : ParsedFile) → (file_of_text universe text ≡ Ok file) ↔ IsTextOf universe text file)
-    × ((why : Fault) → (file_of_text universe text ≡ Err why) ↔ BreaksFirst universe text why)
+FilesOfTexts = (universe : UniverseParts) (text : List ℕ) (r : Result ParsedFile Fault) → (file_of_text universe text ≡ r) ↔ ReadsAsFile universe text r
+
+-- the function that reads the file of a label gives what it is, and nothing else is
+abbrev pub FrontsOfLabels : Type 0
+FrontsOfLabels = (inputs : InputParts) (l : LabelParts) (r : Result ParsedFront Fault) → (parsed_of inputs l ≡ r) ↔ IsFront inputs l r
 
 abbrev pub CodesOfFiles : Type 0
 CodesOfFiles = (universe : UniverseParts) (text : List ℕ) (code : Resolved) → (code_of universe text ≡ Ok code) ↔ HasCode universe text code

@@ -2,6 +2,7 @@ pub mod Code
 pub mod Inputs
 pub mod NamedFiles
 pub mod Parsed
+pub mod Reading
 pub mod Front
 pub mod Agreement
 pub mod Laws

@@ -1,20 +1,22 @@
 -- What the file of a module is on its own: its statements and the files that its loads name, or its first fault. Names are names here: which
--- slots they get is a matter of the code (`Front`).
-use Rattle.std.specs.Prelude.{ℕ, List, [], ◌∷◌, ◌++◌, nat_eq, None, Some, Result, Ok, Err, codes, if◌then◌else◌}
+-- slots they get is a matter of the code (`Front`); that it is read in one way, and how, is a matter of the code too (`Reading`).
+use Rattle.std.specs.Prelude.{◌≡◌, ℕ, List, [], ◌∷◌, ◌++◌, nat_eq, None, Some, Result, Ok, Err, codes, if◌then◌else◌}
 use Rattle.std.specs.List.{ends_with}
 use Rattle.bq_base.specs.declared.fault.Fault.{Fault}
 use Rattle.bq_base.specs.declared.fault.FaultKind.TheVariants as f
 use Rattle.bq_base.specs.Fault.{fault_at}
-use Rattle.bq_source_lexer.specs.Tokens.{tokens_of}
+use Rattle.bq_source.specs.declared.token.Token.{Token}
+use Rattle.bq_source_lexer.specs.Reading.{Lexes}
 use Rattle.bq_parse_grammar.specs.Lexeme.{lexemes}
-use Rattle.bq_parse_grammar.specs.Parses.{statements_of}
+use Rattle.bq_parse_grammar.specs.Parses.{Parses}
 use Rattle.bq_parse_grammar.specs.declared.tree.FileKind.{FileKind}
 use Rattle.bq_parse_grammar.specs.declared.tree.FileKind.TheVariants as kinds
 use Rattle.bq_parse_grammar.specs.declared.tree.TopLevel.{TopLevel}
 use Rattle.bq_resolve_scope.specs.Universe.{UniverseParts}
 use Rattle.bq_resolve_by_name.specs.Files.{ParsedFile}
 use Rattle.bq_resolve_by_name.specs.Loads.{WrittenLoad, file_loads}
-use Rattle.bq_resolve_by_name.specs.Violations.{violations}
+use Rattle.bq_resolve_by_name.specs.Violations.{first, violations}
+use Rattle.bq_label.specs.declared.workspace.File.{File}
 use Rattle.bq_label.specs.Label.{PackageParts, LabelParts, package_of}
 use Rattle.bq_label.specs.Packages.{label_file}
 use Rattle.bq_load_label.specs.NamedFile.{load_label}
@@ -28,17 +30,15 @@ pub record ParsedFront : Type 0 where
 
 -- ---- its text
 
--- the statements of a text, or its first fault
-unfoldable pub trees_of : UniverseParts → List ℕ → Result (List TopLevel) Fault
-trees_of universe text = tokens_of text >>= λ ts. statements_of universe.kind (lexemes text ts)
-
--- a file of these statements, unless it breaks a rule of names and flow
-abbrev pub file_from : UniverseParts → List TopLevel → Result ParsedFile Fault
-file_from universe ts = elim (violations universe ts) [ [] ↦ Ok (record { universe = universe; statements = ts }) | why ∷ more ↦ Err why ]
-
--- the file of a text: its tokens, the trees of its statements, and no rule of names and flow that these break
-unfoldable pub file_of_text : UniverseParts → List ℕ → Result ParsedFile Fault
-file_of_text universe text = trees_of universe text >>= file_from universe
+-- the text is that of this file: it reads as tokens, these as statements, and they break no rule of names and flow. Or it has this fault: of its
+-- tokens, else of its statements, else the first of these rules that is broken.
+pub data ReadsAsFile (universe : UniverseParts) (text : List ℕ) (r : Result ParsedFile Fault) : Type 0 where
+  bad_tokens : (why : Fault) → Lexes text (Err why) → r ≡ Err why → ReadsAsFile universe text r
+  bad_statements : (tokens : List Token) (why : Fault) → Lexes text (Ok tokens) → Parses universe.kind (lexemes text tokens) (Err why) → r ≡ Err why → ReadsAsFile universe text r
+  bad_names : (tokens : List Token) (trees : List TopLevel) (why : Fault) → Lexes text (Ok tokens) → Parses universe.kind (lexemes text tokens) (Ok trees)
+      → first (violations universe trees) ≡ Some why → r ≡ Err why → ReadsAsFile universe text r
+  good : (tokens : List Token) (trees : List TopLevel) → Lexes text (Ok tokens) → Parses universe.kind (lexemes text tokens) (Ok trees) → violations universe trees ≡ []
+      → r ≡ Ok (record { universe = universe; statements = trees }) → ReadsAsFile universe text r
 
 -- ---- its loads
 
@@ -62,17 +62,20 @@ abbrev pub front_from : InputParts → LabelParts → ParsedFile → Result Pars
 front_from inputs l file = labels_of (file_named inputs (package_of l)) [] (file_loads file.statements) >>= λ ls. Ok (record { file = file; loads = ls })
 
 -- what the file of this label is; no module of a workspace lacks its file
-unfoldable pub parsed_of : InputParts → LabelParts → Result ParsedFront Fault
-parsed_of inputs l = elim (label_file inputs.files l) [
-  | None ↦ Err (fault_at f.NoSuchFile 0)
-  | Some x ↦ file_of_text (universe_of inputs (kind_of l)) x.content >>= front_from inputs l
-]
+pub data IsFront (inputs : InputParts) (l : LabelParts) (r : Result ParsedFront Fault) : Type 0 where
+  no_file : label_file inputs.files l ≡ None → r ≡ Err (fault_at f.NoSuchFile 0) → IsFront inputs l r
+  found : (x : File) (file : Result ParsedFile Fault) → label_file inputs.files l ≡ Some x → ReadsAsFile (universe_of inputs (kind_of l)) x.content file
+      → r ≡ (file >>= front_from inputs l) → IsFront inputs l r
+
+-- something that the file of each label is
+abbrev pub Fronts : Type 0
+Fronts = LabelParts → Result ParsedFront Fault
+
+-- it is that of these files
+abbrev pub AreFronts : InputParts → Fronts → Type 0
+AreFronts inputs fronts = (l : LabelParts) → IsFront inputs l (fronts l)
 
 -- the labels of the loads of a file: none if it has a fault of its own or a bad load
 abbrev pub loads_in : Result ParsedFront Fault → List LabelParts
 loads_in (Err why) = []
 loads_in (Ok front) = front.loads
-
--- the labels that a file loads, in source order
-unfoldable pub loads_of : InputParts → LabelParts → List LabelParts
-loads_of inputs l = loads_in (parsed_of inputs l)

@@ -1,13 +1,18 @@
 //! What fronts are, said of the texts, statements and labels of files. The functions do nothing: their contracts are
 //! the laws.
 
-ghost use Rattle.bq_load_front.specs.Laws.{CodesOfFiles, FaultsOfFiles, FilesOfTexts, LoadsOfFiles, LoadedFiles};
+ghost use Rattle.bq_load_front.specs.Laws.{CodesOfFiles, FaultsOfFiles, FilesOfTexts, FrontsOfLabels, LoadsOfFiles, LoadedFiles};
 ghost use Rattle.bq_load_front.specs.Agreement.{FrontsAgree, LoadsAgree};
 
 /// A text is that of a file exactly if it reads as tokens, these as the file's statements, and no rule of names and flow is broken;
 /// its fault is that of its tokens, else that of its statements, else the first of these rules that it breaks.
 pub fn files_of_texts()
     ensures { FilesOfTexts }
+{}
+
+/// What the file of a label is, by the grammar and the rules of names, is one thing, and `parsed_of` reads it.
+pub fn fronts_of_labels()
+    ensures { FrontsOfLabels }
 {}
 
 /// A file has a code exactly if its text reads as tokens, these as statements, and the names of these stand for

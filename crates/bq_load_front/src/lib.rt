@@ -3,7 +3,8 @@
 //!
 //! The promise: [`front_of`] returns exactly what its definition says of the file: its tokens, the trees of its
 //! statements, what their names stand for, and then its loads in the order in which they are written. `specs/Parsed.antt`
-//! says by names what the file of a module is, `specs/Front.antt` the code's part, by slots; they agree ([`fronts_agree`]).
+//! says by the grammar, and by names, what the file of a module is; `specs/Reading.antt` has the functions that read it
+//! ([`fronts_of_labels`]), `specs/Front.antt` the code's part, by slots; they agree ([`fronts_agree`]).
 //!
 //! In reading order:
 //!
@@ -24,6 +25,7 @@ pub use code::code_of;
 pub use front::{Front, front_of, kind_of};
 pub use inputs::Inputs;
 pub use laws::{
-    codes_of_files, faults_of_files, files_of_texts, fronts_agree, loaded_files, loads_of_files,
+    codes_of_files, faults_of_files, files_of_texts, fronts_agree, fronts_of_labels, loaded_files,
+    loads_of_files,
 };
 pub use named_files::NamedFiles;

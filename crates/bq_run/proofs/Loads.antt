@@ -11,6 +11,7 @@ use Rattle.bq_load_by_name.specs.Schema.{schema_in}
 use Rattle.bq_load_by_name.specs.Loading.{loading_in}
 use Rattle.bq_load_by_name.specs.Loaded.{IsGathered, IsLoaded}
 use Rattle.bq_load_by_name.specs.Views.{OutcomeView}
+use Rattle.bq_load_by_name.specs.Reading.{parsed_of}
 use Rattle.bq_load_by_name.specs.Results.{Loaded, LoadsByNames}
 use Rattle.bq_load_by_name.proofs.Outcomes.{outcomes_agree}
 use Rattle.bq_query_check.specs.Checked.{IsChecked}
@@ -31,9 +32,9 @@ loaded_inside bs os l is =
 pub loaded_report : (o : Options) (files : List File) (x : Formula) (rules : Rules) (l : Loaded) (r : ReportView) → IsChecked o.query.items x → schema_in files ≡ Ok rules
     → LoadsByNames files rules o.max_steps (Ok l) → Reports (inside l) x o.output r → IsReportOn o files r
 loaded_report o files x rules l r checked schema loads reports =
-    IsReportOn.loaded x rules loads.0 loads.1 checked schema loads.2 (subst (λ (i : Inside). Reports i x o.output r) (loaded_inside _ _ l loads.3) reports)
+    IsReportOn.loaded x rules loads.0 loads.2 loads.3 checked schema loads.1 loads.4 (subst (λ (i : Inside). Reports i x o.output r) (loaded_inside _ _ l loads.5) reports)
 
 -- what is inside a workspace whose modules gave this by slots is what they give by names
 module _ (files : List File) (rules : Rules) (limit : ℕ) (g : GraphParts) (is : IsReadGraph (inputs_of files rules) g) where
-  pub inside_by_names : (l : Loaded) → IsLoaded (loading_in files rules limit g) g.edges l → inside l ≡ loaded_in files rules limit g.labels g.edges
+  pub inside_by_names : (l : Loaded) → IsLoaded (loading_in files rules limit g) g.edges l → inside l ≡ loaded_in files rules (parsed_of (inputs_of files rules)) limit g.labels g.edges
   inside_by_names l by_slots = loaded_inside (packages_of files) _ l by_slots ∙ sym (ap (inside_by (packages_of files)) (outcomes_agree files rules limit g is))

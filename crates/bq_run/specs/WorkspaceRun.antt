@@ -14,6 +14,7 @@ use Rattle.bq_load_by_name.specs.Schema.{schema_in}
 use Rattle.bq_load_by_name.specs.Loaded.{fault_lines, packages_in, print_lines}
 use Rattle.bq_load_by_name.specs.Views.{OutcomeView}
 use Rattle.bq_load_by_name.specs.Parsed.{parsed_in}
+pub use Rattle.bq_load_by_name.specs.Parsed.{Fronts, AreFronts}
 use Rattle.bq_load_by_name.specs.Results.{outcomes}
 use Rattle.bq_query_lex.specs.declared.query_error.QueryErr.{QueryErr}
 use Rattle.bq_query_check.specs.Checked.{IsChecked, IsWrong}
@@ -31,9 +32,10 @@ refused why = record { faults = []; answer = []; end = Err why }
 abbrev pub inside_by : List BuildFile → List OutcomeView → Inside
 inside_by bs os = record { prints = print_lines os; faults = sorted_lines (fault_lines os); packages = packages_in bs os }
 
--- what is in the workspace once the modules of its load graph are evaluated by names, each with `limit` steps
-abbrev pub loaded_in : List File → Rules → ℕ → List LabelParts → Loads → Inside
-loaded_in files rules limit labels edges = inside_by (packages_of files) (outcomes (parsed_in files rules limit labels) edges)
+-- what is in the workspace once the modules of its load graph are evaluated by names, each with `limit` steps, where these are the files of
+-- labels
+abbrev pub loaded_in : List File → Rules → Fronts → ℕ → List LabelParts → Loads → Inside
+loaded_in files rules fronts limit labels edges = inside_by (packages_of files) (outcomes (parsed_in files rules fronts limit labels) edges)
 
 -- a report on these files: the first error there is, in this order, or the report of the loaded workspace
 pub data IsReportOn (o : Options) (files : List File) (r : ReportView) : Type 0 where
@@ -42,7 +44,8 @@ pub data IsReportOn (o : Options) (files : List File) (r : ReportView) : Type 0 
   -- E6
   wrong_schema : (x : Formula) (line : ℕ) → IsChecked o.query.items x → schema_in files ≡ Err line → r ≡ refused (Schema line) → IsReportOn o files r
   -- E7
-  too_many : (x : Formula) (rules : Rules) → IsChecked o.query.items x → schema_in files ≡ Ok rules → AreTooMany (inputs_of files rules)
-      → r ≡ refused TooManyModules → IsReportOn o files r
-  loaded : (x : Formula) (rules : Rules) (labels : List LabelParts) (edges : Loads) → IsChecked o.query.items x → schema_in files ≡ Ok rules
-      → IsLoadGraph (inputs_of files rules) labels edges → Reports (loaded_in files rules o.max_steps labels edges) x o.output r → IsReportOn o files r
+  too_many : (x : Formula) (rules : Rules) (fronts : Fronts) → IsChecked o.query.items x → schema_in files ≡ Ok rules → AreFronts (inputs_of files rules) fronts
+      → AreTooMany (packages_of files) fronts → r ≡ refused TooManyModules → IsReportOn o files r
+  loaded : (x : Formula) (rules : Rules) (fronts : Fronts) (labels : List LabelParts) (edges : Loads) → IsChecked o.query.items x → schema_in files ≡ Ok rules
+      → AreFronts (inputs_of files rules) fronts → IsLoadGraph (packages_of files) fronts labels edges
+      → Reports (loaded_in files rules fronts o.max_steps labels edges) x o.output r → IsReportOn o files r

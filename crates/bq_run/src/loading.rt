@@ -2,6 +2,7 @@
 
 ghost use Rattle.std.specs.Prelude.{◌≡◌, IfOk};
 ghost use Rattle.bq_load_by_name.specs.LoadGraph.{IsReadGraph, inputs_of};
+ghost use Rattle.bq_load_by_name.specs.Reading.{parsed_of};
 ghost use Rattle.bq_load_by_name.specs.Results.{LoadsByNames};
 ghost use Rattle.bq_run_report.specs.Report.{inside};
 ghost use Rattle.bq_run.specs.Run.{IsInRange};
@@ -54,7 +55,7 @@ pub fn load_graph<T: Threads + Wait + RandomSource + Sync>(
 ) -> Result<Loaded, AllocError>
     requires in_range { IsInRange options.now }
     requires graph { IsReadGraph (inputs_of workspace.now schema.now) graph }
-    ensures { IfOk result (λ l. inside l ≡ loaded_in workspace.now schema.now options.now.max_steps graph.labels graph.edges) }
+    ensures { IfOk result (λ l. inside l ≡ loaded_in workspace.now schema.now (parsed_of (inputs_of workspace.now schema.now)) options.now.max_steps graph.labels graph.edges) }
 {
     // PROOF: what it gives is inside the workspace
     Ok(load_graph_with(

@@ -2,6 +2,11 @@
 use Rattle.std.proofs.Common.{◌≡◌, ℕ, List, [], Some, None, Result, ap, subst, sym}
 use Rattle.bq_label.specs.declared.packages.BuildFile.{BuildFile}
 use Rattle.bq_label.specs.declared.workspace.File.{File}
+use Rattle.bq_package_schema.specs.Schema.{Rules}
+use Rattle.bq_load_front.specs.Parsed.{Fronts}
+use Rattle.bq_load_front.specs.Reading.{parsed_of}
+use Rattle.bq_load_front.proofs.Fronts.{are_fronts}
+use Rattle.bq_load_discover.specs.LoadGraph.{inputs_of}
 use Rattle.bq_query_check.specs.Checked.{IsChecked, IsWrong}
 use Rattle.bq_query_check.specs.Formula.{formula_of}
 use Rattle.bq_query_check.specs.declared.checked.CheckedQuery.{CheckedQuery}
@@ -48,12 +53,16 @@ reports packages modules i query form r tells =
     let found = replies (fault_in w (formula_of query.set)) packages w query form _ (status_by (all_faults i)) r.answer r.end tells.reply in
     (found.0, record { graph = w; made = tells.made; faults = tells.faults; reply = found.1 })
 
+-- what the code reads of the files of labels
+abbrev read : List File → Rules → Fronts
+read files rules = parsed_of (inputs_of files rules)
+
 by_query : (o : Options) (files : List File) (query : CheckedQuery) (r : ReportView) → IsChecked o.query.items (formula_of query.set) → IsFactsBy o.max_steps files (Some query) r → HasAnswer o files r
 by_query o files query r checked (IsFactsBy.wrong_schema line e is) = ([], IsReportOn.wrong_schema (formula_of query.set) line checked e (refusal r _ is))
-by_query o files query r checked (IsFactsBy.too_many rules e many is) = ([], IsReportOn.too_many (formula_of query.set) rules checked e many (refusal r _ is))
+by_query o files query r checked (IsFactsBy.too_many rules e many is) = ([], IsReportOn.too_many (formula_of query.set) rules (read files rules) checked e (are_fronts (inputs_of files rules)) many (refusal r _ is))
 by_query o files query r checked (IsFactsBy.loaded rules g e found tells) =
-    let answered = reports _ _ (loaded_in files rules o.max_steps g.labels g.edges) query o.output r tells in
-    (answered.0, IsReportOn.loaded (formula_of query.set) rules g.labels g.edges checked e found.graph answered.1)
+    let answered = reports _ _ (loaded_in files rules (read files rules) o.max_steps g.labels g.edges) query o.output r tells in
+    (answered.0, IsReportOn.loaded (formula_of query.set) rules (read files rules) g.labels g.edges checked e (are_fronts (inputs_of files rules)) found.graph answered.1)
 
 same_text : (a b : List ℕ) → Some a ≡ Some b → a ≡ b
 same_text a b e = cc

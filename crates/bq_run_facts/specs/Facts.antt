@@ -6,6 +6,7 @@ use Rattle.bq_label.specs.declared.packages.BuildFile.{BuildFile}
 use Rattle.bq_label.specs.declared.workspace.File.{File}
 use Rattle.bq_label.specs.Packages.{packages_of}
 use Rattle.bq_package_schema.specs.Schema.{Rules}
+use Rattle.bq_load_front.specs.Reading.{parsed_of}
 use Rattle.bq_load_discover.specs.LoadGraph.{GraphParts as LoadParts, IsReadGraph, inputs_of}
 use Rattle.bq_load_discover.specs.Modules.{AreTooMany}
 use Rattle.bq_load_discover.specs.Schema.{schema_in}
@@ -70,7 +71,7 @@ pub record TellsFacts (packages : List BuildFile) (modules : List ℕ) (i : Insi
 
 -- The same, of files with this schema and this load graph, where each module may take `limit` steps.
 abbrev pub TellsGraph : List File → Rules → ℕ → LoadParts → Option CheckedQuery → ReportView → Type 0
-TellsGraph files rules limit g asked r = TellsFacts (packages_of files) (module_lines g.modules) (loaded_in files rules limit g.labels g.edges) asked r
+TellsGraph files rules limit g asked r = TellsFacts (packages_of files) (module_lines g.modules) (loaded_in files rules (parsed_of (inputs_of files rules)) limit g.labels g.edges) asked r
 
 -- ---- the run
 
@@ -79,7 +80,7 @@ pub data IsFactsBy (limit : ℕ) (files : List File) (asked : Option CheckedQuer
   -- E6
   wrong_schema : (line : ℕ) → schema_in files ≡ Err line → r ≡ refused (Schema line) → IsFactsBy limit files asked r
   -- E7
-  too_many : (rules : Rules) → schema_in files ≡ Ok rules → AreTooMany (inputs_of files rules) → r ≡ refused TooManyModules → IsFactsBy limit files asked r
+  too_many : (rules : Rules) → schema_in files ≡ Ok rules → AreTooMany (packages_of files) (parsed_of (inputs_of files rules)) → r ≡ refused TooManyModules → IsFactsBy limit files asked r
   loaded : (rules : Rules) (g : LoadParts) → schema_in files ≡ Ok rules → IsReadGraph (inputs_of files rules) g
       → TellsGraph files rules limit g asked r → IsFactsBy limit files asked r
 

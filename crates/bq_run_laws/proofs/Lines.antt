@@ -19,7 +19,9 @@ use Rattle.bq_base_fault_line.specs.declared.fault_line.FaultLine.{FaultLine}
 use Rattle.bq_base_fault_line.specs.FaultLine.{line_cmp, put_lines}
 use Rattle.bq_base_fault_line.proofs.LineOrder.{same_lines}
 use Rattle.bq_load_front.specs.Inputs.{InputParts}
-use Rattle.bq_load_discover.specs.LoadGraph.{GraphParts, IsReadGraph, inputs_of}
+use Rattle.bq_load_front.specs.Reading.{parsed_of}
+use Rattle.bq_load_front.proofs.Fronts.{fronts_are}
+use Rattle.bq_load_discover.specs.LoadGraph.{GraphParts, IsLoadGraph, IsReadGraph, inputs_of}
 use Rattle.bq_load_discover.proofs.Lists.{none_in}
 use Rattle.bq_load.specs.Results.{outcomes}
 use Rattle.bq_load.specs.Loading.{loading_in}
@@ -31,7 +33,7 @@ use Rattle.bq_load_laws.proofs.Packages.Declared.{declared_in_graph}
 use Rattle.bq_query_target_graph.specs.Dangling.{dangling_line, all_dangling, dangling_lines}
 use Rattle.bq_query_target_graph.proofs.Danglings.{in_words}
 use Rattle.bq_run_report.specs.Report.{Inside, all_faults}
-use Rattle.bq_run.specs.WorkspaceRun.{inside_by, loaded_in}
+use Rattle.bq_run.specs.WorkspaceRun.{Loads, Fronts, inside_by, loaded_in}
 use Rattle.bq_run_laws.specs.Lines.{FaultLinesStandOnLines, IsOfStatement, DanglingLinesAreOfStatements}
 
 -- ---- lists
@@ -86,7 +88,7 @@ by_owner inputs p t label line known c e (inr d) = record {
 abbrev by_slots : List File → Rules → ℕ → GraphParts → Inside
 by_slots files rules limit g = inside_by (packages_of files) (outcomes (loading_in files rules limit g) g.edges)
 
-same_inside : (files : List File) (rules : Rules) (limit : ℕ) (g : GraphParts) → IsReadGraph (inputs_of files rules) g → loaded_in files rules limit g.labels g.edges ≡ by_slots files rules limit g
+same_inside : (files : List File) (rules : Rules) (limit : ℕ) (g : GraphParts) → IsReadGraph (inputs_of files rules) g → loaded_in files rules (parsed_of (inputs_of files rules)) limit g.labels g.edges ≡ by_slots files rules limit g
 same_inside files rules limit g is = ap (inside_by (packages_of files)) (outcomes_agree files rules limit g is)
 
 dangling_by_slots : (files : List File) (rules : Rules) (limit : ℕ) (g : GraphParts) → IsWorkspace files → IsReadGraph (inputs_of files rules) g → (line : FaultLine)
@@ -96,11 +98,18 @@ dangling_by_slots files rules limit g w is line c =
     let d = (in_words packages line).0 ((same_lines (all_dangling packages) line).0 c) in
     by_owner (inputs_of files rules) d.owner d.target d.label line d.declared d.named d.line (declared_in_graph files rules limit g w is d.owner d.known)
 
-pub dangling_told : DanglingLinesAreOfStatements
-dangling_told files rules limit labels edges w graph line c =
+of_dangling : (files : List File) (rules : Rules) (limit : ℕ) (labels : List LabelParts) (edges : Loads) → IsWorkspace files → IsLoadGraph (packages_of files) (parsed_of (inputs_of files rules)) labels edges
+    → (line : FaultLine) → Contains (dangling_lines (loaded_in files rules (parsed_of (inputs_of files rules)) limit labels edges).packages) line → IsOfStatement (inputs_of files rules) line
+of_dangling files rules limit labels edges w graph line c =
     let g : GraphParts = read_graph (inputs_of files rules) labels edges in
     let is : IsReadGraph (inputs_of files rules) g = is_read_graph (inputs_of files rules) labels edges graph in
     dangling_by_slots files rules limit g w is line (subst (λ (i : Inside). Contains (dangling_lines i.packages) line) (same_inside files rules limit g is) c)
+
+pub dangling_told : DanglingLinesAreOfStatements
+dangling_told files rules fronts limit labels edges w are graph line c =
+    let read : fronts ≡ parsed_of (inputs_of files rules) = fronts_are (inputs_of files rules) fronts are in
+    of_dangling files rules limit labels edges w (subst (λ (f : Fronts). IsLoadGraph (packages_of files) f labels edges) read graph) line
+    (subst (λ (f : Fronts). Contains (dangling_lines (loaded_in files rules f limit labels edges).packages) line) read c)
 
 -- ---- all fault lines
 
@@ -112,8 +121,9 @@ statement_stands inputs line s =
     let all = (code_numbered inputs s.build_file s.file.content s.code s.has).0 in
     subst (λ n. 1 ≤ n) (sym s.at.same) (each_of (λ (x : CodeTopLevel). 1 ≤ x.line) s.code.statements all s.at.statement s.at.among)
 
-pub lines_stand : FaultLinesStandOnLines
-lines_stand files rules limit labels edges w graph line c =
+standing : (files : List File) (rules : Rules) (limit : ℕ) (labels : List LabelParts) (edges : Loads) → IsWorkspace files → IsLoadGraph (packages_of files) (parsed_of (inputs_of files rules)) labels edges
+    → (line : FaultLine) → Contains (all_faults (loaded_in files rules (parsed_of (inputs_of files rules)) limit labels edges)) line → 1 ≤ line.line
+standing files rules limit labels edges w graph line c =
     let g : GraphParts = read_graph (inputs_of files rules) labels edges in
     let is : IsReadGraph (inputs_of files rules) g = is_read_graph (inputs_of files rules) labels edges graph in
     let i = by_slots files rules limit g in
@@ -121,3 +131,9 @@ lines_stand files rules limit labels edges w graph line c =
     let labels = by_each Stands (dangling_lines i.packages) (λ x d. statement_stands (inputs_of files rules) x (dangling_by_slots files rules limit g w is x d)) in
     each_of Stands (put_lines i.faults (dangling_lines i.packages)) (put_all Stands i.faults (dangling_lines i.packages) modules labels) line
     (subst (λ (j : Inside). Contains (all_faults j) line) (same_inside files rules limit g is) c)
+
+pub lines_stand : FaultLinesStandOnLines
+lines_stand files rules fronts limit labels edges w are graph line c =
+    let read : fronts ≡ parsed_of (inputs_of files rules) = fronts_are (inputs_of files rules) fronts are in
+    standing files rules limit labels edges w (subst (λ (f : Fronts). IsLoadGraph (packages_of files) f labels edges) read graph) line
+    (subst (λ (f : Fronts). Contains (all_faults (loaded_in files rules f limit labels edges)) line) read c)

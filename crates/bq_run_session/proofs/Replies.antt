@@ -27,9 +27,9 @@ answered s form text x reply fits checked replies files limit i loaded over =
       faults = refl;
       reply = subst (λ (f : OutputForm). Replies s.graph x f (status_by (all_faults i)) reply) (sym asks.output) inside;
     } in
-    let over_files : Reports (loaded_in files loaded.rules limit loaded.labels loaded.edges) x o.output report = subst (λ (j : Inside). Reports j x o.output report) loaded.inside reports in
-    IsReportOn.loaded x loaded.rules loaded.labels loaded.edges (subst (λ t. IsChecked t x) (sym asks.text) checked) loaded.schema loaded.discovered
-    (subst (λ (n : ℕ). Reports (loaded_in files loaded.rules n loaded.labels loaded.edges) x o.output report) (sym asks.steps) over_files))
+    let over_files : Reports (loaded_in files loaded.rules loaded.fronts limit loaded.labels loaded.edges) x o.output report = subst (λ (j : Inside). Reports j x o.output report) loaded.inside reports in
+    IsReportOn.loaded x loaded.rules loaded.fronts loaded.labels loaded.edges (subst (λ t. IsChecked t x) (sym asks.text) checked) loaded.schema loaded.read loaded.discovered
+    (subst (λ (n : ℕ). Reports (loaded_in files loaded.rules loaded.fronts n loaded.labels loaded.edges) x o.output report) (sym asks.steps) over_files))
 
 -- the reply to a query that is refused
 abbrev pub refused_view : NoAnswer → ReplyView

@@ -2,6 +2,7 @@
 use Rattle.std.specs.Prelude.{◌≡◌, ◌⊎◌, ◌<◌, ◌≤◌, ◌++◌, ◌||◌, ℕ, Bool, false, List, [], ◌∷◌, Ok, Err, length}
 use Rattle.bq_label.specs.declared.workspace.File.{File}
 use Rattle.bq_label.specs.Label.{LabelParts}
+use Rattle.bq_label.specs.Packages.{packages_of}
 use Rattle.bq_package_schema.specs.Schema.{Rules}
 use Rattle.bq_load_discover.specs.LoadGraph.{IsLoadGraph, inputs_of}
 use Rattle.bq_load_discover.specs.Schema.{schema_in}
@@ -11,7 +12,7 @@ use Rattle.bq_query_lex.specs.declared.query_error.QueryErr.{QueryErr}
 use Rattle.bq_query_lex.specs.declared.query_error.QueryErr.TheVariants.{Syntax}
 use Rattle.bq_run_report.specs.Report.{Inside, ReplyView, fault_text}
 use Rattle.bq_run_report.specs.declared.ending.NoAnswer.TheVariants.{Query}
-use Rattle.bq_run.specs.WorkspaceRun.{IsReportOn, Loads, loaded_in}
+use Rattle.bq_run.specs.WorkspaceRun.{IsReportOn, Loads, Fronts, AreFronts, loaded_in}
 use Rattle.bq_run.specs.declared.options.Options.{Options}
 use Rattle.bq_run_session.specs.Queries.{max_query_bytes}
 use Rattle.bq_run_session.specs.Block.{block, is_refused}
@@ -19,11 +20,13 @@ use Rattle.bq_run_session.specs.Block.{block, is_refused}
 -- the workspace has this in it once it is loaded, where each module may take `limit` steps
 pub record IsLoadedAs (files : List File) (limit : ℕ) (i : Inside) : Type 0 where
   pub rules : Rules
+  pub fronts : Fronts
   pub labels : List LabelParts
   pub edges : Loads
   pub schema : schema_in files ≡ Ok rules
-  pub discovered : IsLoadGraph (inputs_of files rules) labels edges
-  pub inside : i ≡ loaded_in files rules limit labels edges
+  pub read : AreFronts (inputs_of files rules) fronts
+  pub discovered : IsLoadGraph (packages_of files) fronts labels edges
+  pub inside : i ≡ loaded_in files rules fronts limit labels edges
 
 -- a run with this query, this form and this limit, and with any number of jobs
 pub record Asks (query : List ℕ) (form : OutputForm) (limit : ℕ) (o : Options) : Type 0 where

@@ -1,6 +1,7 @@
 -- A session: a workspace that is loaded, with the graph of its targets.
 use Rattle.std.specs.Prelude.{◌≡◌, ℕ, List, Ok, Err, Result}
 use Rattle.bq_label.specs.declared.workspace.File.{File}
+use Rattle.bq_label.specs.Packages.{packages_of}
 use Rattle.bq_package_schema.specs.Schema.{Rules}
 use Rattle.bq_load_discover.specs.LoadGraph.{inputs_of}
 use Rattle.bq_load_discover.specs.Modules.{AreTooMany}
@@ -8,6 +9,7 @@ use Rattle.bq_load_discover.specs.Schema.{schema_in}
 use Rattle.bq_query.specs.declared.print.OutputForm.{OutputForm}
 use Rattle.bq_run_report.specs.declared.session.Session.{Session}
 use Rattle.bq_run_report.specs.Report.{Inside, IsOver, ReplyView}
+use Rattle.bq_run.specs.WorkspaceRun.{Fronts, AreFronts}
 use Rattle.bq_run.specs.declared.error.RunErr.{RunErr}
 use Rattle.bq_run.specs.declared.error.RunErr.TheVariants as run
 use Rattle.bq_run_session.specs.Answer.{IsAnswerTo, IsLoadedAs}
@@ -22,7 +24,7 @@ pub record IsOn (files : List File) (limit : ℕ) (s : Session) : Type 0 where
 abbrev pub IsRefused : List File → RunErr → Type 0
 IsRefused files run.Memory = Unit {0}
 IsRefused files (run.Schema line) = schema_in files ≡ Err line
-IsRefused files run.TooManyModules = (rules : Rules) × (schema_in files ≡ Ok rules) × AreTooMany (inputs_of files rules)
+IsRefused files run.TooManyModules = (rules : Rules) × (schema_in files ≡ Ok rules) × (fronts : Fronts) × AreFronts (inputs_of files rules) fronts × AreTooMany (packages_of files) fronts
 IsRefused files run.Read = ⊥
 IsRefused files run.Write = ⊥
 IsRefused files run.Bundle = ⊥

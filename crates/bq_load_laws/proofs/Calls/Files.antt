@@ -9,7 +9,8 @@ use Rattle.bq_board.specs.Counts.{Has}
 use Rattle.bq_board.specs.Graph.{row}
 use Rattle.bq_board.proofs.Lemmas.{cons_has}
 use Rattle.bq_load_label.proofs.Loads.{named}
-use Rattle.bq_load_front.specs.Parsed.{kind_of, loads_of}
+use Rattle.bq_load_front.specs.Parsed.{kind_of}
+use Rattle.bq_load_front.specs.Reading.{parsed_of, loads_of}
 use Rattle.bq_load_front.specs.Inputs.{InputParts}
 use Rattle.bq_load_front.proofs.Loads.{loaded_files}
 use Rattle.bq_load_discover.specs.LoadGraph.{GraphParts, IsReadGraph}
@@ -23,7 +24,7 @@ load_is_bzl inputs m l c =
     let bzl = (named inputs.files inputs.packages (package_of m) one.load.line one.load.label l one.names).0.bzl in
     rw bzl refl
 
-edge_is_bzl : (inputs : InputParts) (m l : LabelParts) → Contains (edges_from inputs m) l → kind_of l ≡ kinds.Bzl
+edge_is_bzl : (inputs : InputParts) (m l : LabelParts) → Contains (edges_from (parsed_of inputs) m) l → kind_of l ≡ kinds.Bzl
 edge_is_bzl inputs m l c = elim ((the_labels_added [] (loads_of inputs m) l).0 c) [
   | inl nothing ↦ absurd (none_in l nothing)
   | inr there ↦ load_is_bzl inputs m l there
@@ -54,7 +55,7 @@ module _ (inputs : InputParts) (g : GraphParts) (is : IsReadGraph inputs g) wher
     pub bzl : kind_of label ≡ kinds.Bzl
 
   abbrev pub edges_of : LabelParts → List (Option LabelParts)
-  edges_of l = map Some (edges_from inputs l)
+  edges_of l = map Some (edges_from (parsed_of inputs) l)
 
   by_row : (m : ℕ) (ls : List (Option LabelParts)) (o : Option (List ℕ)) → slice_get g.edges m ≡ o → option_map (map (slice_get g.labels)) o ≡ Some ls → map (slice_get g.labels) (row g.edges m) ≡ ls
   by_row m ls None e h = absurd (cc)
@@ -69,5 +70,5 @@ module _ (inputs : InputParts) (g : GraphParts) (is : IsReadGraph inputs g) wher
 
   pub loaded_is_bzl : (m : ℕ) (l : LabelParts) → slice_get g.labels m ≡ Some l → (k : ℕ) → Has (row g.edges m) k → IsBzl k
   loaded_is_bzl m l at k h =
-      let r = labelled g.labels (row g.edges m) (edges_from inputs l) (row_of m l at) k h in
+      let r = labelled g.labels (row g.edges m) (edges_from (parsed_of inputs) l) (row_of m l at) k h in
       record { label = r.label; at = r.at; bzl = edge_is_bzl inputs l r.label r.among }

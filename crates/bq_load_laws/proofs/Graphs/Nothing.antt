@@ -4,7 +4,7 @@ use Rattle.bq_base.specs.declared.fault.Fault.{Fault}
 use Rattle.bq_label.specs.Label.{LabelParts}
 use Rattle.bq_label_set.specs.Labels.{with_labels}
 use Rattle.bq_load_front.specs.Front.{front_of, loads_by}
-use Rattle.bq_load_front.specs.Parsed.{loads_of}
+use Rattle.bq_load_front.specs.Reading.{parsed_of, loads_of}
 use Rattle.bq_load_front.specs.Inputs.{InputParts}
 use Rattle.bq_load_front.proofs.ByName.{loads_agree}
 use Rattle.bq_load_discover.specs.LoadGraph.{GraphParts, IsReadGraph}
@@ -39,6 +39,6 @@ no_edge labels (n ∷ row) e = absurd (cc)
 pub loads_nothing : (inputs : InputParts) (g : GraphParts) (m : ℕ) (l : LabelParts) (why : Fault) → IsReadGraph inputs g → slice_get g.labels m ≡ Some l → front_of inputs l ≡ Err why → slice_get g.edges m ≡ Some []
 unfolding with_labels
 loads_nothing inputs g m l why graph at bad =
-    let r = both (map (slice_get g.labels)) (λ k. map Some (edges_from inputs k)) g.edges g.labels m l graph.graph.edges at in
-    let none : map Some (edges_from inputs l) ≡ [] = ap (λ ls. map Some (with_labels [] ls)) (no_loads inputs l why bad) in
+    let r = both (map (slice_get g.labels)) (λ k. map Some (edges_from (parsed_of inputs) k)) g.edges g.labels m l graph.graph.edges at in
+    let none : map Some (edges_from (parsed_of inputs) l) ≡ [] = ap (λ ls. map Some (with_labels [] ls)) (no_loads inputs l why bad) in
     r.there ∙ ap Some (no_edge g.labels r.element (r.holds ∙ none))

@@ -24,7 +24,8 @@ use Rattle.bq_load_outcome_spec.proofs.Solution.{cond_true, cond_false, outcome_
 use Rattle.bq_load_front.specs.Code as text
 use Rattle.bq_load_front.specs.Code.{◌>>=◌}
 use Rattle.bq_load_front.specs.Front.{load_of, front_at, front_of, loads_by}
-use Rattle.bq_load_front.specs.Parsed.{labels_of, kind_of, loads_of}
+use Rattle.bq_load_front.specs.Parsed.{labels_of, kind_of}
+use Rattle.bq_load_front.specs.Reading.{parsed_of, loads_of}
 use Rattle.bq_load_front.specs.Inputs.{InputParts, universe_of}
 use Rattle.bq_load_front.specs.Laws.{named, NameFiles}
 use Rattle.bq_load_front.specs.declared.front.Front.{Front}
@@ -151,7 +152,7 @@ module _ (files : List File) (rules : Rules) (limit : ℕ) (g : GraphParts) (is 
   -- its fault for a load is at the first load of that module in its file
   pub at_load : (m : ℕ) (l : LabelParts) (front : Front) → slice_get g.labels m ≡ Some l → front_of inputs l ≡ Ok front → (kind : FaultKind) (k : ℕ) → Has (row g.edges m) k → IsAtItsLoad x k (front_of inputs l) kind
   at_load m l front at e kind k h =
-      let r = labelled g.labels (row g.edges m) (edges_from inputs l) (row_of inputs g is m l at) k h in
+      let r = labelled g.labels (row g.edges m) (edges_from (parsed_of inputs) l) (row_of inputs g is m l at) k h in
       let loaded = module_of inputs r.label in
       let there : Contains (loads_of inputs l) r.label = elim ((the_labels_added [] (loads_of inputs l) r.label).0 r.among) [ inl nothing ↦ absurd (none_in r.label nothing) | inr one ↦ one ] in
       let among : Contains front.loads r.label = subst (λ (z : List LabelParts). Contains z r.label) (sym (loads_agree inputs l) ∙ ap loads_by e) there in

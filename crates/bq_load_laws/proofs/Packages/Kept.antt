@@ -13,6 +13,7 @@ use Rattle.bq_board.specs.Cycles.{is_cyclic, starts_path}
 use Rattle.bq_board.specs.Depth.{max_load_depth, is_too_deep}
 use Rattle.bq_board.specs.Graph.{Loads, row}
 use Rattle.bq_load_front.specs.Parsed.{kind_of}
+use Rattle.bq_load_front.specs.Reading.{parsed_of}
 use Rattle.bq_load_front.specs.Inputs.{InputParts}
 use Rattle.bq_load_discover.specs.LoadGraph.{GraphParts, IsReadGraph, inputs_of}
 use Rattle.bq_load_discover.specs.Module.{module_of}
@@ -55,7 +56,7 @@ module _ (files : List File) (rules : Rules) (limit : ℕ) (g : GraphParts) (is 
   loader : (m k : ℕ) → Has (row g.edges m) k → (r : Option (List ℕ)) → slice_get g.edges m ≡ r → At g.labels m (λ _. Unit {0})
   loader m k h None e = let never : Has [] k = subst (λ (z : List ℕ). Has z k) (no_row g.edges m e) h in absurd (omega (arith, never))
   loader m k h (Some r) e =
-      let l = both (λ (l : LabelParts). map Some (edges_from inputs l)) (map (slice_get g.labels)) g.labels g.edges m r (sym is.graph.edges) e in
+      let l = both (λ (l : LabelParts). map Some (edges_from (parsed_of inputs) l)) (map (slice_get g.labels)) g.labels g.edges m r (sym is.graph.edges) e in
       record { element = l.element; there = l.there; holds = tt }
 
   no_package : (m k : ℕ) → Has (row g.edges m) k → (v : ModuleView) → at k ≡ o.Loaded v → v.package ≡ None

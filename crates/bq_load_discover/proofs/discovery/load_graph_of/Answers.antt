@@ -1,5 +1,7 @@
 use Rattle.std.proofs.Common.{◌≡◌, ℕ, Option, subst, Vec}
 use Rattle.std.specs.Global.{Global}
+use Rattle.bq_load_front.specs.Inputs.{InputParts}
+use Rattle.bq_load_front.specs.Reading.{parsed_of}
 use Rattle.bq_load_discover.specs.declared.modules.Module.{Module}
 use Rattle.bq_load_discover.specs.declared.load_err.LoadErr.TheVariants.{TooManyModules, Schema}
 use Rattle.bq_load_discover.specs.Exploring.{AreFound, Finds}
@@ -12,7 +14,8 @@ other_error line e = cc
 
 pub returns-in-None : goal.returns-in-None
 returns-in-None c =
-    let many : AreTooMany (inputs_of c.args.workspace.now c.args.schema.now) = subst (λ (o : Option (Vec Module Global)). Finds (inputs_of c.args.workspace.now c.args.schema.now) o) c.in-None.is c.requires.found in
+    let inputs : InputParts = inputs_of c.args.workspace.now c.args.schema.now in
+    let many : AreTooMany inputs.packages (parsed_of inputs) = subst (λ (o : Option (Vec Module Global)). Finds (inputs_of c.args.workspace.now c.args.schema.now) o) c.in-None.is c.requires.found in
     (λ t. many, other_error)
 
 pub returns-in-Some : goal.returns-in-Some

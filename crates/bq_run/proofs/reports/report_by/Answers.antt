@@ -19,4 +19,5 @@ returns-in-Ok g c =
 
 pub returns-in-Err-TooManyModules : goal.returns-in-Err-TooManyModules
 returns-in-Err-TooManyModules g c =
-    IsReportOn.too_many (formula_of c.args.question.query.now.set) c.args.schema.now c.requires.query c.requires.schema (c.in-Err-TooManyModules.ensures.0 (search rules)) c.refused_report.ensures
+    let many = c.in-Err-TooManyModules.ensures.0 (search rules) in
+    IsReportOn.too_many (formula_of c.args.question.query.now.set) c.args.schema.now many.0 c.requires.query c.requires.schema many.1 many.2 c.refused_report.ensures
