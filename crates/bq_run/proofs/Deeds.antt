@@ -1,6 +1,6 @@
 -- What a call does that ends early, and what a run over a bundle's workspace is.
 use Rattle.std.proofs.Common.{◌≡◌, ◌⊎◌, ℕ, List, [], Option, None, Some, Result, Err, inl, inr, refl, subst, sym}
-use Rattle.std.specs.Prelude.{IfSome, MatchOption}
+use Rattle.std.specs.Prelude.{IfSome}
 use Rattle.std.specs.Io.KnownBytes.{Keeps}
 use Rattle.bq_label.specs.declared.workspace.File.{File}
 use Rattle.bq_run_report.specs.declared.ending.Status.{Status}
@@ -9,11 +9,8 @@ use Rattle.bq_run.specs.Run.{Run, DoesOne, IsRunOf, IsRunOver}
 use Rattle.bq_run.specs.declared.error.RunErr.{RunErr}
 use Rattle.bq_run.specs.declared.error.RunErr.TheVariants as run
 use Rattle.bq_run.specs.declared.options.Options.{Options}
+use Rattle.bq_run.proofs.Bundles.{holds, holds_none}
 use Rattle.bq_run.proofs.Transfers.{Appends-none}
-
--- a run over the files of a bundle, or over a bundle that is none
-abbrev pub IsRunFrom : Options → Option (List File) → Run → Type 0
-IsRunFrom options b what = MatchOption b (what ≡ record { faults = []; answer = []; end = Err run.Bundle }) (λ files. IsRunOver options files what)
 
 keeps_itself : (known : Option (List ℕ)) → Keeps known known
 keeps_itself None = tt
@@ -27,10 +24,9 @@ module _ (f a : Option (List ℕ)) where
   failed_reader IsIt = DoesOne.gave_up (inr refl) (keeps_itself f) (keeps_itself a)
 
   refused_bundle : (o : Options) (input : List ℕ) → bundle_of input ≡ None → DoesOne (IsRunOf o input) (Err run.Bundle) f f a a
-  unfolding IsRunOf
   refused_bundle o input none =
       let what : Run = record { faults = []; answer = []; end = Err run.Bundle } in
-      DoesOne.ran what (subst (λ (b : Option (List File)). IsRunFrom o b what) (sym none) refl) (record { ends = refl; writes = (Appends-none f, Appends-none a) })
+      DoesOne.ran what (IsRunOf.no_bundle (holds_none input none) refl) (record { ends = refl; writes = (Appends-none f, Appends-none a) })
 
   -- the bundle was not read
   pub not_read : (o : Options) (input : List ℕ) (e : RunErr) → (e ≡ run.Bundle → bundle_of input ≡ None) → (e ≡ run.Bundle) ⊎ ((e ≡ run.Memory) ⊎ (e ≡ run.Read))
@@ -53,10 +49,8 @@ module _ (f a : Option (List ℕ)) where
 -- a run over the workspace of a bundle is a run over the bundle
 pub of_bundle : (o : Options) (input : List ℕ) (files : List File) (result : Result Status RunErr) (f f' a a' : Option (List ℕ)) → bundle_of input ≡ Some files
     → DoesOne (IsRunOver o files) result f f' a a' → DoesOne (IsRunOf o input) result f f' a a'
-unfolding IsRunOf
 of_bundle o input files result f f' a a' there (DoesOne.gave_up given k l) = DoesOne.gave_up given k l
-of_bundle o input files result f f' a a' there (DoesOne.ran what over does) =
-    DoesOne.ran what (subst (λ (b : Option (List File)). IsRunFrom o b what) (sym there) over) does
+of_bundle o input files result f f' a a' there (DoesOne.ran what over does) = DoesOne.ran what (IsRunOf.bundle files (holds input files there) over) does
 
 pub of_bundle_if : (o : Options) (known : Option (List ℕ)) (files : List File) (result : Result Status RunErr) (f f' a a' : Option (List ℕ)) → IfSome known (λ input. bundle_of input ≡ Some files)
     → DoesOne (IsRunOver o files) result f f' a a' → IfSome known (λ input. DoesOne (IsRunOf o input) result f f' a a')

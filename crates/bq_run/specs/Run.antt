@@ -1,5 +1,5 @@
 -- What a run writes for the bytes that it reads, and how it ends.
-use Rattle.std.specs.Prelude.{◌≡◌, ◌⊎◌, ◌≤◌, ℕ, false, List, [], Option, MatchOption, Result, Ok, Err, if◌then◌else◌}
+use Rattle.std.specs.Prelude.{◌≡◌, ◌⊎◌, ◌≤◌, ℕ, false, List, [], Option, Result, Ok, Err, if◌then◌else◌}
 use Rattle.std.specs.Io.KnownBytes.{Appends, Keeps}
 use Rattle.bq_label.specs.declared.workspace.File.{File}
 use Rattle.bq_run_report.specs.Ending.{is_unanswered, names_nothing}
@@ -7,10 +7,10 @@ use Rattle.bq_run_report.specs.Report.{ReportView}
 use Rattle.bq_run_report.specs.declared.ending.NoAnswer.{NoAnswer}
 use Rattle.bq_run_report.specs.declared.ending.Status.{Status}
 use Rattle.bq_load_workers.specs.Workers.{max_workers}
-use Rattle.bq_run.specs.Bundle.{bundle_of}
 use Rattle.bq_run.specs.Device.{Begins}
 use Rattle.bq_run.specs.Error.{run_err}
 use Rattle.bq_run.specs.WorkspaceRun.{IsReportOn}
+use Rattle.bq_run.specs.Written.{IsBundleOf}
 use Rattle.bq_run.specs.declared.error.RunErr.{RunErr}
 use Rattle.bq_run.specs.declared.error.RunErr.TheVariants as run
 use Rattle.bq_run.specs.declared.options.Options.{Options}
@@ -37,10 +37,10 @@ run_report r = run_by r.faults r.answer r.end
 abbrev pub IsRunOver : Options → List File → Run → Type 0
 IsRunOver options files what = (r : ReportView) × IsReportOn options files r × (what ≡ run_report r)
 
--- a run over the bytes of a bundle, or over a bundle that is none (E2 to E5)
-unfoldable pub IsRunOf : Options → List ℕ → Run → Type 0
-IsRunOf options input what =
-    MatchOption (bundle_of input) (what ≡ record { faults = []; answer = []; end = Err run.Bundle }) (λ files. IsRunOver options files what)
+-- a run over the bytes of a bundle, or over bytes that are none (E2 to E5)
+pub data IsRunOf (options : Options) (input : List ℕ) (what : Run) : Type 0 where
+  no_bundle : ((files : List File) → ¬ IsBundleOf input files) → what ≡ record { faults = []; answer = []; end = Err run.Bundle } → IsRunOf options input what
+  bundle : (files : List File) → IsBundleOf input files → IsRunOver options files what → IsRunOf options input what
 
 -- out of memory and failing devices aside, the call ends as the definition does
 abbrev pub EndsAs : Result Status RunErr → Result Status RunErr → Type 0

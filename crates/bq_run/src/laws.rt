@@ -2,11 +2,12 @@
 
 ghost use Rattle.std.specs.Prelude.{◌≡◌, ◌↔◌, ℕ, List, Some};
 ghost use Rattle.bq_label.specs.declared.workspace.File.{File};
-ghost use Rattle.bq_run.specs.Bundle.{files_of};
-ghost use Rattle.bq_run.specs.Written.{IsWritten};
+ghost use Rattle.bq_run.specs.Bundle.{bundle_of, files_of};
+ghost use Rattle.bq_run.specs.Written.{IsBundleOf, IsWritten};
 
 /// A text is read as files exactly if it is written by those files: as header lines, each followed by a content
-/// that has no header in it.
+/// that has no header in it; and as a workspace if it isn't too long, and they make that workspace.
 pub fn one_reading_of_a_bundle()
-    ensures { (text : List ℕ) (files : List File) → (files_of text ≡ Some files) ↔ IsWritten text files }
+    ensures files { (text : List ℕ) (files : List File) → (files_of text ≡ Some files) ↔ IsWritten text files }
+    ensures workspace { (text : List ℕ) (files : List File) → (bundle_of text ≡ Some files) ↔ IsBundleOf text files }
 {}

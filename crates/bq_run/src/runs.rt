@@ -106,7 +106,6 @@ pub fn run_files<T: Threads + Wait + RandomSource + Sync, W: ByteSink, F: ByteSi
 ///
 /// E4, E5 with Q1 to Q4, Q7 or Q8, E6 and E7 take precedence in this order, and nothing is written with them. With Q5
 /// or Q6 only the faults are written. E1 is returned before the first byte is written.
-#[tactic(auto, unfolding(crate::specs::Run::IsRunOf))]
 pub fn run<T: Threads + Wait + RandomSource + Sync, R: ByteSource, W: ByteSink, F: ByteSink>(
     rt: &T,
     alloc: Global,

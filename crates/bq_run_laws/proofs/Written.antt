@@ -1,5 +1,5 @@
 -- What a run writes, by how it ends.
-use Rattle.std.proofs.Common.{◌≡◌, ◌∙◌, sym, ap, subst, refl, ℕ, true, false, List, [], ◌++◌, None, Result, Ok, Err}
+use Rattle.std.proofs.Common.{◌≡◌, ◌∙◌, sym, ap, subst, refl, ℕ, true, false, List, [], ◌++◌, Result, Ok, Err}
 use Rattle.std.specs.List.{flat_map}
 use Rattle.bq_base_fault_line.specs.LineText.{line_text}
 use Rattle.bq_label.specs.declared.workspace.File.{File}
@@ -9,9 +9,8 @@ use Rattle.bq_run_report.specs.Report.{Inside, all_faults, fault_text}
 use Rattle.bq_run_report.specs.declared.ending.NoAnswer.{NoAnswer}
 use Rattle.bq_run_report.specs.declared.ending.NoAnswer.TheVariants as refusal
 use Rattle.bq_run_report.specs.declared.ending.Status.{Status}
-use Rattle.bq_run.specs.Bundle.{bundle_of}
 use Rattle.bq_run.specs.Run.{Run, run_by, IsRunOver, IsRunOf, IsSilent}
-use Rattle.bq_run.proofs.Deeds.{IsRunFrom}
+use Rattle.bq_run.specs.Written.{IsBundleOf}
 use Rattle.bq_run.specs.declared.error.RunErr.{RunErr}
 use Rattle.bq_run.specs.declared.error.RunErr.TheVariants as run
 use Rattle.bq_run.specs.declared.options.Options.{Options}
@@ -19,11 +18,10 @@ use Rattle.bq_run_laws.specs.Order.{WritesFaultsAlone}
 
 -- ---- bundles
 
-pub bundle_first : (o : Options) (input : List ℕ) (what : Run) → bundle_of input ≡ None → IsRunOf o input what → (what.end ≡ Err run.Bundle) × (what.faults ≡ []) × (what.answer ≡ [])
-unfolding IsRunOf
-bundle_first o input what none is =
-    let e : what ≡ record { faults = []; answer = []; end = Err run.Bundle } = subst (λ b. IsRunFrom o b what) none is in
-    (ap (λ (r : Run). r.end) e, ap (λ (r : Run). r.faults) e, ap (λ (r : Run). r.answer) e)
+pub bundle_first : (o : Options) (input : List ℕ) (what : Run) → ((files : List File) → ¬ IsBundleOf input files) → IsRunOf o input what
+    → (what.end ≡ Err run.Bundle) × (what.faults ≡ []) × (what.answer ≡ [])
+bundle_first o input what none (IsRunOf.no_bundle no e) = (ap (λ (r : Run). r.end) e, ap (λ (r : Run). r.faults) e, ap (λ (r : Run). r.answer) e)
+bundle_first o input what none (IsRunOf.bundle files is over) = absurd (none files is)
 
 -- ---- prints
 

@@ -1,6 +1,6 @@
 //! What holds of runs. The functions do nothing: their contracts are the laws.
 
-ghost use Rattle.std.specs.Prelude.{◌≡◌, ◌≢◌, ◌⊎◌, ◌++◌, [], ℕ, List, None, Err, true};
+ghost use Rattle.std.specs.Prelude.{◌≡◌, ◌≢◌, ◌⊎◌, ◌++◌, [], ℕ, List, Err, true};
 ghost use Rattle.bq_label.specs.declared.workspace.File.{File};
 ghost use Rattle.bq_load_discover.specs.Schema.{schema_in};
 ghost use Rattle.bq_query_lex.specs.declared.query_error.QueryErr.{QueryErr};
@@ -11,14 +11,14 @@ ghost use Rattle.bq_run_report.specs.Ending.{names_nothing};
 ghost use Rattle.bq_run_report.specs.Report.{Inside, fault_text};
 ghost use Rattle.bq_run.specs.declared.options.Options.{Options};
 ghost use Rattle.bq_run.specs.declared.error.RunErr.TheVariants as run;
-ghost use Rattle.bq_run.specs.Bundle.{bundle_of};
 ghost use Rattle.bq_run.specs.Run.{Run, IsRunOver, IsRunOf, IsSilent};
+ghost use Rattle.bq_run.specs.Written.{IsBundleOf};
 ghost use Rattle.bq_run_laws.specs.Lines.{FaultLinesStandOnLines, DanglingLinesAreOfStatements};
 ghost use Rattle.bq_run_laws.specs.Order.{EndsWithWrongQuery, WritesFaultsAlone};
 
 /// A bundle that makes no workspace is E4, whatever the query and the schema are, and nothing is written.
 pub fn bundles_come_first()
-    ensures { (o : Options) (input : List ℕ) (what : Run) → bundle_of input ≡ None → IsRunOf o input what → (what.end ≡ Err run.Bundle) × (what.faults ≡ []) × (what.answer ≡ []) }
+    ensures { (o : Options) (input : List ℕ) (what : Run) → ((files : List File) → ¬ IsBundleOf input files) → IsRunOf o input what → (what.end ≡ Err run.Bundle) × (what.faults ≡ []) × (what.answer ≡ []) }
 {}
 
 /// A wrong query ends the run with an error of a query, whatever the schema is. Whether a pattern is too big is not
