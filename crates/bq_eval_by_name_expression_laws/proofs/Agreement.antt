@@ -37,7 +37,7 @@ module _ {S : Type 0} (m : Primitives S) (file : FileParts) (round : Round) (sur
 
   pub expr_walks : (n k l : ℕ) → n ≤ k → n + n ≤ l → (blocks : List BlockParts) → Nested blocks → (x : Expr)
       → Walks {A = Code} blocks (λ z. Agree m (names.expr_to k m call round) (slots.expr_to l m other surroundings) blocks x z) (scope.expr_to n file blocks x)
-  unfolding scope.expr_to names.expr_to names.expr slots.expr_to
+  unfolding scope.expr_to names.expr_to slots.expr_to
   expr_walks zero k l few enough blocks nested x = λ u below. tt
   expr_walks (suc n) zero l few enough blocks nested x = absurd (omega arith)
   expr_walks (suc n) (suc k) zero few enough blocks nested x = absurd (omega arith)

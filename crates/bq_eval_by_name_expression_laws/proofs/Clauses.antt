@@ -36,7 +36,7 @@ module _ {S : Type 0} (m : Primitives S) (E : Eval S) (F : trees.Eval S) where
         → Agree m E F blocks x y → ClauseLayerAgree m blocks nested E F round (Clause-F.If x) d
     if_agrees round x y d e h =
         made_clause m blocks nested E F round (Clause-F.If x) d (CodeClause-F.If y) e
-        (λ inner within k there env frame made shown shows s. if_alike m blocks nested E F x y h inner within k env frame made shows s)
+        (λ inner within k there env frame made shown shows s. if_alike m blocks nested E F x y h there inner within k env frame made shows s)
 
     clauses_alike : (cs : List Clause) (ds : List CodeClause) → Pairwise (ClauseAgree m blocks nested E F blocks) cs ds → (inner : names.Turn S) (within : slots.Turn S)
         → TurnAlike m blocks nested inner within → TurnAlike m blocks nested (names.clauses m E cs inner) (slots.clauses m F ds within)

@@ -1,13 +1,13 @@
 -- What a made expression means, by its outermost layer.
 use Rattle.std.proofs.Common.{◌≡◌, ℕ, suc, List, ◌∷◌, length, Option, Some, refl, sym, ap, ◌∙◌, subst}
 use Rattle.bq_parse_grammar.specs.declared.tree.Argument.TheOpen.{Argument-F, Suffix-F}
-use Rattle.bq_parse_grammar.specs.declared.tree.Argument.{Argument, out-Argument}
+use Rattle.bq_parse_grammar.specs.declared.tree.Argument.{Argument}
 use Rattle.bq_parse_grammar.specs.declared.tree.Choice.{Choice, out-Choice}
 use Rattle.bq_parse_grammar.specs.declared.tree.Expr.{Expr}
 use Rattle.bq_parse_grammar.specs.declared.tree.Identifier.{Identifier}
 use Rattle.bq_parse_grammar.specs.declared.tree.Operation.{Operation, out-Operation}
 use Rattle.bq_parse_grammar.specs.declared.tree.Pair.{Pair, out-Pair}
-use Rattle.bq_parse_grammar.specs.declared.tree.Suffix.{Suffix, out-Suffix}
+use Rattle.bq_parse_grammar.specs.declared.tree.Suffix.{Suffix}
 use Rattle.bq_parse_grammar.specs.Targets.{SuffixLayer}
 use Rattle.bq_resolve_predeclared.specs.declared.predeclared.Predeclared.{Predeclared}
 use Rattle.bq_resolve_scope.specs.declared.code.Code.{Code, out-Code, roll-Code, out-roll-Code}
@@ -33,6 +33,7 @@ use Rattle.bq_eval_meaning_spec.specs.Trees.{Calls}
 use Rattle.bq_eval_by_name_spec.specs.Expressions as names
 use Rattle.bq_eval_by_name_spec.specs.Names.{Env, Round}
 use Rattle.bq_eval_by_name_spec.specs.Trees.{Eval, ArgumentLayer}
+use Rattle.bq_eval_by_name_spec.proofs.Forms as forms
 use Rattle.bq_eval_by_name_expression_laws.specs.Alike.{Alike, Same}
 use Rattle.bq_eval_by_name_expression_laws.specs.Shows.{Shows}
 use Rattle.bq_eval_by_name_expression_laws.proofs.Runs.{itself, then_same, then_both}
@@ -58,10 +59,6 @@ module _ {S : Type 0} (m : Primitives S) (E : Eval S) (F : trees.Eval S) (blocks
 
   abbrev pub ArgumentLayerAgree : ArgumentLayer → CodeArgument → Type 0
   ArgumentLayerAgree o b = (env : Env) (frame : Frame) → Shows blocks env frame → (p : Passed) (s : S) → Alike Same (names.argument_by m E o env p s) (slots.argument m F b frame p s)
-
-  pub argument_agrees : (a : Argument) (b : CodeArgument) → ArgumentLayerAgree (out-Argument a) b → ArgumentAgree m E F blocks a b
-  unfolding names.argument
-  argument_agrees a b h = h
 
   made_argument : (o : ArgumentLayer) (b : CodeArgument) (q : trees.ArgumentLayer) → roll-CodeArgument q ≡ b
       → ((env : Env) (frame : Frame) → Shows blocks env frame → (p : Passed) (s : S) → Alike Same (names.argument_by m E o env p s) (slots.argument_by m F q frame p s)) → ArgumentLayerAgree o b
@@ -90,10 +87,6 @@ module _ {S : Type 0} (m : Primitives S) (E : Eval S) (F : trees.Eval S) (blocks
   module _ (call other : Calls S) (called : (v : Datum) (p : Passed) (s : S) → call v p s ≡ other v p s) where
     abbrev pub SuffixLayerAgree : SuffixLayer → CodeSuffix → Type 0
     SuffixLayerAgree o b = (env : Env) (frame : Frame) → Shows blocks env frame → (v : Datum) (s : S) → Alike Same (names.suffix_by m E call o env v s) (slots.suffix m F other b frame v s)
-
-    pub suffix_agrees : (a : Suffix) (b : CodeSuffix) → SuffixLayerAgree (out-Suffix a) b → SuffixAgree m E F blocks call other called a b
-    unfolding names.suffix
-    suffix_agrees a b h = h
 
     made_suffix : (o : SuffixLayer) (b : CodeSuffix) (q : trees.SuffixLayer) → roll-CodeSuffix q ≡ b
         → ((env : Env) (frame : Frame) → Shows blocks env frame → (v : Datum) (s : S) → Alike Same (names.suffix_by m E call o env v s) (slots.suffix_by m F other q frame v s)) → SuffixLayerAgree o b
@@ -148,8 +141,8 @@ module _ {S : Type 0} (m : Primitives S) (E : Eval S) (F : trees.Eval S) (blocks
 
         pub member_alike : (space : Namespace) (n : Identifier) (p : Predeclared) → member_named space round.universe.rules n.name ≡ Some p → (xs : List Argument) (ys : List CodeArgument) (ss : List Suffix) (ts : List CodeSuffix)
             → Pairwise (ArgumentAgree m E F blocks) xs ys → Pairwise (SuffixAgree m E F blocks call other called) ss ts → (env : Env) (frame : Frame) → Shows blocks env frame → (s : S)
-            → Alike Same (names.call_member m E call round space n xs ss env s) (slots.primary m F other (c.Member p) (suffix.Call ys ∷ ts) frame s)
-        unfolding names.call_member slots.primary
+            → Alike Same (forms.call_member m E call round space n xs ss env s) (slots.primary m F other (c.Member p) (suffix.Call ys ∷ ts) frame s)
+        unfolding slots.primary
         member_alike space n p known xs ys ss ts h k env frame shows s =
             rw (same_length (SuffixAgree m E F blocks call other called) ss ts k, known)
             (then_both Same (m.step (suc (length ts)) s) (λ _ t. following (done (m.predeclared p) t) (λ v. names.call_of m E call xs env v >>= λ u. names.suffixes m E call ss env u))

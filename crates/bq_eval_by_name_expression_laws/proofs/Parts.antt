@@ -30,9 +30,10 @@ use Rattle.bq_eval_meaning_spec.specs.Trees.{Calls}
 use Rattle.bq_eval_by_name_spec.specs.Expressions as names
 use Rattle.bq_eval_by_name_spec.specs.Names.{Env}
 use Rattle.bq_eval_by_name_spec.specs.Trees.{Eval}
+use Rattle.bq_eval_by_name_spec.proofs.Forms as forms
 use Rattle.bq_eval_by_name_expression_laws.specs.Alike.{Alike, Same}
 use Rattle.bq_eval_by_name_expression_laws.specs.Shows.{Shows}
-use Rattle.bq_eval_by_name_expression_laws.proofs.Runs.{itself, then_same, then_both, choice}
+use Rattle.bq_eval_by_name_expression_laws.proofs.Runs.{itself, then_same, then_both, choice, after_three}
 use Rattle.bq_eval_by_name_expression_laws.proofs.Walks.{Pairwise, Optional, same_length}
 
 -- what is done in an environment and in a frame that shows it
@@ -53,7 +54,7 @@ module _ {S : Type 0} (m : Primitives S) (E : Eval S) (F : trees.Eval S) (blocks
   ChoiceAgree a b = Agree (out-Choice a).value (out-CodeChoice b).value × Agree (out-Choice a).condition (out-CodeChoice b).condition
 
   abbrev pub ArgumentAgree : Argument → CodeArgument → Type 0
-  ArgumentAgree a b = (env : Env) (frame : Frame) → Shows blocks env frame → (p : Passed) (s : S) → Alike Same (names.argument m E a env p s) (slots.argument m F b frame p s)
+  ArgumentAgree a b = (env : Env) (frame : Frame) → Shows blocks env frame → (p : Passed) (s : S) → Alike Same (forms.argument m E a env p s) (slots.argument m F b frame p s)
 
   -- ---- displays
 
@@ -68,20 +69,20 @@ module _ {S : Type 0} (m : Primitives S) (E : Eval S) (F : trees.Eval S) (blocks
   values_alike (x ∷ xs) [] h env frame shows vs s = absurd h
 
   pub list_alike : (xs : List Expr) (ys : List Code) → Pairwise Agree xs ys → (env : Env) (frame : Frame) → Shows blocks env frame → (s : S)
-      → Alike Same (names.list_display m E xs env s) (slots.list_display m F ys frame s)
-  unfolding names.list_display slots.list_display
+      → Alike Same (forms.list_display m E xs env s) (slots.list_display m F ys frame s)
+  unfolding slots.list_display
   list_alike xs ys h env frame shows s =
       then_both Same _ _ _ (λ _ t. then_same Same _ _ _ _ (values_alike xs ys h env frame shows [] t) (λ vs u. itself (m.make (items vs) u)))
 
   pub tuple_alike : (xs : List Expr) (ys : List Code) → Pairwise Agree xs ys → (env : Env) (frame : Frame) → Shows blocks env frame → (s : S)
-      → Alike Same (names.tuple_display m E xs env s) (slots.tuple_display m F ys frame s)
-  unfolding names.tuple_display slots.tuple_display
+      → Alike Same (forms.tuple_display m E xs env s) (slots.tuple_display m F ys frame s)
+  unfolding slots.tuple_display
   tuple_alike xs ys h env frame shows s =
       then_both Same _ _ _ (λ _ t. then_same Same _ _ _ _ (values_alike xs ys h env frame shows [] t) (λ vs u. (refl, refl)))
 
   pair_alike : (p : Pair) (q : CodePair) → PairAgree p q → (env : Env) (frame : Frame) → Shows blocks env frame → (c : Contents) (s : S)
-      → Alike Same (names.pair m E p env c s) (slots.pair m F q frame c s)
-  unfolding names.pair slots.pair
+      → Alike Same (forms.pair m E p env c s) (slots.pair m F q frame c s)
+  unfolding slots.pair
   pair_alike p q h env frame shows c s =
       then_same Same _ _ _ _ (h.0 env frame shows s) (λ k t. then_same Same _ _ _ _ (h.1 env frame shows t) (λ v u. itself (m.add_pair c k v u)))
 
@@ -90,21 +91,22 @@ module _ {S : Type 0} (m : Primitives S) (E : Eval S) (F : trees.Eval S) (blocks
   unfolding names.pairs_each slots.pairs_each
   pairs_alike [] [] h env frame shows c s = (refl, refl)
   pairs_alike (p ∷ ps) (q ∷ qs) h env frame shows c s =
-      then_same Same _ _ _ _ (pair_alike p q h.0 env frame shows c s) (λ d t. pairs_alike ps qs h.1 env frame shows d t)
+      after_three Same (E (out-Pair p).key env s) (λ _. E (out-Pair p).value env) (λ k v. m.add_pair c k v) (names.pairs_each m E ps env) _
+      (then_same Same _ _ _ _ (pair_alike p q h.0 env frame shows c s) (λ d t. pairs_alike ps qs h.1 env frame shows d t))
   pairs_alike [] (q ∷ qs) h env frame shows c s = absurd h
   pairs_alike (p ∷ ps) [] h env frame shows c s = absurd h
 
   pub dict_alike : (ps : List Pair) (qs : List CodePair) → Pairwise PairAgree ps qs → (env : Env) (frame : Frame) → Shows blocks env frame → (s : S)
-      → Alike Same (names.dict_display m E ps env s) (slots.dict_display m F qs frame s)
-  unfolding names.dict_display slots.dict_display
+      → Alike Same (forms.dict_display m E ps env s) (slots.dict_display m F qs frame s)
+  unfolding slots.dict_display
   dict_alike ps qs h env frame shows s =
       then_both Same _ _ _ (λ _ t. then_same Same _ _ _ _ (pairs_alike ps qs h env frame shows (pairs []) t) (λ c u. itself (m.make c u)))
 
   -- ---- operators
 
   pub unary_alike : (os : List UnaryOperator) (x : Expr) (y : Code) → Agree x y → (env : Env) (frame : Frame) → Shows blocks env frame → (s : S)
-      → Alike Same (names.unary m E os x env s) (slots.unary m F os y frame s)
-  unfolding names.unary slots.unary
+      → Alike Same (forms.unary m E os x env s) (slots.unary m F os y frame s)
+  unfolding slots.unary
   unary_alike os x y h env frame shows s =
       then_both Same _ _ _ (λ _ t. then_same Same _ _ _ _ (h env frame shows t) (λ v u. itself (slots.unary_each m (reverse os) v u)))
 
@@ -115,8 +117,8 @@ module _ {S : Type 0} (m : Primitives S) (E : Eval S) (F : trees.Eval S) (blocks
   operation_by_alike o x y h env frame shows v s = then_same Same _ _ _ _ (h env frame shows s) (λ w t. itself (m.binary o v w t))
 
   operation_alike : (o : Operation) (p : CodeOperation) → OperationAgree o p → (env : Env) (frame : Frame) → Shows blocks env frame → (v : Datum) (s : S)
-      → Alike Same (names.operation m E o env v s) (slots.operation m F p frame v s)
-  unfolding names.operation slots.operation
+      → Alike Same (forms.operation m E o env v s) (slots.operation m F p frame v s)
+  unfolding slots.operation
   operation_alike o p h env frame shows v s =
       subst (λ z. Alike Same (names.operation_by m E (out-Operation o).operator (out-Operation o).operand env v s) (slots.operation_by m F z (out-CodeOperation p).operand frame v s)) h.0
       (operation_by_alike (out-Operation o).operator (out-Operation o).operand (out-CodeOperation p).operand h.1 env frame shows v s)
@@ -131,15 +133,15 @@ module _ {S : Type 0} (m : Primitives S) (E : Eval S) (F : trees.Eval S) (blocks
   operations_alike (o ∷ os) [] h env frame shows v s = absurd h
 
   pub binary_alike : (x : Expr) (y : Code) (os : List Operation) (ps : List CodeOperation) → Agree x y → Pairwise OperationAgree os ps → (env : Env) (frame : Frame) → Shows blocks env frame → (s : S)
-      → Alike Same (names.binary m E x os env s) (slots.binary m F y ps frame s)
-  unfolding names.binary slots.binary
+      → Alike Same (forms.binary m E x os env s) (slots.binary m F y ps frame s)
+  unfolding slots.binary
   binary_alike x y os ps h k env frame shows s =
       rw (same_length OperationAgree os ps k)
       (then_both Same _ _ _ (λ _ t. then_same Same _ _ _ _ (h env frame shows t) (λ v u. operations_alike os ps k env frame shows v u)))
 
   pub compare_alike : (x z : Expr) (o : Comparison) (y w : Code) → Agree x y → Agree z w → (env : Env) (frame : Frame) → Shows blocks env frame → (s : S)
-      → Alike Same (names.compare m E x o z env s) (slots.compare m F y o w frame s)
-  unfolding names.compare slots.compare
+      → Alike Same (forms.compare m E x o z env s) (slots.compare m F y o w frame s)
+  unfolding slots.compare
   compare_alike x z o y w h k env frame shows s =
       then_both Same _ _ _ (λ _ t. then_same Same _ _ _ _ (h env frame shows t) (λ v u. then_same Same _ _ _ _ (k env frame shows u) (λ v2 r. itself (m.compare o v v2 r))))
 
@@ -168,8 +170,8 @@ module _ {S : Type 0} (m : Primitives S) (E : Eval S) (F : trees.Eval S) (blocks
   -- ---- what is done to an operand
 
   pub index_alike : (i : Expr) (j : Code) → Agree i j → (env : Env) (frame : Frame) → Shows blocks env frame → (v : Datum) (s : S)
-      → Alike Same (names.index m E i env v s) (slots.index m F j frame v s)
-  unfolding names.index slots.index
+      → Alike Same (forms.index m E i env v s) (slots.index m F j frame v s)
+  unfolding slots.index
   index_alike i j h env frame shows v s = then_same Same _ _ _ _ (h env frame shows s) (λ w t. itself (m.index v w t))
 
   part_alike : (i : Option Expr) (j : Option Code) → Optional Agree i j → (env : Env) (frame : Frame) → Shows blocks env frame → (s : S)
@@ -181,8 +183,8 @@ module _ {S : Type 0} (m : Primitives S) (E : Eval S) (F : trees.Eval S) (blocks
   part_alike (Some x) None h env frame shows s = absurd h
 
   pub slice_alike : (i j k : Option Expr) (x y z : Option Code) → Optional Agree i x → Optional Agree j y → Optional Agree k z → (env : Env) (frame : Frame) → Shows blocks env frame → (v : Datum) (s : S)
-      → Alike Same (names.slice m E i j k env v s) (slots.slice m F x y z frame v s)
-  unfolding names.slice slots.slice
+      → Alike Same (forms.slice m E i j k env v s) (slots.slice m F x y z frame v s)
+  unfolding slots.slice
   slice_alike i j k x y z a b c env frame shows v s =
       then_same Same _ _ _ _ (part_alike i x a env frame shows s) (λ p t. then_same Same _ _ _ _ (part_alike j y b env frame shows t)
       (λ q u. then_same Same _ _ _ _ (part_alike k z c env frame shows u) (λ r w. itself (m.slice v p q r w))))
@@ -198,7 +200,7 @@ module _ {S : Type 0} (m : Primitives S) (E : Eval S) (F : trees.Eval S) (blocks
 
   module _ (call other : Calls S) (called : (v : Datum) (p : Passed) (s : S) → call v p s ≡ other v p s) where
     abbrev pub SuffixAgree : Suffix → CodeSuffix → Type 0
-    SuffixAgree a b = (env : Env) (frame : Frame) → Shows blocks env frame → (v : Datum) (s : S) → Alike Same (names.suffix m E call a env v s) (slots.suffix m F other b frame v s)
+    SuffixAgree a b = (env : Env) (frame : Frame) → Shows blocks env frame → (v : Datum) (s : S) → Alike Same (forms.suffix m E call a env v s) (slots.suffix m F other b frame v s)
 
     pub call_alike : (xs : List Argument) (ys : List CodeArgument) → Pairwise ArgumentAgree xs ys → (env : Env) (frame : Frame) → Shows blocks env frame → (v : Datum) (s : S)
         → Alike Same (names.call_of m E call xs env v s) (slots.call_of m F other ys frame v s)
@@ -216,14 +218,14 @@ module _ {S : Type 0} (m : Primitives S) (E : Eval S) (F : trees.Eval S) (blocks
     suffixes_alike (x ∷ xs) [] h env frame shows v s = absurd h
 
     pub operand_alike : (x : Expr) (y : Code) (ss : List Suffix) (ts : List CodeSuffix) → Agree x y → Pairwise SuffixAgree ss ts → (env : Env) (frame : Frame) → Shows blocks env frame → (s : S)
-        → Alike Same (names.operand m E call x ss env s) (slots.primary m F other y ts frame s)
-    unfolding names.operand slots.primary
+        → Alike Same (forms.operand m E call x ss env s) (slots.primary m F other y ts frame s)
+    unfolding slots.primary
     operand_alike x y ss ts h k env frame shows s =
         rw (same_length SuffixAgree ss ts k)
         (then_both Same _ _ _ (λ _ t. then_same Same _ _ _ _ (h env frame shows t) (λ v u. suffixes_alike ss ts k env frame shows v u)))
 
   pub method_alike : (n : Identifier) (xs : List Argument) (ys : List CodeArgument) → Pairwise ArgumentAgree xs ys → (env : Env) (frame : Frame) → Shows blocks env frame → (v : Datum) (s : S)
-      → Alike Same (names.method m E n xs env v s) (slots.method m F n.name ys frame v s)
-  unfolding names.method slots.method
+      → Alike Same (forms.method m E n xs env v s) (slots.method m F n.name ys frame v s)
+  unfolding slots.method
   method_alike n xs ys h env frame shows v s =
       then_same Same _ _ _ _ (arguments_alike xs ys h env frame shows nothing_passed s) (λ p t. itself (m.call_method n.name v p t))

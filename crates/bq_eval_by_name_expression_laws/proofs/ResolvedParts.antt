@@ -38,6 +38,7 @@ use Rattle.bq_eval_meaning_spec.specs.Trees.{Calls}
 use Rattle.bq_eval_by_name_spec.specs.Expressions as names
 use Rattle.bq_eval_by_name_spec.specs.Names.{Env, Round}
 use Rattle.bq_eval_by_name_spec.specs.Trees.{Eval, ArgumentLayer}
+use Rattle.bq_eval_by_name_spec.proofs.Forms as forms
 use Rattle.bq_eval_by_name_expression_laws.specs.Alike.{Alike, Same}
 use Rattle.bq_eval_by_name_expression_laws.specs.Shows.{Around}
 use Rattle.bq_eval_by_name_expression_laws.proofs.Walks.{Pairwise, Optional, After, any, Walks, walks_bind, walks_weaker, walks_pure, walks_given, walks_map, walks_two, walks_three, walks_each, walks_all, walks_optional}
@@ -81,9 +82,7 @@ module _ {S : Type 0} (m : Primitives S) (file : FileParts) (visit : List BlockP
       (λ y h. making.star_star_agrees m E F blocks x y (argument.StarStar y) (argument.rolls-StarStar y) h) (visits x)
 
   argument_walks : (a : Argument) → Walks {A = CodeArgument} blocks (λ z. ArgumentAgree m E F blocks a z) (scope.argument_by file visit blocks (out-Argument a))
-  argument_walks a =
-      walks_weaker blocks (λ z. ArgumentLayerAgree m E F blocks (out-Argument a) z) (λ z. ArgumentAgree m E F blocks a z) (scope.argument_by file visit blocks (out-Argument a))
-      (making.argument_agrees m E F blocks a) (argument_by_walks (out-Argument a))
+  argument_walks a = argument_by_walks (out-Argument a)
 
   pub arguments_walk : (xs : List Argument) → Walks {A = List CodeArgument} blocks (λ ys. Pairwise (ArgumentAgree m E F blocks) xs ys) (scope.arguments file visit blocks xs)
   unfolding scope.arguments
@@ -114,9 +113,7 @@ module _ {S : Type 0} (m : Primitives S) (file : FileParts) (visit : List BlockP
         (λ x y z p q r. making.slice_agrees m E F blocks call other called i j k x y z (suffix.Slice x y z) (suffix.rolls-Slice x y z) p q r) (optional_walks i) (optional_walks j) (optional_walks k)
 
     suffix_walks : (a : Suffix) → Walks {A = CodeSuffix} blocks (λ z. SuffixAgree m E F blocks call other called a z) (scope.suffix_by file visit blocks (out-Suffix a))
-    suffix_walks a =
-        walks_weaker blocks (λ z. SuffixGood (out-Suffix a) z) (λ z. SuffixAgree m E F blocks call other called a z) (scope.suffix_by file visit blocks (out-Suffix a))
-        (making.suffix_agrees m E F blocks call other called a) (suffix_by_walks (out-Suffix a))
+    suffix_walks a = suffix_by_walks (out-Suffix a)
 
     abbrev SuffixesAfter : List CodeSuffix → List Suffix → List CodeSuffix → Type 0
     SuffixesAfter so_far ss zs = After (SuffixAgree m E F blocks call other called) so_far ss zs
@@ -130,28 +127,28 @@ module _ {S : Type 0} (m : Primitives S) (file : FileParts) (visit : List BlockP
       abbrev Good : (Env → Action S Datum) → Code → Type 0
       Good g z = Means m E F blocks call other called round surroundings g z
 
-      operand_walks : (x : Expr) (ss : List Suffix) → Walks {A = Code} blocks (λ z. Good (names.operand m E call x ss) z) (scope.operand file visit blocks x ss)
+      operand_walks : (x : Expr) (ss : List Suffix) → Walks {A = Code} blocks (λ z. Good (forms.operand m E call x ss) z) (scope.operand file visit blocks x ss)
       unfolding scope.operand
       operand_walks x ss =
-          walks_two blocks (λ z. Agree m E F blocks x z) (λ zs. SuffixesAfter [] ss zs) (λ z. Good (names.operand m E call x ss) z) (visit blocks x) (scope.suffixes file visit blocks [] ss) (λ y ts. c.Primary y ts)
-          (λ y ts h a. made_expr m E F blocks call other called round surroundings (names.operand m E call x ss) (c.Primary y ts) (Code-F.Primary y ts) (c.rolls-Primary y ts)
-          (λ env frame shows s. subst (λ z. Alike Same (names.operand m E call x ss env s) (slots.primary m F other y z frame s)) (sym a.2) (operand_alike m E F blocks call other called x y ss a.0 h a.1 env frame shows s)))
+          walks_two blocks (λ z. Agree m E F blocks x z) (λ zs. SuffixesAfter [] ss zs) (λ z. Good (forms.operand m E call x ss) z) (visit blocks x) (scope.suffixes file visit blocks [] ss) (λ y ts. c.Primary y ts)
+          (λ y ts h a. made_expr m E F blocks call other called round surroundings (forms.operand m E call x ss) (c.Primary y ts) (Code-F.Primary y ts) (c.rolls-Primary y ts)
+          (λ env frame shows s. subst (λ z. Alike Same (forms.operand m E call x ss env s) (slots.primary m F other y z frame s)) (sym a.2) (operand_alike m E F blocks call other called x y ss a.0 h a.1 env frame shows s)))
           (visits x) (suffixes_walk [] ss)
 
       module _ (around : Around file round surroundings) (member : (p : Predeclared) (frame : Frame) (s : S) → F (c.Member p) frame s ≡ done (m.predeclared p) s) where
-        member_walks : (space : Namespace) (n : Identifier) (xs : List Argument) (ss : List Suffix) → Walks {A = Code} blocks (λ z. Good (names.call_member m E call round space n xs ss) z) (scope.call_member file visit blocks space n xs ss)
+        member_walks : (space : Namespace) (n : Identifier) (xs : List Argument) (ss : List Suffix) → Walks {A = Code} blocks (λ z. Good (forms.call_member m E call round space n xs ss) z) (scope.call_member file visit blocks space n xs ss)
         unfolding scope.call_member
         member_walks space n xs ss =
-            walks_bind blocks (λ p. member_named space file.universe.rules n.name ≡ Some p) (λ z. Good (names.call_member m E call round space n xs ss) z) (given (fault_of f.UnknownName n) (member_named space file.universe.rules n.name))
+            walks_bind blocks (λ p. member_named space file.universe.rules n.name ≡ Some p) (λ z. Good (forms.call_member m E call round space n xs ss) z) (given (fault_of f.UnknownName n) (member_named space file.universe.rules n.name))
             (λ p. scope.arguments file visit blocks xs >>= λ ys. scope.suffixes file visit blocks (suffix.Call ys ∷ []) ss >>= λ ts. pure (c.Primary (c.Member p) ts))
             (walks_given blocks (fault_of f.UnknownName n) (member_named space file.universe.rules n.name))
-            (λ p known. walks_bind blocks (λ ys. Pairwise (ArgumentAgree m E F blocks) xs ys) (λ z. Good (names.call_member m E call round space n xs ss) z) (scope.arguments file visit blocks xs)
+            (λ p known. walks_bind blocks (λ ys. Pairwise (ArgumentAgree m E F blocks) xs ys) (λ z. Good (forms.call_member m E call round space n xs ss) z) (scope.arguments file visit blocks xs)
             (λ ys. scope.suffixes file visit blocks (suffix.Call ys ∷ []) ss >>= λ ts. pure (c.Primary (c.Member p) ts)) (arguments_walk xs)
-            (λ ys h. walks_map blocks (λ zs. SuffixesAfter (suffix.Call ys ∷ []) ss zs) (λ z. Good (names.call_member m E call round space n xs ss) z) (scope.suffixes file visit blocks (suffix.Call ys ∷ []) ss)
+            (λ ys h. walks_map blocks (λ zs. SuffixesAfter (suffix.Call ys ∷ []) ss zs) (λ z. Good (forms.call_member m E call round space n xs ss) z) (scope.suffixes file visit blocks (suffix.Call ys ∷ []) ss)
             (λ ts. c.Primary (c.Member p) ts)
-            (λ ts a. made_expr m E F blocks call other called round surroundings (names.call_member m E call round space n xs ss) (c.Primary (c.Member p) ts) (Code-F.Primary (c.Member p) ts)
+            (λ ts a. made_expr m E F blocks call other called round surroundings (forms.call_member m E call round space n xs ss) (c.Primary (c.Member p) ts) (Code-F.Primary (c.Member p) ts)
             (c.rolls-Primary (c.Member p) ts)
-            (λ env frame shows s. subst (λ z. Alike Same (names.call_member m E call round space n xs ss env s) (slots.primary m F other (c.Member p) z frame s)) (sym a.2)
+            (λ env frame shows s. subst (λ z. Alike Same (forms.call_member m E call round space n xs ss env s) (slots.primary m F other (c.Member p) z frame s)) (sym a.2)
             (member_alike m E F blocks call other called round surroundings member space n p (rw around.universe known) xs ys ss a.0 h a.1 env frame shows s)))
             (suffixes_walk (suffix.Call ys ∷ []) ss)))
 
@@ -160,10 +157,10 @@ module _ {S : Type 0} (m : Primitives S) (file : FileParts) (visit : List BlockP
         primary_by_walks x ss None = operand_walks x ss
         primary_by_walks x ss (Some (space, n, xs, rest)) = member_walks space n xs rest
 
-        pub primary_walks : (x : Expr) (ss : List Suffix) → Walks {A = Code} blocks (λ z. Good (names.primary m E call round x ss) z) (scope.primary file visit blocks x ss)
-        unfolding scope.primary names.primary
+        pub primary_walks : (x : Expr) (ss : List Suffix) → Walks {A = Code} blocks (λ z. Good (forms.primary m E call round x ss) z) (scope.primary file visit blocks x ss)
+        unfolding scope.primary
         primary_walks x ss =
-            walks_weaker blocks (λ z. Good (names.primary_by m E call round x ss (scope.member_call (scope.namespace_at file blocks (out-Expr x)) ss)) z) (λ z. Good (names.primary m E call round x ss) z)
+            walks_weaker blocks (λ z. Good (names.primary_by m E call round x ss (scope.member_call (scope.namespace_at file blocks (out-Expr x)) ss)) z) (λ z. Good (forms.primary m E call round x ss) z)
             (scope.primary file visit blocks x ss)
             (λ z h env frame shows s. subst (λ t. Alike Same (names.primary_by m E call round x ss (scope.member_call t ss) env s) (slots.expr m F other surroundings z frame s))
             (sym (namespace_is m round surroundings frame file around blocks env shows (out-Expr x))) (h env frame shows s))

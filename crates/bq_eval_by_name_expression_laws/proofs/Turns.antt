@@ -1,6 +1,6 @@
 -- What binds names, and the clauses of comprehensions: they mean the same by names and by slots, where the expressions in them do.
 use Rattle.std.proofs.Common.{◌≡◌, ℕ, suc, List, [], ◌∷◌, Some, refl, sym, ap, ◌∙◌, subst}
-use Rattle.bq_parse_grammar.specs.declared.tree.Argument.TheOpen.{TargetExpr-F}
+use Rattle.bq_parse_grammar.specs.declared.tree.Argument.TheOpen.{Clause-F, TargetExpr-F}
 use Rattle.bq_parse_grammar.specs.declared.tree.Clause.{Clause, out-Clause}
 use Rattle.bq_parse_grammar.specs.declared.tree.Expr.{Expr}
 use Rattle.bq_parse_grammar.specs.declared.tree.Identifier.{Identifier}
@@ -25,9 +25,10 @@ use Rattle.bq_eval_by_name_spec.specs.Comprehensions as names
 use Rattle.bq_eval_by_name_spec.specs.Targets as targets
 use Rattle.bq_eval_by_name_spec.specs.Names.{Env}
 use Rattle.bq_eval_by_name_spec.specs.Trees.{Eval}
+use Rattle.bq_eval_by_name_spec.proofs.Forms as forms
 use Rattle.bq_eval_by_name_expression_laws.specs.Alike.{Alike}
 use Rattle.bq_eval_by_name_expression_laws.specs.Shows.{Nested, Shows}
-use Rattle.bq_eval_by_name_expression_laws.proofs.Runs.{then_alike, then_same, then_both, then_pure, choice}
+use Rattle.bq_eval_by_name_expression_laws.proofs.Runs.{then_alike, then_same, then_both, then_pure, choice, after_three}
 use Rattle.bq_eval_by_name_expression_laws.proofs.Walks.{Pairwise, same_length}
 use Rattle.bq_eval_by_name_expression_laws.proofs.Envs.{shows_bind}
 use Rattle.bq_eval_by_name_expression_laws.proofs.Parts.{Agree, PairAgree}
@@ -48,7 +49,7 @@ module _ {S : Type 0} (m : Primitives S) (blocks : List BlockParts) (nested : Ne
       → Alike Bound (targets.bind_by m (targets.bind_to m n) o v env ps s) (places.bind_target m (places.bind_to m n) u v frame ps s)
 
   pub layer_agrees : (n : ℕ) (t : TargetExpr) (u : CodeTarget) → LayerAgree n (out-TargetExpr t) u → TargetAgree (suc n) t u
-  unfolding targets.bind_to places.bind_to targets.bind_target
+  unfolding targets.bind_to places.bind_to
   layer_agrees n t u h = h
 
   made_target : (n : ℕ) (o : TargetLayer) (u : CodeTarget) (p : trees.TargetLayer) → roll-CodeTarget p ≡ u
@@ -63,13 +64,14 @@ module _ {S : Type 0} (m : Primitives S) (blocks : List BlockParts) (nested : Ne
   name_agrees n i slot u at e =
       made_target n (TargetExpr-F.TargetExpr::Name i) u (CodeTarget-F.Local slot) e (λ v env frame ps shows s. (refl, (shows_bind blocks nested env frame i.name slot v at shows, refl)))
 
-  place_alike : (v : Datum) (env : Env) (frame : Frame) (ps : Places) → Shows blocks env frame → (s : S) → Alike Bound (targets.bind_place m v env ps s) (places.bind_place m v frame ps s)
-  unfolding targets.bind_place places.bind_place
-  place_alike v env frame [] shows s = refl
-  place_alike v env frame (p ∷ ps) shows s = then_pure Bound (m.set_index p.0 p.1 v s) (λ _. (env, ps)) (λ _. (frame, ps)) (λ _. (shows, refl))
+  place_alike : (n : ℕ) (x i : Expr) (v : Datum) (env : Env) (frame : Frame) (ps : Places) → Shows blocks env frame → (s : S)
+      → Alike Bound (targets.bind_by m (targets.bind_to m n) (TargetExpr-F.TargetExpr::Index x i) v env ps s) (places.bind_place m v frame ps s)
+  unfolding places.bind_place
+  place_alike n x i v env frame [] shows s = refl
+  place_alike n x i v env frame (p ∷ ps) shows s = then_pure Bound (m.set_index p.0 p.1 v s) (λ _. (env, ps)) (λ _. (frame, ps)) (λ _. (shows, refl))
 
   pub index_agrees : (n : ℕ) (x i : Expr) (y j : Code) (u : CodeTarget) → roll-CodeTarget (CodeTarget-F.CodeTarget::Index y j) ≡ u → LayerAgree n (TargetExpr-F.TargetExpr::Index x i) u
-  index_agrees n x i y j u e = made_target n (TargetExpr-F.TargetExpr::Index x i) u (CodeTarget-F.CodeTarget::Index y j) e place_alike
+  index_agrees n x i y j u e = made_target n (TargetExpr-F.TargetExpr::Index x i) u (CodeTarget-F.CodeTarget::Index y j) e (place_alike n x i)
 
   each_alike : (n : ℕ) (ts : List TargetExpr) (us : List CodeTarget) → Pairwise (TargetAgree n) ts us → (vs : List Datum) (env : Env) (frame : Frame) (ps : Places) → Shows blocks env frame → (s : S)
       → Alike Bound (targets.bind_each m (targets.bind_to m n) ts vs env ps s) (places.bind_each m (places.bind_to m n) us vs frame ps s)
@@ -128,8 +130,8 @@ module _ {S : Type 0} (m : Primitives S) (blocks : List BlockParts) (nested : Ne
         subst (λ z. Alike Turned (f env made s) (slots.body_by m F z frame made s)) (sym (out-roll-Code o) ∙ ap out-Code e) (h env frame made shows s)
 
     turn_alike : (t : TargetExpr) (u : CodeTarget) → TargetAgree max_layers t u → (inner : names.Turn S) (within : slots.Turn S) → TurnAlike inner within → (v : Datum)
-        → TurnAlike (names.turn m E t inner v) (slots.turn m F u within v)
-    unfolding names.turn slots.turn
+        → TurnAlike (forms.clause_turn m E t inner v) (slots.turn m F u within v)
+    unfolding slots.turn
     turn_alike t u h inner within k v env frame c shows s =
         then_both Turned _ _ _ (λ _ r. then_alike (Shows blocks) Turned _ _ _ _ (variables_alike t u h v env frame shows r) (λ a b w bound. k a b c bound w))
 
@@ -138,8 +140,9 @@ module _ {S : Type 0} (m : Primitives S) (blocks : List BlockParts) (nested : Ne
     unfolding names.turns slots.turns
     turns_alike t u h inner within k [] env frame c shows s = (refl, (refl, shows))
     turns_alike t u h inner within k (v ∷ vs) env frame c shows s =
-        then_alike Turned Turned _ _ _ _ (turn_alike t u h inner within k v env frame c shows s)
-        (λ a b w r. subst (λ z. Alike Turned (names.turns m E t inner vs a.1 a.0 w) (slots.turns m F u within vs b.1 z w)) r.0 (turns_alike t u h inner within k vs a.1 b.1 a.0 r.1 w))
+        after_three Turned (m.step 1 s) (λ _. targets.bind_variables m t v env) (λ _ new. inner new c) (λ r. names.turns m E t inner vs r.1 r.0) _
+        (then_alike Turned Turned _ _ _ _ (turn_alike t u h inner within k v env frame c shows s)
+        (λ a b w r. subst (λ z. Alike Turned (names.turns m E t inner vs a.1 a.0 w) (slots.turns m F u within vs b.1 z w)) r.0 (turns_alike t u h inner within k vs a.1 b.1 a.0 r.1 w)))
 
     -- ---- clauses: an iterable among the blocks `round`
 
@@ -164,14 +167,14 @@ module _ {S : Type 0} (m : Primitives S) (blocks : List BlockParts) (nested : Ne
 
     pub for_alike : (round : List BlockParts) (t : TargetExpr) (u : CodeTarget) (x : Expr) (y : Code) → TargetAgree max_layers t u → Agree m E F round x y
         → (inner : names.Turn S) (within : slots.Turn S) → TurnAlike inner within → (there env : Env) (frame : Frame) (made : Contents) → Shows round there frame → Shows blocks env frame → (s : S)
-        → Alike Turned (names.for_clause m E t x there inner env made s) (slots.for_clause m F u y within frame made s)
-    unfolding names.for_clause slots.for_clause
+        → Alike Turned (names.clause_by m E (Clause-F.For t x) there inner env made s) (slots.for_clause m F u y within frame made s)
+    unfolding slots.for_clause
     for_alike round t u x y h l inner within k there env frame made shown shows s =
         then_same Turned _ _ _ _ (l there frame shown s)
         (λ v r. then_both Turned _ _ _ (λ vs w. then_alike Turned Turned _ _ _ _ (turns_alike t u h inner within k vs env frame made shows w) (λ a b z turned. (refl, turned))))
 
-    pub if_alike : (x : Expr) (y : Code) → Agree m E F blocks x y → (inner : names.Turn S) (within : slots.Turn S) → TurnAlike inner within
-        → TurnAlike (names.if_clause m E x inner) (slots.if_clause m F y within)
-    unfolding names.if_clause slots.if_clause
-    if_alike x y l inner within k env frame made shows s =
+    pub if_alike : (x : Expr) (y : Code) → Agree m E F blocks x y → (there : Env) (inner : names.Turn S) (within : slots.Turn S) → TurnAlike inner within
+        → TurnAlike (names.clause_by m E (Clause-F.If x) there inner) (slots.if_clause m F y within)
+    unfolding slots.if_clause
+    if_alike x y l there inner within k env frame made shows s =
         then_same Turned _ _ _ _ (l env frame shows s) (λ v r. choice Turned (m.truth v r) _ _ _ _ r (k env frame made shows r) (refl, (refl, shows)))

@@ -17,6 +17,7 @@ use Rattle.bq_eval_meaning_spec.specs.Primitives.{Primitives}
 use Rattle.bq_eval_meaning_spec.specs.Targets.{bound}
 use Rattle.bq_eval_by_name_spec.specs.Names as names
 use Rattle.bq_eval_by_name_spec.specs.Names.{Env, Round, held}
+use Rattle.bq_eval_by_name_spec.proofs.Forms as forms
 use Rattle.bq_eval_by_name_expression_laws.specs.Alike.{Alike, Same}
 use Rattle.bq_eval_by_name_expression_laws.specs.Shows.{through, Shows, Around}
 use Rattle.bq_eval_by_name_expression_laws.proofs.Runs.{itself, then_both}
@@ -50,8 +51,8 @@ module _ {S : Type 0} (m : Primitives S) (round : Round) (surroundings : Surroun
     unfolding held
     held_is n = rw (shows.reads n, around.globals n, around.loaded n, around.universe) refl
 
-    pub use_alike : (n : Name) (x : Binding) → use_of file blocks n ≡ Some x → (s : S) → Alike Same (names.use_of m round n env s) (slots.use_of m surroundings x frame s)
-    unfolding use_of file_has names.use_of slots.use_of
+    pub use_alike : (n : Name) (x : Binding) → use_of file blocks n ≡ Some x → (s : S) → Alike Same (forms.use_of m round n env s) (slots.use_of m surroundings x frame s)
+    unfolding use_of file_has slots.use_of
     use_alike n x e s =
         then_both Same (m.step 1 s) (λ _. names.value_by m round (held m round env n)) (λ _. slots.use_by m surroundings x frame)
         (λ _ t. rw (held_is n, value_of (slot_of blocks n) (place_among n file.globals) (place_among n file.loaded) (universe_has file.universe n) x e t) (itself (slots.use_by m surroundings x frame t)))

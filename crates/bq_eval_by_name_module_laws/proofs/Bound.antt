@@ -23,10 +23,10 @@ use Rattle.bq_eval_meaning_spec.specs.Primitives.{Primitives}
 use Rattle.bq_eval_meaning_spec.specs.Statements.{Flow, next}
 use Rattle.bq_eval_meaning_spec.specs.Targets.{Places}
 use Rattle.bq_eval_by_name_spec.specs.Expressions.{values}
-use Rattle.bq_eval_by_name_spec.specs.Module.{Own, own_of, defs_by, defaults_of, eval_top, first_globals, def_stmt, file_stmt_by, file_stmt, top_level, top_levels, module_meaning}
+use Rattle.bq_eval_by_name_spec.specs.Module.{Own, own_of, defs_by, defaults_of, eval_top, first_globals, file_stmt_by, top_level, top_levels, module_meaning}
 use Rattle.bq_eval_by_name_spec.specs.Names.{Env, bind}
-use Rattle.bq_eval_by_name_spec.specs.Statements.{go_on, expr_stmt, assign_stmt, small_by, small_effect, small_stmt, steps_of, line}
-use Rattle.bq_eval_by_name_spec.specs.Targets.{bind_place, bind_each, unpack, bind_by, bind_target, bind_to, assigned, places_to, assign, augment_name, augment_index, augment_by, augment}
+use Rattle.bq_eval_by_name_spec.specs.Statements.{go_on, small_by, steps_of, line}
+use Rattle.bq_eval_by_name_spec.specs.Targets.{bind_each, unpack, bind_by, bind_to, assigned, places_to, assign, augment_by}
 use Rattle.bq_eval_by_name_spec.specs.Trees.{Eval}
 use Rattle.bq_eval_by_name_module_laws.specs.Ends.{Gives, AllBound, PartsAreCounted, GlobalsAreBound}
 use Rattle.bq_eval_by_name_module_laws.proofs.Fresh.{none_first, none_second}
@@ -71,10 +71,10 @@ module _ {S : Type 0} (m : Primitives S) (counted : PartsAreCounted m) where
   abbrev Binds : (List Name → TargetExpr → List Name) → (TargetExpr → Datum → Env → Places → Action S (Env × Places)) → Type 0
   Binds add inner = (t : TargetExpr) (ns : List Name) (v : Datum) (env : Env) (ps : Places) (s : S) → AllBound ns env → Gives (λ r. AllBound (add ns t) r.0) (inner t v env ps s)
 
-  place_bound : (ns : List Name) (v : Datum) (env : Env) (ps : Places) (s : S) → AllBound ns env → Gives (λ r. AllBound ns r.0) (bind_place m v env ps s)
-  unfolding bind_place
-  place_bound ns v env [] s h = tt
-  place_bound ns v env (p ∷ ps) s h = gives_after (λ r. AllBound ns r.0) (m.set_index p.0 p.1 v s) _ (λ _ w. h)
+  place_bound : (inner : TargetExpr → Datum → Env → Places → Action S (Env × Places)) (x i : Expr) (ns : List Name) (v : Datum) (env : Env) (ps : Places) (s : S) → AllBound ns env
+      → Gives (λ r. AllBound ns r.0) (bind_by m inner (TargetExpr-F.TargetExpr::Index x i) v env ps s)
+  place_bound inner x i ns v env [] s h = tt
+  place_bound inner x i ns v env (p ∷ ps) s h = gives_after (λ r. AllBound ns r.0) (m.set_index p.0 p.1 v s) _ (λ _ w. h)
 
   each_bound : (add : List Name → TargetExpr → List Name) (inner : TargetExpr → Datum → Env → Places → Action S (Env × Places)) → Binds add inner → (ts : List TargetExpr) (vs : List Datum) → length vs ≡ length ts
       → (ns : List Name) (env : Env) (ps : Places) (s : S) → AllBound ns env → Gives (λ r. AllBound (with_each add ns ts) r.0) (bind_each m inner ts vs env ps s)
@@ -95,12 +95,12 @@ module _ {S : Type 0} (m : Primitives S) (counted : PartsAreCounted m) where
   layer_bound : (add : List Name → TargetExpr → List Name) (inner : TargetExpr → Datum → Env → Places → Action S (Env × Places)) → Binds add inner → (o : TargetLayer) (ns : List Name) (v : Datum) (env : Env) (ps : Places) (s : S)
       → AllBound ns env → Gives (λ r. AllBound (with_target_by add ns o) r.0) (bind_by m inner o v env ps s)
   layer_bound add inner one (TargetExpr-F.TargetExpr::Name n) ns v env ps s h = bound_bind ns env n.name v h
-  layer_bound add inner one (TargetExpr-F.TargetExpr::Index x i) ns v env ps s h = place_bound ns v env ps s h
+  layer_bound add inner one (TargetExpr-F.TargetExpr::Index x i) ns v env ps s h = place_bound inner x i ns v env ps s h
   layer_bound add inner one (TargetExpr-F.TargetExpr::Tuple ts) ns v env ps s h = unpack_bound add inner one ts ns v env ps s h
   layer_bound add inner one (TargetExpr-F.TargetExpr::List ts) ns v env ps s h = unpack_bound add inner one ts ns v env ps s h
 
   target_bound : (n : ℕ) → Binds (with_target_to n) (bind_to m n)
-  unfolding with_target_to bind_to bind_target
+  unfolding with_target_to bind_to
   target_bound zero t ns v env ps s h = tt
   target_bound (suc n) t ns v env ps s h = layer_bound (with_target_to n) (bind_to m n) (target_bound n) (out-TargetExpr t) ns v env ps s h
 
@@ -113,7 +113,6 @@ module _ {S : Type 0} (m : Primitives S) (counted : PartsAreCounted m) where
 
     augment_by_bound : (add : List Name → TargetExpr → List Name) (o : TargetLayer) (op : Operator) (x : Expr) (ns : List Name) (env : Env) (s : S) → AllBound ns env
         → Gives (AllBound (with_target_by add ns o)) (augment_by m E o op x env s)
-    unfolding augment_name augment_index
     augment_by_bound add (TargetExpr-F.TargetExpr::Name n) op x ns env s h =
         gives_after _ (assigned m (env n.name) s) _ (λ old a. gives_after _ (E x env a) _ (λ v b. gives_after _ (m.augment op old v b) _ (λ new d. bound_bind ns env n.name new h)))
     augment_by_bound add (TargetExpr-F.TargetExpr::Index y i) op x ns env s h =
@@ -122,8 +121,8 @@ module _ {S : Type 0} (m : Primitives S) (counted : PartsAreCounted m) where
     augment_by_bound add (TargetExpr-F.TargetExpr::Tuple ts) op x ns env s h = tt
     augment_by_bound add (TargetExpr-F.TargetExpr::List ts) op x ns env s h = tt
 
-    augment_bound : (t : TargetExpr) (op : Operator) (x : Expr) (ns : List Name) (env : Env) (s : S) → AllBound ns env → Gives (AllBound (with_target ns t)) (augment m E t op x env s)
-    unfolding augment with_target with_target_to max_layers
+    augment_bound : (t : TargetExpr) (op : Operator) (x : Expr) (ns : List Name) (env : Env) (s : S) → AllBound ns env → Gives (AllBound (with_target ns t)) (augment_by m E (out-TargetExpr t) op x env s)
+    unfolding with_target with_target_to max_layers
     augment_bound t op x ns env s h = augment_by_bound (with_target_to 1023) (out-TargetExpr t) op x ns env s h
 
     -- ---- statements outside functions: they go on
@@ -133,12 +132,11 @@ module _ {S : Type 0} (m : Primitives S) (counted : PartsAreCounted m) where
 
     module _ (file : FileParts) where
       kind_bound : (b : Before) (at : ℕ) (k : SmallKind) → in_file_small_by file b at k ≡ [] → (ns : List Name) (env : Env) (s : S) → AllBound ns env → Gives (On (with_small_by ns k)) (small_by m E k env s)
-      unfolding expr_stmt assign_stmt
       kind_bound b at (small.Expr x) e ns env s h = gives_after (On ns) (E x env s) _ (λ v w. (refl, h))
       kind_bound b at (small.Assign t x) e ns env s h =
           gives_after (On (with_target ns t)) (E x env s) _ (λ v w. gives_then (AllBound (with_target ns t)) (On (with_target ns t)) (assign m E t v env w) _ (assign_bound t v ns env w h) (λ new z k. (refl, k)))
       kind_bound b at (small.Augment t op x) e ns env s h =
-          gives_then (AllBound (with_target ns t)) (On (with_target ns t)) (augment m E t op x env s) _ (augment_bound t op x ns env s h) (λ new z k. (refl, k))
+          gives_then (AllBound (with_target ns t)) (On (with_target ns t)) (augment_by m E (out-TargetExpr t) op x env s) _ (augment_bound t op x ns env s h) (λ new z k. (refl, k))
       kind_bound b at (small.Return x) e ns env s h = absurd (let no : ⊥ = cc in no)
       kind_bound b at small.Break e ns env s h = absurd (let no : ⊥ = cc in no)
       kind_bound b at small.Continue e ns env s h = absurd (let no : ⊥ = cc in no)
@@ -150,19 +148,19 @@ module _ {S : Type 0} (m : Primitives S) (counted : PartsAreCounted m) where
 
       line_bound : (b : Before) (xs : List SmallStmt) → in_turn (in_file_small file) after_small b xs ≡ [] → (ns : List Name) (env : Env) (s : S) → AllBound ns env
           → Gives (On (with_each with_small ns xs)) (line m E xs env s)
-      unfolding line small_stmt small_effect in_file_small with_small
+      unfolding line in_file_small with_small
       line_bound b [] e ns env s h = (refl, h)
       line_bound b (x ∷ xs) e ns env s h =
           let rest = in_turn (in_file_small file) after_small (after_small b x) xs in
           let more : List Name = with_small_by ns x.kind in
-          gives_then (On more) (On (with_each with_small more xs)) (small_stmt m E x env s) (go_on (line m E xs))
-          (gives_after (On more) (m.step (steps_of x.kind) s) _ (λ _ w. kind_bound b x.line x.kind (none_first (in_file_small file b x) rest e) ns env w h))
-          (λ r w k. on_by (On (with_each with_small more xs)) (line m E xs) r w k.0 (line_bound (after_small b x) xs (none_second (in_file_small file b x) rest e) more r.1 w k.1))
+          gives_after (On (with_each with_small more xs)) (m.step (steps_of x.kind) s) _
+          (λ _ z. gives_then (On more) (On (with_each with_small more xs)) (small_by m E x.kind env z) (go_on (line m E xs))
+          (kind_bound b x.line x.kind (none_first (in_file_small file b x) rest e) ns env z h)
+          (λ r w k. on_by (On (with_each with_small more xs)) (line m E xs) r w k.0 (line_bound (after_small b x) xs (none_second (in_file_small file b x) rest e) more r.1 w k.1)))
 
       module _ (own : Own) where
         stmt_bound : (add : List Name → Stmt → List Name) (b : Before) (at place : ℕ) (o : Stmt-F Stmt Branch) → in_top_level_by file b at o ≡ [] → (ns : List Name) (env : Env) (s : S) → AllBound ns env
             → Gives (On (with_stmt_by add ns o)) (file_stmt_by m own E place o env s)
-        unfolding def_stmt
         stmt_bound add b at place (Stmt-F.Simple xs) e ns env s h = line_bound b xs e ns env s h
         stmt_bound add b at place (Stmt-F.If bs zs) e ns env s h = tt
         stmt_bound add b at place (Stmt-F.For t x body) e ns env s h = tt
@@ -172,7 +170,7 @@ module _ {S : Type 0} (m : Primitives S) (counted : PartsAreCounted m) where
 
         top_bound : (b : Before) (place : ℕ) (t : TopLevel) → in_top_level file b t ≡ [] → (ns : List Name) (env : Env) (s : S) → AllBound ns env
             → Gives (On (with_stmt ns t.statement)) (top_level m own E place t env s)
-        unfolding top_level file_stmt in_top_level with_stmt with_stmt_to max_layers
+        unfolding top_level in_top_level with_stmt with_stmt_to max_layers
         top_bound b place t e ns env s h = stmt_bound (with_stmt_to 1023) b t.line place (out-Stmt t.statement) e ns env (m.at_line t.line s) h
 
         tops_bound : (b : Before) (place : ℕ) (ts : List TopLevel) → in_turn (in_top_level file) after b ts ≡ [] → (ns : List Name) (env : Env) (s : S) → AllBound ns env

@@ -8,7 +8,7 @@ use Rattle.bq_value.specs.Datum.{Datum, none, boolean, int, string, tuple, range
 use Rattle.bq_builtin_machine.specs.Args.{Passed}
 use Rattle.bq_eval_depth_laws.specs.Fits.{FunctionFits}
 use Rattle.bq_eval_meaning_spec.specs.Calls as slots
-use Rattle.bq_eval_meaning_spec.specs.Calls.{CodeUnit, answered, known}
+use Rattle.bq_eval_meaning_spec.specs.Calls.{CodeUnit, answered, within, known}
 use Rattle.bq_eval_meaning_spec.specs.Frame.{Frame}
 use Rattle.bq_eval_meaning_spec.specs.Primitives.{Primitives}
 use Rattle.bq_eval_meaning_spec.specs.Trees.{Calls}
@@ -43,8 +43,8 @@ module _ {S : Type 0} (m : Primitives S) where
         (bodies_agree m file t.round c.round call other around agree d.parameters d.body f.body is.start is.end is.room is.body fits e frame s shows) (λ a b u k. (refl, ap answered k.0))
 
     run_alike : (d : Def) (f : CodeFunction) (is : FunctionIs file d f) → FunctionFits f → (i j : Option (Calls S)) → Maybe CallsAgree i j → (e : Env) (frame : Frame) (s : S)
-        → Shows (block_of (names_of file d f is) ∷ []) e frame → Alike Same (names.run_body m i t d e s) (slots.run_body m j c f frame s)
-    unfolding names.run_body slots.run_body
+        → Shows (block_of (names_of file d f is) ∷ []) e frame → Alike Same (within m i (λ call. names.body_of m call t d e) s) (slots.run_body m j c f frame s)
+    unfolding slots.run_body
     run_alike d f is fits None None h e frame s shows = refl
     run_alike d f is fits (Some call) (Some other) h e frame s shows = body_alike d f is fits call other h e frame s shows
     run_alike d f is fits None (Some other) h e frame s shows = absurd h
@@ -77,7 +77,7 @@ module _ {S : Type 0} (m : Primitives S) where
 
   module _ (named : names.Units) (units : slots.Units) (agree : UnitsAgree named units) where
     apply_alike : (i j : Option (Calls S)) → Maybe CallsAgree i j → (v : Datum) (p : Passed) (s : S) → Alike Same (names.apply m named i v p s) (slots.apply m units j v p s)
-    unfolding names.apply slots.apply names.call_at slots.call_at
+    unfolding names.apply slots.apply slots.call_at
     apply_alike i j h (function home place name ds) p s = unit_alike i j h home place (list_of ds) p (named home) (units home) (agree home) s
     apply_alike i j h (built_in b) p s = itself (m.call_built_in (function_of b) p s)
     apply_alike i j h (rule_function f) p s = itself (m.call_rule_function f p s)

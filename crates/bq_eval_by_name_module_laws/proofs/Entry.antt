@@ -115,7 +115,8 @@ module _ (ns : List Name) where
     default_alike name k at (None ∷ vs) (d ∷ ds) x y h s = (refl, (refl, refl, h.2, h.3, binds x.env y.frame name k d d at refl h.4))
     default_alike name k at (Some v ∷ vs) (d ∷ ds) x y h s = (refl, (refl, refl, h.2, h.3, binds x.env y.frame name k v v at refl h.4))
 
-    by_alike : (p : Parameter) (z : CodeParameter) → RowIs ns p z → (x : names.Filling) (y : slots.Filling) → Filled x y → (s : S) → Alike Filled (names.fill_by m p x s) (slots.fill_by m z y s)
+    by_alike : (p : Parameter) (z : CodeParameter) → RowIs ns p z → (x : names.Filling) (y : slots.Filling) → Filled x y → (s : S) → Alike Filled (names.fill_parameter m p x s) (slots.fill_by m z y s)
+    unfolding names.fill_parameter
     by_alike (parameter.Plain n) z r x y h s =
         rw r.2 (subst (λ vs. Alike Filled (names.with_value m n.name x.values x s) (slots.with_value m r.0 vs y s)) h.0 (value_alike n.name r.0 r.1 x.values x y h s))
     by_alike (parameter.Default n e) z r x y h s =
@@ -128,7 +129,7 @@ module _ (ns : List Name) where
 
     fill_alike : (ps : List Parameter) (zs : List CodeParameter) → InOrder (RowIs ns) ps zs → (x : names.Filling) (y : slots.Filling) → Filled x y → (s : S)
         → Alike Filled (names.fill_parameters m ps x s) (slots.fill_parameters m zs y s)
-    unfolding names.fill_parameters slots.fill_parameters names.fill_parameter slots.fill_parameter
+    unfolding names.fill_parameters slots.fill_parameters slots.fill_parameter
     fill_alike [] [] r x y h s = (refl, h)
     fill_alike (p ∷ ps) (z ∷ zs) r x y h s = then_alike Filled Filled _ _ _ _ (by_alike p z r.0 x y h s) (λ a b t k. fill_alike ps zs r.1 a b k t)
     fill_alike [] (z ∷ zs) r x y h s = absurd r

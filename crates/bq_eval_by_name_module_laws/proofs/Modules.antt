@@ -38,7 +38,7 @@ use Rattle.bq_eval_meaning_spec.specs.Targets as targets
 use Rattle.bq_eval_meaning_spec.specs.Trees as trees
 use Rattle.bq_eval_by_name_spec.specs.Expressions as exprs
 use Rattle.bq_eval_by_name_spec.specs.Module as names
-use Rattle.bq_eval_by_name_spec.specs.Module.{defs_by, defs, defaults_of}
+use Rattle.bq_eval_by_name_spec.specs.Module.{defs_by, defaults_of}
 use Rattle.bq_eval_by_name_spec.specs.Names.{Env, bind}
 use Rattle.bq_eval_by_name_spec.specs.Statements as named
 use Rattle.bq_eval_by_name_spec.specs.Trees.{Eval}
@@ -125,9 +125,9 @@ module _ {S : Type 0} (m : Primitives S) (file : FileParts) (own : names.Own) (o
 
   def_alike : (n : Identifier) (ps : List Parameter) (body : List Stmt) (u w : Passed) (x : FileStmt) (is : DefIs file n ps body u w x) → AllByRecursion ExprFits is.defaults
       → (rest : List CodeFunction) → other.functions ≡ w.functions ++ rest → (env : Env) (frame : Frame) → GlobalsShow file env frame → (s : S)
-      → Alike (Ended (GlobalsShow file)) (names.def_stmt m own E (length u.functions) n ps env s)
+      → Alike (Ended (GlobalsShow file)) (names.file_stmt_by m own E (length u.functions) (Stmt-F.Def n ps body) env s)
       (slots.def_stmt m other F (record { target = is.target; function = length u.functions; defaults = is.defaults }) frame s)
-  unfolding names.def_stmt slots.def_stmt
+  unfolding slots.def_stmt
   def_alike n ps body u w x is fits rest e env frame reads s =
       then_both (Ended (GlobalsShow file)) (m.step 1 s) _ _
       (λ _ v. then_same (Ended (GlobalsShow file)) _ _ _ _ (values_alike (defaults_of ps) is.defaults is.defaults_are fits env frame reads [] v)
@@ -146,7 +146,7 @@ module _ {S : Type 0} (m : Primitives S) (file : FileParts) (own : names.Own) (o
 
   top_alike : (i : TopLevel) (u w : Passed) (y : CodeTopLevel) → TopIs file i u w y → TopLevelFits y → (rest : List CodeFunction) → other.functions ≡ w.functions ++ rest
       → (env : Env) (frame : Frame) → GlobalsShow file env frame → (s : S) → Alike (Ended (GlobalsShow file)) (names.top_level m own E (length u.functions) i env s) (slots.top_level m other F y frame s)
-  unfolding names.top_level slots.top_level names.file_stmt slots.file_stmt
+  unfolding names.top_level slots.top_level slots.file_stmt
   top_alike i u w y h fits rest e env frame reads s =
       subst (λ z. Alike (Ended (GlobalsShow file)) (names.top_level m own E (length u.functions) i env s) (slots.top_level m other F z frame s)) (sym h.2)
       (stmt_alike (out-Stmt i.statement) u w h.0 h.1 (let fit : TopLevelFits (record { line = i.line; statement = h.0 }) = subst (λ z. TopLevelFits z) h.2 fits in fit) rest e env frame reads (m.at_line i.line s))

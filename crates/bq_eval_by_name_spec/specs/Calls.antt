@@ -87,17 +87,13 @@ module _ {S : Type 0} (m : Primitives S) where
   with_default name (None ∷ vs) (d ∷ ds) x = pure (record x { values = vs; defaults = ds; env = bind x.env name d })
   with_default name _ _ x = stop m f.Args
 
-  -- what each form of parameter takes: the next value, a default, the rest, the keywords
-  abbrev pub fill_by : Parameter → Filling → Action S Filling
-  fill_by (parameter.Plain n) x = with_value n.name x.values x
-  fill_by (parameter.Default n e) x = with_default n.name x.values x.defaults x
-  fill_by parameter.BareStar x = pure x
-  fill_by (parameter.Star n) x = pure (record x { env = bind x.env n.name x.rest })
-  fill_by (parameter.StarStar n) x = pure (record x { env = bind x.env n.name x.keywords })
-
-  -- one parameter takes its value
+  -- one parameter takes its value, by its form: the next one, a default, the rest, the keywords
   unfoldable pub fill_parameter : Parameter → Filling → Action S Filling
-  fill_parameter p x = fill_by p x
+  fill_parameter (parameter.Plain n) x = with_value n.name x.values x
+  fill_parameter (parameter.Default n e) x = with_default n.name x.values x.defaults x
+  fill_parameter parameter.BareStar x = pure x
+  fill_parameter (parameter.Star n) x = pure (record x { env = bind x.env n.name x.rest })
+  fill_parameter (parameter.StarStar n) x = pure (record x { env = bind x.env n.name x.keywords })
 
   -- the parameters take their values in turn
   unfoldable pub fill_parameters : List Parameter → Filling → Action S Filling
@@ -117,30 +113,21 @@ module _ {S : Type 0} (m : Primitives S) where
   unfoldable pub body_of : Calls S → TreeUnit → Def → Env → Action S Datum
   body_of inner u d env = block m (eval_in m inner u.round) (run_in m (eval_in m inner u.round)) d.body env >>= λ r. pure (answered r.0)
 
-  -- the body runs in the environment of the call, a level further in
-  unfoldable pub run_body : Option (Calls S) → TreeUnit → Def → Env → Action S Datum
-  run_body inner u d env = within m inner (λ call. body_of call u d env)
-
-  -- a call: the parameters first, then the function is one of those running until its body has ended
+  -- A call: the parameters first, then the function is one of those running until its body has ended. The body runs in the environment of
+  -- the call, a level further in.
   unfoldable pub call_function : Option (Calls S) → ℕ → ℕ → TreeUnit → Def → List Datum → Passed → Action S Datum
   call_function inner home place u d ds p =
-      entry d ds p >>= λ env. m.enter home place >>= λ _. run_body inner u d env >>= λ v. change m m.leave >>= λ _. pure v
+      entry d ds p >>= λ env. m.enter home place >>= λ _. within m inner (λ call. body_of call u d env) >>= λ v. change m m.leave >>= λ _. pure v
 
-  -- the function of a module at that place
-  unfoldable pub call_at : Units → Option (Calls S) → ℕ → ℕ → List Datum → Passed → Action S Datum
-  call_at units inner home place ds p = known m (units home) (λ u. known m (slice_get u.functions place) (λ d. call_function inner home place u d ds p))
-
-  -- what is no function can't be called (F40)
-  abbrev pub apply_by : Units → Option (Calls S) → Datum → Passed → Action S Datum
-  apply_by units inner (function home place name ds) p = call_at units inner home place (list_of ds) p
-  apply_by units inner (built_in b) p = m.call_built_in (function_of b) p
-  apply_by units inner (rule_function f) p = m.call_rule_function f p
-  apply_by units inner (cell home number) p = m.call_cell home number p
-  apply_by units inner v p = stop m f.WrongType
-
-  -- a call of a value
+  -- a call of a value; what is no function can't be called (F40)
   unfoldable pub apply : Units → Option (Calls S) → Calls S
-  apply units inner v p = apply_by units inner v p
+  -- the function of a module at that place
+  apply units inner (function home place name ds) p =
+      known m (units home) (λ u. known m (slice_get u.functions place) (λ d. call_function inner home place u d (list_of ds) p))
+  apply units inner (built_in b) p = m.call_built_in (function_of b) p
+  apply units inner (rule_function f) p = m.call_rule_function f p
+  apply units inner (cell home number) p = m.call_cell home number p
+  apply units inner v p = stop m f.WrongType
 
 -- with a number of functions that may still become active
 unfoldable pub calls : {S : Type 0} → ℕ → Primitives S → Units → Calls S

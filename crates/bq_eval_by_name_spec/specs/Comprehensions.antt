@@ -30,27 +30,18 @@ module _ {S : Type 0} (m : Primitives S) (eval : Eval S) where
 
   -- ---- clauses: `inner` is what the clauses after this one do, and at last the element or pair
 
-  -- one turn of a `for` clause: a step, its variables, and what stands further in
-  unfoldable pub turn : TargetExpr → Turn S → Datum → Turn S
-  turn t inner v env c = m.step 1 >>= λ _. bind_variables m t v env >>= λ new. inner new c
-
-  -- the turns over these elements
+  -- the turns of a `for` clause over these elements: in each a step, its variables, and what stands further in
   unfoldable pub turns : TargetExpr → Turn S → List Datum → Turn S
   turns t inner [] env c = pure (c, env)
-  turns t inner (v ∷ vs) env c = turn t inner v env c >>= λ r. turns t inner vs r.1 r.0
-
-  -- `for t in x`, where `x` is evaluated in the environment `there`
-  unfoldable pub for_clause : TargetExpr → Expr → Env → Turn S → Turn S
-  for_clause t x there inner env c = eval x there >>= λ v. m.begin_walk v >>= λ vs. turns t inner vs env c >>= λ r. change m (m.end_walk v) >>= λ _. pure r
-
-  -- `if x`
-  unfoldable pub if_clause : Expr → Turn S → Turn S
-  if_clause x inner env c = eval x env >>= λ v. λ s. (if m.truth v s then inner env c else pure (c, env)) s
+  turns t inner (v ∷ vs) env c = m.step 1 >>= λ _. bind_variables m t v env >>= λ new. inner new c >>= λ r. turns t inner vs r.1 r.0
 
   -- a clause, by its form; the iterable of the first one is evaluated outside
   abbrev pub clause_by : ClauseLayer → Env → Turn S → Turn S
-  clause_by (Clause-F.For t x) there inner env c = for_clause t x there inner env c
-  clause_by (Clause-F.If x) there inner env c = if_clause x inner env c
+  -- `for t in x`, where `x` is evaluated in the environment `there`
+  clause_by (Clause-F.For t x) there inner env c =
+      eval x there >>= λ v. m.begin_walk v >>= λ vs. turns t inner vs env c >>= λ r. change m (m.end_walk v) >>= λ _. pure r
+  -- `if x`
+  clause_by (Clause-F.If x) there inner env c = eval x env >>= λ v. λ s. (if m.truth v s then inner env c else pure (c, env)) s
 
   -- the clauses, each inside the one before
   unfoldable pub clauses : List Clause → Turn S → Turn S

@@ -5,21 +5,17 @@ use Rattle.bq_base.specs.declared.fault.FaultKind.TheVariants as f
 use Rattle.bq_parse_grammar.specs.declared.tree.Argument.TheOpen.{Expr-F, Suffix-F, Argument-F}
 use Rattle.bq_parse_grammar.specs.declared.tree.Argument.{Argument, out-Argument}
 use Rattle.bq_parse_grammar.specs.declared.tree.Choice.{Choice, out-Choice}
-use Rattle.bq_parse_grammar.specs.declared.tree.Comparison.{Comparison}
 use Rattle.bq_parse_grammar.specs.declared.tree.Expr.{Expr, out-Expr}
-use Rattle.bq_parse_grammar.specs.declared.tree.Identifier.{Identifier}
 use Rattle.bq_parse_grammar.specs.declared.tree.Operation.{Operation, out-Operation}
 use Rattle.bq_parse_grammar.specs.declared.tree.Operator.{Operator}
 use Rattle.bq_parse_grammar.specs.declared.tree.Operator.TheVariants as operator
 use Rattle.bq_parse_grammar.specs.declared.tree.Pair.{Pair, out-Pair}
 use Rattle.bq_parse_grammar.specs.declared.tree.Suffix.{Suffix, out-Suffix}
-use Rattle.bq_parse_grammar.specs.declared.tree.UnaryOperator.{UnaryOperator}
 use Rattle.bq_parse_grammar.specs.Targets.{ExprLayer, SuffixLayer}
 use Rattle.bq_resolve_predeclared.specs.declared.predeclared.Predeclared.{Predeclared}
 use Rattle.bq_resolve_scope.specs.Names.{max_layers}
 use Rattle.bq_resolve_scope.specs.Expressions.{MemberCall, member_call}
 use Rattle.bq_resolve_scope.specs.Universe.{member_named}
-use Rattle.bq_resolve_scope.specs.declared.universe.Namespace.{Namespace}
 use Rattle.bq_value.specs.Contents.{Contents, items, pairs}
 use Rattle.bq_value.specs.Datum.{Datum, none, int, string, tuple, data_of}
 use Rattle.bq_builtin_machine.specs.Action.{Action, ◌>>=◌, pure}
@@ -27,7 +23,7 @@ use Rattle.bq_builtin_machine.specs.Args.{Passed, nothing_passed}
 use Rattle.bq_eval_meaning_spec.specs.Primitives.{Primitives, stop}
 use Rattle.bq_eval_meaning_spec.specs.Expressions.{literal, unary_each}
 use Rattle.bq_eval_meaning_spec.specs.Trees.{Calls}
-use Rattle.bq_eval_by_name_spec.specs.Names.{Env, Round, use_of, namespace_at}
+use Rattle.bq_eval_by_name_spec.specs.Names.{Env, Round, held, value_by, namespace_at}
 use Rattle.bq_eval_by_name_spec.specs.Comprehensions.{element, pair_element, comprehension}
 use Rattle.bq_eval_by_name_spec.specs.Trees.{Eval, ArgumentLayer}
 
@@ -38,32 +34,12 @@ module _ {S : Type 0} (m : Primitives S) (eval : Eval S) where
   values [] env vs = pure vs
   values (x ∷ xs) env vs = eval x env >>= λ v. values xs env (vs ++ v ∷ [])
 
-  -- `[x, ..]`
-  unfoldable pub list_display : List Expr → Env → Action S Datum
-  list_display xs env = m.step 1 >>= λ _. values xs env [] >>= λ vs. m.make (items vs)
-
-  -- `(x, ..)`
-  unfoldable pub tuple_display : List Expr → Env → Action S Datum
-  tuple_display xs env = m.step 1 >>= λ _. values xs env [] >>= λ vs. pure (tuple (data_of vs))
-
-  -- a pair of a dict: the key, then the value
-  unfoldable pub pair : Pair → Env → Contents → Action S Contents
-  pair p env c = eval (out-Pair p).key env >>= λ k. eval (out-Pair p).value env >>= λ v. m.add_pair c k v
-
-  -- the pairs of a dict, in turn
+  -- the pairs of a dict, in turn: the key of each, then its value
   unfoldable pub pairs_each : List Pair → Env → Contents → Action S Contents
   pairs_each [] env c = pure c
-  pairs_each (p ∷ ps) env c = pair p env c >>= λ d. pairs_each ps env d
-
-  -- `{key: value, ..}`
-  unfoldable pub dict_display : List Pair → Env → Action S Datum
-  dict_display ps env = m.step 1 >>= λ _. pairs_each ps env (pairs []) >>= λ c. m.make c
+  pairs_each (p ∷ ps) env c = eval (out-Pair p).key env >>= λ k. eval (out-Pair p).value env >>= λ v. m.add_pair c k v >>= λ d. pairs_each ps env d
 
   -- ---- operators
-
-  -- the operator next to the operand comes first
-  unfoldable pub unary : List UnaryOperator → Expr → Env → Action S Datum
-  unary os x env = m.step (length os) >>= λ _. eval x env >>= λ v. unary_each m (reverse os) v
 
   -- `and` and `or` evaluate their right operand only where the left one doesn't decide
   abbrev pub operation_by : Operator → Expr → Env → Datum → Action S Datum
@@ -71,22 +47,10 @@ module _ {S : Type 0} (m : Primitives S) (eval : Eval S) where
   operation_by operator.Or x env v = λ s. (if m.truth v s then pure v else eval x env) s
   operation_by op x env v = eval x env >>= λ u. m.binary op v u
 
-  -- an operator, and its operand on the right
-  unfoldable pub operation : Operation → Env → Datum → Action S Datum
-  operation o env v = operation_by (out-Operation o).operator (out-Operation o).operand env v
-
-  -- a chain of operators, from the left
+  -- a chain of operators, each with its operand on the right, from the left
   unfoldable pub operations : List Operation → Env → Datum → Action S Datum
   operations [] env v = pure v
-  operations (o ∷ os) env v = operation o env v >>= λ u. operations os env u
-
-  -- a chain takes a step for each of its operators, before its first operand
-  unfoldable pub binary : Expr → List Operation → Env → Action S Datum
-  binary x os env = m.step (length os) >>= λ _. eval x env >>= λ v. operations os env v
-
-  -- a comparison: a step, the left side, the right side
-  unfoldable pub compare : Expr → Comparison → Expr → Env → Action S Datum
-  compare x o y env = m.step 1 >>= λ _. eval x env >>= λ v. eval y env >>= λ w. m.compare o v w
+  operations (o ∷ os) env v = operation_by (out-Operation o).operator (out-Operation o).operand env v >>= λ u. operations os env u
 
   -- ---- `x if y else ..`
 
@@ -108,64 +72,44 @@ module _ {S : Type 0} (m : Primitives S) (eval : Eval S) where
 
   -- ---- what is done to an operand
 
-  -- `x[i]`
-  unfoldable pub index : Expr → Env → Datum → Action S Datum
-  index i env v = eval i env >>= λ w. m.index v w
-
   -- a part of a slice that is left out is `None`
   unfoldable pub part : Option Expr → Env → Action S Datum
   part None env = pure none
   part (Some x) env = eval x env
 
-  -- a slice: its three parts in turn, then the slice
-  unfoldable pub slice : Option Expr → Option Expr → Option Expr → Env → Datum → Action S Datum
-  slice i j k env v = part i env >>= λ x. part j env >>= λ y. part k env >>= λ z. m.slice v x y z
-
-  -- an argument, by its form
+  -- an argument joins those that are passed, by its form
   abbrev pub argument_by : ArgumentLayer → Env → Passed → Action S Passed
   argument_by (Argument-F.Positional x) env p = eval x env >>= λ v. m.pass p v
   argument_by (Argument-F.Named name x) env p = eval x env >>= λ v. m.pass_named p name v
   argument_by (Argument-F.Star x) env p = eval x env >>= λ v. m.pass_all p v
   argument_by (Argument-F.StarStar x) env p = eval x env >>= λ v. m.pass_all_named p v
 
-  -- an argument joins those that are passed
-  unfoldable pub argument : Argument → Env → Passed → Action S Passed
-  argument a env p = argument_by (out-Argument a) env p
-
   -- the arguments so far, and all of these
   unfoldable pub arguments : List Argument → Env → Passed → Action S Passed
   arguments [] env p = pure p
-  arguments (a ∷ xs) env p = argument a env p >>= λ q. arguments xs env q
-
-  -- `v.name(..)`
-  unfoldable pub method : Identifier → List Argument → Env → Datum → Action S Datum
-  method n xs env v = arguments xs env nothing_passed >>= λ p. m.call_method n.name v p
+  arguments (a ∷ xs) env p = argument_by (out-Argument a) env p >>= λ q. arguments xs env q
 
   module _ (call : Calls S) where
     -- `v(..)`
     unfoldable pub call_of : List Argument → Env → Datum → Action S Datum
     call_of xs env v = arguments xs env nothing_passed >>= λ p. call v p
 
-    -- the grammar leaves `.name` without a call out
+    -- what stands behind an operand, by its form: a call, a member, an index or a slice
     abbrev pub suffix_by : SuffixLayer → Env → Datum → Action S Datum
     suffix_by (Suffix-F.Call xs) env v = call_of xs env v
-    suffix_by (Suffix-F.Method n xs) env v = method n xs env v
+    -- `v.name(..)`
+    suffix_by (Suffix-F.Method n xs) env v = arguments xs env nothing_passed >>= λ p. m.call_method n.name v p
+    -- the grammar leaves `.name` without a call out
     suffix_by (Suffix-F.Attribute n) env v = stop m f.LeftOut
-    suffix_by (Suffix-F.Suffix::Index i) env v = index i env v
-    suffix_by (Suffix-F.Slice i j k) env v = slice i j k env v
-
-    -- what stands behind an operand: a call, an index, a slice or a member
-    unfoldable pub suffix : Suffix → Env → Datum → Action S Datum
-    suffix x env v = suffix_by (out-Suffix x) env v
+    -- `v[i]`
+    suffix_by (Suffix-F.Suffix::Index i) env v = eval i env >>= λ w. m.index v w
+    -- a slice: its three parts in turn, then the slice
+    suffix_by (Suffix-F.Slice i j k) env v = part i env >>= λ x. part j env >>= λ y. part k env >>= λ z. m.slice v x y z
 
     -- what stands behind an operand, in turn
     unfoldable pub suffixes : List Suffix → Env → Datum → Action S Datum
     suffixes [] env v = pure v
-    suffixes (x ∷ xs) env v = suffix x env v >>= λ u. suffixes xs env u
-
-    -- an operand takes a step for each suffix, before it is evaluated
-    unfoldable pub operand : Expr → List Suffix → Env → Action S Datum
-    operand x xs env = m.step (length xs) >>= λ _. eval x env >>= λ v. suffixes xs env v
+    suffixes (x ∷ xs) env v = suffix_by (out-Suffix x) env v >>= λ u. suffixes xs env u
 
     module _ (round : Round) where
       -- what a namespace has by this name, or F20
@@ -173,47 +117,44 @@ module _ {S : Type 0} (m : Primitives S) (eval : Eval S) where
       member_by None = stop m f.UnknownName
       member_by (Some p) = pure (m.predeclared p)
 
-      -- `native.name(arguments)` or `attr.name(arguments)`, and what is done to its result
-      unfoldable pub call_member : Namespace → Identifier → List Argument → List Suffix → Env → Action S Datum
-      call_member space n xs ss env =
-          m.step (suc (length ss)) >>= λ _. member_by (member_named space round.universe.rules n.name) >>= λ v. call_of xs env v >>= λ u. suffixes ss env u
-
       -- an operand with suffixes; a call of a namespace's member, as `native.glob(..)`, is one
       abbrev pub primary_by : Expr → List Suffix → Option MemberCall → Env → Action S Datum
-      primary_by x ss None env = operand x ss env
-      primary_by x ss (Some (space, n, xs, rest)) env = call_member space n xs rest env
-
-      -- an operand with suffixes
-      unfoldable pub primary : Expr → List Suffix → Env → Action S Datum
-      primary x ss env = primary_by x ss (member_call (namespace_at m round (out-Expr x) env) ss) env
+      -- an operand takes a step for each suffix, before it is evaluated
+      primary_by x ss None env = m.step (length ss) >>= λ _. eval x env >>= λ v. suffixes ss env v
+      -- `native.name(arguments)` or `attr.name(arguments)`, and what is done to its result
+      primary_by x ss (Some (space, n, xs, rest)) env =
+          m.step (suc (length rest)) >>= λ _. member_by (member_named space round.universe.rules n.name) >>= λ v. call_of xs env v >>= λ u. suffixes rest env u
 
       -- ---- expressions
 
       -- an expression, by its form
       abbrev pub expr_by : ExprLayer → Env → Action S Datum
-      expr_by (Expr-F.Expr::Name n) env = use_of m round n.name env
+      -- the use of a name takes a step; a variable without a value yet is a fault
+      expr_by (Expr-F.Expr::Name n) env = m.step 1 >>= λ _. value_by m round (held m round env n.name)
       expr_by (Expr-F.Int n) env = literal m (int n)
       expr_by (Expr-F.String t) env = literal m (string t)
-      expr_by (Expr-F.Expr::List xs) env = list_display xs env
-      expr_by (Expr-F.Expr::Tuple xs) env = tuple_display xs env
-      expr_by (Expr-F.Dict ps) env = dict_display ps env
+      -- `[x, ..]`: a step, then its elements from the left
+      expr_by (Expr-F.Expr::List xs) env = m.step 1 >>= λ _. values xs env [] >>= λ vs. m.make (items vs)
+      -- `(x, ..)`
+      expr_by (Expr-F.Expr::Tuple xs) env = m.step 1 >>= λ _. values xs env [] >>= λ vs. pure (tuple (data_of vs))
+      -- `{key: value, ..}`
+      expr_by (Expr-F.Dict ps) env = m.step 1 >>= λ _. pairs_each ps env (pairs []) >>= λ c. m.make c
       expr_by (Expr-F.ListComprehension x cs) env = comprehension m eval (items []) (element m eval x) cs env
       expr_by (Expr-F.DictComprehension p cs) env = comprehension m eval (pairs []) (pair_element m eval p) cs env
-      expr_by (Expr-F.Primary x ss) env = primary x ss env
-      expr_by (Expr-F.Unary os x) env = unary os x env
-      expr_by (Expr-F.Binary x os) env = binary x os env
-      expr_by (Expr-F.Compare x o y) env = compare x o y env
+      expr_by (Expr-F.Primary x ss) env = primary_by x ss (member_call (namespace_at m round (out-Expr x) env) ss) env
+      -- the operator next to the operand comes first
+      expr_by (Expr-F.Unary os x) env = m.step (length os) >>= λ _. eval x env >>= λ v. unary_each m (reverse os) v
+      -- a chain takes a step for each of its operators, before its first operand
+      expr_by (Expr-F.Binary x os) env = m.step (length os) >>= λ _. eval x env >>= λ v. operations os env v
+      -- a comparison: a step, the left side, the right side
+      expr_by (Expr-F.Compare x o y) env = m.step 1 >>= λ _. eval x env >>= λ v. eval y env >>= λ w. m.compare o v w
       expr_by (Expr-F.Conditional cs x) env = conditional cs x env
       expr_by Expr-F.Lambda env = stop m f.LeftOut
-
-      -- an expression in an environment
-      unfoldable pub expr : Expr → Env → Action S Datum
-      expr e env = expr_by (out-Expr e) env
 
 -- of expressions that are at most this many layers deep; no tree that is parsed has a deeper one
 unfoldable pub expr_to : {S : Type 0} → ℕ → Primitives S → Calls S → Round → Eval S
 expr_to zero m call round e env = stop m f.Nesting
-expr_to (suc depth) m call round e env = expr m (expr_to depth m call round) call round e env
+expr_to (suc depth) m call round e env = expr_by m (expr_to depth m call round) call round (out-Expr e) env
 
 -- what an expression means, where calls mean `call` and names are those of `round`
 abbrev pub eval_in : {S : Type 0} → Primitives S → Calls S → Round → Eval S

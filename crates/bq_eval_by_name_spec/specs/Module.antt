@@ -4,7 +4,6 @@ use Rattle.std.specs.Prelude.{ℕ, ◌+◌, List, [], ◌∷◌, ◌++◌, lengt
 use Rattle.bq_base.specs.declared.fault.FaultKind.TheVariants as f
 use Rattle.bq_parse_grammar.specs.declared.tree.Branch.{Branch}
 use Rattle.bq_parse_grammar.specs.declared.tree.Expr.{Expr}
-use Rattle.bq_parse_grammar.specs.declared.tree.Identifier.{Identifier}
 use Rattle.bq_parse_grammar.specs.declared.tree.LoadClause.{LoadClause}
 use Rattle.bq_parse_grammar.specs.declared.tree.Parameter.{Parameter}
 use Rattle.bq_parse_grammar.specs.declared.tree.Parameter.TheVariants as parameter
@@ -83,25 +82,19 @@ abbrev pub with_own : Units → Own → Env → Units
 with_own units own globals = λ n. if n == own.number then Some (record { functions = own.functions; round = own_round own globals }) else units n
 
 module _ {S : Type 0} (m : Primitives S) (own : Own) (eval : Eval S) where
-  -- Defaults are evaluated once, at the `def`, and outside the function. It is the file's function of that place.
-  unfoldable pub def_stmt : ℕ → Identifier → List Parameter → Exec S
-  def_stmt place n ps globals =
-      m.step 1 >>= λ _. values m eval (defaults_of ps) globals [] >>= λ vs. pure (next, bind globals n.name (function own.number place n.name (data_of vs)))
-
-  -- `if` and `for` occur only in functions (F23)
+  -- a statement at the top level, by its form and its place there
   abbrev pub file_stmt_by : ℕ → Stmt-F Stmt Branch → Exec S
   file_stmt_by place (Stmt-F.Simple xs) globals = line m eval xs globals
+  -- `if` and `for` occur only in functions (F23)
   file_stmt_by place (Stmt-F.If bs otherwise) globals = stop m f.BadFlow
   file_stmt_by place (Stmt-F.For t x body) globals = stop m f.BadFlow
-  file_stmt_by place (Stmt-F.Def n ps body) globals = def_stmt place n ps globals
-
-  -- a statement at the top level, by its place there
-  unfoldable pub file_stmt : ℕ → Stmt → Exec S
-  file_stmt place x globals = file_stmt_by place (out-Stmt x) globals
+  -- Defaults are evaluated once, at the `def`, and outside the function. It is the file's function of that place.
+  file_stmt_by place (Stmt-F.Def n ps body) globals =
+      m.step 1 >>= λ _. values m eval (defaults_of ps) globals [] >>= λ vs. pure (next, bind globals n.name (function own.number place n.name (data_of vs)))
 
   -- a fault names the line of the top-level statement that runs
   unfoldable pub top_level : ℕ → TopLevel → Exec S
-  top_level place t globals = change m (m.at_line t.line) >>= λ _. file_stmt place t.statement globals
+  top_level place t globals = change m (m.at_line t.line) >>= λ _. file_stmt_by place (out-Stmt t.statement) globals
 
   -- where this many functions are before these
   unfoldable pub top_levels : ℕ → List TopLevel → Exec S
@@ -114,13 +107,9 @@ eval_top m units own = λ x globals. eval_in m (calls max_active m (with_own uni
 
 -- ---- loads
 
--- where it is one of these names
-abbrev pub with_first : List Name → Name → Datum → Env → Env
-with_first names name v env = if has names name then bind env name v else env
-
 -- of these names, those of the clauses with the values that these give
 unfoldable pub first_of_clauses : List Name → List LoadClause → List Datum → Env → Env
-first_of_clauses names (c ∷ cs) (v ∷ vs) env = first_of_clauses names cs vs (with_first names c.local.name v env)
+first_of_clauses names (c ∷ cs) (v ∷ vs) env = first_of_clauses names cs vs (if has names c.local.name then bind env c.local.name v else env)
 first_of_clauses names _ _ env = env
 
 -- what a file's loads bind

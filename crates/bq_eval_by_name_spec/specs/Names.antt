@@ -10,7 +10,7 @@ use Rattle.bq_resolve_scope.specs.Expressions.{is_bzl}
 use Rattle.bq_resolve_scope.specs.Universe.{UniverseParts, namespace_named, universe_has}
 use Rattle.bq_resolve_scope.specs.declared.universe.Namespace.{Namespace}
 use Rattle.bq_value.specs.Datum.{Datum}
-use Rattle.bq_builtin_machine.specs.Action.{Action, ◌>>=◌}
+use Rattle.bq_builtin_machine.specs.Action.{Action}
 use Rattle.bq_eval_meaning_spec.specs.Primitives.{Primitives, stop}
 use Rattle.bq_eval_meaning_spec.specs.Targets.{bound}
 
@@ -48,10 +48,6 @@ module _ {S : Type 0} (m : Primitives S) (round : Round) where
   abbrev pub value_by : Option (Option Datum) → Action S Datum
   value_by None = stop m f.UnknownName
   value_by (Some v) = bound m v
-
-  -- the use of a name takes a step; a variable without a value yet is a fault
-  unfoldable pub use_of : Name → Env → Action S Datum
-  use_of name env = m.step 1 >>= λ _. value_by (held env name)
 
   -- a name is not that of a variable here
   abbrev pub is_unknown : Option (Option Datum) → Bool

@@ -6,7 +6,7 @@ use Rattle.bq_parse_grammar.specs.declared.tree.Argument.TheOpen.{TargetExpr-F}
 use Rattle.bq_parse_grammar.specs.declared.tree.Expr.{Expr}
 use Rattle.bq_parse_grammar.specs.declared.tree.Operator.{Operator}
 use Rattle.bq_parse_grammar.specs.declared.tree.TargetExpr.{TargetExpr, out-TargetExpr}
-use Rattle.bq_resolve_scope.specs.Names.{Name, TargetLayer, max_layers}
+use Rattle.bq_resolve_scope.specs.Names.{TargetLayer, max_layers}
 use Rattle.bq_value.specs.Datum.{Datum}
 use Rattle.bq_builtin_machine.specs.Action.{Action, ◌>>=◌, pure}
 use Rattle.bq_eval_meaning_spec.specs.Primitives.{Primitives, stop}
@@ -21,11 +21,6 @@ module _ {S : Type 0} (m : Primitives S) where
   abbrev pub Binds : Type 0
   Binds = Datum → Env → Places → Action S (Env × Places)
 
-  -- `x[i] = v`; the variables of a `for` have no such part
-  unfoldable pub bind_place : Binds
-  bind_place v env [] = stop m f.Syntax
-  bind_place v env (p ∷ ps) = m.set_index p.0 p.1 v >>= λ _. pure (env, ps)
-
   -- each of these gets one of the elements
   unfoldable pub bind_each : (TargetExpr → Binds) → List TargetExpr → List Datum → Env → Places → Action S (Env × Places)
   bind_each inner (t ∷ ts) (v ∷ vs) env ps = inner t v env ps >>= λ r. bind_each inner ts vs r.0 r.1
@@ -38,18 +33,16 @@ module _ {S : Type 0} (m : Primitives S) where
   -- a target takes its value, by its form; places of elements were evaluated before
   abbrev pub bind_by : (TargetExpr → Binds) → TargetLayer → Binds
   bind_by inner (TargetExpr-F.TargetExpr::Name n) v env ps = pure (bind env n.name v, ps)
-  bind_by inner (TargetExpr-F.TargetExpr::Index x i) v env ps = bind_place v env ps
+  -- `x[i] = v`; the variables of a `for` have no such part
+  bind_by inner (TargetExpr-F.TargetExpr::Index x i) v env [] = stop m f.Syntax
+  bind_by inner (TargetExpr-F.TargetExpr::Index x i) v env (p ∷ ps) = m.set_index p.0 p.1 v >>= λ _. pure (env, ps)
   bind_by inner (TargetExpr-F.TargetExpr::Tuple ts) v env ps = unpack inner ts v env ps
   bind_by inner (TargetExpr-F.TargetExpr::List ts) v env ps = unpack inner ts v env ps
-
-  -- a target takes its value
-  unfoldable pub bind_target : (TargetExpr → Binds) → TargetExpr → Binds
-  bind_target inner t v env ps = bind_by inner (out-TargetExpr t) v env ps
 
   -- of targets that are at most this many layers deep; no tree that is parsed has a deeper one
   unfoldable pub bind_to : ℕ → TargetExpr → Binds
   bind_to zero t v env ps = stop m f.Nesting
-  bind_to (suc depth) t v env ps = bind_target (bind_to depth) t v env ps
+  bind_to (suc depth) t v env ps = bind_by (bind_to depth) (out-TargetExpr t) v env ps
 
   -- a `for` binds its variables
   unfoldable pub bind_variables : TargetExpr → Datum → Env → Action S Env
@@ -64,30 +57,23 @@ module _ {S : Type 0} (m : Primitives S) where
   module _ (eval : Eval S) where
     -- ---- a target's places
 
-    -- the place `x[i]`, evaluated
-    unfoldable pub place : Expr → Expr → Env → Places → Action S Places
-    place x i env ps = eval x env >>= λ v. eval i env >>= λ w. pure (ps ++ (v, w) ∷ [])
-
     -- the places in these targets, from the left
     unfoldable pub places_each : (TargetExpr → Env → Places → Action S Places) → List TargetExpr → Env → Places → Action S Places
     places_each inner [] env ps = pure ps
     places_each inner (t ∷ ts) env ps = inner t env ps >>= λ qs. places_each inner ts env qs
 
-    -- the places in a target, by its form
+    -- the places in a target, evaluated, by its form
     abbrev pub places_by : (TargetExpr → Env → Places → Action S Places) → TargetLayer → Env → Places → Action S Places
     places_by inner (TargetExpr-F.TargetExpr::Name n) env ps = pure ps
-    places_by inner (TargetExpr-F.TargetExpr::Index x i) env ps = place x i env ps
+    -- the place `x[i]`
+    places_by inner (TargetExpr-F.TargetExpr::Index x i) env ps = eval x env >>= λ v. eval i env >>= λ w. pure (ps ++ (v, w) ∷ [])
     places_by inner (TargetExpr-F.TargetExpr::Tuple ts) env ps = places_each inner ts env ps
     places_by inner (TargetExpr-F.TargetExpr::List ts) env ps = places_each inner ts env ps
-
-    -- the places in a target, evaluated
-    unfoldable pub places_of : (TargetExpr → Env → Places → Action S Places) → TargetExpr → Env → Places → Action S Places
-    places_of inner t env ps = places_by inner (out-TargetExpr t) env ps
 
     -- the places so far, and those of a target
     unfoldable pub places_to : ℕ → TargetExpr → Env → Places → Action S Places
     places_to zero t env ps = stop m f.Nesting
-    places_to (suc depth) t env ps = places_of (places_to depth) t env ps
+    places_to (suc depth) t env ps = places_by (places_to depth) (out-TargetExpr t) env ps
 
     -- ---- assignments
 
@@ -95,21 +81,12 @@ module _ {S : Type 0} (m : Primitives S) where
     unfoldable pub assign : TargetExpr → Datum → Env → Action S Env
     assign t v env = places_to max_layers t env [] >>= λ ps. bind_to max_layers t v env ps >>= λ r. pure r.0
 
-    -- `name op= x`
-    unfoldable pub augment_name : Name → Operator → Expr → Env → Action S Env
-    augment_name name op x env = assigned (env name) >>= λ old. eval x env >>= λ v. m.augment op old v >>= λ new. pure (bind env name new)
-
-    -- `y[i] op= x`: `y` and `i` are evaluated once
-    unfoldable pub augment_index : Expr → Expr → Operator → Expr → Env → Action S Env
-    augment_index y i op x env =
-        eval y env >>= λ u. eval i env >>= λ w. m.index u w >>= λ old. eval x env >>= λ v. m.augment op old v >>= λ new. m.set_index u w new >>= λ _. pure env
-
-    -- the grammar has no augmented assignment to a tuple or list
+    -- `t op= x`, by the form of `t`; the grammar has no augmented assignment to a tuple or list
     abbrev pub augment_by : TargetLayer → Operator → Expr → Env → Action S Env
-    augment_by (TargetExpr-F.TargetExpr::Name n) op x env = augment_name n.name op x env
-    augment_by (TargetExpr-F.TargetExpr::Index y i) op x env = augment_index y i op x env
+    -- `name op= x`
+    augment_by (TargetExpr-F.TargetExpr::Name n) op x env =
+        assigned (env n.name) >>= λ old. eval x env >>= λ v. m.augment op old v >>= λ new. pure (bind env n.name new)
+    -- `y[i] op= x`: `y` and `i` are evaluated once
+    augment_by (TargetExpr-F.TargetExpr::Index y i) op x env =
+        eval y env >>= λ u. eval i env >>= λ w. m.index u w >>= λ old. eval x env >>= λ v. m.augment op old v >>= λ new. m.set_index u w new >>= λ _. pure env
     augment_by _ op x env = stop m f.Syntax
-
-    -- `t op= x`
-    unfoldable pub augment : TargetExpr → Operator → Expr → Env → Action S Env
-    augment t op x env = augment_by (out-TargetExpr t) op x env

@@ -151,7 +151,7 @@ module _ {S : Type 0} (m : Primitives S) (file : FileParts) (R : Env → Frame �
     LayerGood n o p = StmtLayerFits (StmtFits n) p → LayerAlike m R E F (names.run_to n m E) (slots.run_to n m F) o p
 
     stmt_good : (n : ℕ) (x : Stmt) (z : CodeStmt) → LayerGood n (out-Stmt x) (out-CodeStmt z) → StmtGood (suc n) x z
-    unfolding StmtFits names.run_to names.stmt slots.run_to slots.stmt
+    unfolding StmtFits names.run_to slots.run_to slots.stmt
     stmt_good n x z h fits = h fits
 
     made : (n : ℕ) (o : parsed.StmtLayer) (z : CodeStmt) (p : trees.StmtLayer) → roll-CodeStmt p ≡ z → LayerGood n o p → LayerGood n o (out-CodeStmt z)

@@ -26,10 +26,12 @@ use Rattle.bq_eval_meaning_spec.specs.Statements.{Flow, next, leave, again, answ
 use Rattle.bq_eval_meaning_spec.specs.Trees as trees
 use Rattle.bq_eval_by_name_spec.specs.Names.{Env}
 use Rattle.bq_eval_by_name_spec.specs.Statements as names
+use Rattle.bq_eval_by_name_spec.specs.Targets as targets
 use Rattle.bq_eval_by_name_spec.specs.Trees as parsed
 use Rattle.bq_eval_by_name_spec.specs.Trees.{Eval}
+use Rattle.bq_eval_by_name_spec.proofs.Forms as forms
 use Rattle.bq_eval_by_name_expression_laws.specs.Alike.{Alike}
-use Rattle.bq_eval_by_name_expression_laws.proofs.Runs.{then_alike, then_same, then_both, choice}
+use Rattle.bq_eval_by_name_expression_laws.proofs.Runs.{then_alike, then_same, then_both, choice, after_two, after_three}
 use Rattle.bq_eval_by_name_expression_laws.proofs.Walks.{Pairwise, Optional}
 use Rattle.bq_eval_by_name_statement_laws.specs.Agreement.{Ended}
 use Rattle.bq_eval_by_name_statement_laws.proofs.Visits.{ExprAgree}
@@ -67,21 +69,21 @@ module _ {S : Type 0} (m : Primitives S) (R : Env → Frame → Type 0) where
     -- ---- small statements
 
     abbrev pub SmallAgree : SmallStmt → CodeSmall → Type 0
-    SmallAgree x z = RunsAlike (names.small_stmt m E x) (slots.small_stmt m F z)
+    SmallAgree x z = RunsAlike (forms.small_stmt m E x) (slots.small_stmt m F z)
 
     abbrev pub KindAgree : SmallKind → CodeSmall → Type 0
     KindAgree k z = (names.steps_of k ≡ slots.steps_of z) × RunsAlike (names.small_by m E k) (slots.small_by m F z)
 
     pub small_agrees : (x : SmallStmt) (z : CodeSmall) → KindAgree x.kind z → SmallAgree x z
-    unfolding names.small_stmt names.small_effect slots.small_stmt slots.small_effect
+    unfolding slots.small_stmt slots.small_effect
     small_agrees x z h env frame r s = rw h.0 (then_both (Ended R) (m.step (slots.steps_of z) s) _ _ (λ _ t. h.1 env frame r t))
 
     pub expr_agrees : (x : Expr) (y : Code) → ExprAgree R E F x y → KindAgree (small.Expr x) (c.Expr y)
-    unfolding names.steps_of slots.steps_of names.expr_stmt slots.expr_stmt
+    unfolding names.steps_of slots.steps_of slots.expr_stmt
     expr_agrees x y h = (refl, λ env frame r s. then_same (Ended R) _ _ _ _ (h env frame r s) (λ v t. (refl, (refl, r))))
 
     pub assign_agrees : (t : TargetExpr) (u : CodeTarget) (x : Expr) (y : Code) → TargetAgree m R E F max_layers t u → ExprAgree R E F x y → KindAgree (small.Assign t x) (c.Assign u y)
-    unfolding names.steps_of slots.steps_of names.assign_stmt slots.assign_stmt
+    unfolding names.steps_of slots.steps_of slots.assign_stmt
     assign_agrees t u x y h k = (
       refl,
       λ env frame r s. then_same (Ended R) _ _ _ _ (k env frame r s) (λ v w. then_alike R (Ended R) _ _ _ _ (assign_alike m R E F t u h v env frame r w) (λ a b q z. (refl, (refl, z)))),
@@ -91,8 +93,8 @@ module _ {S : Type 0} (m : Primitives S) (R : Env → Frame → Type 0) where
     unfolding names.steps_of slots.steps_of
     augment_agrees t u o x y h k = (refl, λ env frame r s. then_alike R (Ended R) _ _ _ _ (h.augment o x y k env frame r s) (λ a b q z. (refl, (refl, z))))
 
-    return_alike : (x : Option Expr) (y : Option Code) → Optional (ExprAgree R E F) x y → RunsAlike (names.return_stmt m E x) (slots.return_stmt m F y)
-    unfolding names.return_stmt slots.return_stmt
+    return_alike : (x : Option Expr) (y : Option Code) → Optional (ExprAgree R E F) x y → RunsAlike (names.small_by m E (small.Return x)) (slots.return_stmt m F y)
+    unfolding slots.return_stmt
     return_alike None None h env frame r s = (refl, (refl, r))
     return_alike (Some x) (Some y) h env frame r s = then_same (Ended R) _ _ _ _ (h env frame r s) (λ v t. (refl, (refl, r)))
     return_alike None (Some y) h env frame r s = absurd h
@@ -122,7 +124,8 @@ module _ {S : Type 0} (m : Primitives S) (R : Env → Frame → Type 0) where
     unfolding names.line slots.line
     line_alike [] [] h env frame r s = (refl, (refl, r))
     line_alike (x ∷ xs) (y ∷ ys) h env frame r s =
-        then_alike (Ended R) (Ended R) _ _ _ _ (h.0 env frame r s) (λ a b w k. go_on_alike (names.line m E xs) (slots.line m F ys) (line_alike xs ys h.1) a b k w)
+        after_two (Ended R) (m.step (names.steps_of x.kind) s) (λ _. names.small_by m E x.kind env) (names.go_on (names.line m E xs)) _
+        (then_alike (Ended R) (Ended R) _ _ _ _ (h.0 env frame r s) (λ a b w k. go_on_alike (names.line m E xs) (slots.line m F ys) (line_alike xs ys h.1) a b k w))
     line_alike [] (y ∷ ys) h env frame r s = absurd h
     line_alike (x ∷ xs) [] h env frame r s = absurd h
 
@@ -153,8 +156,8 @@ module _ {S : Type 0} (m : Primitives S) (R : Env → Frame → Type 0) where
       branches_alike (b ∷ bs) [] h xs zs k env frame r s = absurd h
 
       module _ (t : TargetExpr) (u : CodeTarget) (h : TargetAgree m R E F max_layers t u) (xs : List Stmt) (zs : List CodeStmt) (k : Pairwise StmtAlike xs zs) where
-        turn_alike : (v : Datum) → RunsAlike (names.turn m E run t xs v) (slots.turn m F other u zs v)
-        unfolding names.turn slots.turn
+        turn_alike : (v : Datum) → RunsAlike (forms.loop_turn m E run t xs v) (slots.turn m F other u zs v)
+        unfolding slots.turn
         turn_alike v env frame r s =
             then_both (Ended R) _ _ _ (λ _ w. then_alike R (Ended R) _ _ _ _ (variables_alike m R E F t u h v env frame r w) (λ a b q z. block_alike xs zs k a b z q))
 
@@ -162,10 +165,11 @@ module _ {S : Type 0} (m : Primitives S) (R : Env → Frame → Type 0) where
         unfolding names.turns slots.turns
         turns_alike [] env frame r s = (refl, (refl, r))
         turns_alike (v ∷ vs) env frame r s =
-            then_alike (Ended R) (Ended R) _ _ _ _ (turn_alike v env frame r s) (λ a b w z. turn_on_alike (names.turns m E run t xs vs) (slots.turns m F other u zs vs) (turns_alike vs) a b z w)
+            after_three (Ended R) (m.step 1 s) (λ _. targets.bind_variables m t v env) (λ _ new. names.block m E run xs new) (names.turn_on (names.turns m E run t xs vs)) _
+            (then_alike (Ended R) (Ended R) _ _ _ _ (turn_alike v env frame r s) (λ a b w z. turn_on_alike (names.turns m E run t xs vs) (slots.turns m F other u zs vs) (turns_alike vs) a b z w))
 
-        for_alike : (x : Expr) (y : Code) → ExprAgree R E F x y → RunsAlike (names.for_loop m E run t x xs) (slots.for_loop m F other u y zs)
-        unfolding names.for_loop slots.for_loop
+        for_alike : (x : Expr) (y : Code) → ExprAgree R E F x y → RunsAlike (forms.for_loop m E run t x xs) (slots.for_loop m F other u y zs)
+        unfolding slots.for_loop
         for_alike x y l env frame r s =
             then_same (Ended R) _ _ _ _ (l env frame r s)
             (λ v w. then_both (Ended R) _ _ _ (λ vs q. then_alike (Ended R) (Ended R) _ _ _ _ (turns_alike vs env frame r q) (λ a b z ended. (refl, ended))))

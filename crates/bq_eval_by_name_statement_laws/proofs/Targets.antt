@@ -38,7 +38,7 @@ module _ {S : Type 0} (m : Primitives S) (R : Env → Frame → Type 0) (E : Eva
 
   abbrev pub AugmentAgree : TargetExpr → CodeTarget → Type 0
   AugmentAgree t u =
-      (o : Operator) (x : Expr) (y : Code) → ExprAgree R E F x y → (env : Env) (frame : Frame) → R env frame → (s : S) → Alike R (names.augment m E t o x env s) (slots.augment m F u o y frame s)
+      (o : Operator) (x : Expr) (y : Code) → ExprAgree R E F x y → (env : Env) (frame : Frame) → R env frame → (s : S) → Alike R (names.augment_by m E (out-TargetExpr t) o x env s) (slots.augment m F u o y frame s)
 
   pub record TargetAgree (n : ℕ) (t : TargetExpr) (u : CodeTarget) : Type 0 where
     pub binding : BindAgree n t u
@@ -65,14 +65,14 @@ module _ {S : Type 0} (m : Primitives S) (R : Env → Frame → Type 0) (E : Eva
     pub augment : AugmentLayer o p
 
   pub layer_agrees : (n : ℕ) (t : TargetExpr) (u : CodeTarget) → LayerAgree n (out-TargetExpr t) (out-CodeTarget u) → TargetAgree (suc n) t u
-  unfolding names.bind_to names.bind_target names.places_to names.places_of names.augment slots.bind_to slots.bind_target slots.places_to slots.places_of slots.augment
+  unfolding names.bind_to names.places_to slots.bind_to slots.bind_target slots.places_to slots.places_of slots.augment
   layer_agrees n t u h = record { binding = h.binding; places = h.places; augment = h.augment }
 
   -- ---- `name`
 
   name_augment : (i : Identifier) (slot : ℕ) → Keeps R i.name slot → (a : Operator) (x : Expr) (y : Code) → ExprAgree R E F x y → (env : Env) (frame : Frame) → R env frame → (s : S)
-      → Alike R (names.augment_name m E i.name a x env s) (slots.augment_name m F slot a y frame s)
-  unfolding names.augment_name slots.augment_name
+      → Alike R (names.augment_by m E (TargetExpr-F.TargetExpr::Name i) a x env s) (slots.augment_name m F slot a y frame s)
+  unfolding slots.augment_name
   name_augment i slot keeps a x y agree env frame h s =
       rw (keeps env frame h).0
       (then_both R (slots.bound m (frame slot) s) _ _
@@ -88,26 +88,28 @@ module _ {S : Type 0} (m : Primitives S) (R : Env → Frame → Type 0) (E : Eva
 
   -- ---- `x[i]`
 
-  place_bind : (v : Datum) (env : Env) (frame : Frame) (ps : Places) → R env frame → (s : S) → Alike Bound (names.bind_place m v env ps s) (slots.bind_place m v frame ps s)
-  unfolding names.bind_place slots.bind_place
-  place_bind v env frame [] h s = refl
-  place_bind v env frame (p ∷ ps) h s = then_pure Bound (m.set_index p.0 p.1 v s) (λ _. (env, ps)) (λ _. (frame, ps)) (λ _. (h, refl))
+  place_bind : (n : ℕ) (x i : Expr) (v : Datum) (env : Env) (frame : Frame) (ps : Places) → R env frame → (s : S)
+      → Alike Bound (names.bind_by m (names.bind_to m n) (TargetExpr-F.TargetExpr::Index x i) v env ps s) (slots.bind_place m v frame ps s)
+  unfolding slots.bind_place
+  place_bind n x i v env frame [] h s = refl
+  place_bind n x i v env frame (p ∷ ps) h s = then_pure Bound (m.set_index p.0 p.1 v s) (λ _. (env, ps)) (λ _. (frame, ps)) (λ _. (h, refl))
 
   module _ (x i : Expr) (y j : Code) (operand : ExprAgree R E F x y) (index : ExprAgree R E F i j) where
-    place_alike : (env : Env) (frame : Frame) (ps : Places) → R env frame → (s : S) → Alike Same (names.place m E x i env ps s) (slots.place m F y j frame ps s)
-    unfolding names.place slots.place
-    place_alike env frame ps h s = then_same Same _ _ _ _ (operand env frame h s) (λ v t. then_same Same _ _ _ _ (index env frame h t) (λ w u. (refl, refl)))
+    place_alike : (n : ℕ) (env : Env) (frame : Frame) (ps : Places) → R env frame → (s : S)
+        → Alike Same (names.places_by m E (names.places_to m E n) (TargetExpr-F.TargetExpr::Index x i) env ps s) (slots.place m F y j frame ps s)
+    unfolding slots.place
+    place_alike n env frame ps h s = then_same Same _ _ _ _ (operand env frame h s) (λ v t. then_same Same _ _ _ _ (index env frame h t) (λ w u. (refl, refl)))
 
     index_augment : (a : Operator) (z : Expr) (w : Code) → ExprAgree R E F z w → (env : Env) (frame : Frame) → R env frame → (s : S)
-        → Alike R (names.augment_index m E x i a z env s) (slots.augment_index m F y j a w frame s)
-    unfolding names.augment_index slots.augment_index
+        → Alike R (names.augment_by m E (TargetExpr-F.TargetExpr::Index x i) a z env s) (slots.augment_index m F y j a w frame s)
+    unfolding slots.augment_index
     index_augment a z w agree env frame h s =
         then_same R _ _ _ _ (operand env frame h s) (λ u t. then_same R _ _ _ _ (index env frame h t)
         (λ k r. then_both R (m.index u k r) _ _ (λ old q. then_same R _ _ _ _ (agree env frame h q)
         (λ v p. then_both R (m.augment a old v p) _ _ (λ new o. then_pure R (m.set_index u k new o) (λ _. env) (λ _. frame) (λ _. h))))))
 
     pub index_agrees : (n : ℕ) → LayerAgree n (TargetExpr-F.TargetExpr::Index x i) (CodeTarget-F.CodeTarget::Index y j)
-    index_agrees n = record { binding = place_bind; places = place_alike; augment = index_augment }
+    index_agrees n = record { binding = place_bind n x i; places = place_alike n; augment = index_augment }
 
   -- ---- `(t, ..)` and `[t, ..]`
 
