@@ -55,7 +55,7 @@ class Page:
                 self.definitions.setdefault(name, last)
                 comment = []
             elif last is not None and not re.match(r"\s*(pub )?(mod |mutual|module\b)", line):
-                last.text.extend([f"-- {it}" if line[:1] != " " else f"  -- {it}" for it in comment] + [line])
+                last.text.extend([f"{line[: len(line) - len(line.lstrip())]}-- {it}" for it in comment] + [line])
                 comment = []
 
     def take(self, crate, page, names, alias):
