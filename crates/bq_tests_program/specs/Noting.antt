@@ -1,6 +1,6 @@
--- A host that notes which calls it accepts: those of its own functions, all but `licenses`, which is F70, and as none those of rules that
--- .bzl files declare. A BUILD file is evaluated, and no default is read.
-use Rattle.std.specs.Prelude.{ℕ, List, [], ◌∷◌, ◌++◌, Bool, true, false, Option, Some, None, Err, if◌then◌else◌}
+-- A host that notes which calls it accepts: those of its own functions, all but `licenses`, which is F70, as are calls of rules that .bzl
+-- files declare. A BUILD file is evaluated, and no default is read.
+use Rattle.std.specs.Prelude.{ℕ, List, [], ◌∷◌, ◌++◌, Bool, true, false, Err, if◌then◌else◌}
 use Rattle.bq_base.specs.declared.fault.FaultKind.TheVariants.{NotInPackage, BadLabel}
 use Rattle.bq_resolve_predeclared.specs.declared.host_function.HostFunction.{HostFunction}
 use Rattle.bq_resolve_predeclared.specs.declared.host_function.HostFunction.TheVariants as h
@@ -15,11 +15,11 @@ abbrev pub is_licenses : HostFunction → Bool
 is_licenses h.Licenses = true
 is_licenses _ = false
 
-unfoldable pub noted_call : HostFunction → Passed → Action (State × List (Option HostFunction)) Datum
-noted_call function passed p = if is_licenses function then stopped (stop_at NotInPackage p.0) else done none (p.0, p.1 ++ Some function ∷ [])
+unfoldable pub noted_call : HostFunction → Passed → Action (State × List HostFunction) Datum
+noted_call function passed p = if is_licenses function then stopped (stop_at NotInPackage p.0) else done none (p.0, p.1 ++ function ∷ [])
 
-unfoldable pub noted_rule : List ℕ → Class → Passed → Action (State × List (Option HostFunction)) Datum
-noted_rule kind class passed p = done none (p.0, p.1 ++ None ∷ [])
+unfoldable pub noted_rule : List ℕ → Class → Passed → Action (State × List HostFunction) Datum
+noted_rule kind class passed p = stopped (stop_at NotInPackage p.0)
 
-abbrev pub noted : HostCalls (List (Option HostFunction))
+abbrev pub noted : HostCalls (List HostFunction)
 noted = record { call = noted_call; in_build = λ calls. true; read_default = λ calls written. Err BadLabel; call_rule = noted_rule }

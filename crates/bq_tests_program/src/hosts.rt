@@ -1,29 +1,28 @@
-//! Hosts: which calls reach them, in which order, and what becomes of a file whose call is refused.
+//! Hosts: which calls reach them, in which order, and what is left of a file whose call is refused.
+//!
+//! Whatever a host makes of a call, it gets the call of each function as it is written: so this one takes any arguments. What the host of
+//! a run makes of calls is in the rows.
 ghost use Rattle.std.specs.Prelude.{◌≡◌};
 ghost use Rattle.bq_tests_program.specs.Noting.{is_licenses, noted};
 
-use crate::program::{
-    Below, Lent, Setting, add_outcome, cut, evaluate, file_of, run_bzl, without_newline,
-};
-use crate::workspace::no_packages;
 use bq_base::{Bytes, FaultKind};
 use bq_builtin_machine::{Args, Machine};
-use bq_eval::EvaluatedFile;
-use bq_label::PackageId;
+use bq_eval::{EvaluatedFile, FileOutcome, ResolvedModule, eval_module};
+use bq_load_front::code_of;
 use bq_package_host::{BuiltIns, Host};
 use bq_package_typed_value::Written;
 use bq_parse_grammar::FileKind;
 use bq_resolve_predeclared::HostFunction;
+use bq_resolve_scope::{Resolved, Universe};
 use bq_value::{EvalErr, Value};
 use bq_value_rule_class::{AttributeValue, RuleClass};
+use bq_value_seed::Seed;
 use std::alloc::{AllocError, Global};
-use std::fmt::Write;
 
-/// Notes the calls that it accepts: all but those of `licenses`, which are F70.
+/// Notes the calls that it accepts: all but those of `licenses`, and of rules that a .bzl file declares, which are F70.
 #[derive(Drop)]
 struct Noting {
-    /// The functions that were called; none for a rule that a .bzl file declares.
-    calls: Vec<Option<HostFunction>>,
+    calls: Vec<HostFunction>,
 }
 
 fn is_licenses(function: HostFunction) -> bool
@@ -33,10 +32,10 @@ fn is_licenses(function: HostFunction) -> bool
 }
 
 impl Host for Noting {
-    ghost use Rattle.std.specs.Prelude.{List, Option};
+    ghost use Rattle.std.specs.Prelude.{List};
     ghost use Rattle.bq_resolve_predeclared.specs.declared.host_function.HostFunction.{HostFunction};
 
-    ghost Kept = { List (Option HostFunction) };
+    ghost Kept = { List HostFunction };
 
     ghost seen = { λ h. h.calls.items };
 
@@ -61,7 +60,7 @@ impl Host for Noting {
         if is_licenses(function) {
             return Err(EvalErr::Bad(FaultKind::NotInPackage));
         }
-        self.calls.push(Some(function))?;
+        self.calls.push(function)?;
         Ok(Value::none())
     }
 
@@ -74,44 +73,91 @@ impl Host for Noting {
         _args: Args,
         _machine: &mut Machine,
     ) -> Result<Value, EvalErr> {
-        self.calls.push(None)?;
-        Ok(Value::none())
+        Err(EvalErr::Bad(FaultKind::NotInPackage))
     }
 }
 
-/// Writes the name of a build function, the place of a rule of the schema, or `declared`.
-fn write_call(
-    line: &mut Vec<u8>,
-    alloc: Global,
-    call: Option<HostFunction>,
-) -> Result<(), AllocError> {
-    line.extend_from_slice(b" ")?;
-    match call {
-        None => line.extend_from_slice(b"declared"),
-        Some(HostFunction::Rule(place)) => {
-            let mut text = String::new(alloc);
-            write!(text, "{place}")?;
-            line.extend_from_slice(&text.into_bytes())
+/// A BUILD file, and what is wanted of it: what it prints, the line of F70 if it has that fault, and the calls that were accepted.
+#[derive(Clone, Copy)]
+struct Case {
+    text: &'static str,
+    prints: &'static str,
+    fault: Option<u32>,
+    calls: &'static [HostFunction],
+}
+
+/// Whether the prints are this text.
+fn is_text(prints: &[Bytes], text: &[u8]) -> bool {
+    match prints {
+        [] => text.is_empty(),
+        [one] => one.as_slice() == text,
+        _ => false,
+    }
+}
+
+/// Whether a file printed, ended and called as is wanted.
+fn is_wanted(evaluated: &EvaluatedFile<Noting>, case: Case) -> bool {
+    let ended = match &evaluated.outcome {
+        FileOutcome::Module(_, prints) => case.fault.is_none()
+            && is_text(prints, case.prints.as_bytes()),
+        FileOutcome::Failed(fault, prints) => {
+            fault.kind.number() == 70
+                && case.fault == Some(fault.line)
+                && is_text(prints, case.prints.as_bytes())
         }
-        Some(function) => match function.name() {
-            None => Ok(()),
-            Some(name) => line.extend_from_slice(name),
-        },
+    };
+    ended && evaluated.host.calls.as_slice() == case.calls
+}
+
+/// What files are evaluated with.
+#[derive(Clone, Copy)]
+struct Setting<'a> {
+    alloc: Global,
+    universe: &'a Universe,
+    built_ins: &'a BuiltIns,
+}
+
+/// Whether a file that is read gives what is wanted of it.
+fn file_is_right(setting: Setting<'_>, file: &Resolved, case: Case) -> Result<bool, AllocError> {
+    let host = Noting {
+        calls: Vec::new(setting.alloc),
+    };
+    let module = ResolvedModule {
+        number: 0,
+        file,
+        loaded: &[],
+        imports: &[],
+        code: &[],
+    };
+    let evaluated = eval_module(
+        setting.alloc,
+        setting.built_ins,
+        &module,
+        host,
+        1_000_000,
+        Seed::fixed(),
+    )?;
+    Ok(is_wanted(&evaluated, case))
+}
+
+/// Whether a text is a file that gives what is wanted of it.
+fn is_right(setting: Setting<'_>, case: Case) -> Result<bool, AllocError> {
+    match code_of(setting.alloc, setting.universe, case.text.as_bytes()) {
+        Ok(file) => file_is_right(setting, &file, case),
+        Err(_) => Ok(false),
     }
 }
 
-/// Adds the line of the calls.
-fn add_calls(
-    alloc: Global,
-    whole: &mut Vec<u8>,
-    calls: &[Option<HostFunction>],
-) -> Result<(), AllocError> {
-    whole.extend_from_slice(b"calls")?;
-    for call in calls {
-        write_call(whole, alloc, *call)?;
+/// The number of the first case that isn't right, from 1; 0 if all are.
+fn first_wrong(setting: Setting<'_>) -> Result<u64, AllocError> {
+    let mut number = 0u64;
+    for case in CASES {
+        number = number.wrapping_add(1);
+        if !is_right(setting, *case)? {
+            return Ok(number);
+        }
     }
-    whole.push(b'\n')?;
-    Ok(())
+    Ok(0)
 }
 
 /// The names of two rules.
@@ -122,217 +168,73 @@ fn rules(alloc: Global) -> Result<Vec<Bytes>, AllocError> {
     Ok(rules)
 }
 
-/// Evaluates a BUILD file over what it loads. Adds what is printed of it, and the calls that were accepted.
-fn run_build(
-    setting: Setting<'_>,
-    lent: Lent<'_>,
-    text: &[u8],
-    whole: &mut Vec<u8>,
-) -> Result<(), AllocError> {
-    let Some(file) = file_of(setting, FileKind::Build, text, whole)? else {
-        return Ok(());
-    };
-    let host = Noting {
-        calls: Vec::new(setting.alloc),
-    };
-    let evaluated = evaluate(setting, lent, &file, host);
-    drop(file);
-    let EvaluatedFile { outcome, host } = evaluated?;
-    let added = add_outcome(setting.alloc, whole, &outcome);
-    drop(outcome);
-    added?;
-    add_calls(setting.alloc, whole, &host.calls)
-}
-
-fn run_over(
-    setting: Setting<'_>,
-    below: &Below,
-    text: &[u8],
-    whole: &mut Vec<u8>,
-) -> Result<(), AllocError> {
-    let lent = Lent {
-        file: Some(&below.file),
-        code: &[Some(&below.file)],
-        modules: &below.modules,
-    };
-    run_build(setting, lent, text, whole)
-}
-
-/// Evaluates the files of a chunk: a .bzl file before a line `|`, if there is one, and then a BUILD file that loads it.
-fn run_chunk(setting: Setting<'_>, chunk: &[u8], whole: &mut Vec<u8>) -> Result<(), AllocError> {
-    let Some((bzl, build)) = cut(chunk, b'|') else {
-        let nothing = Lent {
-            file: None,
-            code: &[],
-            modules: &[],
-        };
-        return run_build(setting, nothing, chunk, whole);
-    };
-    match run_bzl(setting, bzl, whole)? {
-        Some(below) => run_over(setting, &below, build, whole),
-        None => Ok(()),
-    }
-}
-
-/// Whether a chunk gives what stands after its line `^`.
-fn is_right(setting: Setting<'_>, chunk: &[u8]) -> Result<bool, AllocError> {
-    let Some((source, wanted)) = cut(chunk, b'^') else {
-        return Ok(false);
-    };
-    let mut whole = Vec::new(setting.alloc);
-    run_chunk(setting, source, &mut whole)?;
-    Ok(whole.as_slice() == wanted)
-}
-
-/// The number of the first chunk that doesn't give what is wanted of it, from 1; 0 if all do.
-fn first_wrong(setting: Setting<'_>, chunks: &[u8]) -> Result<u64, AllocError> {
-    let mut number = 0u64;
-    for chunk in chunks.split(|byte| *byte == b'~').skip(1) {
-        number = number.wrapping_add(1);
-        if !is_right(setting, without_newline(chunk))? {
-            return Ok(number);
-        }
-    }
-    Ok(0)
-}
-
-/// The same, over two rules and no packages.
-fn first_wrong_of(alloc: Global, chunks: &[u8]) -> Result<u64, AllocError> {
+/// The same, over two rules of a schema.
+fn first_wrong_of(alloc: Global) -> Result<u64, AllocError> {
     let rules = rules(alloc)?;
+    let universe = Universe::new(alloc, FileKind::Build, &rules)?;
     let built_ins = BuiltIns::new(alloc, &rules)?;
-    let own = PackageId::root(alloc)?;
-    let packages = no_packages(alloc)?;
-    let setting = Setting {
+    first_wrong(Setting {
         alloc,
-        rules: &rules,
+        universe: &universe,
         built_ins: &built_ins,
-        own: &own,
-        packages: &packages,
-        limit: 1_000_000,
-    };
-    first_wrong(setting, chunks)
+    })
 }
 
 #[test]
 fn calls_of_hosts(rt: HostRuntime) -> Result<(), AllocError> {
-    let wrong = first_wrong_of(rt.alloc(), CHUNKS.as_bytes())?;
-    assert!(rt; wrong == 0, "chunk {wrong}");
+    let wrong = first_wrong_of(rt.alloc())?;
+    assert!(rt; wrong == 0, "case {wrong}");
     Ok(())
 }
 
-/// Chunks, each after a line `~`; after a line `^` what it prints, its fault, and the calls that were accepted.
-const CHUNKS: &str = r#"
-~
-glob(["*"])
+const CASES: &[Case] = &[
+    Case {
+        text: r#"glob(["*"])
 filegroup(name = "a")
 genrule()
 print(package_name(1, 2), exports_files(x = 3), package_group(), package())
-^
-None None None None
-calls glob 0 1 package_name exports_files package_group package
-~
-x = 1
-^
-calls
-~
-# A call that is refused ends the file, and what was accepted before it stays.
-package()
+"#,
+        prints: "None None None None",
+        fault: None,
+        calls: &[
+            HostFunction::Glob,
+            HostFunction::Rule(0),
+            HostFunction::Rule(1),
+            HostFunction::PackageName,
+            HostFunction::ExportsFiles,
+            HostFunction::PackageGroup,
+            HostFunction::Package,
+        ],
+    },
+    // By its value, once for each element, after its arguments.
+    Case {
+        text: r#"f = genrule
+[f(name = package_name()) for _ in range(2)]
+"#,
+        prints: "",
+        fault: None,
+        calls: &[
+            HostFunction::PackageName,
+            HostFunction::Rule(1),
+            HostFunction::PackageName,
+            HostFunction::Rule(1),
+        ],
+    },
+    Case {
+        text: "x = 1\n",
+        prints: "",
+        fault: None,
+        calls: &[],
+    },
+    // A call that is refused ends the file, and what was accepted before it stays.
+    Case {
+        text: r#"package()
 print("kept")
 licenses(["x"])
 package()
-^
-kept
-4: F70 NotInPackage
-calls package
-~
-# The arguments are evaluated before the host is called.
-
-filegroup(name = print("argument"), srcs = [1 // 0])
-^
-argument
-3: F42 DivZero
-calls
-~
-# A .bzl file calls them by `native`.
-def f(name):
-    native.genrule(name = name)
-    native.glob([])
-|
-load(":m.bzl", "f")
-f("a")
-package_name()
-f("b")
-^
-calls 1 glob package_name 1 glob
-~
-# While a .bzl file is evaluated, none may be called.
-print("kept")
-native.package_name()
-|
-package_name()
-^
-kept
-3: F70 NotInPackage
-~
-# They are values, by their names.
-f = filegroup
-f(name = "a")
-print(f, f == filegroup, [glob], type(package))
-^
-<built-in function filegroup> True [<built-in function glob>] builtin_function_or_method
-calls 0
-~
-# A name of the file takes the place of a rule.
-filegroup = len
-print(filegroup("abc"))
-^
-3
-calls
-~
-# A rule that a .bzl file declares is called by its kind; one without a kind, and `rule` itself, don't reach the host.
-def _impl(ctx):
-    pass
-my = rule(_impl)
-def f(name):
-    my(name = name)
-    native.genrule(name = name)
-|
-load(":m.bzl", "f", "my")
-my(name = "a")
-f("b")
-print(my, type(my), my == my)
-^
-<rule> rule True
-calls declared declared 1
-~
-def _impl(ctx):
-    pass
-rules = [rule(_impl)]
-|
-load(":m.bzl", "rules")
-glob([])
-rules[0](name = "a")
-^
-3: F57 BadValue
-calls glob
-~
-# The package of defaults is the host's matter.
-def f():
-    attr.label()
-    attr.label(default = None)
-    attr.label(default = ":x")
-|
-load(":m.bzl", "f")
-f()
-^
-2: F78 BadLabel
-calls
-~
-native.glob([])
-^
-1: F20 UnknownName native
-~
-none()
-^
-1: F20 UnknownName none
-"#;
+"#,
+        prints: "kept",
+        fault: Some(3),
+        calls: &[HostFunction::Package],
+    },
+];

@@ -2,8 +2,7 @@
 //!
 //! What a run shows in its bytes is in the rows in `tests/rows`.
 //!
-//! - `program`: programs of one file, or of two
-//! - `hosts`: which calls reach the host of a program
+//! - `hosts`: which calls reach the host of a file
 //! - `load`: workspaces, and pools of threads
 //! - `workers`, `refused`: random load graphs by several workers, and workers that are refused memory
 #![tactic(auto)]
@@ -12,8 +11,6 @@
 mod hosts;
 #[cfg(test)]
 mod load;
-#[cfg(test)]
-mod program;
 #[cfg(test)]
 mod random;
 #[cfg(test)]

@@ -1,7 +1,7 @@
-//! Files, and the packages of a workspace without any.
+//! Files of workspaces.
 
 use bq_base::Bytes;
-use bq_label::{File, Packages, Workspace};
+use bq_label::File;
 use std::alloc::{AllocError, Global};
 
 /// A file of this path.
@@ -10,12 +10,4 @@ pub fn file(alloc: Global, path: &[u8], content: &[u8]) -> Result<File, AllocErr
         path: Bytes::from_slice(alloc, path)?,
         content: Bytes::from_slice(alloc, content)?,
     })
-}
-
-/// No packages.
-pub fn no_packages(alloc: Global) -> Result<Packages, AllocError> {
-    match Workspace::new(Vec::new(alloc)) {
-        Ok(workspace) => Packages::of(alloc, &workspace),
-        Err(_) => Err(AllocError),
-    }
 }
