@@ -85,15 +85,18 @@ pieces_more b bs =
 
 first_field : (b : ℕ) (bs name after : List ℕ) → field_of (b ∷ bs) ≡ Some (name, after) → first_piece b bs ≡ (field name, after)
 unfolding first_piece
-first_field b bs name after e = rw e refl
+first_field b bs name after e = ap (λ o. piece_by b bs o) e
 
 first_brace : (b : ℕ) (bs : List ℕ) → field_of (b ∷ bs) ≡ None → is_brace b ≡ true → first_piece b bs ≡ doubled b bs
 unfolding first_piece
-first_brace b bs e is = rw (e, is) refl
+first_brace b bs e is = ap (λ o. piece_by b bs o) e ∙ rw is refl
 
 first_plain : (b : ℕ) (bs : List ℕ) → is_brace b ≡ false → first_piece b bs ≡ (byte b, bs)
 unfolding first_piece field_of
-first_plain b bs other = let unlike : (b == 123) ≡ false = grind (arith, nat_tests, other) in rw (unlike, other) refl
+first_plain b bs other =
+    let unlike : (b == 123) ≡ false = grind (arith, nat_tests, other) in
+    let none : field_of (b ∷ bs) ≡ None = rw unlike refl in
+    ap (λ o. piece_by b bs o) none ∙ rw other refl
 
 pieces_when : (b : ℕ) (bs : List ℕ) (p : Piece × List ℕ) → first_piece b bs ≡ p → pieces (b ∷ bs) ≡ p.0 ∷ pieces (p.1)
 pieces_when b bs p e = pieces_more b bs ∙ ap (λ (q : Piece × List ℕ). q.0 ∷ pieces (q.1)) e
