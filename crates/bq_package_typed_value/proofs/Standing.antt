@@ -20,7 +20,7 @@ use Rattle.bq_package_typed_value.specs.LabelTexts.{named, without_colon, read, 
 use Rattle.bq_package_typed_value.specs.Taken.{NamesFile, bare, after_colon, StandsFor, StandsForNone, CrossesInto, StaysInside}
 use Rattle.bq_package_typed_value.proofs.Crossings.{in_own, own_is}
 use Rattle.bq_package_typed_value.proofs.Turns.{any_weaker, any_true, any_so, all_false, all_so, turned, answered_in_turn, refused_in_turn, zip_weaker}
-use Rattle.bq_package_typed_value.proofs.Cases.{is_owned_by_other}
+use Rattle.bq_package_typed_value.proofs.Cases.{is_owned_by_other, label_found}
 
 -- ---- one text
 
@@ -43,8 +43,8 @@ unfolding read
 label_read own s = by (label_of own s) refl
   where
     by : (found : Option LabelParts) → label_of own s ≡ found → Read own k.Label s
-    by (Some l) e = inl (l, reading_from_label own s l e, rw e refl)
-    by None e = inr (λ l reads. let is : label_of own s ≡ Some l = label_from_reading own s l reads in cc, rw e refl)
+    by (Some l) e = inl (l, reading_from_label own s l e, ap label_found e)
+    by None e = inr (λ l reads. let is : label_of own s ≡ Some l = label_from_reading own s l reads in cc, ap label_found e)
 
 name_read : (own : PackageParts) (s : List ℕ) → Read own k.Name s
 unfolding read
@@ -121,7 +121,7 @@ file_reads own s l (after_colon name at p is) = subst (λ (z : List ℕ). read o
 
 pub reads : (own : PackageParts) (kind : TextKind) (s : List ℕ) (l : LabelParts) → StandsFor own kind s l → read own kind s ≡ Ok l
 unfolding read
-reads own k.Label s l h = rw (label_from_reading own s l h) refl
+reads own k.Label s l h = ap label_found (label_from_reading own s l h)
 reads own k.Name s l h = rw (h.0) (ap Ok (sym h.1))
 reads own k.Output s l h = file_reads own s l h
 
@@ -153,7 +153,7 @@ module _ (own : PackageParts) (packages : List BuildFile) where
 
   pub crosses_so : (l : LabelParts) → CrossesInto own packages l → own_label_crosses own packages l ≡ true
   unfolding own_label_crosses crosses
-  crosses_so l h = rw (is_package own l h.mine, h.owned) (by (is_of h.owner.id l) refl)
+  crosses_so l h = rw (is_package own l h.mine) (ap (is_owned_by_other l) h.owned ∙ by (is_of h.owner.id l) refl)
     where
       by : (b : Bool) → is_of h.owner.id l ≡ b → not b ≡ true
       by true e = absurd (h.other (package_is h.owner.id l e))

@@ -120,10 +120,10 @@ module _ (store : StoreView) where
   cell_cases m n = by (content_at store m n) refl
     where
       by : (c : Option Contents) → content_at store m n ≡ c → HasElements (cell m n)
-      by (Some (items vs)) e = inl (vs, is_list m n refl e, rw e refl)
-      by (Some (pairs ps)) e = inr (rw e refl)
-      by (Some (rule class)) e = inr (rw e refl)
-      by None e = inr (rw e refl)
+      by (Some (items vs)) e = inl (vs, is_list m n refl e, ap (listed f.AttributeType) e)
+      by (Some (pairs ps)) e = inr (ap (listed f.AttributeType) e)
+      by (Some (rule class)) e = inr (ap (listed f.AttributeType) e)
+      by None e = inr (ap (listed f.AttributeType) e)
 
   element_cases : (v : Datum) → HasElements v
   element_cases none = inr refl
