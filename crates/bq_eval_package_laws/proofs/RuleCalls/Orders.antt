@@ -1,5 +1,5 @@
 -- A call of a rule, and each of its arguments, is refused in its order.
-use Rattle.std.proofs.Common.{◌≡◌, refl, ℕ, inl, inr, Bool, true, false, List, [], ◌∷◌, ◌++◌, Option, Some, None, Result, Ok, Err}
+use Rattle.std.proofs.Common.{◌≡◌, refl, ap, ℕ, inl, inr, Bool, true, false, List, [], ◌∷◌, ◌++◌, Option, Some, None, Result, Ok, Err}
 use Rattle.std.specs.Prelude.{not, ◌&&◌, is_some}
 use Rattle.bq_base.specs.declared.fault.FaultKind.{FaultKind}
 use Rattle.bq_base.specs.declared.fault.FaultKind.TheVariants as f
@@ -43,7 +43,7 @@ module _ (x : CallPlace) (g : Given) where
 
   pub unknown_attribute : (argument : Datum × Datum) → GivesAttribute argument → attribute_type x.class (keyword argument.0) ≡ None → argument_read x g argument ≡ Err f.NoAttribute
   unfolding with_argument with_attribute
-  unknown_attribute argument h none = rw (h, none) refl
+  unknown_attribute argument h none = rw h (ap (λ o. with_attribute_by x.own x.packages x.store o (keyword argument.0) argument.1 g) none)
 
   by_text : (r : Result (List ℕ) FaultKind)
       → fault_in (and_then r (λ text. and_then (label x.own x.packages k.Name text) (λ l. Ok (with_label text l g)))) ≡ first_fault (fault_in r ∷ fault_then r (λ text. fault_in (label x.own x.packages k.Name text)) ∷ [])
