@@ -13,8 +13,9 @@ use Rattle.bq_builtin_machine.specs.Iteration.{elements_in, elements}
 use Rattle.bq_builtin_machine.specs.State.{State}
 use Rattle.bq_builtin_numbers.specs.Length.{max_len}
 use Rattle.bq_builtin_in_place.specs.InPlace.{list_extended, augment_sum, augment}
-use Rattle.bq_builtin_operators.specs.Operand.{and_then}
+use Rattle.bq_builtin_operators.specs.Operand.{and_then, list_in}
 use Rattle.bq_builtin_operators.specs.Sequence.{joined}
+use Rattle.bq_builtin_operators.proofs.Cases.{list_of_content}
 use Rattle.bq_builtin_collections.proofs.Ends.{changed}
 use Rattle.bq_builtin_laws.specs.Collections.Laws.{IsList, StaysTheSameList}
 
@@ -46,5 +47,6 @@ module _ (home number : ℕ) (xs more : List Datum) where
     pub stays : augment op.Add (cell home number) b s ≡ done answer t → StaysTheSameList home number xs more answer s t
     unfolding augment augment_sum elements
     stays h =
-        let e : augment op.Add (cell home number) b s ≡ following (changing home number (list_extended more) s) (λ u. pure (cell home number)) = rw (known, read) refl in
+        let own : list_in s.store (cell home number) ≡ Ok xs = ap list_of_content known in
+        let e : augment op.Add (cell home number) b s ≡ following (changing home number (list_extended more) s) (λ u. pure (cell home number)) = rw (own, read) refl in
         by_run (changing home number (list_extended more) s) refl (sym e ∙ h)
