@@ -20,7 +20,8 @@ module _ (text : List ℕ) (files : List File) where
   by_test : (small : Bool) → nat_le (length text) max_bundle_bytes ≡ small → by_size small ≡ Some files → IsBundleOf text files
   by_test true e h =
       let small : length text ≤ max_bundle_bytes = grind (arith, nat_tests, e) in
-      (small, by_files (files_of text) refl h)
+      let found = by_files (files_of text) refl h in
+      (small, found.0, found.1, found.2)
   by_test false e h = let no : None ≡ Some files = h in absurd (cc)
 
   pub holds : bundle_of text ≡ Some files → IsBundleOf text files
