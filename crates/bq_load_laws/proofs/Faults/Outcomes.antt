@@ -26,6 +26,8 @@ use Rattle.bq_load_discover.specs.Module.{module_of}
 use Rattle.bq_load_front.specs.Code.{◌>>=◌}
 use Rattle.bq_load_front.specs.Front.{front_of}
 use Rattle.bq_load_front.specs.Parsed.{kind_of}
+use Rattle.bq_load_front.specs.Reading.{parsed_of}
+use Rattle.bq_load_front.proofs.Fronts.{are_fronts}
 use Rattle.bq_load_front.specs.Inputs.{InputParts}
 use Rattle.bq_load_front.specs.declared.front.Front.{Front}
 use Rattle.bq_load_outcome_spec.specs.Outcome.{first, values, own, evaluated, by_loads, outcome}
@@ -294,7 +296,7 @@ unfolding outcomes
 outcomes_come files rules limit g w is =
     let inputs = inputs_of files rules in
     let x = loading_in files rules limit g in
-    let there : AreThere inputs g.labels = λ l c. let h = modules_have_files files rules l w (is.graph.modules.only l c) in there_is_file files l h.0 h.1 in
+    let there : AreThere inputs g.labels = λ l c. let h = modules_have_files files rules (parsed_of inputs) l w (are_fronts inputs) (is.graph.modules.only l c) in there_is_file files l h.0 h.1 in
     subst (λ ss. AllByRecursion (IsComeTo inputs) (outcomes_from x g.edges 0 ss)) (sym is.read)
     (from inputs x g.labels is.read g.edges (λ m l why at bad. get_or_from_slice_get g.edges m [] [] (loads_nothing inputs g m l why is at bad)) is.graph.valid.1 (λ m l at front read. at_load files rules limit g is m l front at read) there 0 g.labels (λ i. ap (slice_get g.labels) (from_zero i)) there)
 
