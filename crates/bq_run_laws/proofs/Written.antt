@@ -20,7 +20,7 @@ use Rattle.bq_run_laws.specs.Order.{WritesFaultsAlone}
 
 pub bundle_first : (o : Options) (input : List ℕ) (what : Run) → ((files : List File) → ¬ IsBundleOf input files) → IsRunOf o input what
     → (what.end ≡ Err run.Bundle) × (what.faults ≡ []) × (what.answer ≡ [])
-bundle_first o input what none (IsRunOf.no_bundle no e) = (ap (λ (r : Run). r.end) e, ap (λ (r : Run). r.faults) e, ap (λ (r : Run). r.answer) e)
+bundle_first o input what none (IsRunOf.no_bundle absent e) = (ap (λ (r : Run). r.end) e, ap (λ (r : Run). r.faults) e, ap (λ (r : Run). r.answer) e)
 bundle_first o input what none (IsRunOf.bundle files is over) = absurd (none files is)
 
 -- ---- prints
