@@ -9,7 +9,7 @@ use Rattle.bq_builtin_numbers.specs.Integer.{fitted}
 use Rattle.bq_value.specs.Datum as datum
 use Rattle.bq_value.specs.Datum.{Datum, boolean, string, tuple, cell, list_of}
 use Rattle.bq_value.specs.Range.{range_count}
-use Rattle.bq_value.specs.Contents.{Contents, items, pairs, rule}
+use Rattle.bq_value.specs.Contents.{Contents, items, pairs}
 use Rattle.bq_value.specs.Cells.{StoreView, content_at}
 use Rattle.bq_builtin_machine.specs.Args.{Passed}
 use Rattle.bq_builtin.specs.Arguments.{and_then}
@@ -48,8 +48,7 @@ int p = and_then (only_argument p) (λ v. as_int (integer_from v))
 abbrev pub content_length : Option Contents → Result ℕ FaultKind
 content_length (Some (items xs)) = Ok (length xs)
 content_length (Some (pairs ps)) = Ok (length ps)
-content_length (Some (rule c)) = Err WrongType
-content_length None = Err WrongType
+content_length _ = Err WrongType
 
 -- how many bytes or elements there are
 unfoldable pub length_in : StoreView → Datum → Result ℕ FaultKind

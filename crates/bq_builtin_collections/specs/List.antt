@@ -5,7 +5,7 @@ use Rattle.bq_base.specs.declared.fault.FaultKind.TheVariants.{WrongType, Index,
 use Rattle.bq_builtin_numbers.specs.Length.{within}
 use Rattle.bq_builtin_numbers.specs.Place.{clamped, indexed}
 use Rattle.bq_value.specs.Datum.{Datum, none, int}
-use Rattle.bq_value.specs.Contents.{Contents, items, pairs, rule}
+use Rattle.bq_value.specs.Contents.{Contents, items}
 use Rattle.bq_builtin_machine.specs.State.{State}
 use Rattle.bq_builtin_machine.specs.Action.{Action, ◌>>=◌, ◌>>◌, stop, given}
 use Rattle.bq_builtin_machine.specs.Cells.{Change, changing, may_change, content}
@@ -23,8 +23,7 @@ ListChange = List Datum → Result (Datum × List Datum) FaultKind
 -- a change of a list, of a cell that has to hold one
 unfoldable pub on_items : ListChange → Change Datum
 on_items f (items xs) = elim (f xs) [ Ok r ↦ Ok (r.0, items r.1) | Err kind ↦ Err kind ]
-on_items f (pairs ps) = Err WrongType
-on_items f (rule c) = Err WrongType
+on_items f _ = Err WrongType
 
 -- what follows a result, unless that is a fault
 abbrev pub and_then : {A B : Type 0} → Result A FaultKind → (A → Result B FaultKind) → Result B FaultKind
@@ -94,8 +93,7 @@ pop home number args = given (optional_argument args) >>= λ o. given (index_or_
 -- the elements of a cell that has to hold a list
 abbrev pub list_of : Contents → Result (List Datum) FaultKind
 list_of (items xs) = Ok xs
-list_of (pairs ps) = Err WrongType
-list_of (rule c) = Err WrongType
+list_of _ = Err WrongType
 
 -- the values of a list
 unfoldable pub list_in : ℕ → ℕ → Action State (List Datum)

@@ -23,26 +23,22 @@ use Rattle.bq_builtin_operators.specs.Operate.{binary}
 -- these values after those that are there
 unfoldable pub list_extended : List Datum → Change (Unit {0})
 list_extended more (items xs) = and_then (joined xs more) (λ ys. Ok (tt, items ys))
-list_extended more (pairs ps) = Err WrongType
-list_extended more (rule c) = Err WrongType
+list_extended more _ = Err WrongType
 
 -- these pairs put in turn
 unfoldable pub dict_united : List (Datum × Datum) → Change (Unit {0})
 dict_united more (pairs ps) = and_then (limited (put_all ps more)) (λ qs. Ok (tt, pairs qs))
-dict_united more (items xs) = Err WrongType
-dict_united more (rule c) = Err WrongType
+dict_united more _ = Err WrongType
 
 -- another value at an index (F43)
 unfoldable pub element_set : ℤ → Datum → Change (Unit {0})
 element_set i v (items xs) = and_then (indexed (length xs) i) (λ k. Ok (tt, items (set xs k v)))
-element_set i v (pairs ps) = Err WrongType
-element_set i v (rule c) = Err WrongType
+element_set i v _ = Err WrongType
 
 -- another value of a key, or a new pair (F54)
 unfoldable pub pair_put : Datum → Datum → Change (Unit {0})
 pair_put k v (pairs ps) = and_then (limited (put k v ps)) (λ qs. Ok (tt, pairs qs))
-pair_put k v (items xs) = Err WrongType
-pair_put k v (rule c) = Err WrongType
+pair_put k v _ = Err WrongType
 
 -- ---- the operators
 

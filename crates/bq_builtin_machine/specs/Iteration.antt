@@ -4,7 +4,7 @@ use Rattle.bq_base.specs.declared.fault.FaultKind.{FaultKind}
 use Rattle.bq_base.specs.declared.fault.FaultKind.TheVariants.{WrongType}
 use Rattle.bq_value.specs.Datum.{Datum, int, tuple, range, cell, list_of}
 use Rattle.bq_value.specs.Range.{range_count}
-use Rattle.bq_value.specs.Contents.{Contents, items, pairs, rule}
+use Rattle.bq_value.specs.Contents.{Contents, items, pairs}
 use Rattle.bq_value.specs.Pairs.{keys}
 use Rattle.bq_value.specs.Cells.{StoreView, content_at}
 use Rattle.bq_builtin_machine.specs.State.{State}
@@ -24,8 +24,7 @@ range_integers start stop step = integers start step (range_count start stop ste
 abbrev pub content_elements : Option Contents → Result (List Datum) FaultKind
 content_elements (Some (items xs)) = Ok xs
 content_elements (Some (pairs ps)) = Ok (keys ps)
-content_elements (Some (rule c)) = Err WrongType
-content_elements None = Err WrongType
+content_elements _ = Err WrongType
 
 -- the elements of an iterable; other values have none (F40)
 abbrev pub elements_in : StoreView → Datum → Result (List Datum) FaultKind

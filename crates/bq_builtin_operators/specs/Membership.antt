@@ -1,8 +1,8 @@
 -- Whether a value is in another (Starlark, "Membership tests"), and the steps that are left.
-use Rattle.std.specs.Prelude.{ℕ, Bool, true, false, ℤ, List, [], ◌∷◌, Option, Some, None, Ok, Err, is_some}
+use Rattle.std.specs.Prelude.{ℕ, Bool, true, false, ℤ, List, [], ◌∷◌, Option, Some, Ok, Err, is_some}
 use Rattle.bq_base.specs.declared.fault.FaultKind.TheVariants.{WrongType}
 use Rattle.bq_value.specs.Datum.{Datum, int, string, tuple, range, cell, list_of}
-use Rattle.bq_value.specs.Contents.{Contents, items, pairs, rule}
+use Rattle.bq_value.specs.Contents.{Contents, items, pairs}
 use Rattle.bq_value.specs.Pairs.{found}
 use Rattle.bq_value.specs.Cells.{StoreView, content_at}
 use Rattle.bq_value_compare.specs.Looked.{Looked, max_levels}
@@ -45,8 +45,7 @@ in_dict n v ps = elim (keyed v (walked_at max_levels n v)) [ Ok (key, n) ↦ Ok 
 abbrev pub in_content : StoreView → ℕ → Datum → Option Contents → Looked Bool
 in_content s n v (Some (items xs)) = in_list s n v xs
 in_content s n v (Some (pairs ps)) = in_dict n v ps
-in_content s n v (Some (rule c)) = Err WrongType
-in_content s n v None = Err WrongType
+in_content s n v _ = Err WrongType
 
 -- `v in container`
 abbrev pub contained : StoreView → ℕ → Datum → Datum → Looked Bool

@@ -3,7 +3,7 @@ use Rattle.std.specs.Prelude.{ℕ, ℤ, List, [], ◌∷◌, length, slice_get, 
 use Rattle.bq_base.specs.declared.fault.FaultKind.{FaultKind}
 use Rattle.bq_base.specs.declared.fault.FaultKind.TheVariants.{WrongType, Index, NoKey}
 use Rattle.bq_value.specs.Datum.{Datum, string, tuple, range, cell, list_of}
-use Rattle.bq_value.specs.Contents.{Contents, items, pairs, rule}
+use Rattle.bq_value.specs.Contents.{Contents, items, pairs}
 use Rattle.bq_value.specs.Pairs.{found}
 use Rattle.bq_value.specs.Cells.{StoreView, content_at}
 use Rattle.bq_value_compare.specs.Looked.{Looked, max_levels}
@@ -41,8 +41,7 @@ value_in n ps key = elim (keyed key (walked_at max_levels n key)) [ Ok (key, n) 
 abbrev pub content_item : ℕ → Option Contents → Datum → Looked Datum
 content_item n (Some (items xs)) index = at_no_cost n (item_in xs index)
 content_item n (Some (pairs ps)) key = value_in n ps key
-content_item n (Some (rule c)) index = Err WrongType
-content_item n None index = Err WrongType
+content_item n _ index = Err WrongType
 
 -- `container[index]`
 abbrev pub item_of : StoreView → ℕ → Datum → Datum → Looked Datum

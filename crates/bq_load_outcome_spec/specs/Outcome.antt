@@ -17,10 +17,7 @@ module _ {V F : Type 0} where
   abbrev pub with_value : Outcome V F → ℕ → Result (List V) ℕ → Result (List V) ℕ
   with_value (Loaded v) x (Ok vs) = Ok (v ∷ vs)
   with_value (Loaded v) x (Err l) = Err l
-  with_value (Faulty e) x r = Err x
-  with_value (Cyclic l) x r = Err x
-  with_value (TooDeep l) x r = Err x
-  with_value (LoadFailed l) x r = Err x
+  with_value _ x r = Err x
 
   -- the values of modules with these outcomes, or the first that has none
   abbrev pub values : (ℕ → Outcome V F) → List ℕ → Result (List V) ℕ

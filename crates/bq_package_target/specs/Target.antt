@@ -9,9 +9,7 @@ use Rattle.bq_package_target.specs.Value.{labels_in, outputs_in}
 -- it is a source file
 abbrev pub is_source : TargetKind → Bool
 is_source k.Source = true
-is_source (k.Rule name class) = false
-is_source (k.Generated rule) = false
-is_source k.Group = false
+is_source _ = false
 
 -- the label is of this package
 unfoldable pub is_of : PackageParts → LabelParts → Bool
@@ -32,9 +30,7 @@ generated rule l = record { label = l; kind = k.Generated rule.label; attributes
 -- a generated file depends on its rule, another target on the labels that its attributes name
 abbrev pub dependencies_by : TargetKind → List LabelParts → List LabelParts
 dependencies_by (k.Generated rule) named = rule ∷ []
-dependencies_by (k.Rule name class) named = named
-dependencies_by k.Source named = named
-dependencies_by k.Group named = named
+dependencies_by _ named = named
 
 -- what a target depends on: a file that a rule makes on its rule, a rule on what its attributes of types label and label_list name, a
 -- group on what it includes, a source file on nothing

@@ -16,23 +16,13 @@ use Rattle.bq_package_target.specs.declared.value.GivenAttribute.{GivenAttribute
 abbrev pub labels_of : AttributeValue → List LabelParts
 labels_of (v.Label l) = l ∷ []
 labels_of (v.LabelList ls) = ls
-labels_of (v.String s) = []
-labels_of (v.Int n) = []
-labels_of (v.Bool b) = []
-labels_of (v.StringList ss) = []
-labels_of (v.Output l) = []
-labels_of (v.OutputList ls) = []
+labels_of _ = []
 
 -- the files that a value names as outputs
 abbrev pub outputs_of : AttributeValue → List LabelParts
 outputs_of (v.Output l) = l ∷ []
 outputs_of (v.OutputList ls) = ls
-outputs_of (v.String s) = []
-outputs_of (v.Int n) = []
-outputs_of (v.Bool b) = []
-outputs_of (v.StringList ss) = []
-outputs_of (v.Label l) = []
-outputs_of (v.LabelList ls) = []
+outputs_of _ = []
 
 -- the targets that attributes name, in order
 abbrev pub labels_in : List GivenAttribute → List LabelParts

@@ -113,15 +113,12 @@ allowed_after al.All ak.Positional = Some al.All
 allowed_after al.All ak.Named = Some al.AfterNamed
 allowed_after al.All ak.Star = Some al.AfterStar
 allowed_after al.All ak.StarStar = Some al.AfterStarStar
-allowed_after al.AfterNamed ak.Positional = None
 allowed_after al.AfterNamed ak.Named = Some al.AfterNamed
 allowed_after al.AfterNamed ak.Star = Some al.AfterStar
 allowed_after al.AfterNamed ak.StarStar = Some al.AfterStarStar
-allowed_after al.AfterStar ak.Positional = None
 allowed_after al.AfterStar ak.Named = Some al.AfterStar
-allowed_after al.AfterStar ak.Star = None
 allowed_after al.AfterStar ak.StarStar = Some al.AfterStarStar
-allowed_after al.AfterStarStar q = None
+allowed_after _ _ = None
 
 -- ---- expressions over what stands in brackets
 

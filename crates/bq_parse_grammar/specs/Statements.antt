@@ -77,22 +77,16 @@ parameters_after ap.All pk.Default = Some ap.AfterDefault
 parameters_after ap.All pk.BareStar = Some ap.AfterBareStar
 parameters_after ap.All pk.Star = Some ap.AfterStar
 parameters_after ap.All pk.StarStar = Some ap.AfterStarStar
-parameters_after ap.AfterDefault pk.Plain = None
 parameters_after ap.AfterDefault pk.Default = Some ap.AfterDefault
 parameters_after ap.AfterDefault pk.BareStar = Some ap.AfterBareStar
 parameters_after ap.AfterDefault pk.Star = Some ap.AfterStar
 parameters_after ap.AfterDefault pk.StarStar = Some ap.AfterStarStar
 parameters_after ap.AfterBareStar pk.Plain = Some ap.AfterStar
 parameters_after ap.AfterBareStar pk.Default = Some ap.AfterStar
-parameters_after ap.AfterBareStar pk.BareStar = None
-parameters_after ap.AfterBareStar pk.Star = None
-parameters_after ap.AfterBareStar pk.StarStar = None
 parameters_after ap.AfterStar pk.Plain = Some ap.AfterStar
 parameters_after ap.AfterStar pk.Default = Some ap.AfterStar
-parameters_after ap.AfterStar pk.BareStar = None
-parameters_after ap.AfterStar pk.Star = None
 parameters_after ap.AfterStar pk.StarStar = Some ap.AfterStarStar
-parameters_after ap.AfterStarStar q = None
+parameters_after _ _ = None
 
 -- the parameters may end here
 abbrev pub may_end : AllowedParameters → Bool
