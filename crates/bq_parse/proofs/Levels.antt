@@ -1,4 +1,5 @@
 -- Functions in functions, a level of the tree at a time.
+use Rattle.std.specs.List.{list_any}
 use Rattle.std.proofs.Common.{◌≡◌, ℕ, zero, suc, ◌-◌, ◌<◌, Bool, true, false, ◌||◌, List, [], ◌∷◌, refl, ap, ◌∙◌, rules, arith}
 use Rattle.bq_parse_grammar.specs.declared.tree.Branch.{Branch, out-Branch}
 use Rattle.bq_parse_grammar.specs.declared.tree.Expr.{Expr}
@@ -8,25 +9,25 @@ use Rattle.bq_parse_grammar.specs.declared.tree.Stmt.{Stmt, out-Stmt}
 use Rattle.bq_parse_grammar.specs.declared.tree.Stmt as stmt
 use Rattle.bq_parse_grammar.specs.declared.tree.Stmt.TheVariants as variant
 use Rattle.bq_parse_grammar.specs.declared.tree.TargetExpr.{TargetExpr}
-use Rattle.bq_parse_grammar.specs.LeftOut.{any, nested_in, nested_def}
+use Rattle.bq_parse_grammar.specs.LeftOut.{nested_in, nested_def}
 use Rattle.bq_parse_grammar.specs.declared.tree.Stmt.TheOpen.{Stmt-F}
 use Rattle.bq_parse.specs.Nested.{nested_within, in_block, in_branches, in_statement}
 
-any_block : (depth : ℕ) (inside : Bool) (xs : List Stmt) → any (nested_within depth inside) xs ≡ in_block depth inside xs
+any_block : (depth : ℕ) (inside : Bool) (xs : List Stmt) → list_any (nested_within depth inside) xs ≡ in_block depth inside xs
 unfolding in_block
 any_block depth inside [] = refl
 any_block depth inside (x ∷ xs) = ap (λ b. nested_within depth inside x || b) (any_block depth inside xs)
 
-any_branches : (depth : ℕ) (inside : Bool) (bs : List Branch) → any (λ b. any (nested_within depth inside) (out-Branch b).block) bs ≡ in_branches depth inside bs
+any_branches : (depth : ℕ) (inside : Bool) (bs : List Branch) → list_any (λ b. list_any (nested_within depth inside) (out-Branch b).block) bs ≡ in_branches depth inside bs
 unfolding in_branches
 any_branches depth inside [] = refl
 any_branches depth inside (b ∷ bs) =
-    ap (λ c. c || any (λ d. any (nested_within depth inside) (out-Branch d).block) bs) (any_block depth inside (out-Branch b).block)
+    ap (λ c. c || list_any (λ d. list_any (nested_within depth inside) (out-Branch d).block) bs) (any_block depth inside (out-Branch b).block)
     ∙ ap (λ c. in_block depth inside (out-Branch b).block || c) (any_branches depth inside bs)
 
 in_open : (depth : ℕ) (inside : Bool) (s : Stmt-F Stmt Branch) → nested_in (nested_within depth) inside s ≡ in_statement depth inside s
 in_open depth inside (Stmt-F.Simple xs) = refl
-in_open depth inside (Stmt-F.If bs zs) = ap (λ c. c || any (nested_within depth inside) zs) (any_branches depth inside bs) ∙ ap (λ c. in_branches depth inside bs || c) (any_block depth inside zs)
+in_open depth inside (Stmt-F.If bs zs) = ap (λ c. c || list_any (nested_within depth inside) zs) (any_branches depth inside bs) ∙ ap (λ c. in_branches depth inside bs || c) (any_block depth inside zs)
 in_open depth inside (Stmt-F.For v x xs) = any_block depth inside xs
 in_open depth inside (Stmt-F.Def n ps xs) = ap (λ c. inside || c) (any_block depth true xs)
 

@@ -1,5 +1,6 @@
 -- What the language leaves out, and what a BUILD file may not have. Of a statement that has a tree, all but one are about its tokens.
-use Rattle.std.specs.Prelude.{ℕ, zero, suc, List, [], ◌∷◌, Bool, true, false, ◌||◌, ◌&&◌, not}
+use Rattle.std.specs.Prelude.{ℕ, zero, suc, List, [], ◌∷◌, Bool, true, false, ◌||◌, ◌&&◌, not, map}
+use Rattle.std.specs.List.{list_any}
 use Rattle.std.specs.Str.{bytes_eq}
 use Rattle.bq_source.specs.declared.token.TokenKind.{TokenKind}
 use Rattle.bq_source.specs.declared.token.TokenKind.TheVariants as k
@@ -26,8 +27,7 @@ calls_method ts = false
 
 -- the kinds of tokens
 abbrev pub kinds : List Lexeme → List TokenKind
-kinds [] = []
-kinds (t ∷ ts) = t.kind ∷ kinds ts
+kinds ts = map (λ t. t.kind) ts
 
 -- `lambda`, `/` and `/=`; `.name` without a call; the name `native`, but before `.name(`
 abbrev pub leaves_out_by : TokenKind → Lexeme → List Lexeme → Bool
@@ -43,17 +43,12 @@ abbrev pub leaves_out : List Lexeme → Bool
 leaves_out [] = false
 leaves_out (t ∷ ts) = leaves_out_by t.kind t ts || leaves_out ts
 
--- it holds of a member
-abbrev pub any : {A : Type 0} → (A → Bool) → List A → Bool
-any f [] = false
-any f (x ∷ xs) = f x || any f xs
-
 -- a function is defined in another, by the form of the statement
 abbrev pub nested_in : (Bool → Stmt → Bool) → Bool → Stmt-F Stmt Branch → Bool
 nested_in inner inside (Stmt-F.Simple xs) = false
-nested_in inner inside (Stmt-F.If bs zs) = any (λ b. any (inner inside) (out-Branch b).block) bs || any (inner inside) zs
-nested_in inner inside (Stmt-F.For v x xs) = any (inner inside) xs
-nested_in inner inside (Stmt-F.Def n ps xs) = inside || any (inner true) xs
+nested_in inner inside (Stmt-F.If bs zs) = list_any (λ b. list_any (inner inside) (out-Branch b).block) bs || list_any (inner inside) zs
+nested_in inner inside (Stmt-F.For v x xs) = list_any (inner inside) xs
+nested_in inner inside (Stmt-F.Def n ps xs) = inside || list_any (inner true) xs
 
 -- whether a `def` stands in a `def`, in a statement that is at most this many indents deep
 abbrev pub nested_def : ℕ → Bool → Stmt → Bool

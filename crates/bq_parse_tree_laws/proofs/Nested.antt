@@ -1,7 +1,8 @@
 -- Of a statement of the grammar the verdict's test for a `def` in a `def`, which goes as deep as indents may, goes deep enough.
+use Rattle.std.specs.List.{list_any}
 use Rattle.std.proofs.Common.{◌≡◌, ℕ, zero, suc, Bool, true, false, ◌||◌, List, [], ◌∷◌, map, refl, sym, ap, ◌∙◌, subst, rules}
 use Rattle.bq_parse_grammar.specs.Lexeme.{Lexeme}
-use Rattle.bq_parse_grammar.specs.LeftOut.{any, nested_in, nested_def}
+use Rattle.bq_parse_grammar.specs.LeftOut.{nested_in, nested_def}
 use Rattle.bq_parse_grammar.specs.Phrases as P
 use Rattle.bq_parse_grammar.specs.Phrases.{Phrase, none, Repeat}
 use Rattle.bq_parse_grammar.specs.Statements as S
@@ -21,9 +22,9 @@ use Rattle.bq_parse_tree_laws.proofs.Layers.{BranchLayer}
 
 abbrev by_layer : Stmt-F Stmt Branch → Bool → Bool
 by_layer (Stmt-F.Simple xs) inside = false
-by_layer (Stmt-F.If bs zs) inside = any (λ f. f inside) (map branch_has_nested bs) || any (λ f. f inside) (map has_nested zs)
-by_layer (Stmt-F.For v x xs) inside = any (λ f. f inside) (map has_nested xs)
-by_layer (Stmt-F.Def n ps xs) inside = inside || any (λ f. f true) (map has_nested xs)
+by_layer (Stmt-F.If bs zs) inside = list_any (λ f. f inside) (map branch_has_nested bs) || list_any (λ f. f inside) (map has_nested zs)
+by_layer (Stmt-F.For v x xs) inside = list_any (λ f. f inside) (map has_nested xs)
+by_layer (Stmt-F.Def n ps xs) inside = inside || list_any (λ f. f true) (map has_nested xs)
 
 rolled : (l : Stmt-F Stmt Branch) (inside : Bool) → has_nested (roll-Stmt l) inside ≡ by_layer l inside
 rolled (Stmt-F.Simple xs) inside = search (rules, stmt.the_lemmas)
@@ -40,7 +41,7 @@ opened x inside = ap (λ z. has_nested z inside) (sym (whole x)) ∙ rolled (out
 layered : (x : Stmt) (l : Stmt-F Stmt Branch) (inside : Bool) → out-Stmt x ≡ l → has_nested x inside ≡ by_layer l inside
 layered x l inside e = opened x inside ∙ ap (λ m. by_layer m inside) e
 
-branch_rolled : (l : BranchLayer) (inside : Bool) → branch_has_nested (roll-Branch l) inside ≡ any (λ f. f inside) (map has_nested l.block)
+branch_rolled : (l : BranchLayer) (inside : Bool) → branch_has_nested (roll-Branch l) inside ≡ list_any (λ f. f inside) (map has_nested l.block)
 branch_rolled l inside = search (rules, stmt.the_lemmas)
 
 either_same : (a b c d : Bool) → a ≡ b → c ≡ d → (a || c) ≡ (b || d)
@@ -49,30 +50,30 @@ either_same a b c d e f = ap (λ z. z || c) e ∙ ap (λ z. b || z) f
 -- ---- a layer of the grammar
 
 row_same : {A : Type 0} (X : Phrase A) (g : A → Bool) (h : A → Bool → Bool) (inside : Bool) → ((ts rest : List Lexeme) (x : A) → X ts rest x → g x ≡ h x inside)
-    → (ts rest : List Lexeme) (xs : List A) → Repeat X ts rest xs → any g xs ≡ any (λ f. f inside) (map h xs)
+    → (ts rest : List Lexeme) (xs : List A) → Repeat X ts rest xs → list_any g xs ≡ list_any (λ f. f inside) (map h xs)
 row_same X g h inside each ts rest xs P.over = refl
 row_same X g h inside each ts rest xs (P.again {mid = mid} {x = y} {xs = ys} p q) =
-    either_same (g y) (h y inside) (any g ys) (any (λ f. f inside) (map h ys)) (each ts mid y p) (row_same X g h inside each mid rest ys q)
+    either_same (g y) (h y inside) (list_any g ys) (list_any (λ f. f inside) (map h ys)) (each ts mid y p) (row_same X g h inside each mid rest ys q)
 
 module _ (depth : ℕ) (X : Phrase Stmt) (inner : Bool → Stmt → Bool) (each : (inside : Bool) (ts rest : List Lexeme) (x : Stmt) → X ts rest x → inner inside x ≡ has_nested x inside)
     (plain : (inside : Bool) (x : Stmt) (xs : List SmallStmt) → out-Stmt x ≡ Stmt-F.Simple xs → inner inside x ≡ false) where
-  suite_same : (inside : Bool) (ts rest : List Lexeme) (ys : List Stmt) → IsSuite depth X ts rest ys → any (inner inside) ys ≡ any (λ f. f inside) (map has_nested ys)
+  suite_same : (inside : Bool) (ts rest : List Lexeme) (ys : List Stmt) → IsSuite depth X ts rest ys → list_any (inner inside) ys ≡ list_any (λ f. f inside) (map has_nested ys)
   suite_same inside ts rest ys (S.line {xs = xs} {y = y} p f) =
       let e = ap out-Stmt f ∙ L.out-Simple xs in
       either_same (inner inside y) (has_nested y inside) false false (plain inside y xs e ∙ sym (layered y (Stmt-F.Simple xs) inside e)) refl
   suite_same inside ts rest ys (S.block {o = o} {ts = us} {mid = mid} {x = x} {xs = xs} f g p q h) =
-      either_same (inner inside x) (has_nested x inside) (any (inner inside) xs) (any (λ f. f inside) (map has_nested xs)) (each inside us mid x p)
+      either_same (inner inside x) (has_nested x inside) (list_any (inner inside) xs) (list_any (λ f. f inside) (map has_nested xs)) (each inside us mid x p)
       (row_same X (inner inside) has_nested inside (each inside) mid (o ∷ rest) xs q)
 
-  branch_same : (inside : Bool) (ts rest : List Lexeme) (b : Branch) → IsBranch depth X ts rest b → any (inner inside) (out-Branch b).block ≡ branch_has_nested b inside
+  branch_same : (inside : Bool) (ts rest : List Lexeme) (b : Branch) → IsBranch depth X ts rest b → list_any (inner inside) (out-Branch b).block ≡ branch_has_nested b inside
   branch_same inside ts rest b (S.branch {c = c} {mid = mid} x {xs = xs} p f q g) =
-      ap (λ z. any (inner inside) z.block) (ap out-Branch g ∙ L.opened_branch (record { condition = x; block = xs })) ∙ suite_same inside mid rest xs q
+      ap (λ z. list_any (inner inside) z.block) (ap out-Branch g ∙ L.opened_branch (record { condition = x; block = xs })) ∙ suite_same inside mid rest xs q
       ∙ sym (ap (λ z. branch_has_nested z inside) g ∙ branch_rolled (record { condition = x; block = xs }) inside)
 
-  elif_same : (inside : Bool) (ts rest : List Lexeme) (b : Branch) → IsElif depth X ts rest b → any (inner inside) (out-Branch b).block ≡ branch_has_nested b inside
+  elif_same : (inside : Bool) (ts rest : List Lexeme) (b : Branch) → IsElif depth X ts rest b → list_any (inner inside) (out-Branch b).block ≡ branch_has_nested b inside
   elif_same inside ts rest b (S.elif {ts = us} f p) = branch_same inside us rest b p
 
-  else_same : (inside : Bool) (ts rest : List Lexeme) (zs : List Stmt) → IsElse depth X ts rest zs → any (inner inside) zs ≡ any (λ f. f inside) (map has_nested zs)
+  else_same : (inside : Bool) (ts rest : List Lexeme) (zs : List Stmt) → IsElse depth X ts rest zs → list_any (inner inside) zs ≡ list_any (λ f. f inside) (map has_nested zs)
   else_same inside ts rest zs S.no_else = refl
   else_same inside ts rest zs (S.an_else {ts = us} f g p) = suite_same inside us rest zs p
 
@@ -82,9 +83,9 @@ module _ (depth : ℕ) (X : Phrase Stmt) (inner : Bool → Stmt → Bool) (each 
   stmt_same inside ts rest x (S.if_stmt {ts = us} {mid = mid} {us = vs} {x = b} {xs = bs} {zs = zs} f p q r g) =
       let e = ap out-Stmt g ∙ L.out-stmt_If (b ∷ bs) zs in
       ap (nested_in inner inside) e
-      ∙ either_same (any (λ c. any (inner inside) (out-Branch c).block) (b ∷ bs)) (any (λ f. f inside) (map branch_has_nested (b ∷ bs))) (any (inner inside) zs) (any (λ f. f inside) (map has_nested zs))
-      (either_same (any (inner inside) (out-Branch b).block) (branch_has_nested b inside) (any (λ c. any (inner inside) (out-Branch c).block) bs) (any (λ f. f inside) (map branch_has_nested bs))
-      (branch_same inside us mid b p) (row_same (IsElif depth X) (λ c. any (inner inside) (out-Branch c).block) branch_has_nested inside (elif_same inside) mid vs bs q))
+      ∙ either_same (list_any (λ c. list_any (inner inside) (out-Branch c).block) (b ∷ bs)) (list_any (λ f. f inside) (map branch_has_nested (b ∷ bs))) (list_any (inner inside) zs) (list_any (λ f. f inside) (map has_nested zs))
+      (either_same (list_any (inner inside) (out-Branch b).block) (branch_has_nested b inside) (list_any (λ c. list_any (inner inside) (out-Branch c).block) bs) (list_any (λ f. f inside) (map branch_has_nested bs))
+      (branch_same inside us mid b p) (row_same (IsElif depth X) (λ c. list_any (inner inside) (out-Branch c).block) branch_has_nested inside (elif_same inside) mid vs bs q))
       (else_same inside vs rest zs r)
       ∙ sym (layered x (Stmt-F.If (b ∷ bs) zs) inside e)
   stmt_same inside ts rest x (S.for_stmt {us = vs} v y {xs = xs} f p g q h r j) =

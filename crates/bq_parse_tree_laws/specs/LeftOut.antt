@@ -1,11 +1,12 @@
 -- How many nodes of a tree the language leaves out: `lambda`, `/` and `/=`, and `.name` without a call; in a BUILD file also arguments
 -- with a star.
 use Rattle.std.specs.Prelude.{ℕ, ◌+◌, Bool, true, false, ◌||◌, ◌&&◌, not, List, [], ◌∷◌, map, Option, Some, None}
+use Rattle.std.specs.List.{list_any}
 use Rattle.std.specs.Str.{bytes_eq}
 use Rattle.bq_source.specs.declared.token.TokenKind.{TokenKind}
 use Rattle.bq_source.specs.declared.token.TokenKind.TheVariants as k
 use Rattle.bq_parse_grammar.specs.Lexeme.{Lexeme}
-use Rattle.bq_parse_grammar.specs.LeftOut.{native, calls_method, kinds, any}
+use Rattle.bq_parse_grammar.specs.LeftOut.{native, calls_method, kinds}
 use Rattle.bq_parse_grammar.specs.declared.tree.Operator.{Operator}
 use Rattle.bq_parse_grammar.specs.declared.tree.Operator.TheVariants as o
 use Rattle.bq_parse_grammar.specs.declared.tree.Argument.TheFolds.{fold-Argument, fold-Choice, fold-Clause, fold-Expr, fold-Operation, fold-Pair, fold-Suffix, fold-TargetExpr}
@@ -155,13 +156,13 @@ branch_count build = fold-Branch ℕ ℕ (stmt_left build) (branch_left build)
 
 -- what each block gives, where it stands in a `def` and where it doesn't
 abbrev pub branch_nested : Branch-F (Bool → Bool) (Bool → Bool) → Bool → Bool
-branch_nested x inside = any (λ f. f inside) x.block
+branch_nested x inside = list_any (λ f. f inside) x.block
 
 abbrev pub stmt_nested : Stmt-F (Bool → Bool) (Bool → Bool) → Bool → Bool
 stmt_nested (Stmt-F.Simple xs) inside = false
-stmt_nested (Stmt-F.If fs gs) inside = any (λ f. f inside) fs || any (λ f. f inside) gs
-stmt_nested (Stmt-F.For v x fs) inside = any (λ f. f inside) fs
-stmt_nested (Stmt-F.Def n ps fs) inside = inside || any (λ f. f true) fs
+stmt_nested (Stmt-F.If fs gs) inside = list_any (λ f. f inside) fs || list_any (λ f. f inside) gs
+stmt_nested (Stmt-F.For v x fs) inside = list_any (λ f. f inside) fs
+stmt_nested (Stmt-F.Def n ps fs) inside = inside || list_any (λ f. f true) fs
 
 -- the statement, inside a `def` or not, makes a `def` stand in a `def`
 abbrev pub has_nested : Stmt → Bool → Bool

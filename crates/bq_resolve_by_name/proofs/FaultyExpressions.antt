@@ -1,4 +1,5 @@
 -- The fault of an expression is the first rule that it breaks.
+use Rattle.std.specs.List.{flat_map}
 use Rattle.std.proofs.Common.{ℕ, zero, suc, ◌+◌, List, [], ◌∷◌, ◌++◌, length, Option, Some, None, is_some, Result, Ok, Err, inl, inr, refl, subst}
 use Rattle.bq_base.specs.declared.fault.Fault.{Fault}
 use Rattle.bq_base.specs.declared.fault.FaultKind.TheVariants as f
@@ -32,7 +33,7 @@ use Rattle.bq_resolve_scope.specs.Universe.{member_named}
 use Rattle.bq_resolve_scope.specs.Visit.{Passed, Visit, ◌>>=◌, pure, given, fault_of, each, optional}
 use Rattle.bq_resolve_scope.specs.Expressions.{framed, in_frame, member_by, member_call, namespace_at, use_at, target_by, target_to, pair, operation, choice, argument_by, arguments, suffix_by, suffixes, operand, call_member, primary_by, primary, clause_by, clauses, in_block, comprehension, expr_by, expr_to}
 use Rattle.bq_resolve_by_name.specs.Binds.{AnyOf, target_binds_by, TargetBindsTo, TargetBinds, clause_binds_by, ClauseBinds}
-use Rattle.bq_resolve_by_name.specs.Violations.{of_all, of_part, unless, Around, Before, in_use, in_member, in_target_by, in_target_to, in_pair, in_operation, in_choice, in_argument_by, in_arguments, in_suffix_by, in_suffixes, in_operand, in_method, in_primary_by, in_primary, in_clause_by, in_clauses, in_comprehension, in_expr_by, in_expr_to}
+use Rattle.bq_resolve_by_name.specs.Violations.{of_part, unless, Around, Before, in_use, in_member, in_target_by, in_target_to, in_pair, in_operation, in_choice, in_argument_by, in_arguments, in_suffix_by, in_suffixes, in_operand, in_method, in_primary_by, in_primary, in_clause_by, in_clauses, in_comprehension, in_expr_by, in_expr_to}
 use Rattle.bq_resolve_by_name.proofs.Binds.{comprehension_binds}
 use Rattle.bq_resolve_by_name.proofs.Finds.{before, Finding, Finds, Holds, finds_map, finds_two, finds_bind, finds_three, finds_given, finds_each, finds_held, finds_optional}
 use Rattle.bq_resolve_by_name.proofs.UnknownNames.{around_of, use_finds, namespace_of, local_finds}
@@ -57,8 +58,8 @@ module _ (file : FileParts) (visit : List BlockParts → Expr → Visit Code) (i
   target_by_finds go F P block blocks goes (TargetExpr-F.TargetExpr::Index x i) held =
       finds_two (visit (block ∷ blocks) x) (visit (block ∷ blocks) i) (λ y j. t.Index y j) (inner (around_of (block ∷ blocks)) x) (inner (around_of (block ∷ blocks)) i)
       (visits (block ∷ blocks) x) (visits (block ∷ blocks) i)
-  target_by_finds go F P block blocks goes (TargetExpr-F.TargetExpr::Tuple us) held = finds_map (each go [] us) (λ vs. t.Tuple vs) (of_all F us) (finds_held block.names go F P goes [] us held)
-  target_by_finds go F P block blocks goes (TargetExpr-F.TargetExpr::List us) held = finds_map (each go [] us) (λ vs. t.List vs) (of_all F us) (finds_held block.names go F P goes [] us held)
+  target_by_finds go F P block blocks goes (TargetExpr-F.TargetExpr::Tuple us) held = finds_map (each go [] us) (λ vs. t.Tuple vs) (flat_map F us) (finds_held block.names go F P goes [] us held)
+  target_by_finds go F P block blocks goes (TargetExpr-F.TargetExpr::List us) held = finds_map (each go [] us) (λ vs. t.List vs) (flat_map F us) (finds_held block.names go F P goes [] us held)
 
   pub target_finds : (layers : ℕ) (block : BlockParts) (blocks : List BlockParts) (u : TargetExpr) → Holds block.names (λ name. TargetBindsTo layers name u)
       → Finds (in_target_to file inner layers (around_of (block ∷ blocks)) u) (target_to file visit layers (block ∷ blocks) u)
@@ -179,7 +180,7 @@ module _ (file : FileParts) (visit : List BlockParts → Expr → Visit Code) (i
   clauses_find round block blocks (x ∷ xs) held =
       let own : List BlockParts = block ∷ blocks in
       finds_bind (clause_by file visit round own (out-Clause x)) (λ y. each (λ z. clause_by file visit own own (out-Clause z)) (y ∷ []) xs)
-      (in_clause_by file inner (around_of round) (around_of own) (out-Clause x)) (of_all (λ z. in_clause_by file inner (around_of own) (around_of own) (out-Clause z)) xs)
+      (in_clause_by file inner (around_of round) (around_of own) (out-Clause x)) (flat_map (λ z. in_clause_by file inner (around_of own) (around_of own) (out-Clause z)) xs)
       (clause_finds round block blocks x (λ name p. held name (inl p)))
       (λ y. finds_held block.names (λ z. clause_by file visit own own (out-Clause z)) (λ z. in_clause_by file inner (around_of own) (around_of own) (out-Clause z)) ClauseBinds
       (λ z h. clause_finds own block blocks z h) (y ∷ []) xs (λ name p. held name (inr p)))
@@ -201,29 +202,29 @@ module _ (file : FileParts) (visit : List BlockParts → Expr → Visit Code) (i
 
   -- ---- expressions
 
-  all_find : (blocks : List BlockParts) (xs : List Expr) → Finds (of_all (inner (around_of blocks)) xs) (each (visit blocks) [] xs)
+  all_find : (blocks : List BlockParts) (xs : List Expr) → Finds (flat_map (inner (around_of blocks)) xs) (each (visit blocks) [] xs)
   all_find blocks xs = finds_each (visit blocks) (inner (around_of blocks)) (visits blocks) [] xs
 
   expr_by_finds : (blocks : List BlockParts) (o : ExprLayer) → Finds (in_expr_by file inner (around_of blocks) o) (expr_by file visit blocks o)
   expr_by_finds blocks (Expr-F.Expr::Name n) = finds_map (use_at file blocks n) (λ x. c.Use x) (in_use file (around_of blocks) n) (use_finds file blocks n)
   expr_by_finds blocks (Expr-F.Int i) = λ u. (refl, refl)
   expr_by_finds blocks (Expr-F.String b) = λ u. (refl, refl)
-  expr_by_finds blocks (Expr-F.Expr::List xs) = finds_map (each (visit blocks) [] xs) (λ ys. c.List ys) (of_all (inner (around_of blocks)) xs) (all_find blocks xs)
-  expr_by_finds blocks (Expr-F.Expr::Tuple xs) = finds_map (each (visit blocks) [] xs) (λ ys. c.Tuple ys) (of_all (inner (around_of blocks)) xs) (all_find blocks xs)
+  expr_by_finds blocks (Expr-F.Expr::List xs) = finds_map (each (visit blocks) [] xs) (λ ys. c.List ys) (flat_map (inner (around_of blocks)) xs) (all_find blocks xs)
+  expr_by_finds blocks (Expr-F.Expr::Tuple xs) = finds_map (each (visit blocks) [] xs) (λ ys. c.Tuple ys) (flat_map (inner (around_of blocks)) xs) (all_find blocks xs)
   expr_by_finds blocks (Expr-F.Dict ps) =
-      finds_map (each (pair file visit blocks) [] ps) (λ qs. c.Dict qs) (of_all (in_pair file inner (around_of blocks)) ps) (finds_each (pair file visit blocks) (in_pair file inner (around_of blocks)) (pair_finds blocks) [] ps)
+      finds_map (each (pair file visit blocks) [] ps) (λ qs. c.Dict qs) (flat_map (in_pair file inner (around_of blocks)) ps) (finds_each (pair file visit blocks) (in_pair file inner (around_of blocks)) (pair_finds blocks) [] ps)
   expr_by_finds blocks (Expr-F.ListComprehension x xs) = comprehension_finds (λ bs. visit bs x) (λ own. inner own x) (λ y ys. c.ListComprehension y ys) (λ bs. visits bs x) blocks xs
   expr_by_finds blocks (Expr-F.DictComprehension p xs) =
       comprehension_finds (λ bs. pair file visit bs p) (λ own. in_pair file inner own p) (λ y ys. c.DictComprehension y ys) (λ bs. pair_finds bs p) blocks xs
   expr_by_finds blocks (Expr-F.Primary x ss) = primary_finds blocks x ss
   expr_by_finds blocks (Expr-F.Unary os x) = finds_map (visit blocks x) (λ y. c.Unary os y) (inner (around_of blocks) x) (visits blocks x)
   expr_by_finds blocks (Expr-F.Binary x os) =
-      finds_two (visit blocks x) (each (operation file visit blocks) [] os) (λ y ps. c.Binary y ps) (inner (around_of blocks) x) (of_all (in_operation file inner (around_of blocks)) os)
+      finds_two (visit blocks x) (each (operation file visit blocks) [] os) (λ y ps. c.Binary y ps) (inner (around_of blocks) x) (flat_map (in_operation file inner (around_of blocks)) os)
       (visits blocks x) (finds_each (operation file visit blocks) (in_operation file inner (around_of blocks)) (operation_finds blocks) [] os)
   expr_by_finds blocks (Expr-F.Compare x o z) =
       finds_two (visit blocks x) (visit blocks z) (λ y w. c.Compare y o w) (inner (around_of blocks) x) (inner (around_of blocks) z) (visits blocks x) (visits blocks z)
   expr_by_finds blocks (Expr-F.Conditional xs z) =
-      finds_two (each (choice file visit blocks) [] xs) (visit blocks z) (λ ys w. c.Conditional ys w) (of_all (in_choice file inner (around_of blocks)) xs) (inner (around_of blocks) z)
+      finds_two (each (choice file visit blocks) [] xs) (visit blocks z) (λ ys w. c.Conditional ys w) (flat_map (in_choice file inner (around_of blocks)) xs) (inner (around_of blocks) z)
       (finds_each (choice file visit blocks) (in_choice file inner (around_of blocks)) (choice_finds blocks) [] xs) (visits blocks z)
   expr_by_finds blocks Expr-F.Lambda = λ u. (refl, refl)
 

@@ -1,4 +1,5 @@
 -- The fault of a statement of a function is the first rule that it breaks.
+use Rattle.std.specs.List.{flat_map}
 use Rattle.std.proofs.Common.{ℕ, zero, suc, Bool, true, false, List, [], ◌∷◌, ◌++◌, Option, inl, inr, refl}
 use Rattle.bq_base.specs.declared.fault.Fault.{Fault}
 use Rattle.bq_base.specs.declared.fault.FaultKind.TheVariants as f
@@ -23,7 +24,7 @@ use Rattle.bq_resolve_scope.specs.Visit.{Visit, each, optional}
 use Rattle.bq_resolve_scope.specs.Expressions.{expr_to}
 use Rattle.bq_resolve_scope.specs.Statements.{expr, target, assign, augment, returned, load_in, in_loop, small_by, small_stmt, branch, if_stmt, for_stmt, stmt_by, stmt_to}
 use Rattle.bq_resolve_by_name.specs.Binds.{AnyOf, TargetBinds, kind_binds, SmallBinds, stmt_binds_by, StmtBindsTo}
-use Rattle.bq_resolve_by_name.specs.Violations.{of_all, of_part, unless, in_expr_to, in_expr, in_target, in_small_by, in_small, in_branch, in_stmt_by, in_stmt_to}
+use Rattle.bq_resolve_by_name.specs.Violations.{of_part, unless, in_expr_to, in_expr, in_target, in_small_by, in_small, in_branch, in_stmt_by, in_stmt_to}
 use Rattle.bq_resolve_by_name.proofs.Finds.{Finds, Holds, finds_map, finds_two, finds_three, finds_held, finds_optional}
 use Rattle.bq_resolve_by_name.proofs.UnknownNames.{around_of}
 use Rattle.bq_resolve_by_name.proofs.FaultyExpressions.{target_finds, expr_finds}
@@ -91,32 +92,32 @@ module _ (file : FileParts) where
     unfolding in_branch branch
     branch_finds go F goes b held =
         finds_two (expr file (block ∷ blocks) (out-Branch b).condition) (each go [] (out-Branch b).block) (λ x ys. roll-CodeBranch (record { condition = x; block = ys }))
-        (in_expr file (around_of (block ∷ blocks)) (out-Branch b).condition) (of_all F (out-Branch b).block)
+        (in_expr file (around_of (block ∷ blocks)) (out-Branch b).condition) (flat_map F (out-Branch b).block)
         (an_expr_finds (block ∷ blocks) (out-Branch b).condition) (finds_held block.names go F P goes [] (out-Branch b).block held)
 
     if_finds : (go : Stmt → Visit CodeStmt) (F : Stmt → List Fault) → ((x : Stmt) → Holds block.names (λ name. P name x) → Finds (F x) (go x)) → (bs : List Branch) (zs : List Stmt)
         → Holds block.names (λ name. AnyOf (λ b. AnyOf (P name) (out-Branch b).block) bs) → Holds block.names (λ name. AnyOf (P name) zs)
-        → Finds (of_all (in_branch file F (around_of (block ∷ blocks))) bs ++ of_all F zs) (if_stmt file go (block ∷ blocks) bs zs)
+        → Finds (flat_map (in_branch file F (around_of (block ∷ blocks))) bs ++ flat_map F zs) (if_stmt file go (block ∷ blocks) bs zs)
     unfolding if_stmt
     if_finds go F goes bs zs held other =
-        finds_two (each (branch file go (block ∷ blocks)) [] bs) (each go [] zs) (λ xs ys. s.If xs ys) (of_all (in_branch file F (around_of (block ∷ blocks))) bs) (of_all F zs)
+        finds_two (each (branch file go (block ∷ blocks)) [] bs) (each go [] zs) (λ xs ys. s.If xs ys) (flat_map (in_branch file F (around_of (block ∷ blocks))) bs) (flat_map F zs)
         (finds_held block.names (branch file go (block ∷ blocks)) (in_branch file F (around_of (block ∷ blocks))) (λ name b. AnyOf (P name) (out-Branch b).block) (branch_finds go F goes) [] bs held)
         (finds_held block.names go F P goes [] zs other)
 
     for_finds : (go : Stmt → Visit CodeStmt) (F : Stmt → List Fault) → ((x : Stmt) → Holds block.names (λ name. P name x) → Finds (F x) (go x)) → (t : TargetExpr) (x : Expr) (body : List Stmt)
         → Holds block.names (λ name. TargetBinds name t) → Holds block.names (λ name. AnyOf (P name) body)
-        → Finds (in_target file (around_of (block ∷ blocks)) t ++ (in_expr file (around_of (block ∷ blocks)) x ++ of_all F body)) (for_stmt file go (block ∷ blocks) t x body)
+        → Finds (in_target file (around_of (block ∷ blocks)) t ++ (in_expr file (around_of (block ∷ blocks)) x ++ flat_map F body)) (for_stmt file go (block ∷ blocks) t x body)
     unfolding for_stmt
     for_finds go F goes t x body held other =
         finds_three (target file (block ∷ blocks) t) (expr file (block ∷ blocks) x) (each go [] body) (λ u y zs. s.For u y zs)
-        (in_target file (around_of (block ∷ blocks)) t) (in_expr file (around_of (block ∷ blocks)) x) (of_all F body)
+        (in_target file (around_of (block ∷ blocks)) t) (in_expr file (around_of (block ∷ blocks)) x) (flat_map F body)
         (a_target_finds block blocks t held) (an_expr_finds (block ∷ blocks) x) (finds_held block.names go F P goes [] body other)
 
     stmt_by_finds : (go : Bool → Stmt → Visit CodeStmt) (F : Bool → Stmt → List Fault) → ((l : Bool) (x : Stmt) → Holds block.names (λ name. P name x) → Finds (F l x) (go l x))
         → (looping : Bool) (o : Stmt-F Stmt Branch) → Holds block.names (λ name. stmt_binds_by (P name) name o)
         → Finds (in_stmt_by file F (around_of (block ∷ blocks)) looping o) (stmt_by file go (block ∷ blocks) looping o)
     stmt_by_finds go F goes looping (Stmt-F.Simple xs) held =
-        finds_map (each (small_stmt file (block ∷ blocks) looping) [] xs) (λ ys. s.Simple ys) (of_all (in_small file (around_of (block ∷ blocks)) looping) xs)
+        finds_map (each (small_stmt file (block ∷ blocks) looping) [] xs) (λ ys. s.Simple ys) (flat_map (in_small file (around_of (block ∷ blocks)) looping) xs)
         (finds_held block.names (small_stmt file (block ∷ blocks) looping) (in_small file (around_of (block ∷ blocks)) looping) SmallBinds (small_finds block blocks looping) [] xs held)
     stmt_by_finds go F goes looping (Stmt-F.If bs zs) held = if_finds (go looping) (F looping) (goes looping) bs zs (λ name p. held name (inl p)) (λ name p. held name (inr p))
     stmt_by_finds go F goes looping (Stmt-F.For t x body) held = for_finds (go true) (F true) (goes true) t x body (λ name p. held name (inl p)) (λ name p. held name (inr p))

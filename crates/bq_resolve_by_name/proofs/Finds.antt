@@ -1,10 +1,11 @@
 -- Walks whose fault is the first of given ones: where there is none they go on, with names bound and loaded as given.
+use Rattle.std.specs.List.{flat_map}
 use Rattle.std.proofs.Common.{◌≡◌, true, List, [], ◌∷◌, ◌++◌, Option, Some, None, is_some, Result, Ok, Err, inl, inr, refl, sym, subst}
 use Rattle.bq_base.specs.declared.fault.Fault.{Fault}
 use Rattle.bq_resolve_scope.specs.Names.{Name, has}
 use Rattle.bq_resolve_scope.specs.Visit.{Passed, Visit, following, ◌>>=◌, pure, given, each, optional}
 use Rattle.bq_resolve_by_name.specs.Binds.{AnyOf}
-use Rattle.bq_resolve_by_name.specs.Violations.{first, of_all, of_part, in_turn, unless, Before}
+use Rattle.bq_resolve_by_name.specs.Violations.{first, of_part, in_turn, unless, Before}
 
 abbrev pub before : Passed → Before
 before s = record { bound = s.bound; loaded = s.loaded }
@@ -73,22 +74,22 @@ finds_given why (Some x) s = (refl, refl)
 
 -- ---- lists
 
-pub finds_each : {A B : Type 0} (one : B → Visit A) (F : B → List Fault) → ((x : B) → Finds {A = A} (F x) (one x)) → (done : List A) (xs : List B) → Finds {A = List A} (of_all F xs) (each one done xs)
+pub finds_each : {A B : Type 0} (one : B → Visit A) (F : B → List Fault) → ((x : B) → Finds {A = A} (F x) (one x)) → (done : List A) (xs : List B) → Finds {A = List A} (flat_map F xs) (each one done xs)
 unfolding each
 finds_each one F ones done [] = λ s. (refl, refl)
 finds_each one F ones done (x ∷ xs) =
-    finds_bind (one x) (λ y. each one (done ++ y ∷ []) xs) (F x) (of_all F xs) (ones x) (λ y. finds_each one F ones (done ++ y ∷ []) xs)
+    finds_bind (one x) (λ y. each one (done ++ y ∷ []) xs) (F x) (flat_map F xs) (ones x) (λ y. finds_each one F ones (done ++ y ∷ []) xs)
 
 -- all names for which this is so are among those
 abbrev pub Holds : List Name → (Name → Type 0) → Type 0
 Holds names P = (name : Name) → P name → has names name ≡ true
 
 pub finds_held : {A B : Type 0} (names : List Name) (one : B → Visit A) (F : B → List Fault) (P : Name → B → Type 0) → ((x : B) → Holds names (λ name. P name x) → Finds {A = A} (F x) (one x))
-    → (done : List A) (xs : List B) → Holds names (λ name. AnyOf (P name) xs) → Finds {A = List A} (of_all F xs) (each one done xs)
+    → (done : List A) (xs : List B) → Holds names (λ name. AnyOf (P name) xs) → Finds {A = List A} (flat_map F xs) (each one done xs)
 unfolding each
 finds_held names one F P ones done [] held = λ s. (refl, refl)
 finds_held names one F P ones done (x ∷ xs) held =
-    finds_bind (one x) (λ y. each one (done ++ y ∷ []) xs) (F x) (of_all F xs) (ones x (λ name p. held name (inl p)))
+    finds_bind (one x) (λ y. each one (done ++ y ∷ []) xs) (F x) (flat_map F xs) (ones x (λ name p. held name (inl p)))
     (λ y. finds_held names one F P ones (done ++ y ∷ []) xs (λ name p. held name (inr p)))
 
 -- the names after all of these

@@ -2,7 +2,7 @@
 -- broken. Nothing is resolved here, and nothing ends at the first one. A block is the set of its names; as many layers of a tree
 -- are looked at as in `bq_resolve_scope` (`max_layers`).
 use Rattle.std.specs.Prelude.{ℕ, zero, suc, List, [], ◌∷◌, ◌++◌, Bool, true, false, ◌||◌, ◌&&◌, not, Option, Some, None, is_some, if◌then◌else◌}
-use Rattle.std.specs.List.{list_any}
+use Rattle.std.specs.List.{list_any, flat_map}
 use Rattle.bq_base.specs.declared.fault.Fault.{Fault}
 use Rattle.bq_base.specs.declared.fault.FaultKind.TheVariants as f
 use Rattle.bq_base.specs.Fault.{fault_at}
@@ -40,11 +40,6 @@ use Rattle.bq_resolve_scope.specs.Files.{file_names}
 abbrev pub first : {A : Type 0} → List A → Option A
 first [] = None
 first (x ∷ xs) = Some x
-
--- all of those of each
-abbrev pub of_all : {A : Type 0} → (A → List Fault) → List A → List Fault
-of_all one [] = []
-of_all one (x ∷ xs) = one x ++ of_all one xs
 
 -- the faults of a part that may be missing
 abbrev pub of_part : {A : Type 0} → (A → List Fault) → Option A → List Fault
@@ -144,8 +139,8 @@ module _ (file : FileParts) where
     abbrev pub in_target_by : (TargetExpr → List Fault) → Around → TargetLayer → List Fault
     in_target_by of_one around (TargetExpr-F.TargetExpr::Name n) = []
     in_target_by of_one around (TargetExpr-F.TargetExpr::Index x i) = inner around x ++ inner around i
-    in_target_by of_one around (TargetExpr-F.TargetExpr::Tuple ts) = of_all of_one ts
-    in_target_by of_one around (TargetExpr-F.TargetExpr::List ts) = of_all of_one ts
+    in_target_by of_one around (TargetExpr-F.TargetExpr::Tuple ts) = flat_map of_one ts
+    in_target_by of_one around (TargetExpr-F.TargetExpr::List ts) = flat_map of_one ts
 
     -- the faults in a target, down to a depth
     unfoldable pub in_target_to : ℕ → Around → TargetExpr → List Fault
@@ -173,7 +168,7 @@ module _ (file : FileParts) where
 
     -- the faults in the arguments of a call
     unfoldable pub in_arguments : Around → List Argument → List Fault
-    in_arguments around xs = of_all (λ x. in_argument_by around (out-Argument x)) xs
+    in_arguments around xs = flat_map (λ x. in_argument_by around (out-Argument x)) xs
 
     -- the faults in a suffix, by its form
     abbrev pub in_suffix_by : Around → SuffixLayer → List Fault
@@ -185,7 +180,7 @@ module _ (file : FileParts) where
 
     -- the faults in suffixes
     unfoldable pub in_suffixes : Around → List Suffix → List Fault
-    in_suffixes around ss = of_all (λ s. in_suffix_by around (out-Suffix s)) ss
+    in_suffixes around ss = flat_map (λ s. in_suffix_by around (out-Suffix s)) ss
 
     -- the faults in an operand and its suffixes
     unfoldable pub in_operand : Around → Expr → List Suffix → List Fault
@@ -213,7 +208,7 @@ module _ (file : FileParts) where
     -- the first iterable stands outside the comprehension, all others inside it
     unfoldable pub in_clauses : Around → Around → List Clause → List Fault
     in_clauses outer around [] = []
-    in_clauses outer around (c ∷ cs) = in_clause_by outer around (out-Clause c) ++ of_all (λ d. in_clause_by around around (out-Clause d)) cs
+    in_clauses outer around (c ∷ cs) = in_clause_by outer around (out-Clause c) ++ flat_map (λ d. in_clause_by around around (out-Clause d)) cs
 
     -- the element stands before the clauses, and inside
     unfoldable pub in_comprehension : (Around → List Fault) → Around → List Clause → List Fault
@@ -225,16 +220,16 @@ module _ (file : FileParts) where
     in_expr_by around (Expr-F.Expr::Name n) = in_use around n
     in_expr_by around (Expr-F.Int i) = []
     in_expr_by around (Expr-F.String s) = []
-    in_expr_by around (Expr-F.Expr::List xs) = of_all (inner around) xs
-    in_expr_by around (Expr-F.Expr::Tuple xs) = of_all (inner around) xs
-    in_expr_by around (Expr-F.Dict ps) = of_all (in_pair around) ps
+    in_expr_by around (Expr-F.Expr::List xs) = flat_map (inner around) xs
+    in_expr_by around (Expr-F.Expr::Tuple xs) = flat_map (inner around) xs
+    in_expr_by around (Expr-F.Dict ps) = flat_map (in_pair around) ps
     in_expr_by around (Expr-F.ListComprehension x cs) = in_comprehension (λ own. inner own x) around cs
     in_expr_by around (Expr-F.DictComprehension p cs) = in_comprehension (λ own. in_pair own p) around cs
     in_expr_by around (Expr-F.Primary x ss) = in_primary around x ss
     in_expr_by around (Expr-F.Unary os x) = inner around x
-    in_expr_by around (Expr-F.Binary x os) = inner around x ++ of_all (in_operation around) os
+    in_expr_by around (Expr-F.Binary x os) = inner around x ++ flat_map (in_operation around) os
     in_expr_by around (Expr-F.Compare x o y) = inner around x ++ inner around y
-    in_expr_by around (Expr-F.Conditional cs x) = of_all (in_choice around) cs ++ inner around x
+    in_expr_by around (Expr-F.Conditional cs x) = flat_map (in_choice around) cs ++ inner around x
     in_expr_by around Expr-F.Lambda = []
 
   -- the faults in an expression, down to a depth
@@ -269,13 +264,13 @@ module _ (file : FileParts) where
 
   -- the faults in a condition and its block
   unfoldable pub in_branch : (Stmt → List Fault) → Around → Branch → List Fault
-  in_branch inner around b = in_expr around (out-Branch b).condition ++ of_all inner (out-Branch b).block
+  in_branch inner around b = in_expr around (out-Branch b).condition ++ flat_map inner (out-Branch b).block
 
   -- `def` stands outside functions
   abbrev pub in_stmt_by : (Bool → Stmt → List Fault) → Around → Bool → Stmt-F Stmt Branch → List Fault
-  in_stmt_by inner around looping (Stmt-F.Simple xs) = of_all (in_small around looping) xs
-  in_stmt_by inner around looping (Stmt-F.If bs zs) = of_all (in_branch (inner looping) around) bs ++ of_all (inner looping) zs
-  in_stmt_by inner around looping (Stmt-F.For t x body) = in_target around t ++ (in_expr around x ++ of_all (inner true) body)
+  in_stmt_by inner around looping (Stmt-F.Simple xs) = flat_map (in_small around looping) xs
+  in_stmt_by inner around looping (Stmt-F.If bs zs) = flat_map (in_branch (inner looping) around) bs ++ flat_map (inner looping) zs
+  in_stmt_by inner around looping (Stmt-F.For t x body) = in_target around t ++ (in_expr around x ++ flat_map (inner true) body)
   in_stmt_by inner around looping (Stmt-F.Def n ps body) = misplaced_at n.line
 
   -- the faults in a statement of a function, down to a depth
@@ -300,7 +295,7 @@ module _ (file : FileParts) where
   -- the faults in a function: in its parameters in turn, then in its body
   unfoldable pub in_function : List Parameter → List Stmt → List Fault
   in_function ps body =
-      in_turn in_parameter with_parameter [] ps ++ of_all (in_stmt_to max_layers (function_names ps body ∷ []) false) body
+      in_turn in_parameter with_parameter [] ps ++ flat_map (in_stmt_to max_layers (function_names ps body ∷ []) false) body
 
   -- ---- what stands outside functions
 

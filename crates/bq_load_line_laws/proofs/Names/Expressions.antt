@@ -1,6 +1,6 @@
 -- The faults of an expression name lines, where those of its parts do.
 use Rattle.std.proofs.Common.{◌≡◌, ◌≤◌, List, [], ◌∷◌, Bool, false, Option, Some, None, sym, ap, ◌∙◌, subst}
-use Rattle.std.specs.List.{AllByRecursion}
+use Rattle.std.specs.List.{AllByRecursion, flat_map}
 use Rattle.bq_base.specs.declared.fault.Fault.{Fault}
 use Rattle.bq_source.specs.declared.token.TokenKind.TheVariants as k
 use Rattle.bq_parse_grammar.specs.declared.tree.Argument.TheOpen.{Argument-F, Clause-F, Expr-F, Suffix-F, TargetExpr-F}
@@ -24,7 +24,7 @@ use Rattle.bq_parse_tree_laws.proofs.Layers.{out-Tuple, out-target_Tuple}
 use Rattle.bq_resolve_scope.specs.declared.universe.Namespace.{Namespace}
 use Rattle.bq_resolve_scope.specs.Names.{comprehension_names}
 use Rattle.bq_resolve_scope.specs.Scope.{FileParts}
-use Rattle.bq_resolve_by_name.specs.Violations.{Around, Before, of_all, of_part, in_use, in_member, in_binding, as_namespace, in_pair, in_operation, in_choice, in_argument_by, in_arguments, in_suffix_by, in_suffixes, in_operand, in_method, in_primary_by, in_primary, in_clause_by, in_clauses, in_comprehension, in_target_to, in_expr}
+use Rattle.bq_resolve_by_name.specs.Violations.{Around, Before, of_part, in_use, in_member, in_binding, as_namespace, in_pair, in_operation, in_choice, in_argument_by, in_arguments, in_suffix_by, in_suffixes, in_operand, in_method, in_primary_by, in_primary, in_clause_by, in_clauses, in_comprehension, in_target_to, in_expr}
 use Rattle.bq_load_line_laws.proofs.Names.Fine.{Fine, Maybe, two_fine, when_fine, unless_fine, all_fine, turn_fine, part_fine}
 use Rattle.bq_load_line_laws.proofs.Names.Parts.{ExprFine, Inner, Sound, expr_sound, ExprLayerFine, expr_of_layer, TargetFine, TargetLayerFine, target_of_layer, PairFine, OperationFine, ChoiceFine, ArgumentFine, SuffixLayerFine, SuffixFine, ClauseFine, AllFine, row_fine, listed_fine}
 
@@ -98,7 +98,7 @@ module _ (file : FileParts) where
     unfolding in_comprehension
     comprehension_fine element each around cs h = two_fine (element (comprehension_names cs ∷ around)) _ (each _) (clauses_fine around (comprehension_names cs ∷ around) cs h)
 
-    exprs_fine : (around : Around) (xs : List Expr) → AllByRecursion (ExprFine file) xs → Fine (of_all (inner around) xs)
+    exprs_fine : (around : Around) (xs : List Expr) → AllByRecursion (ExprFine file) xs → Fine (flat_map (inner around) xs)
     exprs_fine around xs h = all_fine (ExprFine file) (inner around) (sound around) xs h
 
   -- ---- operators
@@ -152,7 +152,7 @@ module _ (file : FileParts) where
       (λ inner sound around. two_fine (inner around x) _ (sound around x h.0) (sound around y i.0), i.1)
   expr_by (Expr-F.Conditional cs x) ps h =
       let i = row_fine file parts.choice (ChoiceFine file) (λ x g. g) cs (parts.expr x ∷ ps) h in
-      (λ inner sound around. two_fine (of_all (in_choice file inner around) cs) _ (all_fine (ChoiceFine file) (in_choice file inner around) (λ o g. g inner sound around) cs i.0) (sound around x i.1.0), i.1.1)
+      (λ inner sound around. two_fine (flat_map (in_choice file inner around) cs) _ (all_fine (ChoiceFine file) (in_choice file inner around) (λ o g. g inner sound around) cs i.0) (sound around x i.1.0), i.1.1)
   expr_by Expr-F.Lambda ps h = absurd (h.0)
 
   pub expr_told : (x : Expr) (ps : List Part) → AllFine file (expr_parts x ps) → AllFine file (parts.expr x ∷ ps)

@@ -1,9 +1,9 @@
 -- Faults that name a line, or are F11, which no parsed file has.
 use Rattle.std.proofs.Common.{◌≡◌, ◌≤◌, List, [], ◌∷◌, ◌++◌, Bool, true, false, Option, Some, None, ◌⊎◌, inl, inr, refl}
-use Rattle.std.specs.List.{AllByRecursion}
+use Rattle.std.specs.List.{AllByRecursion, flat_map}
 use Rattle.bq_base.specs.declared.fault.Fault.{Fault}
 use Rattle.bq_base.specs.declared.fault.FaultKind.TheVariants as f
-use Rattle.bq_resolve_by_name.specs.Violations.{of_all, of_part, in_turn, when, unless, too_deep}
+use Rattle.bq_resolve_by_name.specs.Violations.{of_part, in_turn, when, unless, too_deep}
 use Rattle.bq_load_line_laws.proofs.Tokens.{all_append}
 
 abbrev pub OnLine : Fault → Type 0
@@ -27,9 +27,9 @@ unless_fine true why h = tt
 unless_fine false why h = (inl h, tt)
 
 module _ {A : Type 0} (P : A → Type 0) where
-  pub all_fine : (one : A → List Fault) → ((x : A) → P x → Fine (one x)) → (xs : List A) → AllByRecursion P xs → Fine (of_all one xs)
+  pub all_fine : (one : A → List Fault) → ((x : A) → P x → Fine (one x)) → (xs : List A) → AllByRecursion P xs → Fine (flat_map one xs)
   all_fine one each [] h = tt
-  all_fine one each (x ∷ xs) h = two_fine (one x) (of_all one xs) (each x h.0) (all_fine one each xs h.1)
+  all_fine one each (x ∷ xs) h = two_fine (one x) (flat_map one xs) (each x h.0) (all_fine one each xs h.1)
 
   pub turn_fine : {S : Type 0} (one : S → A → List Fault) (add : S → A → S) → ((s : S) (x : A) → P x → Fine (one s x)) → (s : S) (xs : List A) → AllByRecursion P xs → Fine (in_turn one add s xs)
   turn_fine one add each s [] h = tt

@@ -1,6 +1,6 @@
 -- The faults of a statement name lines, where those of its parts do.
 use Rattle.std.proofs.Common.{ℕ, ◌≤◌, List, [], ◌∷◌, Bool, true, false, Option, Some, None, inl}
-use Rattle.std.specs.List.{AllByRecursion}
+use Rattle.std.specs.List.{AllByRecursion, flat_map}
 use Rattle.bq_base.specs.declared.fault.FaultKind.TheVariants as f
 use Rattle.bq_base.specs.Fault.{fault_at}
 use Rattle.bq_base.proofs.Choices.{by_test}
@@ -22,7 +22,7 @@ use Rattle.bq_parse_tree_laws.specs.Parts.{Part, assignment_kind, token_of, para
 use Rattle.bq_resolve_scope.specs.Visit.{fault_of}
 use Rattle.bq_resolve_scope.specs.Names.{Name, has, function_names, with_parameter, with_load_clause}
 use Rattle.bq_resolve_scope.specs.Scope.{FileParts}
-use Rattle.bq_resolve_by_name.specs.Violations.{Around, Before, of_all, in_turn, misplaced_at, after_small, in_binding, in_load_clause, in_expr, in_target, in_small, in_branch, in_stmt_to, in_parameter_name, in_parameter, in_function, in_file_target, in_file_small}
+use Rattle.bq_resolve_by_name.specs.Violations.{Around, Before, in_turn, misplaced_at, after_small, in_binding, in_load_clause, in_expr, in_target, in_small, in_branch, in_stmt_to, in_parameter_name, in_parameter, in_function, in_file_target, in_file_small}
 use Rattle.bq_load_line_laws.proofs.Names.Fine.{Fine, two_fine, when_fine, unless_fine, all_fine, turn_fine}
 use Rattle.bq_load_line_laws.proofs.Names.Parts.{ExprFine, expr_sound, TargetFine, ParameterFine, LoadClauseFine, LoadFine, SmallKindFine, SmallFine, StmtFine, StmtLayerFine, stmt_of_layer, BranchFine, AllFine, row_fine, listed_fine}
 use Rattle.bq_load_line_laws.proofs.Names.Expressions.{binding_fine}
@@ -160,7 +160,7 @@ module _ (file : FileParts) where
       let i = if_told xs zs ps h in (
         (
           λ inner each around looping.
-              two_fine (of_all (in_branch file (inner looping) around) xs) _ (all_fine (BranchFine file) (in_branch file (inner looping) around) (λ b g. g (inner looping) (each looping) around) xs i.0)
+              two_fine (flat_map (in_branch file (inner looping) around) xs) _ (all_fine (BranchFine file) (in_branch file (inner looping) around) (λ b g. g (inner looping) (each looping) around) xs i.0)
               (all_fine (StmtFine file) (inner looping) (each looping) zs i.1),
           (λ before line n. misplaced_fine line n, tt),
         ),
