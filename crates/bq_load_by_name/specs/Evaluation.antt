@@ -1,10 +1,8 @@
 -- What a module evaluates to by names, by the modules that it loads: its own fault; else the first symbol that they lack; else what its
 -- statements give, run on a fresh machine with all its steps.
-use Rattle.std.specs.Prelude.{ℕ, List, [], map, Option, Some, None, Result, Ok, Err, slice_get}
-use Rattle.bq_base.specs.declared.fault.Fault.{Fault}
+use Rattle.std.specs.Prelude.{ℕ, List, [], map, Some, None, Result, Ok, Err, slice_get}
 use Rattle.bq_base.specs.declared.fault.FaultKind.TheVariants as f
 use Rattle.bq_base.specs.Fault.{fault_at}
-use Rattle.bq_parse_grammar.specs.declared.tree.FileKind.{FileKind}
 use Rattle.bq_parse_grammar.specs.declared.tree.FileKind.TheVariants as kinds
 use Rattle.bq_label.specs.Label.{LabelParts, package_of}
 use Rattle.bq_label_set.specs.Labels.{with_labels}
@@ -21,7 +19,7 @@ use Rattle.bq_load.specs.Evaluation.{module_by, package_left}
 use Rattle.bq_eval_by_name_spec.specs.Names.{Env}
 use Rattle.bq_eval_by_name.specs.Evaluation.{ended, kept_after, module_run}
 use Rattle.bq_load_by_name.specs.Imports.{LoadedParts, imports}
-use Rattle.bq_load_by_name.specs.Parsed.{ParsedModule, ParsedParts, parsed_files}
+use Rattle.bq_load_by_name.specs.Parsed.{ParsedParts, parsed_files}
 
 -- ---- a file that is evaluated
 

@@ -1,7 +1,7 @@
 -- The outcome of each module by names, with its fault if it has no value. A module whose loads lead to a cycle is F35
 -- and names its first load that is cyclic; one that is too deep is F38 and names its first load at which a path of as
 -- many edges starts as there may be; one with a load that has no value is F36 and names the first of them.
-use Rattle.std.specs.Prelude.{◌≡◌, ℕ, ◌+◌, List, [], ◌∷◌, Option, Some, None, Result, Ok, Err, slice_get, bytes_eq, if◌then◌else◌}
+use Rattle.std.specs.Prelude.{◌≡◌, ℕ, ◌+◌, List, [], ◌∷◌, Some, None, Result, Ok, Err, slice_get, bytes_eq, if◌then◌else◌}
 use Rattle.bq_base.specs.declared.fault.Fault.{Fault}
 use Rattle.bq_base.specs.declared.fault.FaultKind.{FaultKind}
 use Rattle.bq_base.specs.declared.fault.FaultKind.TheVariants as f
