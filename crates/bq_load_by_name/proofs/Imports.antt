@@ -18,7 +18,8 @@ use Rattle.bq_load.specs.Imports.{value_named, is_private, or_no_symbol, at_symb
 use Rattle.bq_load.specs.Views.{ModuleView}
 use Rattle.bq_eval_by_name.specs.Agreement.{AreCodesOf}
 use Rattle.bq_eval_by_name.proofs.Units.{in_place}
-use Rattle.bq_load_by_name.specs.Imports.{LoadedParts, module_named, globals_by, global_by, exported, symbol_values, imports}
+use Rattle.bq_load_by_name.specs.Imports.{LoadedParts, module_named, global_by, exported, symbol_values, imports}
+use Rattle.bq_load_by_name.proofs.Cases.{globals_by}
 
 globals_same : (x : Option (Option ParsedFile)) (c : Option (Option Resolved)) → Maybe (Maybe IsCodeOf) x c → globals_by x ≡ slots.globals_by c
 globals_same None None h = refl

@@ -1,3 +1,5 @@
+-- definitions by cases, as words
+pub mod Cases
 -- what is read of files
 pub mod Read
 -- a module, by what it loads

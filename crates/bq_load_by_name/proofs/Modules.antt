@@ -25,9 +25,10 @@ use Rattle.bq_load.specs.Views.{ModuleView, not_evaluated}
 use Rattle.bq_eval_by_name.proofs.Evaluations.{evaluations_agree}
 use Rattle.bq_eval_by_name.proofs.Units.{in_place}
 use Rattle.bq_load_by_name.specs.Agreement.{IsReadAs, AreReadAs, with_modules, ModulesAgree}
-use Rattle.bq_load_by_name.specs.Evaluation.{kept_by, kept_first, evaluation, module_after, loaded_parts, by_imports, file_means, by_front, by_module, means}
+use Rattle.bq_load_by_name.specs.Evaluation.{kept_first, evaluation, module_after, loaded_parts, file_means, means}
 use Rattle.bq_load_by_name.specs.Imports.{imports}
 use Rattle.bq_load_by_name.specs.Parsed.{ParsedModule, ParsedParts, parsed_files}
+use Rattle.bq_load_by_name.proofs.Cases.{kept_by, by_imports, by_front, by_module}
 use Rattle.bq_load_by_name.proofs.Imports.{imports_same}
 use Rattle.bq_load_by_name.proofs.Read.{codes_read}
 

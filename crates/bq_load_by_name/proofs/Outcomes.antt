@@ -36,7 +36,8 @@ use Rattle.bq_load.specs.Views.{ModuleView, FailedView, not_evaluated}
 use Rattle.bq_load_by_name.specs.Agreement.{IsReadAs, AreReadAs, with_modules, OutcomesAgree, WorkspacesAgree}
 use Rattle.bq_load_by_name.specs.Evaluation.{means}
 use Rattle.bq_load_by_name.specs.Parsed.{ParsedModule, ParsedParts, parsed_module, parsed_in}
-use Rattle.bq_load_by_name.specs.Results.{line_of_load, line_by, load_fault_by, load_fault, result_of, outcomes_from, outcomes, HaveTooMany}
+use Rattle.bq_load_by_name.specs.Results.{line_of_load, line_by, load_fault, result_of, outcomes_from, outcomes, HaveTooMany}
+use Rattle.bq_load_by_name.proofs.Cases.{load_fault_by}
 use Rattle.bq_load_by_name.proofs.Modules.{means_same}
 use Rattle.bq_load_by_name.proofs.Read.{modules_are_read}
 

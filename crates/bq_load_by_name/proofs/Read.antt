@@ -16,7 +16,8 @@ use Rattle.bq_load_discover.specs.declared.modules.Module.{Module}
 use Rattle.bq_load.specs.Codes.{code_by, codes_of}
 use Rattle.bq_eval_by_name.specs.Agreement.{AreCodesOf}
 use Rattle.bq_load_by_name.specs.Agreement.{AreReadAs, ModulesAreRead}
-use Rattle.bq_load_by_name.specs.Parsed.{ParsedModule, file_by, parsed_files, parsed_module}
+use Rattle.bq_load_by_name.specs.Parsed.{ParsedModule, parsed_files, parsed_module}
+use Rattle.bq_load_by_name.proofs.Cases.{file_by}
 
 all_read : (inputs : InputParts) (ls : List LabelParts) → AreReadAs (map (parsed_module (parsed_of inputs)) ls) (map (module_of inputs) ls)
 all_read inputs [] = tt

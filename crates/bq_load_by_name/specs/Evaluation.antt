@@ -1,10 +1,8 @@
 -- What a module evaluates to by names, by the modules that it loads: its own fault; else the first symbol that they lack; else what its
 -- statements give, run on a fresh machine with all its steps.
-use Rattle.std.specs.Prelude.{ℕ, List, [], map, Option, Some, None, Result, Ok, Err, slice_get}
-use Rattle.bq_base.specs.declared.fault.Fault.{Fault}
+use Rattle.std.specs.Prelude.{ℕ, List, [], map, Some, None, Result, Ok, Err, slice_get}
 use Rattle.bq_base.specs.declared.fault.FaultKind.TheVariants as f
 use Rattle.bq_base.specs.Fault.{fault_at}
-use Rattle.bq_parse_grammar.specs.declared.tree.FileKind.{FileKind}
 use Rattle.bq_parse_grammar.specs.declared.tree.FileKind.TheVariants as kinds
 use Rattle.bq_label.specs.Label.{LabelParts, package_of}
 use Rattle.bq_label_set.specs.Labels.{with_labels}
@@ -21,18 +19,17 @@ use Rattle.bq_load.specs.Evaluation.{module_by, package_left}
 use Rattle.bq_eval_by_name_spec.specs.Names.{Env}
 use Rattle.bq_eval_by_name.specs.Evaluation.{ended, kept_after, module_run}
 use Rattle.bq_load_by_name.specs.Imports.{LoadedParts, imports}
-use Rattle.bq_load_by_name.specs.Parsed.{ParsedModule, ParsedParts, parsed_files}
+use Rattle.bq_load_by_name.specs.Parsed.{ParsedParts, parsed_files}
 
 -- ---- a file that is evaluated
 
--- the package that the evaluation of a file declares into: a .bzl file has none
-abbrev pub kept_by : ParsedParts → LabelParts → FileKind → HeldPackage
-kept_by x l kinds.Bzl = outside (package_of l) x.packages
-kept_by x l kinds.Build = declaring (record { place = record { own = package_of l; files = x.files; packages = x.packages; rules = x.rules }; «package» = no_targets l })
-
 -- what the host of a file keeps at first: a BUILD file begins with a package without targets; a .bzl file declares none
 abbrev pub kept_first : ParsedParts → LabelParts → HeldPackage
-kept_first x l = kept_by x l (kind_of l)
+kept_first x l = elim (kind_of l) [
+  | kinds.Bzl ↦ outside (package_of l) x.packages
+  | kinds.Build ↦
+      declaring (record { place = record { own = package_of l; files = x.files; packages = x.packages; rules = x.rules }; «package» = no_targets l })
+]
 
 -- the statements of a file run as the module of this number, with these modules loaded and a value for each clause of its loads
 unfoldable pub evaluation : ParsedParts → ℕ → LabelParts → ParsedFile → List ModuleView → List Datum → Run (State × HeldPackage) Env
@@ -48,25 +45,17 @@ module_after file values run = module_by (ended file values run) (package_left (
 abbrev pub loaded_parts : ParsedParts → ParsedFront → List ModuleView → LoadedParts
 loaded_parts x front modules = record { files = with_labels [] front.loads; modules = modules; parsed = parsed_files x.modules }
 
--- a module, by what its loads gave
-abbrev pub by_imports : ParsedParts → ℕ → LabelParts → ParsedFile → List ModuleView → Result (List Datum) Fault → Result ModuleView FailedView
-by_imports x m l file modules (Err why) = Err (not_evaluated why)
-by_imports x m l file modules (Ok values) = module_after file values (evaluation x m l file modules values)
-
--- the outcome of a file, over those of the modules before it
+-- the outcome of a file, over those of the modules before it; a symbol that they lack is its fault
 unfoldable pub file_means : ParsedParts → ℕ → LabelParts → ParsedFront → List ModuleView → Result ModuleView FailedView
-file_means x m l front modules = by_imports x m l front.file modules (imports (loaded_parts x front modules) [] (file_loads front.file.statements) front.loads)
+file_means x m l front modules = elim (imports (loaded_parts x front modules) [] (file_loads front.file.statements) front.loads) [
+  | Err why ↦ Err (not_evaluated why)
+  | Ok values ↦ module_after front.file values (evaluation x m l front.file modules values)
+]
 
--- the outcome of a module, by how its file was read
-abbrev pub by_front : ParsedParts → ℕ → LabelParts → List ModuleView → Result ParsedFront Fault → Result ModuleView FailedView
-by_front x m l modules (Err why) = Err (not_evaluated why)
-by_front x m l modules (Ok front) = file_means x m l front modules
-
--- no module has a number past the last one; it would be F31
-abbrev pub by_module : ParsedParts → ℕ → List ModuleView → Option ParsedModule → Result ModuleView FailedView
-by_module x m modules None = Err (not_evaluated (fault_at f.NoSuchFile 0))
-by_module x m modules (Some s) = by_front x m s.label modules s.front
-
--- what module m evaluates to, by the modules of the files that its loads name, each once, in the order in which they first name them
+-- What module m evaluates to, by the modules of the files that its loads name, each once, in the order in which they first name them. No
+-- module has a number past the last one; it would be F31.
 unfoldable pub means : ParsedParts → ℕ → List ModuleView → Result ModuleView FailedView
-means x m modules = by_module x m modules (slice_get x.modules m)
+means x m modules = elim (slice_get x.modules m) [
+  | None ↦ Err (not_evaluated (fault_at f.NoSuchFile 0))
+  | Some s ↦ elim s.front [ Err why ↦ Err (not_evaluated why) | Ok front ↦ file_means x m s.label front modules ]
+]

@@ -27,16 +27,11 @@ module_named x l = option_and_then (slice_get x.modules) (number_in x.files l)
 
 -- ---- a symbol
 
--- the names that a parsed file binds at its top level
-abbrev pub globals_by : Option (Option ParsedFile) → List Name
-globals_by None = []
-globals_by (Some None) = []
-globals_by (Some (Some file)) = global_names file.statements
-
--- the value of a module's global
+-- the value of a module's global, one of the names that its parsed file binds at its top level
 abbrev pub global_by : List (Option ParsedFile) → Option ModuleView → Name → Option Datum
 global_by parsed None name = None
-global_by parsed (Some m) name = value_named name (globals_by (slice_get parsed m.frozen.own)) m.frozen.cells.globals
+global_by parsed (Some m) name =
+    value_named name (elim (slice_get parsed m.frozen.own) [ Some (Some file) ↦ global_names file.statements | _ ↦ [] ]) m.frozen.cells.globals
 
 -- what a module exports by this name: F34 where it is private, else F33 where the module has no such global
 unfoldable pub exported : List (Option ParsedFile) → Option ModuleView → Name → Result Datum FaultKind

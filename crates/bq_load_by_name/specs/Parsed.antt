@@ -26,14 +26,9 @@ pub record ParsedParts : Type 0 where
   pub names : List Name
   pub limit : ℕ
 
--- a module with a fault of its own, or a bad load, is not evaluated
-abbrev pub file_by : Result ParsedFront Fault → Option ParsedFile
-file_by (Err why) = None
-file_by (Ok front) = Some front.file
-
--- the files of these modules
+-- the files of these modules; one with a fault of its own, or a bad load, is not evaluated
 abbrev pub parsed_files : List ParsedModule → List (Option ParsedFile)
-parsed_files modules = map (λ m. file_by m.front) modules
+parsed_files modules = map (λ m. elim m.front [ Err why ↦ None | Ok front ↦ Some front.file ]) modules
 
 -- ---- of a load graph
 

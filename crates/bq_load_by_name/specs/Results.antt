@@ -1,7 +1,7 @@
 -- The outcome of each module by names, with its fault if it has no value. A module whose loads lead to a cycle is F35
 -- and names its first load that is cyclic; one that is too deep is F38 and names its first load at which a path of as
 -- many edges starts as there may be; one with a load that has no value is F36 and names the first of them.
-use Rattle.std.specs.Prelude.{◌≡◌, ℕ, ◌+◌, List, [], ◌∷◌, Option, Some, None, Result, Ok, Err, slice_get, bytes_eq, if◌then◌else◌}
+use Rattle.std.specs.Prelude.{◌≡◌, ℕ, ◌+◌, List, [], ◌∷◌, Some, None, Result, Ok, Err, slice_get, bytes_eq, if◌then◌else◌}
 use Rattle.bq_base.specs.declared.fault.Fault.{Fault}
 use Rattle.bq_base.specs.declared.fault.FaultKind.{FaultKind}
 use Rattle.bq_base.specs.declared.fault.FaultKind.TheVariants as f
@@ -37,14 +37,10 @@ abbrev pub line_by : LabelParts → Result ParsedFront Fault → ℕ
 line_by l (Err why) = 0
 line_by l (Ok front) = line_of_load l (file_loads front.file.statements) front.loads
 
--- the fault of a loader, by the module that it loads
-abbrev pub load_fault_by : FaultKind → Result ParsedFront Fault → Option ParsedModule → Fault
-load_fault_by kind front None = fault_at kind 0
-load_fault_by kind front (Some loaded) = record { kind = kind; line = line_by loaded.label front; detail = full_form loaded.label }
-
 -- the fault of a module whose file is this, for its load of module k
 unfoldable pub load_fault : ParsedParts → Result ParsedFront Fault → FaultKind → ℕ → Fault
-load_fault x front kind k = load_fault_by kind front (slice_get x.modules k)
+load_fault x front kind k =
+    elim (slice_get x.modules k) [ None ↦ fault_at kind 0 | Some m ↦ record { kind = kind; line = line_by m.label front; detail = full_form m.label } ]
 
 -- the outcome of a module, with the fault that a load gave it
 abbrev pub result_of : ParsedParts → Result ParsedFront Fault → Outcome ModuleView FailedView → Result ModuleView FailedView

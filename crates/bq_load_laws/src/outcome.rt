@@ -2,22 +2,19 @@
 
 ghost use Rattle.std.specs.Prelude.{◌≡◌, ℕ, List, Option, Result};
 ghost use Rattle.bq_base.specs.declared.fault.Fault.{Fault};
-ghost use Rattle.bq_base.specs.declared.fault.FaultKind.{FaultKind};
 ghost use Rattle.bq_board.specs.Graph.{Loads};
 ghost use Rattle.bq_load_outcome_spec.specs.Outcome.{outcome};
 ghost use Rattle.bq_resolve_scope.specs.Names.{Name};
-ghost use Rattle.bq_resolve_scope.specs.declared.code.LoadStmt.{LoadStmt};
 ghost use Rattle.bq_resolve_scope.specs.declared.code.Resolved.{Resolved};
 ghost use Rattle.bq_load_front.specs.declared.front.Front.{Front};
-ghost use Rattle.bq_load_discover.specs.declared.modules.Module.{Module};
 ghost use Rattle.bq_load.specs.Evaluation.{means};
 ghost use Rattle.bq_load.specs.Imports.{exported};
-ghost use Rattle.bq_load.specs.Results.{load_fault, result_of};
+ghost use Rattle.bq_load.specs.Results.{result_of};
 ghost use Rattle.bq_load.specs.Loading.{LoadingParts};
 ghost use Rattle.bq_load.specs.Views.{ModuleView};
 ghost use Rattle.bq_builtin_refusal_laws.specs.Refusals.{first_fault, FailsForFirst};
 ghost use Rattle.bq_load_laws.specs.Outcomes.Exports.{ModulesExportTheirOwn};
-ghost use Rattle.bq_load_laws.specs.Outcomes.FirstLoad.{LoadsFirst, fault_at_load, ModulesNameTheirLoads};
+ghost use Rattle.bq_load_laws.specs.Outcomes.FirstLoad.{FaultsAreAtFirstLoads, ModulesNameTheirLoads};
 ghost use Rattle.bq_load_laws.specs.Outcomes.Orders.{exporting, failure, loading};
 ghost use Rattle.bq_load_laws.specs.Outcomes.Prints.{PrintsAreKept};
 
@@ -35,7 +32,7 @@ pub fn modules_fail_in_order()
 /// F35, F36 and F38 name the line of the file's first load of the module, even if later ones load it too, and the
 /// module's label. In a load graph there is such a load.
 pub fn faults_of_loads_name_the_first_load()
-    ensures first { (x : LoadingParts) (k : ℕ) (front : Result Front Fault) (loaded : Module) (kind : FaultKind) (load : LoadStmt) → LoadsFirst x k front loaded load → load_fault x front kind k ≡ fault_at_load kind load loaded }
+    ensures first { FaultsAreAtFirstLoads }
     ensures loaded { ModulesNameTheirLoads }
 {}
 

@@ -16,14 +16,9 @@ use Rattle.bq_load_module.specs.Views.{ModuleView, FailedView}
 abbrev pub without_cells : ℕ → FrozenView
 without_cells own = frozen (record { own = own; cells = []; loaded = [] }) [] []
 
--- what stays of a frozen module: all of it, for those who load it; nothing where there is a package
-abbrev pub stays : FrozenView → Option PackageTargets → FrozenView
-stays made None = made
-stays made (Some p) = without_cells made.own
-
--- a module, of its globals, its prints and its package
+-- a module, of its globals, its prints and its package: all of it stays for those who load it, but nothing where there is a package
 abbrev pub module_with : FrozenView → List (List ℕ) → Option PackageTargets → ModuleView
-module_with made prints p = record { frozen = stays made p; prints = prints; «package» = p }
+module_with made prints p = record { frozen = elim p [ None ↦ made | Some declared ↦ without_cells made.own ]; prints = prints; «package» = p }
 
 -- what an evaluation ends in, with the package that is declared then
 abbrev pub module_by : Ended → Option PackageTargets → Result ModuleView FailedView

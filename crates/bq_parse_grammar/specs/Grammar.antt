@@ -35,6 +35,7 @@ use Rattle.bq_parse_grammar.specs.Phrases.{Phrase, none, Repeat, Listed, CommaTh
 
 -- ---- the trees of chains: a chain of one is its only part
 
+-- the tree of an Expression, Test { ',' Test }: several are a tuple
 abbrev pub tuple_of : Expr → List Expr → Expr
 tuple_of x [] = x
 tuple_of x (y ∷ ys) = e.Tuple (x ∷ y ∷ ys)
@@ -65,14 +66,17 @@ abbrev pub choices_of : Expr → List (Expr × Expr) → List Choice
 choices_of x [] = []
 choices_of x (p ∷ ps) = roll-Choice (record { value = x; condition = p.0 }) ∷ choices_of p.1 ps
 
+-- the value behind the last `else`
 abbrev pub last_of : Expr → List (Expr × Expr) → Expr
 last_of x [] = x
 last_of x (p ∷ ps) = last_of p.1 ps
 
+-- the tree of an IfExpr, `x if c else y if d else z`
 abbrev pub conditional_of : Expr → List (Expr × Expr) → Expr
 conditional_of x [] = x
 conditional_of x (p ∷ ps) = e.Conditional (choices_of x (p ∷ ps)) (last_of x (p ∷ ps))
 
+-- the tree of Var { ',' Var } and of Item { ',' Item }: several are a tuple
 abbrev pub targets_of : TargetExpr → List TargetExpr → TargetExpr
 targets_of x [] = x
 targets_of x (y ∷ ys) = target.Tuple (x ∷ y ∷ ys)
@@ -102,6 +106,7 @@ pub data IsVarsOver (Var : Phrase TargetExpr) : List Lexeme → List Lexeme → 
   vars : {ts mid rest : List Lexeme} {x y : TargetExpr} {xs : List TargetExpr} → Var ts mid x → Repeat (CommaThen Var) mid rest xs → y ≡ targets_of x xs
       → IsVarsOver Var ts rest y
 
+-- LoopVariables, Vars, in which at most this many brackets nest
 abbrev pub IsVars : ℕ → Phrase TargetExpr
 IsVars depth = IsVarsOver (IsVar depth)
 
@@ -286,23 +291,29 @@ module _ (IsPrimary : Phrase Expr) where
 
 -- ---- expressions in which at most this many brackets nest
 
+-- PrimaryExpr, Operand { Suffix }
 abbrev pub IsPrimaryTo : ℕ → Phrase Expr
 IsPrimaryTo zero = IsPrimary none none none
 IsPrimaryTo (suc depth) = IsPrimary (IsOr (IsPrimaryTo depth)) (IsTest (IsPrimaryTo depth)) (IsVars depth)
 
+-- what stands around `if` and `else` in an IfExpr: BinaryExpr, UnaryExpr or PrimaryExpr
 abbrev pub IsOrTo : ℕ → Phrase Expr
 IsOrTo depth = IsOr (IsPrimaryTo depth)
 
+-- Test, Or { Choice }
 abbrev pub IsTestTo : ℕ → Phrase Expr
 IsTestTo depth = IsTest (IsPrimaryTo depth)
 
+-- Expression, Test { ',' Test }
 abbrev pub IsExprTo : ℕ → Phrase Expr
 IsExprTo depth = IsExpr none (IsTestTo depth) none
 
+-- Operand: a name, a literal, or what stands in brackets of its own
 abbrev pub IsOperandTo : ℕ → Phrase Expr
 IsOperandTo zero = IsOperand none none none
 IsOperandTo (suc depth) = IsOperand (IsOrTo depth) (IsTestTo depth) (IsVars depth)
 
+-- DotSuffix, CallSuffix and SliceSuffix
 abbrev pub IsSuffixTo : ℕ → Phrase Suffix
 IsSuffixTo zero = IsSuffix none none none
 IsSuffixTo (suc depth) = IsSuffix (IsOrTo depth) (IsTestTo depth) (IsVars depth)

@@ -4,6 +4,7 @@ use Rattle.bq_source.specs.declared.token.TokenKind.{TokenKind}
 use Rattle.bq_source.specs.declared.token.TokenKind.TheVariants as k
 use Rattle.bq_parse_grammar.specs.Lexeme.{Lexeme}
 
+-- a production with trees in A: the tokens, those that are left behind the phrase, and its tree
 abbrev pub Phrase : Type 0 → Type 1
 Phrase A = List Lexeme → List Lexeme → A → Type 0
 

@@ -56,6 +56,7 @@ pub data IsItemOver (depth : ℕ) (Inner : Phrase TargetExpr) : List Lexeme → 
   list : {o : Lexeme} {ts rest : List Lexeme} {x y : TargetExpr} {xs : List TargetExpr} → o.kind ≡ k.LeftBracket → Listed k.RightBracket Inner ts rest (x ∷ xs)
       → y ≡ target.List (x ∷ xs) → IsItemOver depth Inner (o ∷ ts) rest y
 
+-- one of the targets of an assignment, in which at most this many brackets nest
 abbrev pub IsItem : ℕ → Phrase TargetExpr
 IsItem zero = IsItemOver zero none
 IsItem (suc depth) = IsItemOver (suc depth) (IsItem depth)
@@ -65,6 +66,7 @@ pub data IsTargetOver (Item : Phrase TargetExpr) : List Lexeme → List Lexeme �
   items : {ts mid rest : List Lexeme} {x y : TargetExpr} {xs : List TargetExpr} → Item ts mid x → Repeat (CommaThen Item) mid rest xs → y ≡ targets_of x xs
       → IsTargetOver Item ts rest y
 
+-- what stands before the `=` of an AssignStmt, Item { ',' Item }
 abbrev pub IsTarget : ℕ → Phrase TargetExpr
 IsTarget depth = IsTargetOver (IsItem depth)
 
@@ -146,6 +148,7 @@ pub data IsSmallKind (depth : ℕ) : List Lexeme → List Lexeme → SmallKind �
       → augmented q.kind ≡ Some o → IsExprTo depth mid rest v → y ≡ small.Augment x o v → IsSmallKind depth ts rest y
   expression : {ts rest : List Lexeme} (x : Expr) {y : SmallKind} → IsExprTo depth ts rest x → y ≡ small.Expr x → IsSmallKind depth ts rest y
 
+-- SmallStmt, with the line that it begins on
 pub data IsSmall (depth : ℕ) : List Lexeme → List Lexeme → SmallStmt → Type 0 where
   small_stmt : {ts rest : List Lexeme} {x : SmallKind} {y : SmallStmt} → IsSmallKind depth ts rest x → y ≡ record { line = line_of ts; kind = x }
       → IsSmall depth ts rest y

@@ -14,12 +14,15 @@ use Rattle.bq_parse_grammar.specs.LeftOut.{leaves_out, nested_def, barred_in_bui
 abbrev pub IsLeftOut : List Lexeme → TopLevel → Type 0
 IsLeftOut ts x = (leaves_out ts || nested_def max_nesting false x.statement) ≡ true
 
+-- the statement's tokens and its tree have nothing that the language leaves out
 abbrev pub IsKept : List Lexeme → TopLevel → Type 0
 IsKept ts x = (leaves_out ts || nested_def max_nesting false x.statement) ≡ false
 
+-- a statement of a BUILD file which only a `.bzl` file may have
 abbrev pub IsBarred : FileKind → List Lexeme → Type 0
 IsBarred kind ts = (kind ≡ file.Build) × (barred_in_build ts ≡ true)
 
+-- the tokens are no Statement
 abbrev pub HasNoTree : List Lexeme → Type 0
 HasNoTree ts = (x : TopLevel) → IsTopLevel max_nesting ts x → ⊥
 

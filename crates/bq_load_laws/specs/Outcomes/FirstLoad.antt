@@ -43,6 +43,11 @@ pub record LoadsFirst (x : LoadingParts) (k : ℕ) (front : Result Front Fault) 
 abbrev pub fault_at_load : FaultKind → LoadStmt → Module → Fault
 fault_at_load kind load loaded = record { kind = kind; line = load.line; detail = full_form loaded.label }
 
+-- the fault of a module for its load of another is at the first load of that one in its file
+abbrev pub FaultsAreAtFirstLoads : Type 0
+FaultsAreAtFirstLoads = (x : LoadingParts) (k : ℕ) (front : Result Front Fault) (loaded : Module) (kind : FaultKind) (load : LoadStmt)
+    → LoadsFirst x k front loaded load → load_fault x front kind k ≡ fault_at_load kind load loaded
+
 -- the fault of a module whose file is this, for its load of module `k`, is at the first such load in its file
 pub record IsAtItsLoad (x : LoadingParts) (k : ℕ) (front : Result Front Fault) (kind : FaultKind) : Type 0 where
   pub loaded : Module
