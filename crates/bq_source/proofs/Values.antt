@@ -5,7 +5,8 @@ use Rattle.std.proofs.lemmas.List.{take_at, length-drop}
 use Rattle.std.specs.Prelude.{option_map}
 use Rattle.std.specs.List.{list_all}
 use Rattle.bq_source.specs.declared.string_literal.Quoting.{Quoting}
-use Rattle.bq_source.specs.StringLiteral.{opening, opening_len, quotes_len, BodyItem, items, spelling, values, bad_escape, literal_from, scan_string, scan_string_by, is_whole, string_value, string_value_by, stays, IsItem, plain, newline, escaped, joined, no_escape, raw_byte, raw_newline, Items, over, more}
+use Rattle.bq_source.specs.StringLiteral.{opening, opening_len, quotes_len, BodyItem, items, spelling, values, bad_escape, literal_from, scan_string, string_value, stays, IsItem, plain, newline, escaped, joined, no_escape, raw_byte, raw_newline, Items, over, more}
+use Rattle.bq_source.proofs.Cases.{is_whole, string_value_by, scan_string_by}
 use Rattle.bq_source.proofs.Items.{scanned}
 use Rattle.bq_source.proofs.Bodies.{EndsAt, ends_at}
 
