@@ -32,7 +32,8 @@ use Rattle.bq_resolve_scope.specs.declared.code.FileStmt.TheVariants as s
 use Rattle.bq_resolve_scope.specs.declared.code.LoadedSymbol.{LoadedSymbol}
 use Rattle.bq_resolve_scope.specs.declared.code.Resolved.{Resolved}
 use Rattle.bq_resolve_scope.specs.Universe.{UniverseParts}
-use Rattle.bq_resolve_scope.specs.Names.{Name, TargetLayer, max_layers, has, place_among, with_name, with_each, with_target_by, with_target_to, with_target, with_small_by, with_small, with_load_by, with_load, with_load_clause, with_parameter, function_names}
+use Rattle.bq_resolve_scope.specs.Names.{Name, TargetLayer, max_layers, has, place_among, with_name, with_each, with_target_by, with_target_to, with_target, with_small, with_load, with_load_clause, with_parameter, function_names}
+use Rattle.bq_resolve_scope.proofs.Cases.{with_small_by, with_load_by}
 use Rattle.bq_resolve_scope.specs.Scope.{BlockParts, FileParts}
 use Rattle.bq_resolve_scope.specs.Visit.{Passed, Visit, following, ◌>>=◌, pure, stop, fault_of, each, nothing_passed}
 use Rattle.bq_resolve_scope.specs.Expressions.{is_bzl, name_target, target_by, target_to, expr_to}

@@ -17,7 +17,6 @@ use Rattle.bq_parse_grammar.specs.declared.tree.Branch.{Branch, out-Branch}
 use Rattle.bq_parse_grammar.specs.declared.tree.Stmt.{Stmt, out-Stmt}
 use Rattle.bq_parse_grammar.specs.declared.tree.Stmt.TheOpen.{Stmt-F}
 use Rattle.bq_parse_grammar.specs.declared.tree.SmallStmt.{SmallStmt}
-use Rattle.bq_parse_grammar.specs.declared.tree.SmallKind.{SmallKind}
 use Rattle.bq_parse_grammar.specs.declared.tree.SmallKind.TheVariants as small
 use Rattle.bq_parse_grammar.specs.declared.tree.Parameter.{Parameter}
 use Rattle.bq_parse_grammar.specs.declared.tree.Parameter.TheVariants as parameter
@@ -77,14 +76,9 @@ with_target_to (suc depth) names t = with_target_by (with_target_to depth) names
 unfoldable pub with_target : List Name → TargetExpr → List Name
 with_target names t = with_target_to max_layers names t
 
--- the names that a clause binds join others
-abbrev pub with_clause_by : List Name → ClauseLayer → List Name
-with_clause_by names (Clause-F.For t e) = with_target names t
-with_clause_by names (Clause-F.If e) = names
-
 -- with the variables of a clause
 unfoldable pub with_clause : List Name → Clause → List Name
-with_clause names c = with_clause_by names (out-Clause c)
+with_clause names c = elim (out-Clause c) [ Clause-F.For t e ↦ with_target names t | Clause-F.If e ↦ names ]
 
 -- what a comprehension binds
 unfoldable pub comprehension_names : List Clause → List Name
@@ -93,14 +87,8 @@ comprehension_names cs = with_each with_clause [] cs
 -- ---- statements
 
 -- the names that a small statement assigns join others
-abbrev pub with_small_by : List Name → SmallKind → List Name
-with_small_by names (small.Assign t e) = with_target names t
-with_small_by names (small.Augment t o e) = with_target names t
-with_small_by names _ = names
-
--- the names that a small statement assigns join others
 unfoldable pub with_small : List Name → SmallStmt → List Name
-with_small names s = with_small_by names s.kind
+with_small names s = elim s.kind [ small.Assign t e ↦ with_target names t | small.Augment t o e ↦ with_target names t | _ ↦ names ]
 
 -- the names bound in a branch join others
 abbrev pub with_branch : (List Name → Stmt → List Name) → List Name → Branch → List Name
@@ -146,23 +134,13 @@ global_names ts = with_each (λ names t. with_stmt names t.statement) [] ts
 abbrev pub with_load_clause : List Name → LoadClause → List Name
 with_load_clause names c = with_name names c.local.name
 
--- the names that a load binds join others
-abbrev pub with_load_by : List Name → SmallKind → List Name
-with_load_by names (small.Load l) = with_each with_load_clause names l.clauses
-with_load_by names _ = names
-
 -- the names that a small statement loads join others
 unfoldable pub with_load : List Name → SmallStmt → List Name
-with_load names s = with_load_by names s.kind
-
--- the names that a statement loads join others
-abbrev pub with_loads_by : List Name → Stmt-F Stmt Branch → List Name
-with_loads_by names (Stmt-F.Simple xs) = with_each with_load names xs
-with_loads_by names _ = names
+with_load names s = elim s.kind [ small.Load l ↦ with_each with_load_clause names l.clauses | _ ↦ names ]
 
 -- the names that a statement at the top level loads join others
 unfoldable pub with_loads : List Name → TopLevel → List Name
-with_loads names t = with_loads_by names (out-Stmt t.statement)
+with_loads names t = elim (out-Stmt t.statement) [ Stmt-F.Simple xs ↦ with_each with_load names xs | _ ↦ names ]
 
 -- what a file's loads bind, which stand outside all blocks
 unfoldable pub loaded_names : List TopLevel → List Name
