@@ -21,7 +21,8 @@ use Rattle.bq_resolve_scope.specs.Scope.{FileParts}
 use Rattle.bq_resolve_by_name.specs.Resolution.{InOrder, InTurn, SymbolIs, LoadIs, loads_are, OuterIs, file_stmt_is, TopLevelIs}
 use Rattle.bq_resolve_by_name.proofs.ResolvedFiles.{to_themselves}
 use Rattle.bq_resolve_by_name.specs.Laws.{LoadsAreKept, GlobalsAreKept}
-use Rattle.bq_resolve_by_name.specs.Loads.{WrittenLoad, written_load, loads_by, line_loads, stmt_loads, file_loads}
+use Rattle.bq_resolve_by_name.specs.Loads.{WrittenLoad, written_load, loads_by, line_loads, file_loads}
+use Rattle.bq_resolve_by_name.proofs.Cases.{stmt_loads}
 
 abbrev lines : List LoadStmt → List WrittenLoad
 lines ls = map written_load ls
