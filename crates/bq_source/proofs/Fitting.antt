@@ -215,7 +215,7 @@ string_fits text = by_scan (scan_string text) refl
 -- a literal that is read at once
 pub plain_piece : (text : List ℕ) (n : ℕ) → IsPlainString text n → Lexed (Plain k.String) (bytes n) ≡ string text
 unfolding string
-plain_piece text n p = rw (p.literal) (λ i. Lexed (Plain k.String) (record { len = n; lines = sym p.lines i }))
+plain_piece text n p = (λ i. Lexed (Plain k.String) (record { len = n; lines = sym p.lines i })) ∙ sym (ap (λ o. string_by o text) p.literal)
 
 pub plain_fits : (text : List ℕ) (n : ℕ) → IsPlainString text n → Fits text (Lexed (Plain k.String) (bytes n))
 plain_fits text n p = let w = scanned_within text (record { len = n; bad_escape = None }) p.literal in record { some = w.0; within = w.1; lines = omega arith }

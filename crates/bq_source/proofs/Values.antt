@@ -29,7 +29,9 @@ pub record Whole (q : Quoting) (s : List ℕ) : Type 0 where
 value_at : (s : List ℕ) (q : Quoting) → opening s ≡ Some q
     → string_value s ≡ cond (is_whole (literal_from q (opening_len q) None (items q 0 (drop (opening_len q) s))) (length s)) (option_map values (items q 0 (drop (opening_len q) s))) None
 unfolding string_value
-value_at s q e = rw (scanned s q e) (rw e refl)
+value_at s q e =
+    ap (λ l. cond (is_whole l (length s)) (string_value_by (opening s) s) None) (scanned s q e)
+    ∙ ap (λ o. cond (is_whole (literal_from q (opening_len q) None (items q 0 (drop (opening_len q) s))) (length s)) (string_value_by o s) None) e
 
 none_is : (o : Option ℕ) → is_none o ≡ true → o ≡ None
 none_is None e = refl
