@@ -76,9 +76,14 @@ with_target_to (suc depth) names t = with_target_by (with_target_to depth) names
 unfoldable pub with_target : List Name → TargetExpr → List Name
 with_target names t = with_target_to max_layers names t
 
+-- the names that a clause binds join others
+abbrev pub with_clause_by : List Name → ClauseLayer → List Name
+with_clause_by names (Clause-F.For t e) = with_target names t
+with_clause_by names (Clause-F.If e) = names
+
 -- with the variables of a clause
 unfoldable pub with_clause : List Name → Clause → List Name
-with_clause names c = elim (out-Clause c) [ Clause-F.For t e ↦ with_target names t | Clause-F.If e ↦ names ]
+with_clause names c = with_clause_by names (out-Clause c)
 
 -- what a comprehension binds
 unfoldable pub comprehension_names : List Clause → List Name
@@ -138,9 +143,14 @@ with_load_clause names c = with_name names c.local.name
 unfoldable pub with_load : List Name → SmallStmt → List Name
 with_load names s = elim s.kind [ small.Load l ↦ with_each with_load_clause names l.clauses | _ ↦ names ]
 
+-- the names that a statement loads join others
+abbrev pub with_loads_by : List Name → Stmt-F Stmt Branch → List Name
+with_loads_by names (Stmt-F.Simple xs) = with_each with_load names xs
+with_loads_by names _ = names
+
 -- the names that a statement at the top level loads join others
 unfoldable pub with_loads : List Name → TopLevel → List Name
-with_loads names t = elim (out-Stmt t.statement) [ Stmt-F.Simple xs ↦ with_each with_load names xs | _ ↦ names ]
+with_loads names t = with_loads_by names (out-Stmt t.statement)
 
 -- what a file's loads bind, which stand outside all blocks
 unfoldable pub loaded_names : List TopLevel → List Name
