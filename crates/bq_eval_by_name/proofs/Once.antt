@@ -9,7 +9,8 @@ use Rattle.bq_parse_grammar.specs.declared.tree.Stmt.{Stmt, out-Stmt}
 use Rattle.bq_parse_grammar.specs.declared.tree.Stmt.TheOpen.{Stmt-F}
 use Rattle.bq_parse_grammar.specs.declared.tree.TargetExpr.{TargetExpr, out-TargetExpr}
 use Rattle.bq_parse_grammar.specs.declared.tree.TopLevel.{TopLevel}
-use Rattle.bq_resolve_scope.specs.Names.{Name, TargetLayer, max_layers, has, place_among, with_name, with_each, with_target_by, with_target_to, with_target, with_small_by, with_small, with_branch, with_stmt_by, with_stmt_to, with_stmt, global_names}
+use Rattle.bq_resolve_scope.specs.Names.{Name, TargetLayer, max_layers, has, place_among, with_name, with_each, with_target_by, with_target_to, with_target, with_small, with_branch, with_stmt_by, with_stmt_to, with_stmt, global_names}
+use Rattle.bq_resolve_scope.proofs.Cases.{with_small_by}
 use Rattle.bq_eval_by_name_module_laws.proofs.Places.{Stays, new_place, name_stays}
 
 -- each name is the first of its own kind

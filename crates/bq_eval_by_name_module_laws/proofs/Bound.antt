@@ -13,7 +13,8 @@ use Rattle.bq_parse_grammar.specs.declared.tree.Stmt.TheOpen.{Stmt-F}
 use Rattle.bq_parse_grammar.specs.declared.tree.TargetExpr.{TargetExpr, out-TargetExpr}
 use Rattle.bq_parse_grammar.specs.declared.tree.TopLevel.{TopLevel}
 use Rattle.bq_resolve_scope.specs.Files.{file_names}
-use Rattle.bq_resolve_scope.specs.Names.{Name, TargetLayer, max_layers, has, with_name, with_each, with_target_by, with_target_to, with_target, with_small_by, with_small, with_stmt_by, with_stmt_to, with_stmt, global_names}
+use Rattle.bq_resolve_scope.specs.Names.{Name, TargetLayer, max_layers, has, with_name, with_each, with_target_by, with_target_to, with_target, with_small, with_stmt_by, with_stmt_to, with_stmt, global_names}
+use Rattle.bq_resolve_scope.proofs.Cases.{with_small_by}
 use Rattle.bq_resolve_scope.specs.Scope.{FileParts}
 use Rattle.bq_resolve_by_name.specs.Violations.{in_turn, Before, nothing_before, in_file_small_by, in_file_small, after_small, in_top_level_by, in_top_level, after, violations}
 use Rattle.bq_resolve_by_name.proofs.FaultyFiles.{without_violations}

@@ -11,10 +11,12 @@ use Rattle.bq_parse_grammar.specs.declared.tree.SmallStmt.{SmallStmt}
 use Rattle.bq_parse_grammar.specs.declared.tree.Stmt.{Stmt, out-Stmt}
 use Rattle.bq_parse_grammar.specs.declared.tree.Stmt.TheOpen.{Stmt-F}
 use Rattle.bq_parse_grammar.specs.declared.tree.TopLevel.{TopLevel}
-use Rattle.bq_resolve_scope.specs.Names.{Name, has, place_among, with_name, with_each, with_load_clause, with_load_by, with_load, with_loads_by, with_loads, loaded_names}
+use Rattle.bq_resolve_scope.specs.Names.{Name, has, place_among, with_name, with_each, with_load_clause, with_load, with_loads, loaded_names, with_loads_by}
+use Rattle.bq_resolve_scope.proofs.Cases.{with_load_by}
 use Rattle.bq_resolve_scope.specs.Scope.{FileParts}
 use Rattle.bq_resolve_scope.specs.Visit.{fault_of}
-use Rattle.bq_resolve_by_name.specs.Violations.{in_turn, when, no_double, Before, in_load_clause, in_file_small_by, in_file_small, after_small, in_top_level_by, in_top_level, after_by, after}
+use Rattle.bq_resolve_by_name.specs.Violations.{in_turn, when, no_double, Before, in_load_clause, in_file_small_by, in_file_small, after_small, in_top_level_by, in_top_level, after}
+use Rattle.bq_resolve_by_name.proofs.Cases.{after_by}
 use Rattle.bq_eval_by_name_spec.specs.Module.{clauses_by, line_clauses, clauses_of, load_clauses}
 use Rattle.bq_eval_by_name_module_laws.proofs.Places.{new_place, name_stays, each_stays}
 

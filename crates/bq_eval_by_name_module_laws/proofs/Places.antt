@@ -12,7 +12,8 @@ use Rattle.bq_parse_grammar.specs.declared.tree.SmallKind.TheVariants as small
 use Rattle.bq_parse_grammar.specs.declared.tree.Stmt.{Stmt, out-Stmt}
 use Rattle.bq_parse_grammar.specs.declared.tree.Stmt.TheOpen.{Stmt-F}
 use Rattle.bq_parse_grammar.specs.declared.tree.TargetExpr.{TargetExpr, out-TargetExpr}
-use Rattle.bq_resolve_scope.specs.Names.{Name, TargetLayer, max_layers, has, place_among, with_name, with_each, with_target_by, with_target_to, with_target, with_small_by, with_small, with_branch, with_stmt_by, with_stmt_to, with_stmt, with_parameter, function_names}
+use Rattle.bq_resolve_scope.specs.Names.{Name, TargetLayer, max_layers, has, place_among, with_name, with_each, with_target_by, with_target_to, with_target, with_small, with_branch, with_stmt_by, with_stmt_to, with_stmt, with_parameter, function_names}
+use Rattle.bq_resolve_scope.proofs.Cases.{with_small_by}
 
 abbrev pub Stays : List Name → List Name → Type 0
 Stays names more = (name : Name) (i : ℕ) → place_among name names ≡ Some i → place_among name more ≡ Some i

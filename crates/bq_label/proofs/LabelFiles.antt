@@ -10,7 +10,8 @@ use Rattle.bq_label.specs.Label.{LabelParts}
 use Rattle.bq_label.specs.Paths.{is_repository}
 use Rattle.bq_label.specs.Reading.{split_once}
 use Rattle.bq_label.specs.Workspace.{file_at}
-use Rattle.bq_label.specs.Packages.{repository_root, joined, label_path, external_root, split_repository_by, split_repository, IsPathOf, is_in, is_in_repository, is_at, file_in, label_file, IsFileOf, FileIs}
+use Rattle.bq_label.specs.Packages.{repository_root, joined, label_path, external_root, split_repository, IsPathOf, is_in, is_in_repository, label_file, IsFileOf, FileIs}
+use Rattle.bq_label.proofs.Cases.{is_at, split_repository_by}
 use Rattle.bq_label.proofs.Cuts.{cut_joined, cut_whole}
 use Rattle.bq_label.proofs.Readings.{first_of_two, second_of_two, no_slash}
 use Rattle.bq_label.proofs.Above.{same_bytes, equal_bytes}
@@ -91,14 +92,14 @@ is_there : (repo rest : List ℕ) (v : Option (List ℕ × List ℕ)) → v ≡ 
 is_there repo rest v e = ap (is_at repo rest) e ∙ both_true (bytes_eq repo repo) (bytes_eq rest rest) (equal_bytes repo repo refl) (equal_bytes rest rest refl)
 
 pub file_known : (files : List File) (l : LabelParts) (f : File) → label_file files l ≡ Some f → IsFileOf files l f
-unfolding label_file file_in
+unfolding label_file
 file_known files l f e =
     let rest : List ℕ = joined l.package l.name in
     let found = find_some (λ (g : File). is_at l.repo rest (split_repository g.path)) files f e in
     record { known = found.0; path = path_in_words f.path l.repo rest (at_place l.repo rest (split_repository f.path) found.1) }
 
 pub file_unknown : (files : List File) (l : LabelParts) → label_file files l ≡ None → (f : File) → IsFileOf files l f → ⊥
-unfolding label_file file_in
+unfolding label_file
 file_unknown files l e f x =
     let rest : List ℕ = joined l.package l.name in
     let no : is_at l.repo rest (split_repository f.path) ≡ false = find_none_in (λ (g : File). is_at l.repo rest (split_repository g.path)) files e f x.known in
@@ -162,7 +163,7 @@ module _ (l : LabelParts) where
       ]
 
   pub file_here : (files : List File) → is_in_repository l.repo (label_path l) ≡ true → file_at files (label_path l) ≡ label_file files l
-  unfolding file_at label_file file_in
+  unfolding file_at label_file
   file_here files h = find_alike (λ (f : File). bytes_eq f.path (label_path l)) (λ (f : File). is_at l.repo (joined l.package l.name) (split_repository f.path)) (alike h) files
 
   in_repository_of : (v : Option (List ℕ × List ℕ)) → v ≡ Some (l.repo, joined l.package l.name) → is_in l.repo v ≡ true
@@ -178,7 +179,7 @@ module _ (l : LabelParts) where
   ]
 
   pub no_file_here : (files : List File) → is_in_repository l.repo (label_path l) ≡ false → label_file files l ≡ None
-  unfolding label_file file_in
+  unfolding label_file
   no_file_here files h = find_nothing (λ (f : File). is_at l.repo (joined l.package l.name) (split_repository f.path)) (nowhere h) files
 
 -- ---- the function that finds it

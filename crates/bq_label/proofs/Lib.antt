@@ -16,3 +16,5 @@ pub mod FullForms
 pub mod Listings
 pub mod ShortNames
 pub mod LabelFiles
+-- Parts of definitions, as words that proofs name.
+pub mod Cases

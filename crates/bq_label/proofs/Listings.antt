@@ -12,7 +12,8 @@ use Rattle.bq_label.specs.Label.{PackageParts, package_at, last_segment}
 use Rattle.bq_label.specs.Reading.{split_once}
 use Rattle.bq_label.specs.Workspace.{is_above, paths_of}
 use Rattle.bq_label.specs.Order.{in_order}
-use Rattle.bq_label.specs.Packages.{external_root, split_repository_by, split_repository, joined, directory_of, is_build_file, build_file, package_of_file, build_files, package_cmp, packages_of, IsBuildName, HasBuildFile, IsListed}
+use Rattle.bq_label.specs.Packages.{external_root, split_repository, joined, directory_of, is_build_file, build_file, package_of_file, build_files, package_cmp, packages_of, IsBuildName, HasBuildFile, IsListed}
+use Rattle.bq_label.proofs.Cases.{split_repository_by}
 use Rattle.bq_label.proofs.Cuts.{cut_joined, cut_whole, last_whole}
 use Rattle.bq_label.proofs.Above.{same_bytes, equal_bytes, above_whole, above_joined}
 use Rattle.bq_label.proofs.Orders.{at_head, in_tail, head_or_tail, in_order_moves}

@@ -13,7 +13,8 @@ use Rattle.std.proofs.lemmas.Map.Keys.{sorted_head, sorted_tail}
 use Rattle.bq_label.specs.declared.packages.BuildFile.{BuildFile}
 use Rattle.bq_label.specs.Label.{PackageParts, package_at}
 use Rattle.bq_label.specs.Workspace.{is_above}
-use Rattle.bq_label.specs.Packages.{id_cmp, package_cmp, is_package_id, package_named, is_over, nearer, nearest, nearest_over, split_repository, owner_of, IsOver, OwnerIs}
+use Rattle.bq_label.specs.Packages.{id_cmp, package_cmp, is_package_id, package_named, is_over, nearest, nearest_over, split_repository, owner_of, IsOver, OwnerIs}
+use Rattle.bq_label.proofs.Cases.{nearer}
 use Rattle.bq_label.proofs.Above.{same_bytes, equal_bytes, above_take, above_length, above_slash, above_front, above_whole, above_joined}
 use Rattle.bq_label.proofs.Orders.{at_head, in_tail, head_or_tail}
 use Rattle.bq_label.proofs.Readings.{first_of_two, second_of_two}

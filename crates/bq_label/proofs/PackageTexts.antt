@@ -4,7 +4,8 @@ use Rattle.std.proofs.lemmas.Bool.{cases_Bool}
 use Rattle.std.proofs.lemmas.Bool.Decides.{nat_tests}
 use Rattle.bq_label.specs.Paths.{is_package, is_repository}
 use Rattle.bq_label.specs.Label.{PackageParts, IsPackage, Spells, package_at}
-use Rattle.bq_label.specs.Reading.{first_is, package_if_valid, package_of_repository, package_of_text, package_parts, split_once}
+use Rattle.bq_label.specs.Reading.{first_is, package_if_valid, package_of_text, package_parts, split_once}
+use Rattle.bq_label.proofs.Cases.{package_of_repository}
 use Rattle.bq_label.proofs.Cuts.{cut_joined, cut_whole}
 use Rattle.bq_label.proofs.Readings.{first_of_two, no_slash, second_of_two}
 

@@ -6,7 +6,8 @@ use Rattle.std.specs.List.{list_any, list_all, slice_split}
 use mathlib.Core.Bool.{false≢true}
 use Rattle.bq_label.specs.Paths.{is_slash, is_path_byte, is_segment, is_path, is_package, is_repository, is_repository_byte}
 use Rattle.bq_label.specs.Label.{PackageParts, LabelParts, label_at, label_in, package_of, IsLabel, IsWritten, absolute, short, own_name, bare_name, external, external_short, repository, ReadsAs, last_segment, full_form, at_sign, BeginsOther}
-use Rattle.bq_label.specs.Reading.{split_once, label_of_parts, absolute_label, external_label, label_of_repository, first_is, parts_of, is_label, valid_label, label_of}
+use Rattle.bq_label.specs.Reading.{split_once, absolute_label, external_label, first_is, parts_of, is_label, valid_label, label_of}
+use Rattle.bq_label.proofs.Cases.{label_of_repository, label_of_parts}
 use Rattle.bq_label.proofs.Cuts.{cut_joined, cut_none, cut_whole}
 
 -- a byte that fails a test isn't among those that pass
@@ -59,19 +60,19 @@ path_begins b bs h =
 
 absolute_whole : (r p n : List ℕ) → is_package p ≡ true → absolute_label r (p ++ 58 ∷ n) ≡ label_at r p n
 unfolding absolute_label
-absolute_whole r p n h = rw (cut_joined 58 p n (no_colon p h)) refl
+absolute_whole r p n h = ap (label_of_parts r (p ++ 58 ∷ n)) (cut_joined 58 p n (no_colon p h))
 
 absolute_short : (r p : List ℕ) → is_package p ≡ true → absolute_label r p ≡ label_at r p (last_segment p)
 unfolding absolute_label
-absolute_short r p h = rw (cut_none 58 p (no_colon p h)) refl
+absolute_short r p h = ap (label_of_parts r p) (cut_none 58 p (no_colon p h))
 
 external_whole : (r t : List ℕ) → is_repository r ≡ true → external_label (r ++ 47 ∷ 47 ∷ t) ≡ Some (absolute_label r t)
 unfolding external_label
-external_whole r t h = rw (cut_joined 47 r (47 ∷ t) (no_slash r h)) refl
+external_whole r t h = ap (label_of_repository (r ++ 47 ∷ 47 ∷ t)) (cut_joined 47 r (47 ∷ t) (no_slash r h))
 
 external_alone : (r : List ℕ) → is_repository r ≡ true → external_label r ≡ Some (label_at r [] r)
 unfolding external_label
-external_alone r h = rw (cut_none 47 r (no_slash r h)) refl
+external_alone r h = ap (label_of_repository r) (cut_none 47 r (no_slash r h))
 
 own_label : (own : PackageParts) (l : LabelParts) → package_of l ≡ own → label_in own l.name ≡ l
 own_label own l e = ap (λ (p : PackageParts). label_in p l.name) (sym e)

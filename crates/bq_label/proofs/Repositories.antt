@@ -7,7 +7,8 @@ use Rattle.std.specs.List.{starts_with}
 use Rattle.bq_label.specs.Paths.{is_path, is_repository}
 use Rattle.bq_label.specs.Label.{last_segment}
 use Rattle.bq_label.specs.Reading.{split_once}
-use Rattle.bq_label.specs.Packages.{repository_root, external_root, split_repository_by, split_repository}
+use Rattle.bq_label.specs.Packages.{repository_root, external_root, split_repository}
+use Rattle.bq_label.proofs.Cases.{split_repository_by}
 use Rattle.bq_label.proofs.Cuts.{cut_whole}
 use Rattle.bq_label.proofs.Readings.{first_of_two, second_of_two}
 use Rattle.bq_label.proofs.Above.{same_bytes}

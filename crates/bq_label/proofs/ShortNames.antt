@@ -10,7 +10,8 @@ use Rattle.bq_label.specs.Paths.{is_repository, is_slash, HasNoSlash}
 use Rattle.bq_label.specs.Label.{PackageParts, label_in}
 use Rattle.bq_label.specs.Reading.{split_once}
 use Rattle.bq_label.specs.Workspace.{is_above}
-use Rattle.bq_label.specs.Packages.{label_path, external_root, split_repository_by, split_repository, is_over, nearest, nearest_over, owner_of}
+use Rattle.bq_label.specs.Packages.{label_path, external_root, split_repository, is_over, nearest, nearest_over, owner_of}
+use Rattle.bq_label.proofs.Cases.{split_repository_by}
 
 -- a name in a directory, or at the root
 abbrev under : Option (List ℕ) → List ℕ → List ℕ

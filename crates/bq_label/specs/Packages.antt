@@ -31,15 +31,12 @@ label_path l = repository_root l.repo ++ joined l.package l.name
 abbrev pub external_root : List ℕ
 external_root = codes "external/"
 
--- the repository of a path, if it names one that can be
-abbrev pub split_repository_by : Option (List ℕ × List ℕ) → Option (List ℕ × List ℕ)
-split_repository_by None = None
-split_repository_by (Some p) = if not (bytes_eq p.0 []) && is_repository p.0 then Some p else None
-
 -- the repository that a path lies in, and its path there: `external/NAME/REST` is REST of repository NAME, and any
 -- other path below `external` is in no repository; loads, packages, owners and globs all go by it
 unfoldable pub split_repository : List ℕ → Option (List ℕ × List ℕ)
-split_repository path = if starts_with nat_eq path external_root then split_repository_by (split_once 47 (drop 9 path)) else Some ([], path)
+split_repository path = if starts_with nat_eq path external_root
+    then elim (split_once 47 (drop 9 path)) [ None ↦ None | Some p ↦ if not (bytes_eq p.0 []) && is_repository p.0 then Some p else None ]
+    else Some ([], path)
 
 -- the path in the workspace is the path `rest` of the repository: of the main one what is not below `external`, of any other
 -- what is below `external` and its name
@@ -55,18 +52,10 @@ is_in repo (Some found) = bytes_eq found.0 repo
 unfoldable pub is_in_repository : List ℕ → List ℕ → Bool
 is_in_repository repo path = is_in repo (split_repository path)
 
--- a path was found to be in a repository, at a path there
-abbrev pub is_at : List ℕ → List ℕ → Option (List ℕ × List ℕ) → Bool
-is_at repo rest None = false
-is_at repo rest (Some found) = bytes_eq found.0 repo && bytes_eq found.1 rest
-
--- the file of a repository at this path there
-unfoldable pub file_in : List File → List ℕ → List ℕ → Option File
-file_in files repo rest = find (λ f. is_at repo rest (split_repository f.path)) files
-
 -- the file that a label names: the one of the label's repository at its package's path, then its name
 unfoldable pub label_file : List File → LabelParts → Option File
-label_file files l = file_in files l.repo (joined l.package l.name)
+label_file files l =
+    find (λ f. elim (split_repository f.path) [ None ↦ false | Some p ↦ bytes_eq p.0 l.repo && bytes_eq p.1 (joined l.package l.name) ]) files
 
 -- the label names the file: its path is that of the name in the package, in the label's repository
 pub record IsFileOf (files : List File) (l : LabelParts) (f : File) : Type 0 where
@@ -127,15 +116,10 @@ package_named packages p = find (is_package_id p.repo p.package) packages
 abbrev pub is_over : List ℕ → List ℕ → BuildFile → Bool
 is_over repo rest b = bytes_eq b.id.repo repo && (bytes_eq b.id.package [] || is_above b.id.package rest)
 
--- of two packages above a path, the nearer one
-abbrev pub nearer : BuildFile → Option BuildFile → Option BuildFile
-nearer a None = Some a
-nearer a (Some b) = if nat_lt (length a.id.package) (length b.id.package) then Some b else Some a
-
 -- the package furthest in of those that hold a path
 abbrev pub nearest : List BuildFile → Option BuildFile
 nearest [] = None
-nearest (b ∷ bs) = nearer b (nearest bs)
+nearest (a ∷ bs) = elim (nearest bs) [ None ↦ Some a | Some b ↦ if nat_lt (length a.id.package) (length b.id.package) then Some b else Some a ]
 
 -- of the packages above a path of a repository, the nearest
 unfoldable pub nearest_over : List BuildFile → List ℕ → List ℕ → Option BuildFile

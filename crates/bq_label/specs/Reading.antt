@@ -13,28 +13,19 @@ unfoldable pub split_once : ℕ → List ℕ → Option (List ℕ × List ℕ)
 split_once c [] = None
 split_once c (b ∷ bs) = if b == c then Some ([], bs) else option_map (λ p. (b ∷ p.0, p.1)) (split_once c bs)
 
--- `package:name` or `package`
-abbrev pub label_of_parts : List ℕ → List ℕ → Option (List ℕ × List ℕ) → LabelParts
-label_of_parts repo text None = label_at repo text (last_segment text)
-label_of_parts repo text (Some p) = label_at repo p.0 p.1
-
--- what follows `//`
+-- what follows `//`: `package:name` or `package`
 unfoldable pub absolute_label : List ℕ → List ℕ → LabelParts
-absolute_label repo text = label_of_parts repo text (split_once 58 text)
+absolute_label repo text = elim (split_once 58 text) [ None ↦ label_at repo text (last_segment text) | Some p ↦ label_at repo p.0 p.1 ]
 
 -- a text begins with a byte
 abbrev pub first_is : ℕ → List ℕ → Bool
 first_is c [] = false
 first_is c (b ∷ bs) = b == c
 
--- a label behind `@`: without `//` it is the target of the repository's own name
-abbrev pub label_of_repository : List ℕ → Option (List ℕ × List ℕ) → Option LabelParts
-label_of_repository text None = Some (label_at text [] text)
-label_of_repository text (Some p) = if first_is 47 p.1 then Some (absolute_label p.0 (drop 1 p.1)) else None
-
--- what follows `@`
+-- what follows `@`: without `//` it is the target of the repository's own name
 unfoldable pub external_label : List ℕ → Option LabelParts
-external_label text = label_of_repository text (split_once 47 text)
+external_label text = elim (split_once 47 text) [ None ↦ Some (label_at text [] text) | Some p ↦
+    if first_is 47 p.1 then Some (absolute_label p.0 (drop 1 p.1)) else None ]
 
 -- the parts that a text names, which may be invalid
 unfoldable pub parts_of : PackageParts → List ℕ → Option LabelParts
@@ -64,16 +55,11 @@ or_bad_label (Some l) = Ok l
 
 -- ---- packages
 
--- a package behind `@`: a repository, `//` and a path
-abbrev pub package_of_repository : Option (List ℕ × List ℕ) → Option PackageParts
-package_of_repository None = None
-package_of_repository (Some p) = if first_is 47 p.1 then Some (package_at p.0 (drop 1 p.1)) else None
-
--- the parts of the package that a text names, which may be invalid
+-- the parts of the package that a text names, which may be invalid: behind `@` a repository, `//` and a path
 unfoldable pub package_parts : List ℕ → Option PackageParts
 package_parts [] = None
 package_parts (b ∷ bs) =
-    if b == at_sign then package_of_repository (split_once 47 bs)
+    if b == at_sign then elim (split_once 47 bs) [ None ↦ None | Some p ↦ if first_is 47 p.1 then Some (package_at p.0 (drop 1 p.1)) else None ]
     else if b == 47 && first_is 47 bs then Some (package_at [] (drop 1 bs))
     else None
 

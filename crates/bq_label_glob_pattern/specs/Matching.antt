@@ -28,11 +28,6 @@ abbrev pub any_tail : {X : Type 0} → (List X → Bool) → List X → Bool
 any_tail test [] = test []
 any_tail test (x ∷ xs) = test (x ∷ xs) || any_tail test xs
 
--- the next piece fits, and what is left takes the others
-abbrev pub takes_one : {X : Type 0} → (X → Bool) → (List X → Bool) → List X → Bool
-takes_one fits rest [] = false
-takes_one fits rest (x ∷ xs) = fits x && rest xs
-
 -- there is nothing left
 abbrev pub is_nothing : {X : Type 0} → List X → Bool
 is_nothing [] = true
@@ -41,7 +36,8 @@ is_nothing (x ∷ xs) = false
 -- a pattern takes a list: a piece that stands for many takes any number, each other piece one that fits
 unfoldable pub takes : {A X : Type 0} → (A → Bool) → (A → X → Bool) → List A → List X → Bool
 takes many fits [] xs = is_nothing xs
-takes many fits (a ∷ ps) xs = if many a then any_tail (takes many fits ps) xs else takes_one (fits a) (takes many fits ps) xs
+takes many fits (a ∷ ps) xs =
+    if many a then any_tail (takes many fits ps) xs else elim xs [ [] ↦ false | x ∷ xs ↦ fits a x && takes many fits ps xs ]
 
 -- `*`
 abbrev pub is_star : ℕ → Bool

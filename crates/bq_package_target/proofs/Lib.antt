@@ -5,3 +5,5 @@ pub mod States
 pub mod Made
 pub mod Accepted
 pub mod PutBack
+-- Parts of definitions, as words that proofs name.
+pub mod Cases

@@ -14,7 +14,8 @@ use Rattle.bq_package_target.specs.declared.state.Declared.TheVariants.{Accepted
 use Rattle.bq_package_target.specs.Calls.{declared, exported}
 use Rattle.bq_package_target.specs.Names.{has, are_new}
 use Rattle.bq_package_target.specs.Target.{is_of, names_of, source, generated, declares}
-use Rattle.bq_package_target.specs.Package.{PackageTargets, AreTargetsOf, IsState, IsOwnCall, new_files, files, own_labels, finished, target_named, is_other, is_taken}
+use Rattle.bq_package_target.specs.Package.{PackageTargets, AreTargetsOf, IsState, IsOwnCall, new_files, files, own_labels, finished, target_named, is_taken}
+use Rattle.bq_package_target.proofs.Cases.{is_other}
 use Rattle.bq_package_target.specs.Files.{Finds, FindsOwn}
 use Rattle.bq_package_target.proofs.Taking.{distinct_from_new}
 use Rattle.bq_package_target.proofs.Finding.{names_in, no_files, old_file, new_file, distinct_files, finds_then}

@@ -35,14 +35,9 @@ IsOwnCall own t = list_all (λ d. is_of own d.label) (declares t) ≡ true
 abbrev pub target_named : List Target → List ℕ → Option Target
 target_named ts name = find (λ t. bytes_eq name t.label.name) ts
 
--- a target that is not a source file
-abbrev pub is_other : Option Target → Bool
-is_other None = false
-is_other (Some t) = not (is_source t.kind)
-
 -- a rule, an output or a group has the label's name
 unfoldable pub is_taken : List Target → LabelParts → Bool
-is_taken ts l = is_other (target_named ts l.name)
+is_taken ts l = elim (target_named ts l.name) [ None ↦ false | Some t ↦ not (is_source t.kind) ]
 
 -- the labels that name a file of their own: those whose names are not taken, each once
 unfoldable pub new_files : List (List ℕ) → List LabelParts → List LabelParts

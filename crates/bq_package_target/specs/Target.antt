@@ -27,15 +27,10 @@ source l line = record { label = l; kind = k.Source; attributes = []; line = lin
 abbrev pub generated : Target → LabelParts → Target
 generated rule l = record { label = l; kind = k.Generated rule.label; attributes = []; line = rule.line }
 
--- a generated file depends on its rule, another target on the labels that its attributes name
-abbrev pub dependencies_by : TargetKind → List LabelParts → List LabelParts
-dependencies_by (k.Generated rule) named = rule ∷ []
-dependencies_by _ named = named
-
 -- what a target depends on: a file that a rule makes on its rule, a rule on what its attributes of types label and label_list name, a
 -- group on what it includes, a source file on nothing
 unfoldable pub dependencies : Target → List LabelParts
-dependencies t = dependencies_by t.kind (labels_in t.attributes)
+dependencies t = elim t.kind [ k.Generated rule ↦ rule ∷ [] | _ ↦ labels_in t.attributes ]
 
 -- the targets that a call of a rule or of `package_group` declares: its own, and then the files that the rule makes
 unfoldable pub declares : Target → List Target

@@ -32,15 +32,6 @@ labels_in given = flat_map (λ a. labels_of a.value) given
 abbrev pub outputs_in : List GivenAttribute → List LabelParts
 outputs_in given = flat_map (λ a. outputs_of a.value) given
 
--- the type of an attribute that a rule has of its own
-abbrev pub own_type : Class → List ℕ → Option AttributeType
-own_type class name = option_map (λ a. a.kind) (lookup (bytes_eq name) class)
-
--- the type that is declared, or else the value's own
-abbrev pub or_own : Option AttributeType → Option AttributeType → Option AttributeType
-or_own (Some kind) own = Some kind
-or_own None own = own
-
 -- the type of an attribute of a rule: one that all rules have, or one of its own
 unfoldable pub attribute_type : Class → List ℕ → Option AttributeType
-attribute_type class name = or_own (common_attribute name) (own_type class name)
+attribute_type class name = elim (common_attribute name) [ Some kind ↦ Some kind | None ↦ option_map (λ a. a.kind) (lookup (bytes_eq name) class) ]

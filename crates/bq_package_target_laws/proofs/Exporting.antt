@@ -9,7 +9,8 @@ use Rattle.bq_label.proofs.Orders.{at_head, in_tail, head_or_tail}
 use Rattle.bq_package_target.specs.declared.target.Target.{Target}
 use Rattle.bq_package_target.specs.declared.state.Declared.TheVariants.{Accepted, Refused}
 use Rattle.bq_package_target.specs.Calls.{exported}
-use Rattle.bq_package_target.specs.Package.{PackageTargets, target_named, is_other, is_taken}
+use Rattle.bq_package_target.specs.Package.{PackageTargets, target_named, is_taken}
+use Rattle.bq_package_target.proofs.Cases.{is_other}
 use Rattle.bq_package_target.specs.Target.{is_source, names_of}
 use Rattle.bq_package_target.proofs.States.{exported_old}
 use Rattle.bq_package_target_laws.specs.Files.{HasOtherNamed}

@@ -11,7 +11,8 @@ use Rattle.bq_package_target.specs.declared.target.TargetKind.{TargetKind}
 use Rattle.bq_package_target.specs.declared.target.TargetKind.TheVariants as k
 use Rattle.bq_package_target.specs.declared.value.GivenAttribute.{GivenAttribute}
 use Rattle.bq_package_target.specs.Value.{labels_of, labels_in}
-use Rattle.bq_package_target.specs.Target.{dependencies_by, dependencies}
+use Rattle.bq_package_target.specs.Target.{dependencies}
+use Rattle.bq_package_target.proofs.Cases.{dependencies_by}
 use Rattle.bq_package_target_laws.specs.Names.{HasLabel, one, among, WritesLabel, Depends, on_its_rule, on_what_it_writes}
 
 pub none_in : {X : Type 0} (z : X) → Contains [] z → ⊥

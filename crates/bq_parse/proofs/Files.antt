@@ -8,7 +8,8 @@ use Rattle.bq_base.specs.declared.fault.SourceErr.TheVariants.{Bad}
 use Rattle.std.specs.Prelude.{IfOk}
 use Rattle.bq_base.specs.Gives.{Gives, GivesOneOf}
 use Rattle.bq_source.specs.declared.token.Token.{Token}
-use Rattle.bq_parse_grammar.specs.Lexeme.{Lexeme, lexeme, lexemes}
+use Rattle.bq_parse_grammar.specs.Lexeme.{Lexeme, lexemes}
+use Rattle.bq_parse_grammar.proofs.Cases.{lexeme}
 use Rattle.bq_parse_grammar.specs.Nesting.{nests}
 use Rattle.bq_parse_grammar.specs.Parses.{Parses, allowed, judged, verdict, first_and, all_read, statements_of}
 use Rattle.bq_parse_grammar.specs.Pieces.{pieces}

@@ -10,7 +10,8 @@ use Rattle.bq_source.specs.StringLiteral.{string_value}
 use Rattle.bq_source.specs.Token.{same_kind}
 use Rattle.bq_parse_grammar.specs.Lexeme.{Lexeme, lexemes}
 use Rattle.bq_parse_grammar.specs.Turns.{sees, next}
-use Rattle.bq_parse_grammar.specs.Operators.{binary_operator, of_level, operator_at}
+use Rattle.bq_parse_grammar.specs.Operators.{binary_operator, operator_at}
+use Rattle.bq_parse_grammar.proofs.Cases.{of_level}
 use Rattle.bq_parse_grammar.specs.Reading.{has, is_known, known, looked_up, spelling_of, is_named}
 use Rattle.bq_parse_cursor.specs.Tokens.{kind_ahead, known_by}
 

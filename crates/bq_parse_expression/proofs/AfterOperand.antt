@@ -4,7 +4,8 @@ use Rattle.bq_parse_grammar.specs.Lexeme.{Lexeme}
 use Rattle.bq_parse_grammar.specs.declared.tree.Expr.{Expr}
 use Rattle.bq_parse_grammar.specs.declared.tree.Operator.{Operator}
 use Rattle.bq_parse_grammar.specs.Grammar.{binary_of}
-use Rattle.bq_parse_grammar.specs.Operators.{binary_operator, of_level, operator_at}
+use Rattle.bq_parse_grammar.specs.Operators.{binary_operator, operator_at}
+use Rattle.bq_parse_grammar.proofs.Cases.{of_level}
 use Rattle.bq_parse_grammar.specs.Reading.{has, is_known, operation, unary, binary, chain}
 use Rattle.bq_parse_grammar.specs.Turns.{Found, Parse, ◌>>=◌, repeat}
 use Rattle.bq_parse_expression.specs.Further.{further}

@@ -9,3 +9,5 @@ pub mod Suffixes
 pub mod Vars
 pub mod Keeping
 pub mod Tests
+-- Parts of definitions, as words that proofs name.
+pub mod Cases

@@ -9,11 +9,7 @@ pub record Lexeme : Type 0 where
   pub line : ℕ
   pub spelling : List ℕ
 
--- a token of a text
-abbrev pub lexeme : List ℕ → Token → Lexeme
-lexeme text t = record { kind = t.kind; line = t.line; spelling = slice_range text t.start t.end }
-
 -- the tokens of a text, with their spellings
 abbrev pub lexemes : List ℕ → List Token → List Lexeme
 lexemes text [] = []
-lexemes text (t ∷ ts) = lexeme text t ∷ lexemes text ts
+lexemes text (t ∷ ts) = record { kind = t.kind; line = t.line; spelling = slice_range text t.start t.end } ∷ lexemes text ts

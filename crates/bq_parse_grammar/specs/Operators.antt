@@ -26,14 +26,9 @@ binary_operator k.And = Some (9, o.And)
 binary_operator k.Or = Some (10, o.Or)
 binary_operator _ = None
 
--- the operator, if it binds as tightly as this level
-abbrev pub of_level : ℕ → Option (ℕ × Operator) → Option Operator
-of_level l None = None
-of_level l (Some p) = if p.0 == l then Some p.1 else None
-
 -- the operator of this level that a token is
 abbrev pub operator_at : ℕ → TokenKind → Option Operator
-operator_at l kind = of_level l (binary_operator kind)
+operator_at l kind = elim (binary_operator kind) [ None ↦ None | Some p ↦ if p.0 == l then Some p.1 else None ]
 
 -- the sign that a token is
 abbrev pub sign : TokenKind → Option UnaryOperator

@@ -22,14 +22,10 @@ IsKept ts x = (leaves_out ts || nested_def max_nesting false x.statement) ≡ fa
 abbrev pub IsBarred : FileKind → List Lexeme → Type 0
 IsBarred kind ts = (kind ≡ file.Build) × (barred_in_build ts ≡ true)
 
--- the tokens are no Statement
-abbrev pub HasNoTree : List Lexeme → Type 0
-HasNoTree ts = (x : TopLevel) → IsTopLevel max_nesting ts x → ⊥
-
 -- F11 takes precedence over F10, F10 over F12, F12 over F13.
 pub data ReadsAs (kind : FileKind) : List Lexeme → Result TopLevel FaultKind → Type 0 where
   too_deep : {ts : List Lexeme} → (Nests 0 ts → ⊥) → ReadsAs kind ts (Err f.Nesting)
-  no_tree : {ts : List Lexeme} → Nests 0 ts → HasNoTree ts → ReadsAs kind ts (Err f.Syntax)
+  no_tree : {ts : List Lexeme} → Nests 0 ts → ((x : TopLevel) → IsTopLevel max_nesting ts x → ⊥) → ReadsAs kind ts (Err f.Syntax)
   left_out : {ts : List Lexeme} {x : TopLevel} → Nests 0 ts → IsTopLevel max_nesting ts x → IsLeftOut ts x → ReadsAs kind ts (Err f.LeftOut)
   not_in_build : {ts : List Lexeme} {x : TopLevel} → Nests 0 ts → IsTopLevel max_nesting ts x → IsKept ts x → IsBarred kind ts
       → ReadsAs kind ts (Err f.NotInBuild)

@@ -6,7 +6,8 @@ use Rattle.bq_parse_grammar.specs.declared.tree.Operator.{Operator}
 use Rattle.bq_parse_grammar.specs.declared.tree.UnaryOperator.{UnaryOperator}
 use Rattle.bq_parse_grammar.specs.declared.tree.Comparison.{Comparison}
 use Rattle.bq_parse_grammar.specs.declared.tree.Comparison.TheVariants as c
-use Rattle.bq_parse_grammar.specs.Operators.{binary_operator, of_level, operator_at, sign, negation, comparison, augmented}
+use Rattle.bq_parse_grammar.specs.Operators.{binary_operator, operator_at, sign, negation, comparison, augmented}
+use Rattle.bq_parse_grammar.proofs.Cases.{of_level}
 use Rattle.bq_parse_tree_laws.specs.Parts.{operator_kind, unary_kind, assignment_kind}
 
 -- ---- operators between operands

@@ -21,13 +21,9 @@ options = record default_config { utf8 = false }
 abbrev pub IsRead : List ℕ → Type 0
 IsRead bytes = (hir : Hir) × (names : Names) × Reads options bytes hir names
 
--- the grammar refuses them, with a fault of syntax
-abbrev pub IsRefused : List ℕ → Type 0
-IsRefused bytes = (kind : ErrorKind) × (kind ≢ OutOfMemory) × Refuses options bytes kind
-
--- why bytes are not taken: they are not UTF-8, they are refused by the grammar, or what they read as is too big
+-- why bytes are not taken: they are not UTF-8, the grammar refuses them with a fault of syntax, or what they read as is too big
 abbrev pub IsCause : List ℕ → PatternErr → Type 0
-IsCause bytes BadRegex = (IsUtf8 bytes → ⊥) ⊎ (IsRefused bytes ⊎ IsRead bytes)
+IsCause bytes BadRegex = (IsUtf8 bytes → ⊥) ⊎ (((kind : ErrorKind) × (kind ≢ OutOfMemory) × Refuses options bytes kind) ⊎ IsRead bytes)
 IsCause bytes Memory = Unit {0}
 
 -- whether what the grammar reads in these bytes is found anywhere in the text

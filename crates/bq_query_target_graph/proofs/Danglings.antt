@@ -30,7 +30,8 @@ use Rattle.bq_package_list.specs.Order.{id_of, PackagesAscend}
 use Rattle.bq_label_set.specs.Labels.{same_label, has_label}
 use Rattle.bq_query_target_graph.specs.Order.{all_targets, labels_of}
 use Rattle.bq_query_target_graph.specs.BuildFiles.{build_files, file_of}
-use Rattle.bq_query_target_graph.specs.Dangling.{dangling_line, dangling, dangling_in, dangling_of, all_dangling, dangling_lines, dangling_to, dangling_at, dangling_from, IsDangling}
+use Rattle.bq_query_target_graph.specs.Dangling.{dangling_line, dangling, dangling_of, all_dangling, dangling_lines, dangling_to, dangling_at, dangling_from, IsDangling}
+use Rattle.bq_query_target_graph.proofs.Cases.{dangling_in}
 use Rattle.bq_query_target_graph.proofs.Ascends.{own_package}
 use Rattle.bq_query_target_graph.proofs.Files.{of_package}
 use Rattle.bq_query_target_graph.proofs.Lists.{next_taken}

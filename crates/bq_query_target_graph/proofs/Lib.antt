@@ -6,3 +6,5 @@ pub mod Places
 pub mod Whole
 pub mod Files
 pub mod Danglings
+-- Parts of definitions, as words that proofs name.
+pub mod Cases

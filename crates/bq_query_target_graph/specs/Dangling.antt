@@ -20,13 +20,9 @@ dangling_line b line l = record { label = full_form b; line = line; kind = f.Dan
 unfoldable pub dangling : (LabelParts → Bool) → LabelParts → ℕ → LabelParts → List FaultLine
 dangling known b line l = if is_of (package_of b) l then [] else (if known l then [] else dangling_line b line l ∷ [])
 
--- the lines of the labels that a target depends on
-abbrev pub dangling_in : (LabelParts → Bool) → LabelParts → Target → List FaultLine
-dangling_in known b t = flat_map (dangling known b t.line) (dependencies t)
-
--- the lines of a package's targets
+-- the lines of the labels that a package's targets depend on
 abbrev pub dangling_of : (LabelParts → Bool) → PackageTargets → List FaultLine
-dangling_of known p = flat_map (dangling_in known p.build_file) p.targets
+dangling_of known p = flat_map (λ t. flat_map (dangling known p.build_file t.line) (dependencies t)) p.targets
 
 -- the lines of all packages
 unfoldable pub all_dangling : List PackageTargets → List FaultLine

@@ -14,14 +14,10 @@ use Rattle.bq_query_target_sets.specs.Words.{package_text, has_label, is_package
 abbrev pub has_package : List PackageParts → PackageParts → Bool
 has_package packages p = is_some (find (is_package p) packages)
 
--- a target has this label
-abbrev pub has_target : List Target → LabelParts → Bool
-has_target targets l = is_some (find (has_label l) targets)
-
 -- a label that names nothing: its package, or the target in it, is missing
 abbrev pub missing_label : List PackageParts → List Target → LabelParts → Option QueryErr
 missing_label packages targets l =
-    if has_package packages (package_of l) then (if has_target targets l then None else Some (e.NoSuchTarget (full_form l)))
+    if has_package packages (package_of l) then (if is_some (find (has_label l) targets) then None else Some (e.NoSuchTarget (full_form l)))
     else Some (e.NoSuchPackage (full_form l))
 
 -- a package that isn't there, as its pattern is written

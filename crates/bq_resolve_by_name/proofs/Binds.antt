@@ -13,7 +13,8 @@ use Rattle.bq_parse_grammar.specs.declared.tree.Stmt.{Stmt, out-Stmt}
 use Rattle.bq_parse_grammar.specs.declared.tree.Stmt.TheOpen.{Stmt-F}
 use Rattle.bq_parse_grammar.specs.declared.tree.TargetExpr.{TargetExpr, out-TargetExpr}
 use Rattle.bq_parse_grammar.specs.declared.tree.TopLevel.{TopLevel}
-use Rattle.bq_resolve_scope.specs.Names.{Name, TargetLayer, ClauseLayer, max_layers, has, with_name, with_each, with_target_by, with_target_to, with_target, with_clause_by, with_clause, comprehension_names, with_small_by, with_small, with_branch, with_stmt_by, with_stmt_to, with_stmt, with_parameter, function_names, global_names, with_load_clause, with_load_by, with_load, with_loads_by, with_loads, loaded_names}
+use Rattle.bq_resolve_scope.specs.Names.{Name, TargetLayer, ClauseLayer, max_layers, has, with_name, with_each, with_target_by, with_target_to, with_target, with_clause, comprehension_names, with_small, with_branch, with_stmt_by, with_stmt_to, with_stmt, with_parameter, function_names, global_names, with_load_clause, with_load, with_loads, loaded_names, with_loads_by, with_clause_by}
+use Rattle.bq_resolve_scope.proofs.Cases.{with_small_by, with_load_by}
 use Rattle.bq_resolve_by_name.specs.Binds.{AnyOf, target_binds_by, TargetBindsTo, TargetBinds, clause_binds_by, ClauseBinds, kind_binds, SmallBinds, stmt_binds_by, StmtBindsTo, StmtBinds, ParameterBinds, load_binds_by, loads_bind_by, ComprehensionBinds, FunctionBinds, FileBinds, LoadsBind}
 
 abbrev Held : List Name → Name → Type 0

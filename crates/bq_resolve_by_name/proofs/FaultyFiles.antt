@@ -33,7 +33,8 @@ use Rattle.bq_resolve_scope.specs.declared.code.FileStmt.TheVariants as s
 use Rattle.bq_resolve_scope.specs.declared.code.LoadedSymbol.{LoadedSymbol}
 use Rattle.bq_resolve_scope.specs.declared.code.Resolved.{Resolved}
 use Rattle.bq_resolve_scope.specs.Universe.{UniverseParts}
-use Rattle.bq_resolve_scope.specs.Names.{Name, TargetLayer, max_layers, has, place_among, with_name, with_each, with_target_by, with_target_to, with_target, with_small_by, with_small, with_load_by, with_load, with_load_clause, with_parameter, function_names}
+use Rattle.bq_resolve_scope.specs.Names.{Name, TargetLayer, max_layers, has, place_among, with_name, with_each, with_target_by, with_target_to, with_target, with_small, with_load, with_load_clause, with_parameter, function_names}
+use Rattle.bq_resolve_scope.proofs.Cases.{with_small_by, with_load_by}
 use Rattle.bq_resolve_scope.specs.Scope.{BlockParts, FileParts}
 use Rattle.bq_resolve_scope.specs.Visit.{Passed, Visit, following, ◌>>=◌, pure, stop, fault_of, each, nothing_passed}
 use Rattle.bq_resolve_scope.specs.Expressions.{is_bzl, name_target, target_by, target_to, expr_to}
@@ -42,7 +43,8 @@ use Rattle.bq_resolve_scope.specs.Statements.{ParameterParts, no_parameters, exp
 use Rattle.bq_resolve_scope.specs.Files.{file_names, def_stmt, file_stmt, top_level, resolved_by, resolved}
 use Rattle.bq_resolve_by_name.specs.Binds.{AnyOf, target_binds_by, TargetBindsTo, TargetBinds, kind_binds, SmallBinds, stmt_binds_by, StmtBindsTo, StmtBinds}
 use Rattle.bq_resolve_by_name.specs.Laws.{FaultsAreFirstViolations, FilesWithoutViolationsResolve}
-use Rattle.bq_resolve_by_name.specs.Violations.{first, in_turn, when, Before, nothing_before, in_binding, in_load_clause, in_expr_to, in_expr, in_stmt_to, in_parameter_name, in_parameter, in_function, in_file_target_by, in_file_target_to, in_file_target, in_file_small_by, in_file_small, after_small, in_top_level_by, in_top_level, after_by, after, violations}
+use Rattle.bq_resolve_by_name.specs.Violations.{first, in_turn, when, Before, nothing_before, in_binding, in_load_clause, in_expr_to, in_expr, in_stmt_to, in_parameter_name, in_parameter, in_function, in_file_target_by, in_file_target_to, in_file_target, in_file_small_by, in_file_small, after_small, in_top_level_by, in_top_level, after, violations}
+use Rattle.bq_resolve_by_name.proofs.Cases.{after_by}
 use Rattle.bq_resolve_by_name.proofs.Binds.{function_binds, file_binds}
 use Rattle.bq_resolve_by_name.proofs.Finds.{before, Finding, Tells, Finds, Holds, all_on, first_left, tells_bind, tells_map, tells_two, tells_as, tells_each, tells_all, finds_map, finds_two, finds_bind, finds_held}
 use Rattle.bq_resolve_by_name.proofs.UnknownNames.{one_kind, global_tells}

@@ -11,7 +11,8 @@ use Rattle.bq_resolve_predeclared.specs.Predeclared.{first_named, predeclared_na
 use Rattle.bq_resolve_predeclared.proofs.Found.{nothing_else, same_name}
 use Rattle.bq_resolve_scope.specs.declared.universe.Namespace.{Namespace}
 use Rattle.bq_resolve_scope.specs.declared.universe.Namespace.TheVariants as space
-use Rattle.bq_resolve_scope.specs.Universe.{attr, in_build, native, rule_named, universe_has}
+use Rattle.bq_resolve_scope.specs.Universe.{in_build, rule_named, universe_has}
+use Rattle.bq_resolve_scope.proofs.Cases.{attr, native}
 use Rattle.bq_resolve_scope.specs.Names.{Name}
 use Rattle.bq_resolve_by_name.specs.Binds.{BuildFilesDeclareNoRules, BzlFilesHaveRule, NamespacesAreNoValues}
 

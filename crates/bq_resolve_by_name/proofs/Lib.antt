@@ -25,3 +25,5 @@ pub mod ResolvedStatements
 pub mod ResolvedFiles
 mod KindNames
 pub mod Loads
+-- Parts of definitions, as words that proofs name.
+pub mod Cases

@@ -1,6 +1,5 @@
 -- The code of a file has the loads of the file, in their order, and its globals.
 use Rattle.std.proofs.Common.{◌≡◌, ℕ, ◌+◌, List, [], ◌∷◌, ◌++◌, map, length, refl, ap, ◌∙◌}
-use Rattle.std.specs.List.{flat_map}
 use Rattle.bq_parse_grammar.specs.declared.tree.Branch.{Branch}
 use Rattle.bq_parse_grammar.specs.declared.tree.Load.{Load}
 use Rattle.bq_parse_grammar.specs.declared.tree.LoadClause.{LoadClause}
@@ -22,10 +21,8 @@ use Rattle.bq_resolve_scope.specs.Scope.{FileParts}
 use Rattle.bq_resolve_by_name.specs.Resolution.{InOrder, InTurn, SymbolIs, LoadIs, loads_are, OuterIs, file_stmt_is, TopLevelIs}
 use Rattle.bq_resolve_by_name.proofs.ResolvedFiles.{to_themselves}
 use Rattle.bq_resolve_by_name.specs.Laws.{LoadsAreKept, GlobalsAreKept}
-use Rattle.bq_resolve_by_name.specs.Loads.{WrittenLoad, written_load, loads_by, stmt_loads, file_loads}
-
-abbrev line_loads : List SmallStmt → List WrittenLoad
-line_loads xs = flat_map (λ x. loads_by x.line x.kind) xs
+use Rattle.bq_resolve_by_name.specs.Loads.{WrittenLoad, written_load, loads_by, file_loads}
+use Rattle.bq_resolve_by_name.proofs.Cases.{line_loads, stmt_loads}
 
 abbrev lines : List LoadStmt → List WrittenLoad
 lines ls = map written_load ls

@@ -14,7 +14,8 @@ use Rattle.bq_resolve_scope.specs.declared.code.Binding.{Binding}
 use Rattle.bq_resolve_scope.specs.declared.code.Binding.TheVariants as b
 use Rattle.bq_resolve_scope.specs.declared.code.CodeTarget.{CodeTarget}
 use Rattle.bq_resolve_scope.specs.declared.code.CodeTarget.TheVariants as target
-use Rattle.bq_resolve_scope.specs.Universe.{in_bzl, namespace_named, rule, universe_has}
+use Rattle.bq_resolve_scope.specs.Universe.{in_bzl, namespace_named, universe_has}
+use Rattle.bq_resolve_scope.proofs.Cases.{rule}
 use Rattle.bq_resolve_scope.specs.Names.{Name, has, with_name, place_among, global_names, loaded_names}
 use Rattle.bq_resolve_scope.specs.Scope.{BlockParts, FileParts, or_else, slot_in, slot_of, file_has, use_of}
 use Rattle.bq_resolve_scope.specs.Visit.{Passed, following, given, fault_of}

@@ -90,15 +90,11 @@ nothing_before = record { bound = []; loaded = [] }
 abbrev pub after_small : Before → SmallStmt → Before
 after_small before x = record { bound = with_small before.bound x; loaded = with_load before.loaded x }
 
--- the names bound and loaded so far, behind a statement of this form
-abbrev pub after_by : Before → Stmt-F Stmt Branch → Before
-after_by before (Stmt-F.Simple xs) = record { bound = with_each with_small before.bound xs; loaded = with_each with_load before.loaded xs }
-after_by before (Stmt-F.Def n ps body) = record before { bound = with_name before.bound n.name }
-after_by before _ = before
-
 -- the names bound and loaded so far, behind a statement
 unfoldable pub after : Before → TopLevel → Before
-after before t = after_by before (out-Stmt t.statement)
+after before t = elim (out-Stmt t.statement) [
+    Stmt-F.Simple xs ↦ record { bound = with_each with_small before.bound xs; loaded = with_each with_load before.loaded xs }
+    | Stmt-F.Def n ps body ↦ record before { bound = with_name before.bound n.name } | _ ↦ before ]
 
 module _ (file : FileParts) where
   -- ---- F20: a name that nothing binds

@@ -2,7 +2,8 @@
 use Rattle.std.proofs.Common.{◌≡◌, ◌≢◌, ℕ, Bool, true, false, List, [], ◌∷◌, Option, Some, refl, subst, bytes_eq, cond}
 use Rattle.bq_resolve_predeclared.specs.declared.rule_function.RuleFunction.{RuleFunction}
 use Rattle.bq_resolve_predeclared.specs.declared.rule_function.RuleFunction.TheVariants as f
-use Rattle.bq_resolve_predeclared.specs.RuleFunctions.{attr_named, attr_functions, first_called, rule_function_name}
+use Rattle.bq_resolve_predeclared.specs.RuleFunctions.{attr_named, first_called, rule_function_name}
+use Rattle.bq_resolve_predeclared.proofs.Cases.{attr_functions}
 use Rattle.bq_resolve_predeclared.specs.Laws.{EachAttrFunctionIsFound, NoOtherAttrFunctionIsFound}
 use Rattle.bq_resolve_predeclared.proofs.Found.{same_name}
 

@@ -4,7 +4,8 @@ use Rattle.std.proofs.lemmas.Slice.Eq.{bytes_eq-Decides}
 use Rattle.bq_resolve_predeclared.specs.declared.predeclared.Predeclared.{Predeclared}
 use Rattle.bq_resolve_predeclared.specs.declared.predeclared.Predeclared.TheVariants as p
 use Rattle.bq_resolve_predeclared.specs.declared.host_function.HostFunction.TheVariants as host
-use Rattle.bq_resolve_predeclared.specs.Predeclared.{name_of, predeclared_named, first_named, all_predeclared, is_named, has_name}
+use Rattle.bq_resolve_predeclared.specs.Predeclared.{name_of, predeclared_named, first_named, all_predeclared, is_named}
+use Rattle.bq_resolve_predeclared.proofs.Cases.{has_name}
 use Rattle.bq_resolve_predeclared.specs.Laws.{EachNameIsFound, NothingElseIsFound}
 
 pub same_name : (name own : List ℕ) → bytes_eq name own ≡ true → own ≡ name

@@ -2,7 +2,8 @@
 use Rattle.std.proofs.Common.{◌≡◌, ◌∙◌, ℕ, Bool, true, false, ◌&&◌, List, [], ◌∷◌, Option, Some, None, refl, sym, ap, bytes_eq}
 use Rattle.std.specs.List.{list_all}
 use Rattle.bq_resolve_predeclared.specs.declared.predeclared.Predeclared.{Predeclared}
-use Rattle.bq_resolve_predeclared.specs.Predeclared.{name_of, predeclared_named, first_named, all_predeclared, has_name, has_head}
+use Rattle.bq_resolve_predeclared.specs.Predeclared.{name_of, predeclared_named, first_named, all_predeclared, has_head}
+use Rattle.bq_resolve_predeclared.proofs.Cases.{has_name}
 use Rattle.bq_resolve_predeclared.proofs.Found.{same_name}
 
 abbrev fits : Option (List ℕ) → Bool

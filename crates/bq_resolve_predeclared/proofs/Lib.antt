@@ -3,3 +3,5 @@
 pub mod Found
 mod AttrFound
 pub mod Heads
+-- Parts of definitions, as words that proofs name.
+pub mod Cases

@@ -44,14 +44,9 @@ all_predeclared =
     ∷ p.Host host.Glob ∷ p.Host host.PackageName ∷ p.Host host.Package ∷ p.Host host.Licenses ∷ p.Host host.ExportsFiles
     ∷ p.Host host.PackageGroup ∷ []
 
--- a value has this name
-abbrev pub has_name : List ℕ → Option (List ℕ) → Bool
-has_name name None = false
-has_name name (Some own) = bytes_eq name own
-
 -- a predeclared value has this name
 abbrev pub is_named : List ℕ → Predeclared → Bool
-is_named name x = has_name name (name_of x)
+is_named name x = elim (name_of x) [ None ↦ false | Some own ↦ bytes_eq name own ]
 
 -- the first byte and the length of each name, each pair once
 abbrev pub heads : List (ℕ × ℕ)

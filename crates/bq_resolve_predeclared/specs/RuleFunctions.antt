@@ -13,10 +13,6 @@ rule_function_name f.AttrStringList = codes "string_list"
 rule_function_name f.AttrLabel = codes "label"
 rule_function_name f.AttrLabelList = codes "label_list"
 
--- those of `attr`
-abbrev pub attr_functions : List RuleFunction
-attr_functions = f.AttrString ∷ f.AttrInt ∷ f.AttrBool ∷ f.AttrStringList ∷ f.AttrLabel ∷ f.AttrLabelList ∷ []
-
 -- the first function of this name
 unfoldable pub first_called : List ℕ → List RuleFunction → Option RuleFunction
 first_called name [] = None
@@ -24,4 +20,4 @@ first_called name (x ∷ xs) = if bytes_eq name (rule_function_name x) then Some
 
 -- the function `attr.NAME` of this name
 unfoldable pub attr_named : List ℕ → Option RuleFunction
-attr_named name = first_called name attr_functions
+attr_named name = first_called name (f.AttrString ∷ f.AttrInt ∷ f.AttrBool ∷ f.AttrStringList ∷ f.AttrLabel ∷ f.AttrLabelList ∷ [])

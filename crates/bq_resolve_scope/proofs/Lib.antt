@@ -3,3 +3,5 @@ mod Places
 mod Layers
 mod Uses
 mod Examples
+-- Parts of definitions, as words that proofs name.
+pub mod Cases

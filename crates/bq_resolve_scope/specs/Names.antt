@@ -17,7 +17,6 @@ use Rattle.bq_parse_grammar.specs.declared.tree.Branch.{Branch, out-Branch}
 use Rattle.bq_parse_grammar.specs.declared.tree.Stmt.{Stmt, out-Stmt}
 use Rattle.bq_parse_grammar.specs.declared.tree.Stmt.TheOpen.{Stmt-F}
 use Rattle.bq_parse_grammar.specs.declared.tree.SmallStmt.{SmallStmt}
-use Rattle.bq_parse_grammar.specs.declared.tree.SmallKind.{SmallKind}
 use Rattle.bq_parse_grammar.specs.declared.tree.SmallKind.TheVariants as small
 use Rattle.bq_parse_grammar.specs.declared.tree.Parameter.{Parameter}
 use Rattle.bq_parse_grammar.specs.declared.tree.Parameter.TheVariants as parameter
@@ -93,14 +92,8 @@ comprehension_names cs = with_each with_clause [] cs
 -- ---- statements
 
 -- the names that a small statement assigns join others
-abbrev pub with_small_by : List Name → SmallKind → List Name
-with_small_by names (small.Assign t e) = with_target names t
-with_small_by names (small.Augment t o e) = with_target names t
-with_small_by names _ = names
-
--- the names that a small statement assigns join others
 unfoldable pub with_small : List Name → SmallStmt → List Name
-with_small names s = with_small_by names s.kind
+with_small names s = elim s.kind [ small.Assign t e ↦ with_target names t | small.Augment t o e ↦ with_target names t | _ ↦ names ]
 
 -- the names bound in a branch join others
 abbrev pub with_branch : (List Name → Stmt → List Name) → List Name → Branch → List Name
@@ -146,14 +139,9 @@ global_names ts = with_each (λ names t. with_stmt names t.statement) [] ts
 abbrev pub with_load_clause : List Name → LoadClause → List Name
 with_load_clause names c = with_name names c.local.name
 
--- the names that a load binds join others
-abbrev pub with_load_by : List Name → SmallKind → List Name
-with_load_by names (small.Load l) = with_each with_load_clause names l.clauses
-with_load_by names _ = names
-
 -- the names that a small statement loads join others
 unfoldable pub with_load : List Name → SmallStmt → List Name
-with_load names s = with_load_by names s.kind
+with_load names s = elim s.kind [ small.Load l ↦ with_each with_load_clause names l.clauses | _ ↦ names ]
 
 -- the names that a statement loads join others
 abbrev pub with_loads_by : List Name → Stmt-F Stmt Branch → List Name

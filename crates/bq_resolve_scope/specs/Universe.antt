@@ -16,20 +16,9 @@ use Rattle.bq_resolve_scope.specs.declared.universe.Namespace.TheVariants as spa
 use Rattle.bq_resolve_scope.specs.Names.{place_among}
 
 -- the namespaces: their names are no values, only what they hold is called, as `NAME.function(..)`
-abbrev pub native : List ℕ
-native = codes "native"
-
--- `attr`
-abbrev pub attr : List ℕ
-attr = codes "attr"
-
--- the namespace of this name
 abbrev pub namespace_named : List ℕ → Option Namespace
-namespace_named name = if bytes_eq name native then Some space.Native else if bytes_eq name attr then Some space.Attr else None
-
--- the function that makes a rule
-abbrev pub rule : List ℕ
-rule = codes "rule"
+namespace_named name =
+    if bytes_eq name (codes "native") then Some space.Native else if bytes_eq name (codes "attr") then Some space.Attr else None
 
 -- a file's kind, and the names of the schema's rules, none of them twice
 pub record UniverseParts : Type 0 where
@@ -40,24 +29,13 @@ pub record UniverseParts : Type 0 where
 abbrev pub max_rules : ℕ
 max_rules = 4294967295
 
--- the rule at a place of the schema
-abbrev pub rule_at : Option ℕ → Option HostFunction
-rule_at None = None
-rule_at (Some place) = if nat_lt place max_rules then Some (host.Rule place) else None
-
 -- the rule of this name
 abbrev pub rule_named : List (List ℕ) → List ℕ → Option HostFunction
-rule_named rules name = rule_at (place_among name rules)
+rule_named rules name = elim (place_among name rules) [ None ↦ None | Some place ↦ if nat_lt place max_rules then Some (host.Rule place) else None ]
 
 -- the function of BUILD files of this name: one that is predeclared, or a rule
-abbrev pub host_by : List (List ℕ) → List ℕ → Option Predeclared → Option HostFunction
-host_by rules name None = rule_named rules name
-host_by rules name (Some (p.Host f)) = Some f
-host_by rules name (Some _) = None
-
--- the function of BUILD files of this name
 unfoldable pub host_named : List (List ℕ) → List ℕ → Option HostFunction
-host_named rules name = host_by rules name (predeclared_named name)
+host_named rules name = elim (predeclared_named name) [ None ↦ rule_named rules name | Some (p.Host f) ↦ Some f | Some _ ↦ None ]
 
 -- what a namespace holds by this name: `native` a build function or rule, `attr` a function that makes attributes
 unfoldable pub member_named : Namespace → List (List ℕ) → List ℕ → Option Predeclared
@@ -71,15 +49,11 @@ in_build rules name (Some x) = Some x
 
 -- what a name means in a .bzl file: `rule` is known, functions of BUILD files aren't
 abbrev pub in_bzl : List ℕ → Option Predeclared → Option Predeclared
-in_bzl name None = if bytes_eq name rule then Some (p.RuleFunction f.Rule) else None
+in_bzl name None = if bytes_eq name (codes "rule") then Some (p.RuleFunction f.Rule) else None
 in_bzl name (Some (p.Host f)) = None
 in_bzl name (Some x) = Some x
 
--- what a name means in a file of this kind
-abbrev pub in_kind : FileKind → List (List ℕ) → List ℕ → Option Predeclared → Option Predeclared
-in_kind file.Build rules name x = in_build rules name x
-in_kind file.Bzl rules name x = in_bzl name x
-
 -- what the name stands for in a file that doesn't bind it
 unfoldable pub universe_has : UniverseParts → List ℕ → Option Predeclared
-universe_has universe name = in_kind universe.kind universe.rules name (predeclared_named name)
+universe_has universe name = elim universe.kind [
+    file.Build ↦ in_build universe.rules name (predeclared_named name) | file.Bzl ↦ in_bzl name (predeclared_named name) ]

@@ -9,7 +9,8 @@ use Rattle.bq_source.specs.declared.string_literal.BodyPart.{BodyPart}
 use Rattle.bq_source.specs.declared.string_literal.BodyPart.TheVariants.{Closing, Unclosed, Item}
 use Rattle.std.specs.Prelude.{nat_eq}
 use Rattle.std.specs.Map.{lookup}
-use Rattle.bq_source.specs.StringLiteral.{begins, begins_pair, closes, newline_len, escapes, escape, escape_by, after_backslash, after_backslash_by, plain_by, body_part, BodyItem, item_value, items, items_by, BeginsWith, IsNewline, BeginsNewline, quotes, quotes_by, IsItem, plain, newline, escaped, joined, no_escape, raw_byte, raw_newline, Items, over, more, IsUnclosed}
+use Rattle.bq_source.specs.StringLiteral.{begins, begins_pair, closes, newline_len, escapes, escape, after_backslash, after_backslash_by, plain_by, body_part, BodyItem, item_value, items, BeginsWith, IsNewline, BeginsNewline, quotes, quotes_by, IsItem, plain, newline, escaped, joined, no_escape, raw_byte, raw_newline, Items, over, more, IsUnclosed}
+use Rattle.bq_source.proofs.Cases.{items_by, escape_by}
 
 -- the newline that comes next, by its length
 pub data NewlineAt (text : List ℕ) : ℕ → Type 0 where

@@ -9,7 +9,8 @@ use Rattle.bq_source.specs.declared.string_literal.ItemValue.{ItemValue}
 use Rattle.bq_source.specs.declared.string_literal.ItemValue.TheVariants.{Byte, BackslashAnd, Empty, BadEscape}
 use Rattle.bq_source.specs.declared.string_literal.BodyPart.{BodyPart}
 use Rattle.bq_source.specs.declared.string_literal.BodyPart.TheVariants.{Closing, Unclosed, Item}
-use Rattle.bq_source.specs.StringLiteral.{closes, newline_len, escapes, escape, escape_by, after_backslash, after_backslash_by, plain_by, body_part, BodyItem, item_value, items, BeginsWith, BeginsNewline, quotes, quotes_by, IsQuote, IsItem, plain, newline, escaped, joined, no_escape, raw_byte, raw_newline, Items, over, more, IsUnclosed}
+use Rattle.bq_source.specs.StringLiteral.{closes, newline_len, escapes, escape, after_backslash, after_backslash_by, plain_by, body_part, BodyItem, item_value, items, BeginsWith, BeginsNewline, quotes, quotes_by, IsQuote, IsItem, plain, newline, escaped, joined, no_escape, raw_byte, raw_newline, Items, over, more, IsUnclosed}
+use Rattle.bq_source.proofs.Cases.{escape_by}
 use Rattle.bq_source.proofs.Items.{items_ahead, ahead}
 use Rattle.bq_source.proofs.Bodies.{closes_yes, closes_begun, no_quotes, no_newline_len}
 

@@ -21,9 +21,10 @@ use Rattle.bq_source.specs.declared.string_literal.BodyPart.TheVariants.{Closing
 use Rattle.bq_source.specs.Lexis.{has, is_blank, is_letter, is_word, is_digit, newlines, begins_with, newline_len, comment_len}
 use Rattle.bq_source.specs.Operators.{operators, first_spelled, with_len, operator}
 use Rattle.bq_source.specs.Number.{begins_number, begins_decimal, number_len, is_number_byte, int_value}
-use Rattle.bq_source.specs.StringLiteral.{opening, quotes_len, opening_len, closes, begins, begins_pair, after_backslash_by, plain_by, body_part, BodyItem, item_value, items, items_by, spelling, literal_from, begins_string, scan_string}
+use Rattle.bq_source.specs.StringLiteral.{opening, quotes_len, opening_len, closes, begins, begins_pair, after_backslash_by, plain_by, body_part, BodyItem, item_value, items, spelling, literal_from, begins_string, scan_string}
+use Rattle.bq_source.proofs.Cases.{items_by, string_by, escapes_by, mark_by}
 use Rattle.bq_source.specs.PlainString.{IsPlainString}
-use Rattle.bq_source.specs.Piece.{bytes, word, number, string, string_by, escapes_by, mark, mark_by, joined, next_piece, IsPart, Fits}
+use Rattle.bq_source.specs.Piece.{bytes, word, number, string, mark, joined, next_piece, IsPart, Fits}
 use Rattle.bq_base.proofs.Choices.{by_test, by_bool, above_zero, left_of, right_of}
 use Rattle.bq_source.proofs.Items.{scanned, not_opened}
 
@@ -214,7 +215,7 @@ string_fits text = by_scan (scan_string text) refl
 -- a literal that is read at once
 pub plain_piece : (text : List ℕ) (n : ℕ) → IsPlainString text n → Lexed (Plain k.String) (bytes n) ≡ string text
 unfolding string
-plain_piece text n p = rw (p.literal) (λ i. Lexed (Plain k.String) (record { len = n; lines = sym p.lines i }))
+plain_piece text n p = (λ i. Lexed (Plain k.String) (record { len = n; lines = sym p.lines i })) ∙ sym (ap (λ o. string_by o text) p.literal)
 
 pub plain_fits : (text : List ℕ) (n : ℕ) → IsPlainString text n → Fits text (Lexed (Plain k.String) (bytes n))
 plain_fits text n p = let w = scanned_within text (record { len = n; bad_escape = None }) p.literal in record { some = w.0; within = w.1; lines = omega arith }

@@ -7,7 +7,8 @@ use Rattle.std.specs.Str.{bytes_eq}
 use Rattle.std.proofs.lemmas.Slice.Eq.{bytes_eq-Decides}
 use Rattle.bq_source.specs.declared.token.TokenKind.{TokenKind}
 use Rattle.bq_source.specs.declared.token.TokenKind.TheVariants as k
-use Rattle.bq_source.specs.Lexis.{keywords, reserved_words, word_kind, word_kind_by, other_word, has_head}
+use Rattle.bq_source.specs.Lexis.{keywords, reserved_words, word_kind, has_head}
+use Rattle.bq_source.proofs.Cases.{word_kind_by, other_word}
 use Rattle.bq_base.proofs.Choices.{by_bool, left_of, right_of}
 
 unlike_by : (same : Bool) (w x : List ℕ) → bytes_eq w x ≡ same → has_head w ≡ false → has_head x ≡ true → same ≡ false

@@ -9,7 +9,8 @@ use Rattle.bq_source.specs.declared.string_literal.ItemValue.{ItemValue}
 use Rattle.bq_source.specs.declared.string_literal.ItemValue.TheVariants.{Byte, BackslashAnd, Empty, BadEscape}
 use Rattle.bq_source.specs.declared.string_literal.BodyPart.{BodyPart}
 use Rattle.bq_source.specs.declared.string_literal.BodyPart.TheVariants.{Closing, Unclosed, Item}
-use Rattle.bq_source.specs.StringLiteral.{opening, opening_len, quotes_len, is_plain, body_part, BodyItem, item_value, items, items_by, spelling, values, bad_escape, literal_from, scan_string, scan_string_by}
+use Rattle.bq_source.specs.StringLiteral.{opening, opening_len, quotes_len, is_plain, body_part, BodyItem, item_value, items, spelling, values, bad_escape, literal_from, scan_string}
+use Rattle.bq_source.proofs.Cases.{scan_string_by, items_by}
 
 skipped : (q : Quoting) (k : ℕ) (text : List ℕ) → items q k text ≡ items q 0 (drop k text)
 unfolding items

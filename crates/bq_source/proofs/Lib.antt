@@ -16,3 +16,5 @@ pub mod Fitting
 pub mod Heads
 -- Each piece is spelled as its kind says.
 pub mod Spelled
+-- Parts of definitions, as words that proofs name.
+pub mod Cases

@@ -6,7 +6,8 @@ use Rattle.std.proofs.lemmas.List.{append-nil, take_at, drop_at}
 use Rattle.std.proofs.lemmas.Bool.{eqb-true, eq-eqb, or_cases, and_from, false≢true}
 use Rattle.bq_source.specs.declared.string_literal.Quoting.{Quoting}
 use Rattle.bq_source.specs.declared.string_literal.StringLiteral.{StringLiteral}
-use Rattle.bq_source.specs.StringLiteral.{is_quote, begins_pair, opening, opening_quotes, opening_len, quotes_len, BodyItem, items, spelling, values, bad_escape, literal_from, scan_string, is_whole, string_value, string_value_by, BeginsWith, BeginsNewline, prefix, prefix_by, quotes, quotes_by, IsQuote, Opens, IsItem, plain, newline, escaped, joined, no_escape, raw_byte, raw_newline, Items, over, more, IsLiteral, IsOpenLiteral, literal_of, AllStand, FoundLiteral, ValuedLiteral, SameCut}
+use Rattle.bq_source.specs.StringLiteral.{is_quote, begins_pair, opening, opening_quotes, opening_len, quotes_len, BodyItem, items, spelling, values, bad_escape, literal_from, scan_string, string_value, BeginsWith, BeginsNewline, prefix, prefix_by, quotes, quotes_by, IsQuote, Opens, IsItem, plain, newline, escaped, joined, no_escape, raw_byte, raw_newline, Items, over, more, IsLiteral, IsOpenLiteral, literal_of, AllStand, FoundLiteral, ValuedLiteral, SameCut}
+use Rattle.bq_source.proofs.Cases.{is_whole, string_value_by}
 use Rattle.bq_source.proofs.Items.{scanned, not_opened}
 use Rattle.bq_source.proofs.Bodies.{EndsAt, ends_at, pair_yes, pair_begun}
 use Rattle.bq_source.proofs.Cutting.{items_closed, items_open}

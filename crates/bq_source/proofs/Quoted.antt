@@ -4,7 +4,8 @@ use Rattle.std.specs.Prelude.{nat_eq}
 use Rattle.std.specs.Map.{lookup}
 use Rattle.std.proofs.lemmas.Bool.{eqb-true}
 use Rattle.bq_source.specs.declared.string_literal.Quoting.{Quoting}
-use Rattle.bq_source.specs.StringLiteral.{opening_len, quotes_len, BodyItem, spelling, values, scan_string, string_value, escapes, BeginsWith, BeginsNewline, IsItem, plain, escaped, Items, over, more, IsLiteral, AllStand, quoted_escapes, quoted_byte, quoted_byte_by, quoted_body, quoted}
+use Rattle.bq_source.specs.StringLiteral.{opening_len, quotes_len, BodyItem, spelling, values, scan_string, string_value, escapes, BeginsWith, BeginsNewline, IsItem, plain, escaped, Items, over, more, IsLiteral, AllStand, quoted_escapes, quoted_byte, quoted_body, quoted}
+use Rattle.bq_source.proofs.Cases.{quoted_byte_by}
 use Rattle.bq_source.proofs.LiteralLaws.{literal_found, literal_value, literal_long, no_bad}
 
 double : Quoting

@@ -5,7 +5,8 @@ use Rattle.std.proofs.lemmas.List.{take_at, length-drop}
 use Rattle.std.specs.Prelude.{option_map}
 use Rattle.std.specs.List.{list_all}
 use Rattle.bq_source.specs.declared.string_literal.Quoting.{Quoting}
-use Rattle.bq_source.specs.StringLiteral.{opening, opening_len, quotes_len, BodyItem, items, spelling, values, bad_escape, literal_from, scan_string, scan_string_by, is_whole, string_value, string_value_by, stays, IsItem, plain, newline, escaped, joined, no_escape, raw_byte, raw_newline, Items, over, more}
+use Rattle.bq_source.specs.StringLiteral.{opening, opening_len, quotes_len, BodyItem, items, spelling, values, bad_escape, literal_from, scan_string, string_value, stays, IsItem, plain, newline, escaped, joined, no_escape, raw_byte, raw_newline, Items, over, more}
+use Rattle.bq_source.proofs.Cases.{is_whole, string_value_by, scan_string_by}
 use Rattle.bq_source.proofs.Items.{scanned}
 use Rattle.bq_source.proofs.Bodies.{EndsAt, ends_at}
 
@@ -28,7 +29,9 @@ pub record Whole (q : Quoting) (s : List ℕ) : Type 0 where
 value_at : (s : List ℕ) (q : Quoting) → opening s ≡ Some q
     → string_value s ≡ cond (is_whole (literal_from q (opening_len q) None (items q 0 (drop (opening_len q) s))) (length s)) (option_map values (items q 0 (drop (opening_len q) s))) None
 unfolding string_value
-value_at s q e = rw (scanned s q e) (rw e refl)
+value_at s q e =
+    ap (λ l. cond (is_whole l (length s)) (string_value_by (opening s) s) None) (scanned s q e)
+    ∙ ap (λ o. cond (is_whole (literal_from q (opening_len q) None (items q 0 (drop (opening_len q) s))) (length s)) (string_value_by o s) None) e
 
 none_is : (o : Option ℕ) → is_none o ≡ true → o ≡ None
 none_is None e = refl

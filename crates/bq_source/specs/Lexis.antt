@@ -1,6 +1,6 @@
 -- How blanks, line ends and words are spelled, by the Starlark specification, "Lexical elements". "(ours)" marks where `bq`
 -- differs. Bytes by number: 9 is the tab, 10 the newline, 13 the carriage return, 32 the space, 35 `#`, 92 the backslash.
-use Rattle.std.specs.Prelude.{ℕ, ◌+◌, List, [], ◌∷◌, Bool, true, false, ◌&&◌, ◌||◌, ◌==◌, nat_le, count_by, length, slice_get, Option, Some, None, codes, if◌then◌else◌}
+use Rattle.std.specs.Prelude.{ℕ, ◌+◌, List, [], ◌∷◌, Bool, false, ◌&&◌, ◌||◌, ◌==◌, nat_le, count_by, length, slice_get, Option, Some, None, codes, if◌then◌else◌}
 use Rattle.std.specs.Str.{bytes_eq}
 use Rattle.std.specs.List.{list_any}
 use Rattle.std.specs.Map.{lookup}
@@ -85,16 +85,6 @@ abbrev pub has_head : List ℕ → Bool
 has_head [] = false
 has_head (b ∷ bs) = is_first b (slice_get first_bytes (length (b ∷ bs)))
 
--- a word that is no keyword: reserved, or a name
-abbrev pub other_word : Bool → TokenKind
-other_word true = k.Reserved
-other_word false = k.Identifier
-
--- the token of a word, by the keyword that it is
-abbrev pub word_kind_by : Option TokenKind → List ℕ → TokenKind
-word_kind_by (Some kind) word = kind
-word_kind_by None word = other_word (is_reserved word)
-
--- the token of a word
+-- the token of a word: the keyword's that it is, or else it is reserved or a name
 unfoldable pub word_kind : List ℕ → TokenKind
-word_kind word = word_kind_by (keyword word) word
+word_kind word = elim (keyword word) [ Some kind ↦ kind | None ↦ if is_reserved word then k.Reserved else k.Identifier ]

@@ -1,9 +1,8 @@
 -- What a text begins with: the next piece, by the rule of the lexis that it falls under. A rule names its paragraph of the
 -- Starlark specification, "Lexical elements". Which pieces make tokens is said in Reading.
-use Rattle.std.specs.Prelude.{ℕ, ◌+◌, ◌<◌, ◌≤◌, List, [], ◌∷◌, length, take, ◌==◌, Option, Some, None, is_some, if◌then◌else◌}
+use Rattle.std.specs.Prelude.{ℕ, ◌+◌, ◌<◌, ◌≤◌, List, [], ◌∷◌, length, take, ◌==◌, Some, None, is_some, if◌then◌else◌}
 use Rattle.std.specs.List.{prefix_len}
 use Rattle.bq_source.specs.declared.lexis.RunClass.TheVariants.{Blank, Word}
-use Rattle.bq_source.specs.declared.operators.Lexeme.{Lexeme}
 use Rattle.bq_source.specs.declared.operators.Lexeme.TheVariants.{Plain}
 use Rattle.bq_source.specs.declared.piece.Extent.{Extent}
 use Rattle.bq_source.specs.declared.piece.Piece.{Piece}
@@ -13,7 +12,6 @@ use Rattle.bq_base.specs.declared.fault.FaultKind.TheVariants as f
 use Rattle.bq_source.specs.Lexis.{has, is_blank, is_letter, newlines, newline_len, comment_len, word_kind}
 use Rattle.bq_source.specs.Operators.{operator}
 use Rattle.bq_source.specs.Number.{begins_number, number_len, int_value}
-use Rattle.bq_source.specs.declared.string_literal.StringLiteral.{StringLiteral}
 use Rattle.bq_source.specs.StringLiteral.{begins_string, scan_string}
 
 -- n bytes of one line
@@ -29,35 +27,18 @@ unfoldable pub number : List ℕ → Piece
 number text = let n = number_len text in if is_some (int_value (take n text)) then Lexed (Plain k.Int) (bytes n) else Bad f.BadInt 0
 
 -- "String literals": a missing end takes precedence over a bad escape, which is a fault of its own line (ours)
-abbrev pub escapes_by : Option ℕ → ℕ → List ℕ → Piece
-escapes_by None n text = Lexed (Plain k.String) (record { len = n; lines = newlines (take n text) })
-escapes_by (Some before) n text = Bad f.Escape (newlines (take before text))
-
--- the piece of a string literal, if it has an end
-abbrev pub string_by : Option StringLiteral → List ℕ → Piece
-string_by None text = Bad f.OpenString 0
-string_by (Some literal) text = escapes_by literal.bad_escape literal.len text
-
--- the string literal that a text begins with
 unfoldable pub string : List ℕ → Piece
-string text = string_by (scan_string text) text
+string text = elim (scan_string text) [ None ↦ Bad f.OpenString 0 | Some l ↦ elim l.bad_escape [
+    None ↦ Lexed (Plain k.String) (record { len = l.len; lines = newlines (take l.len text) })
+    | Some before ↦ Bad f.Escape (newlines (take before text)) ] ]
 
 -- "Punctuation": the longest spelling; any other byte is not one of the lexis
-abbrev pub mark_by : Option (List ℕ × Lexeme) → Piece
-mark_by None = Bad f.BadByte 0
-mark_by (Some entry) = Lexed entry.1 (bytes (length entry.0))
-
--- the operator or bracket that a text begins with
 unfoldable pub mark : List ℕ → Piece
-mark text = mark_by (operator text)
+mark text = elim (operator text) [ None ↦ Bad f.BadByte 0 | Some entry ↦ Lexed entry.1 (bytes (length entry.0)) ]
 
 -- a backslash before a line end joins two lines; any other is not one of the lexis
 unfoldable pub joined : List ℕ → Piece
 joined behind = let n = newline_len behind in if n == 0 then Bad f.BadByte 0 else Gap (record { len = n + 1; lines = 1 })
-
--- the end of a line
-abbrev pub line_end : List ℕ → Piece
-line_end text = LineEnd (record { len = newline_len text; lines = 1 })
 
 -- what a text begins with
 abbrev pub piece_by : List ℕ → List ℕ → Piece
@@ -70,7 +51,7 @@ piece_by (b ∷ behind) text =
     else (if b == 35 then Gap (bytes (comment_len text))
     else (if b == 92 then joined behind
     else (if newline_len text == 0 then mark text
-    else line_end text))))))
+    else LineEnd (record { len = newline_len text; lines = 1 })))))))
 
 -- the piece that a text begins with
 unfoldable pub next_piece : List ℕ → Piece

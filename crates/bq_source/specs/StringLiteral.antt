@@ -60,14 +60,9 @@ newline_len (b ∷ bs) = if b == 10 then 1 else (if b == 13 && begins 10 bs then
 abbrev pub escapes : List (ℕ × ℕ)
 escapes = (110, 10) ∷ (114, 13) ∷ (116, 9) ∷ (92, 92) ∷ (39, 39) ∷ (34, 34) ∷ []
 
--- the byte of an escape, if there is such an escape
-abbrev pub escape_by : Option ℕ → ItemValue
-escape_by None = BadEscape
-escape_by (Some b) = Byte b
-
 -- what a backslash and this byte stand for
 abbrev pub escape : ℕ → ItemValue
-escape c = escape_by (lookup (nat_eq c) escapes)
+escape c = elim (lookup (nat_eq c) escapes) [ None ↦ BadEscape | Some b ↦ Byte b ]
 
 -- What a backslash and what comes after it are: a newline, whose length the number is, or a byte. In a raw literal both stay, a newline as `\n`.
 abbrev pub after_backslash_by : Bool → ℕ → List ℕ → BodyPart
@@ -112,17 +107,12 @@ item_value (BackslashAnd b) = Some (92 ∷ b ∷ [])
 item_value Empty = Some []
 item_value BadEscape = None
 
--- the items of a body, by its first part; a literal without its end has none
-abbrev pub items_by : BodyPart → ℕ → List ℕ → (ℕ → Option (List BodyItem)) → Option (List BodyItem)
-items_by Closing b bs later = Some []
-items_by Unclosed b bs later = None
-items_by (Item more value) b bs later = option_map (λ is. record { spelled = b ∷ take more bs; value = item_value value } ∷ is) (later more)
-
 -- The items up to the closing quotes, or `None` where they never come. The number says how many bytes of the last item are still to come.
 unfoldable pub items : Quoting → ℕ → List ℕ → Option (List BodyItem)
 items q skip [] = None
 items q (suc skip) (b ∷ bs) = items q skip bs
-items q zero (b ∷ bs) = items_by (body_part q (b ∷ bs)) b bs (λ more. items q more bs)
+items q zero (b ∷ bs) = elim (body_part q (b ∷ bs)) [ Closing ↦ Some [] | Unclosed ↦ None | Item more value ↦
+    option_map (λ is. record { spelled = b ∷ take more bs; value = item_value value } ∷ is) (items q more bs) ]
 
 -- their spellings in a row
 abbrev pub spelling : List BodyItem → List ℕ
@@ -144,28 +134,15 @@ abbrev pub literal_from : Quoting → ℕ → Option ℕ → Option (List BodyIt
 literal_from q at bad None = None
 literal_from q at bad (Some is) = Some (record { len = at + length (spelling is) + quotes_len q; bad_escape = option_or bad (bad_escape at is) })
 
--- a string literal, by how it begins
-abbrev pub scan_string_by : Option Quoting → List ℕ → Option StringLiteral
-scan_string_by None text = None
-scan_string_by (Some q) text = literal_from q (opening_len q) None (items q 0 (drop (opening_len q) text))
-
 -- The literal that begins here: its length and the place of its first bad escape (F5), or `None` where it does not end (F4).
 unfoldable pub scan_string : List ℕ → Option StringLiteral
-scan_string text = scan_string_by (opening text) text
+scan_string text = elim (opening text) [ None ↦ None | Some q ↦ literal_from q (opening_len q) None (items q 0 (drop (opening_len q) text)) ]
 
--- the bytes that a literal stands for, by how it begins
-abbrev pub string_value_by : Option Quoting → List ℕ → Option (List ℕ)
-string_value_by None spelled = None
-string_value_by (Some q) spelled = option_map values (items q 0 (drop (opening_len q) spelled))
-
--- a literal takes just so many bytes, and each of its escapes is one
-abbrev pub is_whole : Option StringLiteral → ℕ → Bool
-is_whole None n = false
-is_whole (Some l) n = l.len == n && is_none l.bad_escape
-
--- The value of a string literal, from its whole spelling, or `None` where that is not one literal.
+-- The value of a string literal, from its whole spelling, or `None` where that is not one literal, each of whose escapes is one.
 unfoldable pub string_value : List ℕ → Option (List ℕ)
-string_value spelled = if is_whole (scan_string spelled) (length spelled) then string_value_by (opening spelled) spelled else None
+string_value spelled =
+    if elim (scan_string spelled) [ None ↦ false | Some l ↦ l.len == length spelled && is_none l.bad_escape ]
+    then elim (opening spelled) [ None ↦ None | Some q ↦ option_map values (items q 0 (drop (opening_len q) spelled)) ] else None
 
 -- a byte that stands for itself wherever it is in a body
 abbrev pub stays : Bool → ℕ → Bool
@@ -281,13 +258,8 @@ abbrev pub quoted_escapes : List (ℕ × ℕ)
 quoted_escapes = (92, 92) ∷ (34, 34) ∷ (10, 110) ∷ (13, 114) ∷ (9, 116) ∷ []
 
 -- a byte as it is written in quotes
-abbrev pub quoted_byte_by : ℕ → Option ℕ → List ℕ
-quoted_byte_by b None = b ∷ []
-quoted_byte_by b (Some c) = 92 ∷ c ∷ []
-
--- a byte as it is written in quotes
 abbrev pub quoted_byte : ℕ → List ℕ
-quoted_byte b = quoted_byte_by b (lookup (nat_eq b) quoted_escapes)
+quoted_byte b = elim (lookup (nat_eq b) quoted_escapes) [ None ↦ b ∷ [] | Some c ↦ 92 ∷ c ∷ [] ]
 
 -- bytes as they are written in quotes
 abbrev pub quoted_body : List ℕ → List ℕ

@@ -21,7 +21,8 @@ use Rattle.bq_source.specs.Lexis.{has, is_blank, is_letter, is_word, is_digit, n
 use Rattle.bq_source.specs.Operators.{operators, first_spelled, operator as operator_at}
 use Rattle.bq_source.specs.Number.{begins_number, begins_decimal, number_len, is_number_byte, int_value}
 use Rattle.bq_source.specs.StringLiteral.{opening, is_quote, begins_string, scan_string}
-use Rattle.bq_source.specs.Piece.{word as word_piece, number as number_piece, string as string_piece, string_by, escapes_by, mark, mark_by, joined, piece_by, next_piece}
+use Rattle.bq_source.specs.Piece.{word as word_piece, number as number_piece, string as string_piece, mark, joined, piece_by, next_piece}
+use Rattle.bq_source.proofs.Cases.{mark_by, string_by, escapes_by}
 use Rattle.bq_source.specs.Spelling.{BeginsNot, IsRun, IsLineEnd, lf, cr_lf, BeginsLineEnd, IsLineRest, at_end, at_line_end, further, IsGap, blank, comment, joint, IsWord, IsNumber, IsListed, NoneLonger, NoneBegins, IsOperator, IsSpelled, word, number, string, operator, BeginsNothing, IsMisspelled, bad_byte, bad_int, open_string, bad_escape}
 use Rattle.bq_base.proofs.Choices.{by_bool, left_of, right_of}
 use Rattle.bq_source.proofs.Items.{not_opened}

@@ -5,7 +5,8 @@ use Rattle.std.specs.Map.{lookup}
 use Rattle.std.specs.Str.{bytes_eq}
 use Rattle.bq_source.specs.declared.token.TokenKind.{TokenKind}
 use Rattle.bq_source.specs.declared.token.TokenKind.TheVariants as k
-use Rattle.bq_source.specs.Lexis.{keywords, is_reserved, word_kind, word_kind_by, other_word}
+use Rattle.bq_source.specs.Lexis.{keywords, is_reserved, word_kind}
+use Rattle.bq_source.proofs.Cases.{word_kind_by, other_word}
 use Rattle.bq_source.proofs.Spelled.{false_not_true}
 use Rattle.bq_source_laws.specs.Tables.{IsRow, IsIn, IsWordOf, keyword, reserved, identifier, keyword_table, reserved_table}
 use Rattle.bq_source_laws.proofs.Rows.{row_found, no_row, is_in, in_is, words_alike, word_same, of_row, of_entry}

@@ -14,7 +14,8 @@ use Rattle.bq_base.specs.declared.fault.Fault.{Fault}
 use Rattle.bq_source.specs.Token.{same_kind}
 use Rattle.bq_source.specs.Operators.{kind_of}
 use Rattle.bq_source.specs.Piece.{next_piece, IsPart, Fits}
-use Rattle.bq_source_lexer.specs.Reading.{State, skip, push_token, end_line, end_line_by, close_above, width_of, set_width, indent, indent_by, close_by, nest, nest_by, take_token, refuse, and_then, advance, step}
+use Rattle.bq_source_lexer.specs.Reading.{State, skip, push_token, end_line, end_line_by, close_above, width_of, set_width, indent, close_by, nest, nest_by, take_token, refuse, and_then, step}
+use Rattle.bq_source_lexer.proofs.Cases.{advance, indent_by}
 use Rattle.bq_base.proofs.Choices.{by_test}
 use Rattle.bq_source.proofs.Fitting.{fits}
 

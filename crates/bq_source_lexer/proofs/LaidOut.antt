@@ -22,7 +22,8 @@ use Rattle.bq_source.specs.Token.{same_kind}
 use Rattle.bq_source.specs.Lexis.{newlines}
 use Rattle.bq_source.specs.Operators.{kind_of}
 use Rattle.bq_source.specs.Piece.{next_piece, IsPart, Fits}
-use Rattle.bq_source_lexer.specs.Reading.{State, start, margin_of, skip, token_at, push_empty, push_token, end_line, end_line_by, close_above, width_of, at_width, set_width, indent, indent_by, close_by, nest, nest_by, take_token, refuse, and_then, advance, step, end_text, finish, finish_by, Runs, ends, stops, goes, Lexes, too_long, cut as cut_short, max_file_bytes, line_behind}
+use Rattle.bq_source_lexer.specs.Reading.{State, start, margin_of, skip, token_at, push_empty, push_token, end_line, end_line_by, close_above, width_of, at_width, set_width, indent, close_by, nest, nest_by, take_token, refuse, and_then, step, finish, Runs, ends, stops, goes, Lexes, too_long, cut as cut_short, max_file_bytes, line_behind}
+use Rattle.bq_source_lexer.proofs.Cases.{end_text, finish_by, advance, indent_by}
 use Rattle.bq_source.specs.Spelling.{IsLineEnd, IsSpelled, IsMisspelled, IsNoGap, spelled, misspelled}
 use Rattle.bq_source_lexer.specs.Indentation.{width_before, AreMarks, wider, open_}
 use Rattle.bq_source_lexer.specs.Layout.{closed_by, opened_by, Leaves, no_token, one_token, IsInLine, IsBetween, first, after, Before, beginning, past, line_from, token_of, with_tokens, width, has_tab, IsEmptyAt, IsIndented, Takes, gap, in_brackets, blank_line, line_end, token, first_token, Cut, here, on, none, newline, Finishes, Reads, inside, indented, FaultAfter, misspelled as unspelled, tab, uneven, closes_none, never_closed, IsFaulty}

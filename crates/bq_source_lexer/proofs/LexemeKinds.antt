@@ -9,7 +9,8 @@ use Rattle.bq_source_lexer.specs.declared.place.OpenBracket.{OpenBracket}
 use Rattle.bq_source.specs.declared.operators.Lexeme.{Lexeme}
 use Rattle.bq_source.specs.declared.operators.Lexeme.TheVariants.{Plain, Opens, Closes}
 use Rattle.bq_source.specs.Token.{same_kind}
-use Rattle.bq_source.specs.Lexis.{keywords, is_reserved, word_kind, word_kind_by, other_word}
+use Rattle.bq_source.specs.Lexis.{keywords, is_reserved, word_kind}
+use Rattle.bq_source.proofs.Cases.{word_kind_by, other_word}
 use Rattle.bq_source.specs.Operators.{operators, kind_of}
 use Rattle.bq_source.specs.StringLiteral.{scan_string}
 use Rattle.bq_source.specs.Spelling.{IsListed, IsSpelled, word, number, string, operator}

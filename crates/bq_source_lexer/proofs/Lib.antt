@@ -11,3 +11,5 @@ pub mod Lying
 pub mod Widths
 -- The readings are those that `Layout` says.
 pub mod LaidOut
+-- Parts of definitions, as words that proofs name.
+pub mod Cases

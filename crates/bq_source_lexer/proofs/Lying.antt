@@ -20,7 +20,8 @@ use Rattle.bq_source.specs.Token.{same_kind}
 use Rattle.bq_source.specs.Operators.{kind_of}
 use Rattle.bq_source.specs.StringLiteral.{string_value}
 use Rattle.bq_source.specs.Piece.{next_piece, IsPart, Fits}
-use Rattle.bq_source_lexer.specs.Reading.{State, skip, token_at, push_empty, push_token, end_line, end_line_by, close_above, width_of, set_width, indent, indent_by, close_by, nest, nest_by, take_token, refuse, and_then, advance, step, end_text, finish, finish_by, Runs, ends, stops, goes, Lexes, too_long, cut}
+use Rattle.bq_source_lexer.specs.Reading.{State, skip, token_at, push_empty, push_token, end_line, end_line_by, close_above, width_of, set_width, indent, close_by, nest, nest_by, take_token, refuse, and_then, step, finish, Runs, ends, stops, goes, Lexes, too_long, cut}
+use Rattle.bq_source_lexer.proofs.Cases.{end_text, finish_by, advance, indent_by}
 use Rattle.bq_source.specs.Spelling.{IsSpelled, Lies}
 use Rattle.bq_base.proofs.Choices.{by_test}
 use Rattle.bq_source.proofs.Fitting.{fits}

@@ -12,7 +12,6 @@ use Rattle.bq_source.specs.declared.token.Token.{Token}
 use Rattle.bq_source.specs.declared.operators.Lexeme.{Lexeme}
 use Rattle.bq_source.specs.declared.operators.Lexeme.TheVariants.{Plain, Opens, Closes}
 use Rattle.bq_source.specs.declared.piece.Extent.{Extent}
-use Rattle.bq_source.specs.declared.piece.Piece.{Piece}
 use Rattle.bq_source.specs.declared.piece.Piece.TheVariants.{Gap, LineEnd, Lexed, Bad}
 use Rattle.bq_source_lexer.specs.declared.place.Margin.{Margin}
 use Rattle.bq_source_lexer.specs.declared.place.OpenBracket.{OpenBracket}
@@ -100,14 +99,10 @@ set_width width line s =
     if nat_lt (width_of s.widths) width then Ok (record (push_empty k.Indent s) { widths = width ∷ s.widths })
     else at_width width line (close_above width s.widths s)
 
--- The margin counts once a token comes. It has no tab (ours).
-abbrev pub indent_by : Option Margin → State → Result State Fault
-indent_by None s = Ok s
-indent_by (Some margin) s = if margin.tab then Err (fault_at f.Tab margin.line) else set_width margin.width margin.line (record s { margin = None })
-
--- the first token of a line is preceded by what its margin makes
+-- The first token of a line is preceded by what its margin makes, which has no tab (ours).
 unfoldable pub indent : State → Result State Fault
-indent s = indent_by s.margin s
+indent s = elim s.margin [ None ↦ Ok s | Some margin ↦ if margin.tab then Err (fault_at f.Tab margin.line)
+    else set_width margin.width margin.line (record s { margin = None }) ]
 
 -- a closing bracket must be of the innermost open one's kind
 abbrev pub close_by : List OpenBracket → TokenKind → State → Result State Fault
@@ -137,30 +132,16 @@ take_token lexeme extent s = and_then (indent s) (λ t. and_then (nest lexeme t)
 unfoldable pub refuse : Fault → State → Result State Fault
 refuse fault s = and_then (indent s) (λ t. Err fault)
 
--- a piece of the text
-abbrev pub advance : Piece → State → Result State Fault
-advance (Gap extent) s = Ok (skip extent s)
-advance (LineEnd extent) s = Ok (end_line extent s)
-advance (Lexed lexeme extent) s = take_token lexeme extent s
-advance (Bad kind lines) s = refuse (fault_at kind (s.line + lines)) s
-
 -- past the next piece of the text
 unfoldable pub step : State → Result State Fault
-step s = advance (next_piece s.rest) s
+step s = elim (next_piece s.rest) [ Gap extent ↦ Ok (skip extent s) | LineEnd extent ↦ Ok (end_line extent s)
+    | Lexed lexeme extent ↦ take_token lexeme extent s | Bad kind lines ↦ refuse (fault_at kind (s.line + lines)) s ]
 
--- the end of the text ends a logical line that no newline ended
-abbrev pub end_text : Option Margin → State → State
-end_text (Some margin) s = s
-end_text None s = push_empty k.Newline s
-
--- At the end of the text every width is closed. A bracket that is open is never closed: the innermost one is named.
-abbrev pub finish_by : List OpenBracket → State → Result (List Token) Fault
-finish_by (o ∷ os) s = Err (fault_at f.Bracket o.line)
-finish_by [] s = Ok ((close_above 0 s.widths (end_text s.margin s)).tokens)
-
--- the end of the text: no bracket is open, and all blocks end
+-- The end of the text ends a logical line that no newline ended, and closes every width. A bracket that is open is never closed: the
+-- innermost one is named.
 unfoldable pub finish : State → Result (List Token) Fault
-finish s = finish_by s.open_brackets s
+finish s = elim s.open_brackets [ o ∷ os ↦ Err (fault_at f.Bracket o.line)
+    | [] ↦ Ok ((close_above 0 s.widths (elim s.margin [ Some margin ↦ s | None ↦ push_empty k.Newline s ])).tokens) ]
 
 -- from a state the text is cut up to its end, or up to the first place from where it can't be cut
 pub data Runs : State → Result (List Token) Fault → Type 0 where

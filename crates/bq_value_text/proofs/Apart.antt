@@ -7,7 +7,8 @@ use Rattle.std.specs.Fmt.{decimal, signed_decimal}
 use Rattle.std.specs.Char.{digit_value}
 use Rattle.std.specs.Str.Parse.{AllDigits}
 use Rattle.std.proofs.lemmas.Fmt.{decimal_is_IsNumeral, decimal_nonempty, signed_decimal_injective}
-use Rattle.bq_source.specs.StringLiteral.{quoted, quoted_body, quoted_byte, quoted_byte_by, quoted_escapes, string_value}
+use Rattle.bq_source.specs.StringLiteral.{quoted, quoted_body, quoted_byte, quoted_escapes, string_value}
+use Rattle.bq_source.proofs.Cases.{quoted_byte_by}
 use Rattle.bq_source.proofs.Quoted.{reads_back}
 use Rattle.bq_value.specs.Datum.{Datum, none, boolean, int, string, tuple, Data, end, datum}
 use Rattle.bq_value.specs.Cells.{StoreView}
