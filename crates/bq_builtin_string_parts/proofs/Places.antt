@@ -8,7 +8,8 @@ use Rattle.std.specs.Option.{option_map}
 use Rattle.std.specs.Cmp.Lexicographic.{pointwise, same_text}
 use Rattle.memchr.specs.Find.{OccursAt, FindsNeedle, FindsLastNeedle}
 use Rattle.memchr.proofs.lemmas.MatchLemmas.{OccursAt-part, OccursAt-from_part, OccursAt-split}
-use Rattle.bq_builtin_string_parts.specs.Search.{begins, find, later, rfind, StandsAt, IsLeastPlace, IsGreatestPlace}
+use Rattle.bq_builtin_string_parts.specs.Search.{begins, find, rfind, StandsAt, IsLeastPlace, IsGreatestPlace}
+use Rattle.bq_builtin_string_parts.proofs.Cases.{later}
 
 -- ---- a text at the start, and further on
 
