@@ -1,14 +1,8 @@
 -- Parts of definitions, as words that proofs name.
-use Rattle.std.specs.Prelude.{Err, List, None, Option, Result, Some, [], ℕ, ◌∷◌}
-use Rattle.bq_base.specs.declared.fault.Fault.{Fault}
+use Rattle.std.specs.Prelude.{List, None, Option, Some, [], ℕ, ◌∷◌}
 use Rattle.bq_value_rule_class.specs.Class.{Class, extended}
 use Rattle.bq_value_rule_class.specs.declared.attribute.Attribute.{Attribute}
-use Rattle.bq_package_schema.specs.Reading.{bad_line}
 use Rattle.bq_package_schema.specs.Schema.{Rules, with_last}
-
--- what follows a line, if that was good
-abbrev pub go_on : (Rules → Result Rules Fault) → ℕ → Option Rules → Result Rules Fault
-go_on further before o = elim o [ Some next ↦ further next | None ↦ Err (bad_line before) ]
 
 -- a list as all but its last element, and that
 abbrev pub last_by : {A : Type 0} → A → Option (List A × A) → List A × A

@@ -4,8 +4,7 @@ use Rattle.bq_base.specs.declared.fault.Fault.{Fault}
 use Rattle.bq_package_schema.specs.declared.line.Line.TheVariants as line
 use Rattle.bq_package_schema.specs.Line.{line_of}
 use Rattle.bq_package_schema.specs.Schema.{Rules, after}
-use Rattle.bq_package_schema.specs.Reading.{bad_line, declared_by}
-use Rattle.bq_package_schema.proofs.Cases.{go_on}
+use Rattle.bq_package_schema.specs.Reading.{bad_line, go_on, declared_by}
 
 -- a line that is read, and one that is not
 pub read_on : (rules next : Rules) (n : ℕ) (l : List ℕ) (ls : List (List ℕ)) → after rules (line_of l) ≡ Some next → declared_by rules n (l ∷ ls) ≡ declared_by next (n + 1) ls

@@ -1,5 +1,5 @@
 -- What the lines of a text declare (ours).
-use Rattle.std.specs.Prelude.{ℕ, ◌+◌, List, [], ◌∷◌, ◌==◌, Some, None, Result, Ok, Err, nat_lt, if◌then◌else◌}
+use Rattle.std.specs.Prelude.{ℕ, ◌+◌, List, [], ◌∷◌, ◌==◌, Option, Some, None, Result, Ok, Err, nat_lt, if◌then◌else◌}
 use Rattle.std.specs.List.{slice_split}
 use Rattle.bq_base.specs.Fault.{fault_at}
 use Rattle.bq_base.specs.declared.fault.Fault.{Fault}
@@ -19,11 +19,16 @@ line_number before = if nat_lt before 4294967295 then before + 1 else 4294967295
 abbrev pub bad_line : ℕ → Fault
 bad_line before = fault_at f.Schema (line_number before)
 
+-- what follows a line, if that was good
+abbrev pub go_on : (Rules → Result Rules Fault) → ℕ → Option Rules → Result Rules Fault
+go_on further before None = Err (bad_line before)
+go_on further before (Some rules) = further rules
+
 -- what these lines declare after the rules so far, or the fault of the first bad one; the number is that of the lines
 -- before
 unfoldable pub declared_by : Rules → ℕ → List (List ℕ) → Result Rules Fault
 declared_by rules before [] = Ok rules
-declared_by rules before (line ∷ lines) = elim (after rules (line_of line)) [ Some next ↦ declared_by next (before + 1) lines | None ↦ Err (bad_line before) ]
+declared_by rules before (line ∷ lines) = go_on (λ next. declared_by next (before + 1) lines) before (after rules (line_of line))
 
 -- the schema that the text is, or its fault
 unfoldable pub schema_of : List ℕ → Result Rules Fault
