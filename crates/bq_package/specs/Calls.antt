@@ -79,7 +79,8 @@ new_strings texts = new_list (map string texts)
 
 -- what a call of `package_name` gives (F52)
 unfoldable pub package_name : PlaceView → Passed → Result Datum FaultKind
-package_name p passed = and_then (bind (record { parameters = []; placed = 0; takes_rest = false; takes_keywords = false }) passed) (λ b. Ok (string p.own.package))
+package_name p passed =
+    and_then (bind (record { parameters = []; placed = 0; takes_rest = false; takes_keywords = false }) passed) (λ b. Ok (string p.own.package))
 
 -- what a call gives that takes any arguments and changes nothing (F52 where a keyword is there twice)
 unfoldable pub ignored : Passed → Result Datum FaultKind
