@@ -1,14 +1,14 @@
 -- Parts of definitions, as words that proofs name.
-use Rattle.std.specs.Prelude.{Err, List, None, Ok, Option, Result, Some, length, remove, ℕ, ◌+◌}
+use Rattle.std.specs.Prelude.{Err, List, None, Ok, Option, Result, Some, length, remove, ℕ, ◌+◌, [], false, ◌++◌, ◌∷◌}
 use Rattle.bq_base.specs.declared.fault.FaultKind.{FaultKind}
-use Rattle.bq_base.specs.declared.fault.FaultKind.TheVariants.{Index, WrongType}
+use Rattle.bq_base.specs.declared.fault.FaultKind.TheVariants.{Index, WrongType, BadValue}
 use Rattle.bq_builtin_numbers.specs.Length.{within}
 use Rattle.bq_value.specs.Contents.{Contents, items, pairs}
 use Rattle.bq_value.specs.Datum.{Datum, none}
 use Rattle.bq_value.specs.Pairs.{put, without}
 use Rattle.bq_builtin_collections.specs.Dict.{DictChange, or_no_key}
 use Rattle.bq_builtin_collections.specs.List.{ListChange, and_then}
-use Rattle.bq_builtin_collections.specs.PairsGiven.{Pairs}
+use Rattle.bq_builtin_collections.specs.PairsGiven.{Pairs, GivenView}
 
 -- `setdefault`, by what the dict has at the key
 abbrev pub with_default_by : Option Datum → Datum → Datum → DictChange
@@ -41,3 +41,19 @@ pairs_of_content o = elim o [ Some (pairs ps) ↦ Some ps | _ ↦ None ]
 -- the values of a list or tuple (F40)
 abbrev pub values_of_content : Option Contents → Result (List Datum) FaultKind
 values_of_content o = elim o [ Some (items xs) ↦ Ok xs | _ ↦ Err WrongType ]
+
+-- the pairs of what a cell that has to hold a dict holds
+abbrev pub dict_of : Contents → Result Pairs FaultKind
+dict_of o = elim o [ pairs ps ↦ Ok ps | _ ↦ Err WrongType ]
+
+-- the elements of what a cell that has to hold a list holds
+abbrev pub list_of : Contents → Result (List Datum) FaultKind
+list_of o = elim o [ items xs ↦ Ok xs | _ ↦ Err WrongType ]
+
+-- the place that was found; it has to be there
+abbrev pub place_by : Option ℕ → Result ℕ FaultKind
+place_by o = elim o [ Some at ↦ within at | None ↦ Err BadValue ]
+
+-- one more pair was read, or one with another number of elements
+abbrev pub with_pair : Option (Datum × Datum) → GivenView → GivenView
+with_pair o g = elim o [ Some p ↦ record g { unkeyed = g.unkeyed ++ p ∷ [] } | None ↦ record g { all_have_two = false } ]

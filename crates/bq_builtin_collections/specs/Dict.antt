@@ -4,7 +4,7 @@ use Rattle.bq_base.specs.declared.fault.FaultKind.{FaultKind}
 use Rattle.bq_base.specs.declared.fault.FaultKind.TheVariants.{WrongType, NoKey}
 use Rattle.bq_builtin_numbers.specs.Length.{within}
 use Rattle.bq_value.specs.Datum.{Datum, none, tuple, end, datum}
-use Rattle.bq_value.specs.Contents.{Contents, items, pairs, rule}
+use Rattle.bq_value.specs.Contents.{items, pairs, rule}
 use Rattle.bq_value.specs.Pairs.{found, put, without, keys}
 use Rattle.bq_builtin_machine.specs.State.{State}
 use Rattle.bq_builtin_machine.specs.Action.{Action, ◌>>=◌, ◌>>◌, pure, given}
@@ -30,15 +30,9 @@ on_pairs f (pairs ps) = elim (f ps) [ Ok r ↦ Ok (r.0, pairs r.1) | Err kind �
 on_pairs f (items xs) = Err WrongType
 on_pairs f (rule c) = Err WrongType
 
--- the pairs of a cell that has to hold a dict
-abbrev pub dict_of : Contents → Result Pairs FaultKind
-dict_of (pairs ps) = Ok ps
-dict_of (items xs) = Err WrongType
-dict_of (rule c) = Err WrongType
-
 -- the pairs of a dict
 unfoldable pub pairs_in : ℕ → ℕ → Action State Pairs
-pairs_in home number = content home number >>= λ c. given (dict_of c)
+pairs_in home number = content home number >>= λ c. given (elim c [ pairs ps ↦ Ok ps | _ ↦ Err WrongType ])
 
 -- `(key, value)`
 abbrev pub pair_tuple : Datum × Datum → Datum

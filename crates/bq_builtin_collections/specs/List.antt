@@ -5,7 +5,7 @@ use Rattle.bq_base.specs.declared.fault.FaultKind.TheVariants.{WrongType, Index,
 use Rattle.bq_builtin_numbers.specs.Length.{within}
 use Rattle.bq_builtin_numbers.specs.Place.{clamped, indexed}
 use Rattle.bq_value.specs.Datum.{Datum, none, int}
-use Rattle.bq_value.specs.Contents.{Contents, items}
+use Rattle.bq_value.specs.Contents.{items}
 use Rattle.bq_builtin_machine.specs.State.{State}
 use Rattle.bq_builtin_machine.specs.Action.{Action, ◌>>=◌, ◌>>◌, stop, given}
 use Rattle.bq_builtin_machine.specs.Cells.{Change, changing, may_change, content}
@@ -90,27 +90,17 @@ pop home number args = given (optional_argument args) >>= λ o. given (index_or_
 
 -- ---- methods that look for an element
 
--- the elements of a cell that has to hold a list
-abbrev pub list_of : Contents → Result (List Datum) FaultKind
-list_of (items xs) = Ok xs
-list_of _ = Err WrongType
-
 -- the values of a list
 unfoldable pub list_in : ℕ → ℕ → Action State (List Datum)
-list_in home number = content home number >>= λ c. given (list_of c)
+list_in home number = content home number >>= λ c. given (elim c [ items xs ↦ Ok xs | _ ↦ Err WrongType ])
 
 -- where a list has a value between two indices first
 unfoldable pub find : ℕ → ℕ → Datum → Option ℤ → Option ℤ → Action State (Option ℕ)
 find home number v start end = list_in home number >>= λ xs. walk (λ store n. found_between store n xs v start end)
 
--- the place that was found, as an integer of the language; it has to be there
-abbrev pub place_by : Option ℕ → Result ℕ FaultKind
-place_by (Some at) = within at
-place_by None = Err BadValue
-
 -- the place that was found, as an integer (F57 where none was; F54 past the longest list, which none is)
 unfoldable pub place_value : Option ℕ → Result Datum FaultKind
-place_value at = and_then (place_by at) (λ n. Ok (int (pos n)))
+place_value o = and_then (elim o [ Some at ↦ within at | None ↦ Err BadValue ]) (λ n. Ok (int (pos n)))
 
 -- `index(v, start, end)`: the place of the first element that is equal to `v`
 unfoldable pub index : ℕ → ℕ → List Datum → Action State Datum

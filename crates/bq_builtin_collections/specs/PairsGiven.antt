@@ -46,14 +46,10 @@ two _ = None
 unfoldable pub pair_in : StoreView → Datum → Result (Option (Datum × Datum)) FaultKind
 pair_in s v = and_then (parts_of s v) (λ xs. Ok (two xs))
 
--- one more pair was read, or one with another number of elements
-abbrev pub with_pair : Option (Datum × Datum) → GivenView → GivenView
-with_pair (Some p) g = record g { unkeyed = g.unkeyed ++ p ∷ [] }
-with_pair None g = record g { all_have_two = false }
-
 -- reads one element as a pair
 unfoldable pub take_element : StoreView → Datum → GivenView → Result GivenView FaultKind
-take_element s v g = and_then (pair_in s v) (λ o. Ok (with_pair o g))
+take_element s v g =
+    and_then (pair_in s v) (λ o. Ok (elim o [ Some p ↦ record g { unkeyed = g.unkeyed ++ p ∷ [] } | None ↦ record g { all_have_two = false } ]))
 
 -- reads elements as pairs, in turn
 abbrev pub take_elements : StoreView → List Datum → GivenView → Result GivenView FaultKind

@@ -1,5 +1,5 @@
 -- Parts of definitions, as words that proofs name.
-use Rattle.std.specs.Prelude.{Bool, Err, List, None, Ok, Option, Result, Some, false, if◌then◌else◌, true, ℕ}
+use Rattle.std.specs.Prelude.{[], ◌∷◌, Bool, Err, List, None, Ok, Option, Result, Some, false, if◌then◌else◌, true, ℕ}
 use Rattle.bq_base.specs.declared.fault.FaultKind.{FaultKind}
 use Rattle.bq_base.specs.declared.fault.FaultKind.TheVariants.{Format}
 use Rattle.bq_value_compare.specs.Looked.{Looked}
@@ -17,3 +17,7 @@ finished_when o page = elim o [ true ↦ Err Format | false ↦ finished page ]
 -- the first piece of a text, and what stands behind it, by the field that begins here
 abbrev pub piece_by : ℕ → List ℕ → Option (List ℕ × List ℕ) → Piece × List ℕ
 piece_by b bs o = elim o [ Some p ↦ (field p.0, p.1) | None ↦ if is_brace b then doubled b bs else (byte b, bs) ]
+
+-- the text of a field, and what is after the brace that closes it
+abbrev pub closed : List ℕ → List ℕ → Option (List ℕ × List ℕ)
+closed name o = elim o [ [] ↦ None | end ∷ rest ↦ Some (name, rest) ]

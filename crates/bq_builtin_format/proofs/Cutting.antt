@@ -6,8 +6,8 @@ use Rattle.std.specs.Prelude.{cond, ◌==◌}
 use Rattle.std.specs.List.{prefix_len}
 use Rattle.bq_value_text.proofs.Pages.{written_more}
 use Rattle.bq_builtin_format.specs.Percent.{DraftView, and_write}
-use Rattle.bq_builtin_format.specs.Piece.{Piece, byte, field, lone, closed, cut, doubled, field_of, first_piece, is_brace, is_inside, is_plain, literal, opened, piece_written, pieces}
-use Rattle.bq_builtin_format.proofs.Cases.{piece_by}
+use Rattle.bq_builtin_format.specs.Piece.{Piece, byte, field, lone, cut, doubled, field_of, first_piece, is_brace, is_inside, is_plain, literal, opened, piece_written, pieces}
+use Rattle.bq_builtin_format.proofs.Cases.{closed, piece_by}
 
 -- ---- what is after a piece is shorter
 

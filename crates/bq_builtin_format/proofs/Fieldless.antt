@@ -11,11 +11,11 @@ use Rattle.bq_value.specs.Cells.{StoreView}
 use Rattle.bq_value.specs.Datum.{Datum}
 use Rattle.bq_value_text.specs.Page.{written, max_text}
 use Rattle.bq_builtin_format.specs.Percent.{DraftView, and_write, blank, text_by}
-use Rattle.bq_builtin_format.specs.Piece.{Piece, byte, field, lone, IsFieldText, IsCutInto, nothing, plain, doubled_opening, doubled_closing, in_braces, HasNoLone, bytes, closed, cut, doubled, field_of, first_piece, is_brace, is_inside, opened, pieces, with_doubled_braces}
+use Rattle.bq_builtin_format.specs.Piece.{Piece, byte, field, lone, IsFieldText, IsCutInto, nothing, plain, doubled_opening, doubled_closing, in_braces, HasNoLone, bytes, cut, doubled, field_of, first_piece, is_brace, is_inside, opened, pieces, with_doubled_braces}
 use Rattle.bq_builtin_format.specs.Argument.{no_fields}
 use Rattle.bq_builtin_format.specs.Method.{formatted, made}
 use Rattle.bq_builtin_format.proofs.Cutting.{first_shorter, pieces_none, pieces_plain, pieces_brace, pieces_field}
-use Rattle.bq_builtin_format.proofs.Cases.{piece_by}
+use Rattle.bq_builtin_format.proofs.Cases.{closed, piece_by}
 
 -- ---- from the words to the pieces
 

@@ -38,15 +38,13 @@ is_plain b = not (is_brace b)
 abbrev pub is_inside : ℕ → Bool
 is_inside b = not (b == 125)
 
--- the text of a field, and what is after the brace that closes it
-abbrev pub closed : List ℕ → List ℕ → Option (List ℕ × List ℕ)
-closed name [] = None
-closed name (b ∷ rest) = Some (name, rest)
-
 -- the name of a field, and what stands behind its `}`, of the bytes behind a `{` that begins one
 abbrev pub opened : List ℕ → Option (List ℕ × List ℕ)
 opened [] = None
-opened (b ∷ bs) = if b == 123 then None else closed (take (prefix_len is_inside (b ∷ bs)) (b ∷ bs)) (drop (prefix_len is_inside (b ∷ bs)) (b ∷ bs))
+opened (b ∷ bs) = if b == 123 then None else elim (drop (prefix_len is_inside (b ∷ bs)) (b ∷ bs)) [
+  | [] ↦ None
+  | end ∷ rest ↦ Some (take (prefix_len is_inside (b ∷ bs)) (b ∷ bs), rest)
+]
 
 -- the text of the field that a format begins with, and what is after it
 unfoldable pub field_of : List ℕ → Option (List ℕ × List ℕ)

@@ -1,4 +1,5 @@
 -- walks over values, the next one last
+pub mod Cases
 pub mod Reversed
 pub mod Within
 pub mod Integers

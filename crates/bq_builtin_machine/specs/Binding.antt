@@ -70,14 +70,9 @@ unfoldable pub take_all_named : SignatureView → List (List ℕ × Datum) → B
 take_all_named s [] b = Ok b
 take_all_named s (a ∷ named) b = and_bind (take_named s a.0 a.1 b) (take_all_named s named)
 
--- the parameter is there and has a value
-abbrev pub is_given : Option (Option Datum) → Bool
-is_given (Some (Some v)) = true
-is_given _ = false
-
 -- whether the parameter of that place has an argument
 abbrev pub has_value : List (Option Datum) → ℕ → Bool
-has_value vs i = is_given (slice_get vs i)
+has_value vs i = elim (slice_get vs i) [ Some (Some v) ↦ true | _ ↦ false ]
 
 -- each parameter that must have an argument has one; the first one is of that place
 abbrev pub complete_from : ℕ → List ParameterView → List (Option Datum) → Bool

@@ -32,14 +32,9 @@ parameter_of p = record { name = name_of p.name; is_required = p.is_required }
 abbrev pub signature_of : Signature → SignatureView
 signature_of s = record { parameters = map parameter_of s.parameters.now; placed = s.placed; takes_rest = s.takes_rest; takes_keywords = s.takes_keywords }
 
--- a parameter has this name
-abbrev pub name_is : List ℕ → Option (List ℕ) → Bool
-name_is name None = false
-name_is name (Some other) = bytes_eq name other
-
 -- whether an argument of that name is for this parameter
 abbrev pub is_called : List ℕ → ParameterView → Bool
-is_called name p = name_is name p.name
+is_called name p = elim p.name [ None ↦ false | Some other ↦ bytes_eq name other ]
 
 -- how many of the first parameters take positional arguments
 abbrev pub places : SignatureView → ℕ

@@ -4,7 +4,8 @@ use Rattle.std.specs.Prelude.{negsuc, neg_ℤ, ◌+ℤ◌, ◌*ℤ◌, ◌<ℤ�
 use Rattle.std.proofs.lemmas.Int.{ints}
 use Rattle.std.proofs.lemmas.Option.{slice_get_within, get_or_from_slice_get}
 use Rattle.std.proofs.Math.Nat.{suc-mul, zero-mul}
-use Rattle.bq_builtin_numbers.specs.Slice.{element_at, with_first, taken, AreElements}
+use Rattle.bq_builtin_numbers.specs.Slice.{element_at, taken, AreElements}
+use Rattle.bq_builtin_numbers.proofs.Cases.{with_first}
 
 -- a place of an element
 abbrev pub Within : {A : Type 0} → List A → ℤ → Type 0

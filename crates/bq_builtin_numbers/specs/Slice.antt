@@ -35,15 +35,10 @@ abbrev pub element_at : {A : Type 0} → List A → ℤ → Option A
 element_at xs (pos k) = slice_get xs k
 element_at xs (negsuc k) = None
 
--- a list with an element before it, if there is one
-abbrev pub with_first : {A : Type 0} → Option A → List A → List A
-with_first (Some x) xs = x ∷ xs
-with_first None xs = xs
-
 -- the elements at a number of places, from one on by a step
 abbrev pub taken : {A : Type 0} → List A → ℕ → ℤ → ℤ → List A
 taken xs zero at step = []
-taken xs (suc count) at step = with_first (element_at xs at) (taken xs count (at +ℤ step) step)
+taken xs (suc count) at step = elim (element_at xs at) [ Some x ↦ x ∷ taken xs count (at +ℤ step) step | None ↦ taken xs count (at +ℤ step) step ]
 
 -- the elements at the places of a range
 unfoldable pub taken_by : {A : Type 0} → List A → ℤ → ℤ → ℤ → List A

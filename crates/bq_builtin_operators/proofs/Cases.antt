@@ -1,5 +1,5 @@
 -- Parts of definitions, as words that proofs name.
-use Rattle.std.specs.Prelude.{Bool, Err, List, Ok, Option, Result, Some, is_some}
+use Rattle.std.specs.Prelude.{Bool, Err, List, Ok, Option, Result, Some, is_some, None, pos, ℤ}
 use Rattle.bq_base.specs.declared.fault.FaultKind.{FaultKind}
 use Rattle.bq_base.specs.declared.fault.FaultKind.TheVariants.{NoKey, WrongType}
 use Rattle.bq_value.specs.Contents.{Contents, items, pairs}
@@ -23,3 +23,7 @@ list_of_content o = elim o [ Some (items xs) ↦ Ok xs | _ ↦ Err WrongType ]
 -- the value of a key; a value that makes no key is F45, a key that is not there F44
 abbrev pub value_by : List (Datum × Datum) → Looked Datum → Looked Datum
 value_by ps o = elim o [ Ok (key, n) ↦ at_no_cost n (or_fault NoKey (found key ps)) | Err kind ↦ Err kind ]
+
+-- 1 where the step is left out
+abbrev pub step_of : Option ℤ → ℤ
+step_of o = elim o [ None ↦ pos 1 | Some n ↦ n ]

@@ -13,18 +13,15 @@ bound_of none = Ok None
 bound_of (int n) = Ok (Some n)
 bound_of _ = Err WrongType
 
--- 1 where the step is left out
-abbrev pub step_of : Option ℤ → ℤ
-step_of None = pos 1
-step_of (Some n) = n
-
 -- a step of 0 is F57
 abbrev pub with_step : Option ℤ → Option ℤ → ℤ → Result (Option ℤ × Option ℤ × ℤ) FaultKind
 with_step start stop step = cond (int_eq step (pos 0)) (Err BadValue) (Ok (start, stop, step))
 
--- start, stop and step
+-- start, stop and step, which is 1 where it is left out
 unfoldable pub bounds_of : Datum → Datum → Datum → Result (Option ℤ × Option ℤ × ℤ) FaultKind
-bounds_of start stop step = and_then (bound_of start) (λ a. and_then (bound_of stop) (λ b. and_then (bound_of step) (λ c. with_step a b (step_of c))))
+bounds_of start stop step =
+    and_then (bound_of start)
+    (λ a. and_then (bound_of stop) (λ b. and_then (bound_of step) (λ c. with_step a b (elim c [ None ↦ pos 1 | Some n ↦ n ]))))
 
 -- `xs[start:stop:step]`
 unfoldable pub sliced : {A : Type 0} → List A → Datum → Datum → Datum → Result (List A) FaultKind

@@ -6,6 +6,7 @@ use Rattle.bq_builtin_string_parts.specs.Trim.{lstrip, rstrip, spaces}
 use Rattle.bq_builtin_string_classes.specs.Class.{has}
 use Rattle.bq_builtin_string_classes.specs.declared.class.ByteClass.TheVariants.{NonSpace}
 use Rattle.bq_builtin_string_classes.specs.Word.{first_word, last_word, word_within, last_word_within, last_part, words_from, rwords_from}
+use Rattle.bq_builtin_string_classes.proofs.Cases.{rwords_by, words_by}
 
 -- ---- one cut
 
@@ -39,22 +40,22 @@ last_word_some (suc n) (b ∷ bs) front back k some long e f g = rw (f, g, e) re
 words_stop : (n : ℕ) (text : List ℕ) → word_within n text ≡ None → words_from n text ≡ last_part text
 unfolding words_from word_within
 words_stop zero text e = refl
-words_stop (suc n) text e = rw e refl
+words_stop (suc n) text e = ap (words_by (words_from n) text) e
 
 words_go : (n : ℕ) (text word after : List ℕ) → word_within n text ≡ Some (word, after) → words_from n text ≡ word ∷ words_from (n - 1) (lstrip spaces after)
 unfolding words_from word_within
 words_go zero text word after e = absurd (cc)
-words_go (suc n) text word after e = let one : suc n - 1 ≡ n = omega arith in rw (e, one) refl
+words_go (suc n) text word after e = let one : suc n - 1 ≡ n = omega arith in rw one (ap (words_by (words_from n) text) e)
 
 rwords_stop : (n : ℕ) (text : List ℕ) → last_word_within n text ≡ None → rwords_from n text ≡ last_part text
 unfolding rwords_from last_word_within
 rwords_stop zero text e = refl
-rwords_stop (suc n) text e = rw e refl
+rwords_stop (suc n) text e = ap (rwords_by (rwords_from n) text) e
 
 rwords_go : (n : ℕ) (text before word : List ℕ) → last_word_within n text ≡ Some (before, word) → rwords_from n text ≡ rwords_from (n - 1) (rstrip spaces before) ++ word ∷ []
 unfolding rwords_from last_word_within
 rwords_go zero text before word e = absurd (cc)
-rwords_go (suc n) text before word e = let one : suc n - 1 ≡ n = omega arith in rw (e, one) refl
+rwords_go (suc n) text before word e = let one : suc n - 1 ≡ n = omega arith in rw one (ap (rwords_by (rwords_from n) text) e)
 
 -- ---- the parts so far
 

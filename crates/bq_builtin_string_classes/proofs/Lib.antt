@@ -1,4 +1,5 @@
 -- One word after another.
+pub mod Cases
 pub mod Cuts
 -- One line after another.
 pub mod LineCuts

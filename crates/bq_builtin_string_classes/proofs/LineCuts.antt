@@ -3,7 +3,8 @@ use Rattle.std.proofs.Common.{◌≡◌, ◌+◌, ◌<◌, ◌≤◌, ◌++◌, 
 use Rattle.std.proofs.lemmas.Bool.{cases_Bool}
 use Rattle.std.proofs.lemmas.List.{drop_more, drop_all}
 use Rattle.std.specs.List.{concat}
-use Rattle.bq_builtin_string_classes.specs.Line.{line_ends, line_len, lines, onto}
+use Rattle.bq_builtin_string_classes.specs.Line.{line_ends, line_len, lines}
+use Rattle.bq_builtin_string_classes.proofs.Cases.{onto}
 
 len_none : line_len [] ≡ 0
 unfolding line_len

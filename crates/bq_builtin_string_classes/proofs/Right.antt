@@ -8,6 +8,7 @@ use Rattle.bq_builtin_string_parts.specs.Trim.{lstrip, rstrip, spaces}
 use Rattle.bq_builtin_string_classes.specs.Class.{has, is_space}
 use Rattle.bq_builtin_string_classes.specs.declared.class.ByteClass.TheVariants.{NonSpace}
 use Rattle.bq_builtin_string_classes.specs.Word.{AreWords, none, more, IsSpace, IsWord, IsApart, first_word, last_word, words, rwords, words_from, rwords_from}
+use Rattle.bq_builtin_string_classes.proofs.Cases.{words_by}
 
 -- ---- runs
 
@@ -195,7 +196,7 @@ words_none (suc n) = refl
 
 words_one : (n : ℕ) (text word rest : List ℕ) → first_word text ≡ Some (word, rest) → words_from (suc n) text ≡ word ∷ words_from n (lstrip spaces rest)
 unfolding words_from
-words_one n text word rest e = rw e refl
+words_one n text word rest e = ap (words_by (words_from n) text) e
 
 starts : (b : ℕ) (bs rest : List ℕ) → IsWord (b ∷ bs) → Stops (λ c. is_space c) ((b ∷ bs) ++ rest)
 starts b bs rest w = w 0 0 (omega arith)

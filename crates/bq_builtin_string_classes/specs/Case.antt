@@ -18,10 +18,6 @@ is_lower text = list_any (has Lowercase) text && not (list_any (has Uppercase) t
 abbrev pub is_upper : List ℕ → Bool
 is_upper text = list_any (has Uppercase) text && not (list_any (has Lowercase) text)
 
--- a text of one byte
-abbrev pub alone : ℕ → List ℕ
-alone b = b ∷ []
-
 -- texts of one byte each
 abbrev pub elems : List ℕ → List (List ℕ)
-elems text = map alone text
+elems text = map (λ b. b ∷ []) text

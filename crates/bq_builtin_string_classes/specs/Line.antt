@@ -2,23 +2,14 @@
 use Rattle.std.specs.Prelude.{ℕ, suc, ◌-◌, Bool, true, false, not, ◌&&◌, ◌||◌, ◌==◌, nat_eq, List, [], ◌∷◌, length, take, if◌then◌else◌}
 use Rattle.std.specs.List.{starts_with, ends_with}
 
--- the end of a line
-abbrev pub newline : List ℕ
-newline = 10 ∷ []
-
 -- a line ends at a newline, and at a carriage return that has no newline after it
 abbrev pub line_ends : ℕ → List ℕ → Bool
-line_ends b after = (b == 10) || ((b == 13) && not (starts_with nat_eq after newline))
-
--- the byte begins the first of these lines
-abbrev pub onto : ℕ → List (List ℕ) → List (List ℕ)
-onto b [] = (b ∷ []) ∷ []
-onto b (line ∷ others) = (b ∷ line) ∷ others
+line_ends b after = (b == 10) || ((b == 13) && not (starts_with nat_eq after (10 ∷ [])))
 
 -- the lines with their ends; the last may have none
 unfoldable pub lines : List ℕ → List (List ℕ)
 lines [] = []
-lines (b ∷ bs) = if line_ends b bs then (b ∷ []) ∷ lines bs else onto b (lines bs)
+lines (b ∷ bs) = if line_ends b bs then (b ∷ []) ∷ lines bs else elim (lines bs) [ [] ↦ (b ∷ []) ∷ [] | line ∷ others ↦ (b ∷ line) ∷ others ]
 
 -- how long the first line is, with its end
 unfoldable pub line_len : List ℕ → ℕ

@@ -52,29 +52,19 @@ abbrev pub last_part : List ℕ → List (List ℕ)
 last_part [] = []
 last_part (b ∷ bs) = (b ∷ bs) ∷ []
 
--- the words of a text without white space before it, by its first cut at white space
-abbrev pub words_by : (List ℕ → List (List ℕ)) → List ℕ → Option (List ℕ × List ℕ) → List (List ℕ)
-words_by later text None = last_part text
-words_by later text (Some p) = p.0 ∷ later (lstrip spaces p.1)
-
 -- the words of a text that begins with no space, cut from the left at most this many times
 unfoldable pub words_from : ℕ → List ℕ → List (List ℕ)
 words_from zero text = last_part text
-words_from (suc most) text = words_by (words_from most) text (first_word text)
+words_from (suc most) text = elim (first_word text) [ None ↦ last_part text | Some p ↦ p.0 ∷ words_from most (lstrip spaces p.1) ]
 
 -- the words of a text, cut at most so often from the left
 abbrev pub words : ℕ → List ℕ → List (List ℕ)
 words most text = words_from most (lstrip spaces text)
 
--- the words of a text without white space behind it, by its last cut at white space
-abbrev pub rwords_by : (List ℕ → List (List ℕ)) → List ℕ → Option (List ℕ × List ℕ) → List (List ℕ)
-rwords_by earlier text None = last_part text
-rwords_by earlier text (Some p) = earlier (rstrip spaces p.0) ++ p.1 ∷ []
-
 -- the words of a text that ends in no space, cut from the right at most this many times
 unfoldable pub rwords_from : ℕ → List ℕ → List (List ℕ)
 rwords_from zero text = last_part text
-rwords_from (suc most) text = rwords_by (rwords_from most) text (last_word text)
+rwords_from (suc most) text = elim (last_word text) [ None ↦ last_part text | Some p ↦ rwords_from most (rstrip spaces p.0) ++ p.1 ∷ [] ]
 
 -- the words of a text, cut at most so often from the right
 abbrev pub rwords : ℕ → List ℕ → List (List ℕ)

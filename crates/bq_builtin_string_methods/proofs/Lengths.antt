@@ -7,8 +7,9 @@ use Rattle.bq_base.specs.declared.fault.FaultKind.{FaultKind}
 use Rattle.bq_base.specs.declared.fault.FaultKind.TheVariants.{TooLong}
 use Rattle.bq_builtin_string_parts.specs.Search.{find}
 use Rattle.bq_builtin_string_parts.specs.Parts as parts
-use Rattle.bq_builtin_string_parts.specs.Parts.{around, cuts, cuts_by, interleave, joined_on, partition, replace_cuts, replace_by}
+use Rattle.bq_builtin_string_parts.specs.Parts.{around, cuts, interleave, joined_on, partition, replace_cuts}
 use Rattle.bq_builtin_string_parts.proofs.Places.{found_whole}
+use Rattle.bq_builtin_string_parts.proofs.Cases.{cuts_by, replace_by}
 use Rattle.bq_builtin_numbers.specs.Length.{max_len, within}
 use Rattle.bq_value.specs.Datum.{Datum}
 use Rattle.bq_builtin_string_methods.specs.Argument.{and_then, most_in, text_in}

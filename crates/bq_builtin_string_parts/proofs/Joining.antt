@@ -1,8 +1,9 @@
 -- The parts of a text, joined, are the text.
 use Rattle.std.proofs.Common.{◌≡◌, ◌+◌, ◌++◌, ℕ, zero, suc, List, [], ◌∷◌, Option, Some, None, length, take, drop, refl, sym, ap, ◌∙◌, append_assoc, append-nil}
 use Rattle.bq_builtin_string_parts.specs.Search.{find, rfind}
-use Rattle.bq_builtin_string_parts.specs.Parts.{around, partition, rpartition, split_by, split, rsplit_by, rsplit, replace_by, replace_cuts, joined_on, join}
+use Rattle.bq_builtin_string_parts.specs.Parts.{around, partition, rpartition, split, rsplit, replace_cuts, joined_on, join}
 use Rattle.bq_builtin_string_parts.proofs.Places.{found_whole, rfound_whole}
+use Rattle.bq_builtin_string_parts.proofs.Cases.{replace_by, rsplit_by, split_by}
 
 some_same : {A : Type 0} {x y : A} → Some x ≡ Some y → x ≡ y
 some_same e = cc

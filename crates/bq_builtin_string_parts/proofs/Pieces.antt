@@ -3,6 +3,7 @@ use Rattle.std.proofs.Common.{◌≡◌, ◌+◌, ◌-◌, ◌<◌, ◌≤◌, �
 use Rattle.std.proofs.lemmas.List.{drop_more, drop_all, take_rest}
 use Rattle.bq_builtin_string_parts.specs.Search.{find, rfind}
 use Rattle.bq_builtin_string_parts.specs.Parts.{around, partition, rpartition, cut_within, cut_last_within, split, rsplit, cuts, replace_cuts, interleave, joined_on, join}
+use Rattle.bq_builtin_string_parts.proofs.Cases.{cuts_by, replace_by, rsplit_by, split_by}
 
 pub partition_at : (sep text : List ℕ) (v : Option ℕ) → v ≡ find sep text → partition sep text ≡ around sep text v
 unfolding partition
@@ -16,42 +17,42 @@ module _ (sep : List ℕ) where
   pub split_stops : (n : ℕ) (text : List ℕ) → cut_within sep n text ≡ None → split sep n text ≡ text ∷ []
   unfolding split cut_within
   split_stops zero text e = refl
-  split_stops (suc n) text e = rw e refl
+  split_stops (suc n) text e = ap (split_by (split sep n) text) e
 
   pub split_goes : (n : ℕ) (text before after : List ℕ) → cut_within sep n text ≡ Some (before, after) → split sep n text ≡ before ∷ split sep (n - 1) after
   unfolding split cut_within
   split_goes zero text before after e = absurd (cc)
-  split_goes (suc n) text before after e = let one : suc n - 1 ≡ n = omega arith in rw (e, one) refl
+  split_goes (suc n) text before after e = let one : suc n - 1 ≡ n = omega arith in rw one (ap (split_by (split sep n) text) e)
 
   pub rsplit_stops : (n : ℕ) (text : List ℕ) → cut_last_within sep n text ≡ None → rsplit sep n text ≡ text ∷ []
   unfolding rsplit cut_last_within
   rsplit_stops zero text e = refl
-  rsplit_stops (suc n) text e = rw e refl
+  rsplit_stops (suc n) text e = ap (rsplit_by (rsplit sep n) text) e
 
   pub rsplit_goes : (n : ℕ) (text before after : List ℕ) → cut_last_within sep n text ≡ Some (before, after) → rsplit sep n text ≡ rsplit sep (n - 1) before ++ after ∷ []
   unfolding rsplit cut_last_within
   rsplit_goes zero text before after e = absurd (cc)
-  rsplit_goes (suc n) text before after e = let one : suc n - 1 ≡ n = omega arith in rw (e, one) refl
+  rsplit_goes (suc n) text before after e = let one : suc n - 1 ≡ n = omega arith in rw one (ap (rsplit_by (rsplit sep n) text) e)
 
   pub cuts_stop : (n : ℕ) (text : List ℕ) → cut_within sep n text ≡ None → cuts sep n text ≡ 0
   unfolding cuts cut_within
   cuts_stop zero text e = refl
-  cuts_stop (suc n) text e = rw e refl
+  cuts_stop (suc n) text e = ap (cuts_by (cuts sep n)) e
 
   pub cuts_go : (n : ℕ) (text before after : List ℕ) → cut_within sep n text ≡ Some (before, after) → cuts sep n text ≡ 1 + cuts sep (n - 1) after
   unfolding cuts cut_within
   cuts_go zero text before after e = absurd (cc)
-  cuts_go (suc n) text before after e = let one : suc n - 1 ≡ n = omega arith in rw (e, one) refl
+  cuts_go (suc n) text before after e = let one : suc n - 1 ≡ n = omega arith in rw one (ap (cuts_by (cuts sep n)) e)
 
   pub replace_stops : (new : List ℕ) (n : ℕ) (text : List ℕ) → cut_within sep n text ≡ None → replace_cuts sep new n text ≡ text
   unfolding replace_cuts cut_within
   replace_stops new zero text e = refl
-  replace_stops new (suc n) text e = rw e refl
+  replace_stops new (suc n) text e = ap (replace_by (replace_cuts sep new n) new text) e
 
   pub replace_goes : (new : List ℕ) (n : ℕ) (text before after : List ℕ) → cut_within sep n text ≡ Some (before, after) → replace_cuts sep new n text ≡ before ++ (new ++ replace_cuts sep new (n - 1) after)
   unfolding replace_cuts cut_within
   replace_goes new zero text before after e = absurd (cc)
-  replace_goes new (suc n) text before after e = let one : suc n - 1 ≡ n = omega arith in rw (e, one) refl
+  replace_goes new (suc n) text before after e = let one : suc n - 1 ≡ n = omega arith in rw one (ap (replace_by (replace_cuts sep new n) new text) e)
 
 -- ---- between bytes
 

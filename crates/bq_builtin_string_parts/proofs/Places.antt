@@ -8,7 +8,8 @@ use Rattle.std.specs.Option.{option_map}
 use Rattle.std.specs.Cmp.Lexicographic.{pointwise, same_text}
 use Rattle.memchr.specs.Find.{OccursAt, FindsNeedle, FindsLastNeedle}
 use Rattle.memchr.proofs.lemmas.MatchLemmas.{OccursAt-part, OccursAt-from_part, OccursAt-split}
-use Rattle.bq_builtin_string_parts.specs.Search.{begins, find, later, rfind, StandsAt, IsLeastPlace, IsGreatestPlace}
+use Rattle.bq_builtin_string_parts.specs.Search.{begins, find, rfind, StandsAt, IsLeastPlace, IsGreatestPlace}
+use Rattle.bq_builtin_string_parts.proofs.Cases.{later}
 
 -- ---- a text at the start, and further on
 
@@ -57,15 +58,15 @@ unfolding rfind
 rfind_none sub [] n = elim (cases_Bool (begins sub [])) [ inl y ↦ absurd (n 0 (begins_occurs sub [] y)) | inr missing ↦ rw missing refl ]
 rfind_none sub (b ∷ bs) n = elim (cases_Bool (begins sub (b ∷ bs))) [
   | inl y ↦ absurd (n 0 (begins_occurs sub (b ∷ bs) y))
-  | inr missing ↦ rw (rfind_none sub bs (λ k o. n (suc k) (occurs_later sub b bs k o)), missing) refl
+  | inr missing ↦ ap (later (begins sub (b ∷ bs))) (rfind_none sub bs (λ k o. n (suc k) (occurs_later sub b bs k o))) ∙ rw missing refl
 ]
 
 rfind_some : (sub text : List ℕ) (k : ℕ) → OccursAt text sub k → ((j : ℕ) → k < j → OccursAt text sub j → ⊥) → rfind sub text ≡ Some k
 unfolding rfind
 rfind_some sub [] zero o n = rw (occurs_first sub [] o) refl
 rfind_some sub [] (suc k) o n = absurd (omega (arith, o.fits))
-rfind_some sub (b ∷ bs) zero o n = rw (rfind_none sub bs (λ k p. n (suc k) (omega arith) (occurs_later sub b bs k p)), occurs_first sub (b ∷ bs) o) refl
-rfind_some sub (b ∷ bs) (suc k) o n = rw (rfind_some sub bs k (occurs_before sub b bs k o) (λ j l p. n (suc j) (omega arith) (occurs_later sub b bs j p))) refl
+rfind_some sub (b ∷ bs) zero o n = ap (later (begins sub (b ∷ bs))) (rfind_none sub bs (λ k p. n (suc k) (omega arith) (occurs_later sub b bs k p))) ∙ rw (occurs_first sub (b ∷ bs) o) refl
+rfind_some sub (b ∷ bs) (suc k) o n = ap (later (begins sub (b ∷ bs))) (rfind_some sub bs k (occurs_before sub b bs k o) (λ j l p. n (suc j) (omega arith) (occurs_later sub b bs j p)))
 
 pub rfind_is : (sub text : List ℕ) (r : Option ℕ) → FindsLastNeedle text sub r → r ≡ rfind sub text
 rfind_is sub text None h = sym (rfind_none sub text (λ k o. h k (omega arith) (omega (arith, o.fits)) o))

@@ -2,8 +2,9 @@
 use Rattle.std.proofs.Common.{◌≡◌, ◌≢◌, ◌+◌, ◌<◌, ◌≤◌, ◌++◌, ◌⊎◌, ℕ, zero, suc, List, [], ◌∷◌, Option, Some, None, length, take, drop, get_or, refl, sym, ap, subst, ◌∙◌, arith, inl, inr, append_assoc, length-append, length-take-le, length-drop}
 use Rattle.std.specs.List.{Contains}
 use Rattle.bq_builtin_string_parts.specs.Search.{find, StandsAt, IsLeastPlace}
-use Rattle.bq_builtin_string_parts.specs.Parts.{around, partition, split_by, split}
+use Rattle.bq_builtin_string_parts.specs.Parts.{around, partition, split}
 use Rattle.bq_builtin_string_parts.proofs.Places.{find_least, found_whole}
+use Rattle.bq_builtin_string_parts.proofs.Cases.{split_by}
 
 head_or_tail : {X : Type 0} (x : X) (xs : List X) (z : X) → Contains (x ∷ xs) z → (x ≡ z) ⊎ Contains xs z
 head_or_tail x xs z c = by_place c.0 c.1 c.2

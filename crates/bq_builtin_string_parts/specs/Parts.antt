@@ -26,35 +26,20 @@ unfoldable pub cut_last_within : List ℕ → ℕ → List ℕ → Option (List 
 cut_last_within separator zero text = None
 cut_last_within separator (suc left) text = rpartition separator text
 
--- a text cut from the left, by its first cut
-abbrev pub split_by : (List ℕ → List (List ℕ)) → List ℕ → Option (List ℕ × List ℕ) → List (List ℕ)
-split_by later text None = text ∷ []
-split_by later text (Some p) = p.0 ∷ later p.1
-
 -- the text cut at the first separator in what is left, at most this many times
 unfoldable pub split : List ℕ → ℕ → List ℕ → List (List ℕ)
 split separator zero text = text ∷ []
-split separator (suc most) text = split_by (split separator most) text (partition separator text)
-
--- a text cut from the right, by its last cut
-abbrev pub rsplit_by : (List ℕ → List (List ℕ)) → List ℕ → Option (List ℕ × List ℕ) → List (List ℕ)
-rsplit_by earlier text None = text ∷ []
-rsplit_by earlier text (Some p) = earlier p.0 ++ p.1 ∷ []
+split separator (suc most) text = elim (partition separator text) [ None ↦ text ∷ [] | Some p ↦ p.0 ∷ split separator most p.1 ]
 
 -- the text cut at the last separator in what is left, at most this many times
 unfoldable pub rsplit : List ℕ → ℕ → List ℕ → List (List ℕ)
 rsplit separator zero text = text ∷ []
-rsplit separator (suc most) text = rsplit_by (rsplit separator most) text (rpartition separator text)
-
--- how many cuts there are, by the first
-abbrev pub cuts_by : (List ℕ → ℕ) → Option (List ℕ × List ℕ) → ℕ
-cuts_by later None = 0
-cuts_by later (Some p) = 1 + later p.1
+rsplit separator (suc most) text = elim (rpartition separator text) [ None ↦ text ∷ [] | Some p ↦ rsplit separator most p.0 ++ p.1 ∷ [] ]
 
 -- how often the text is cut
 unfoldable pub cuts : List ℕ → ℕ → List ℕ → ℕ
 cuts separator zero text = 0
-cuts separator (suc most) text = cuts_by (cuts separator most) (partition separator text)
+cuts separator (suc most) text = elim (partition separator text) [ None ↦ 0 | Some p ↦ 1 + cuts separator most p.1 ]
 
 -- how often the text has `sub`, without overlaps from the left; an empty one is before each byte and at the end
 unfoldable pub count : List ℕ → List ℕ → ℕ
@@ -70,15 +55,10 @@ unfoldable pub join : List ℕ → List (List ℕ) → List ℕ
 join separator [] = []
 join separator (part ∷ parts) = part ++ joined_on separator parts
 
--- a text with replacements from the left on, by its first cut
-abbrev pub replace_by : (List ℕ → List ℕ) → List ℕ → List ℕ → Option (List ℕ × List ℕ) → List ℕ
-replace_by later new text None = text
-replace_by later new text (Some p) = p.0 ++ (new ++ later p.1)
-
 -- the text with another in place of each of the first places where it is cut
 unfoldable pub replace_cuts : List ℕ → List ℕ → ℕ → List ℕ → List ℕ
 replace_cuts old new zero text = text
-replace_cuts old new (suc most) text = replace_by (replace_cuts old new most) new text (partition old text)
+replace_cuts old new (suc most) text = elim (partition old text) [ None ↦ text | Some p ↦ p.0 ++ (new ++ replace_cuts old new most p.1) ]
 
 -- `new` before each byte and at the end, at most this many times
 unfoldable pub interleave : List ℕ → ℕ → List ℕ → List ℕ

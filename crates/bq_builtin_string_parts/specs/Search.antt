@@ -33,12 +33,7 @@ unfoldable pub find : List ℕ → List ℕ → Option ℕ
 find sub [] = if begins sub [] then Some 0 else None
 find sub (b ∷ bs) = if begins sub (b ∷ bs) then Some 0 else option_map (λ k. suc k) (find sub bs)
 
--- the last place: one further on, or this one
-abbrev pub later : Bool → Option ℕ → Option ℕ
-later here None = if here then Some 0 else None
-later here (Some k) = Some (suc k)
-
 -- the last place of `sub`
 unfoldable pub rfind : List ℕ → List ℕ → Option ℕ
 rfind sub [] = if begins sub [] then Some 0 else None
-rfind sub (b ∷ bs) = later (begins sub (b ∷ bs)) (rfind sub bs)
+rfind sub (b ∷ bs) = elim (rfind sub bs) [ Some k ↦ Some (suc k) | None ↦ if begins sub (b ∷ bs) then Some 0 else None ]

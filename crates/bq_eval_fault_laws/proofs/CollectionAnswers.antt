@@ -12,12 +12,12 @@ use Rattle.bq_builtin_collections.specs.Arguments.{no_argument, one_argument, tw
 use Rattle.bq_builtin_collections.specs.Dict as dict
 use Rattle.bq_builtin_collections.specs.Dict.{DictChange, on_pairs, emptied, or_no_key, taken_out, first_out, with_default}
 use Rattle.bq_builtin_collections.specs.List as list
-use Rattle.bq_builtin_collections.specs.List.{ListChange, on_items, and_then, appended, extended, inserted, popped, cleared, dropped, place_by, place_value}
-use Rattle.bq_builtin_collections.specs.PairsGiven.{GivenView, parts_of, two, pair_in, with_pair, take_element, take_elements}
+use Rattle.bq_builtin_collections.specs.List.{ListChange, on_items, and_then, appended, extended, inserted, popped, cleared, dropped, place_value}
+use Rattle.bq_builtin_collections.specs.PairsGiven.{GivenView, parts_of, two, pair_in, take_element, take_elements}
 use Rattle.bq_builtin_methods.specs.Placed.{placed}
 use Rattle.bq_eval_fault_laws.proofs.Fine.{Fine}
 use Rattle.bq_eval_fault_laws.proofs.Sequences.{within_fine, indexed_fine}
-use Rattle.bq_builtin_collections.proofs.Cases.{as_items, as_pairs, dropped_by, taken_by, taken_out_by, values_of_content, with_default_by}
+use Rattle.bq_builtin_collections.proofs.Cases.{as_items, as_pairs, dropped_by, place_by, taken_by, taken_out_by, values_of_content, with_default_by, with_pair}
 use Rattle.bq_builtin_methods.proofs.Cases.{placed_by}
 
 then_fine : {A B : Type 0} (r : Result A FaultKind) (next : A → Result B FaultKind) → Fine r → ((x : A) → Fine (next x)) → Fine (and_then r next)

@@ -25,13 +25,13 @@ use Rattle.bq_builtin_operators.specs.Operand.{as_int, as_string, as_tuple, int_
 use Rattle.bq_builtin_operators.specs.Operate.{list_slice}
 use Rattle.bq_builtin_operators.specs.Product.{list_product}
 use Rattle.bq_builtin_operators.specs.Sequence.{limited, joined, repeated}
-use Rattle.bq_builtin_operators.specs.Slicing.{bound_of, step_of, with_step, bounds_of, sliced}
+use Rattle.bq_builtin_operators.specs.Slicing.{bound_of, with_step, bounds_of, sliced}
 use Rattle.bq_builtin_operators.specs.Subscript.{item_in, byte_in, integer_in}
 use Rattle.bq_builtin_operators.specs.Sum.{string_sum, tuple_sum, list_sum}
 use Rattle.bq_builtin_operators.specs.Union.{put_all, united, dict_union}
 use Rattle.bq_eval_fault_laws.proofs.Fine.{Fine, fine_then, fine_cond, fine_fault}
 use Rattle.bq_builtin_numbers.proofs.Cases.{element_by, halved_by, scaled_by}
-use Rattle.bq_builtin_operators.proofs.Cases.{dict_of_content, list_of_content}
+use Rattle.bq_builtin_operators.proofs.Cases.{dict_of_content, list_of_content, step_of}
 
 -- ---- operands
 

@@ -39,15 +39,10 @@ frozen_unit (Some (Some file)) (Some values) =
     Some (record { functions = file.functions; round = record { globals = λ k. slice_get (take (length file.globals) values) k; loaded = λ k. slice_get (drop (length file.globals) values) k } })
 frozen_unit _ _ = None
 
--- the values of the globals of a module: of one of these frozen modules, or of one that they reach
-abbrev pub or_else : {A : Type 0} → Option A → Option A → Option A
-or_else (Some x) other = Some x
-or_else None other = other
-
 -- the globals of a loaded module, by its number
 unfoldable pub globals_among : ℕ → List FrozenView → Option (List Datum)
 globals_among n [] = None
-globals_among n (f ∷ fs) = or_else (globals_at f n) (globals_among n fs)
+globals_among n (f ∷ fs) = elim (globals_at f n) [ Some x ↦ Some x | None ↦ globals_among n fs ]
 
 -- the modules that these frozen ones reach, by their files
 unfoldable pub frozen_units : List (Option Resolved) → List FrozenView → Units

@@ -1,4 +1,5 @@
 -- what an answer in place of a pattern says
+pub mod Cases
 pub mod Patterns
 -- each fault for which a call is refused is one that a host may refuse a call for
 pub mod Refusals

@@ -21,7 +21,6 @@ use Rattle.bq_package_target.specs.Calls.{declared, exported}
 use Rattle.bq_resolve_predeclared.specs.declared.host_function.HostFunction.{HostFunction}
 use Rattle.bq_resolve_predeclared.specs.declared.host_function.HostFunction.TheVariants as b
 use Rattle.bq_package.specs.Place.{PlaceView}
-use Rattle.bq_package.specs.Bound.{any_parameters, no_parameters}
 use Rattle.bq_package.specs.Glob.{globbed}
 use Rattle.bq_package.specs.Files.{files_named}
 use Rattle.bq_package.specs.Groups.{group_named}
@@ -29,6 +28,7 @@ use Rattle.bq_package.specs.Rules.{declared_target, rule_target}
 use Rattle.bq_package.specs.Calls.{HeldPackage, outside, declaring, Declaring, place_in, new_strings, package_name, ignored, settled, declares, call_in, call_by, rule_by}
 use Rattle.bq_package.specs.Keeping.{IsSettled}
 use Rattle.bq_package.proofs.Refusals.{IsRefusable, of_glob, of_files, of_group, of_rule, of_declaration, of_both, of_bind}
+use Rattle.bq_package.proofs.Cases.{any_parameters, no_parameters}
 
 abbrev Answer : Type 0
 Answer = Result Datum EvalErr

@@ -45,10 +45,11 @@ use Rattle.bq_package.specs.Place.{PlaceView}
 use Rattle.bq_package_typed_value.specs.Parameters.{argument}
 use Rattle.bq_package.specs.Bound.{glob_parameters, exports_parameters, group_parameters, text_of, texts_of}
 use Rattle.bq_package.specs.declared.glob.GlobRequest.{GlobRequest}
-use Rattle.bq_package.specs.Glob.{pattern, patterns, excludes_directories, allows_empty, asked, request_by, request_of, found, is_idle, is_nothing, names_of, globbed}
+use Rattle.bq_package.specs.Glob.{pattern, patterns, excludes_directories, allows_empty, request_by, request_of, found, is_idle, is_nothing, names_of, globbed}
 use Rattle.bq_package.specs.Files.{files_named}
 use Rattle.bq_package.specs.Groups.{names_first, group, group_labels, group_of, group_named}
 use Rattle.bq_package.specs.Rules.{declared_target, target_by, rule_target}
+use Rattle.bq_package.proofs.Cases.{asked}
 use Rattle.bq_package_typed_value.proofs.Cases.{label_found, listed}
 use Rattle.bq_package_attributes.proofs.Cases.{with_attribute_by}
 

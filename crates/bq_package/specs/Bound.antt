@@ -1,5 +1,5 @@
 -- The parameters of the build functions (Bazel, Build Encyclopedia, "Functions"), and what is read of the arguments that they take.
-use Rattle.std.specs.Prelude.{ℕ, true, false, List, [], ◌∷◌, Option, Some, None, Result, Ok, Err, codes}
+use Rattle.std.specs.Prelude.{ℕ, false, List, [], ◌∷◌, Option, Some, None, Result, Ok, Err, codes}
 use Rattle.bq_base.specs.declared.fault.FaultKind.{FaultKind}
 use Rattle.bq_base.specs.declared.fault.FaultKind.TheVariants.{AttributeType}
 use Rattle.bq_value.specs.Datum.{Datum}
@@ -16,14 +16,6 @@ glob_parameters = record {
   takes_rest = false;
   takes_keywords = false;
 }
-
--- `()`
-abbrev pub no_parameters : SignatureView
-no_parameters = record { parameters = []; placed = 0; takes_rest = false; takes_keywords = false }
-
--- `(*args, **kwargs)`
-abbrev pub any_parameters : SignatureView
-any_parameters = record { parameters = []; placed = 0; takes_rest = true; takes_keywords = true }
 
 -- `(srcs, visibility = None, licenses = None)`
 abbrev pub exports_parameters : SignatureView

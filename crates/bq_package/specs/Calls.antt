@@ -1,6 +1,6 @@
 -- What the calls of build functions and of rules mean (Bazel, Build Encyclopedia, "Functions"). While no BUILD file is evaluated each of
 -- them is F70, before any other fault. A rule that a .bzl file declares and a rule of the schema declare targets by one definition.
-use Rattle.std.specs.Prelude.{ℕ, List, map, Bool, true, false, Option, Some, None, Result, Ok, Err}
+use Rattle.std.specs.Prelude.{ℕ, List, [], map, Bool, true, false, Option, Some, None, Result, Ok, Err}
 use Rattle.bq_base.specs.declared.fault.FaultKind.{FaultKind}
 use Rattle.bq_base.specs.declared.fault.FaultKind.TheVariants.{NotInPackage, DoubleTarget}
 use Rattle.bq_label.specs.declared.packages.BuildFile.{BuildFile}
@@ -27,7 +27,6 @@ use Rattle.bq_package.specs.declared.building.Building.{Building}
 use Rattle.bq_resolve_predeclared.specs.declared.host_function.HostFunction.{HostFunction}
 use Rattle.bq_resolve_predeclared.specs.declared.host_function.HostFunction.TheVariants as b
 use Rattle.bq_package.specs.Place.{PlaceView, place_of}
-use Rattle.bq_package.specs.Bound.{no_parameters, any_parameters}
 use Rattle.bq_package.specs.Glob.{globbed}
 use Rattle.bq_package.specs.Files.{files_named}
 use Rattle.bq_package.specs.Groups.{group_named}
@@ -80,11 +79,12 @@ new_strings texts = new_list (map string texts)
 
 -- what a call of `package_name` gives (F52)
 unfoldable pub package_name : PlaceView → Passed → Result Datum FaultKind
-package_name p passed = and_then (bind no_parameters passed) (λ b. Ok (string p.own.package))
+package_name p passed =
+    and_then (bind (record { parameters = []; placed = 0; takes_rest = false; takes_keywords = false }) passed) (λ b. Ok (string p.own.package))
 
 -- what a call gives that takes any arguments and changes nothing (F52 where a keyword is there twice)
 unfoldable pub ignored : Passed → Result Datum FaultKind
-ignored passed = and_then (bind any_parameters passed) (λ b. Ok none)
+ignored passed = and_then (bind (record { parameters = []; placed = 0; takes_rest = true; takes_keywords = true }) passed) (λ b. Ok none)
 
 -- a call that declares targets gives `None`; a call that is refused, F74, leaves all as it was
 abbrev pub settled : State → Declaring → Declared → Run (State × HeldPackage) Datum

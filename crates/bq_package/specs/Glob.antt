@@ -38,14 +38,10 @@ abbrev pub allows_empty : StoreView → Option Datum → Bool
 allows_empty store None = true
 allows_empty store (Some v) = truth_of store v
 
--- what `glob` is asked for
-abbrev pub asked : Bool → List (List ℕ) → List (List ℕ) → GlobRequest
-asked allows include exclude = record { include = include; exclude = exclude; allows_empty = allows }
-
 -- what `glob` is asked for, if its patterns are well formed
 unfoldable pub request_by : Bool → Bool → List (List ℕ) → List (List ℕ) → Result GlobRequest FaultKind
 request_by excludes allows include exclude =
-    if excludes then and_then (patterns include) (λ is. and_then (patterns exclude) (λ es. Ok (asked allows is es)))
+    if excludes then and_then (patterns include) (λ is. and_then (patterns exclude) (λ es. Ok (record { include = is; exclude = es; allows_empty = allows })))
     else Err BadValue
 
 -- what a call asks for, of the arguments of its parameters

@@ -1,5 +1,5 @@
 -- Parts of definitions, as words that proofs name.
-use Rattle.std.specs.Prelude.{Bool, Err, List, None, Ok, Option, Result, Some, false, if◌then◌else◌, not, ℕ}
+use Rattle.std.specs.Prelude.{Bool, Err, List, None, Ok, Option, Result, Some, false, if◌then◌else◌, not, ℕ, [], ◌∷◌}
 use Rattle.bq_base.specs.declared.fault.FaultKind.{FaultKind}
 use Rattle.bq_base.specs.declared.fault.FaultKind.TheVariants as f
 use Rattle.bq_label.specs.Label.{PackageParts}
@@ -11,6 +11,8 @@ use Rattle.bq_value.specs.Datum.{Datum}
 use Rattle.bq_value_rule_class.specs.declared.attribute_type.AttributeType.{AttributeType}
 use Rattle.bq_package_attributes.specs.Arguments.{is_none, with_value}
 use Rattle.bq_package_attributes.specs.declared.arguments.Given.{Given}
+use Rattle.bq_value_rule_class.specs.declared.value.AttributeValue.{AttributeValue}
+use Rattle.bq_package_target.specs.declared.value.GivenAttribute.{GivenAttribute}
 
 -- an argument was given, and not `None`
 abbrev pub is_value : Option Datum → Bool
@@ -22,3 +24,7 @@ with_attribute_by own packages store o name v g = elim o [
   | None ↦ Err f.NoAttribute
   | Some kind ↦ if is_none v then Ok g else and_then (value_as own packages store kind v) (λ value. Ok (with_value name value g))
 ]
+
+-- the default of an attribute that was not given
+abbrev pub default_by : Bool → List ℕ → Option AttributeValue → List GivenAttribute
+default_by given name o = if given then [] else elim o [ None ↦ [] | Some v ↦ record { name = name; value = v } ∷ [] ]

@@ -19,9 +19,10 @@ use Rattle.bq_package_target.specs.Value.{outputs_of, outputs_in}
 use Rattle.bq_package_target.specs.Target.{is_of, declares, generated}
 use Rattle.bq_package_target.specs.Package.{IsOwnCall}
 use Rattle.bq_package_attributes.specs.Arguments.{nothing_given, with_arguments}
-use Rattle.bq_package_attributes.specs.Declarations.{keywords_alone, gives, gives_mandatory, default_of, default_by, default_for, defaults, if_whole, target_of, target, declaration}
+use Rattle.bq_package_attributes.specs.Declarations.{keywords_alone, gives, gives_mandatory, default_of, default_for, defaults, if_whole, target_of, target, declaration}
 use Rattle.bq_package_typed_value.proofs.Steps.{both_ok, then_ok}
 use Rattle.bq_package_attributes.proofs.Own.{IsOwnName, arguments_own}
+use Rattle.bq_package_attributes.proofs.Cases.{default_by}
 
 target_own : (own : PackageParts) (target : Target) → is_of own target.label ≡ true → list_all (is_of own) (outputs_in target.attributes) ≡ true → IsOwnCall own target
 unfolding declares

@@ -34,7 +34,7 @@ use Rattle.bq_package_attributes.specs.Arguments.{nothing_given, is_none, keywor
 use Rattle.bq_package_attributes.specs.Declarations.{keywords_alone, gives, is_met, gives_mandatory, default_of, default_for, defaults, if_whole, target_of, target, declaration}
 use Rattle.bq_package_attributes.specs.Laws.{has_attribute, MandatoryAttributesAreGiven, DefaultsAreGiven}
 use Rattle.bq_package_typed_value.proofs.Steps.{both_ok, then_ok, then_true}
-use Rattle.bq_package_attributes.proofs.Cases.{is_value, with_attribute_by}
+use Rattle.bq_package_attributes.proofs.Cases.{default_by, is_value, with_attribute_by}
 
 -- ---- one attribute more
 
@@ -191,7 +191,7 @@ mandatory_attributes_are_given own packages store class rule line p t h e known 
 
 default_there : (keywords : List (Datum × Datum)) (e : List ℕ × Attribute) (v : AttributeValue) → gives keywords e.0 ≡ false → default_of e.1.default ≡ Some v → default_for keywords e ≡ record { name = e.0; value = v } ∷ []
 unfolding default_for
-default_there keywords e v lacks is = rw (lacks, is) refl
+default_there keywords e v lacks is = rw lacks (ap (default_by false e.0) is)
 
 in_part : {X Y : Type 0} (f : X → List Y) (xs : List X) (x : X) (y : Y) → Contains xs x → Contains (f x) y → Contains (flat_map f xs) y
 in_part f [] x y known inside = absurd (let within = known.1 in omega arith)

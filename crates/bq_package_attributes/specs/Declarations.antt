@@ -46,15 +46,9 @@ default_of (Some (a.Output l)) = None
 default_of (Some (a.OutputList ls)) = None
 default_of (Some v) = Some v
 
--- the default of an attribute that was not given
-abbrev pub default_by : Bool → List ℕ → Option AttributeValue → List GivenAttribute
-default_by true name v = []
-default_by false name None = []
-default_by false name (Some v) = record { name = name; value = v } ∷ []
-
 -- the default of an attribute that the keyword arguments don't give
 unfoldable pub default_for : List (Datum × Datum) → List ℕ × Attribute → List GivenAttribute
-default_for keywords e = default_by (gives keywords e.0) e.0 (default_of e.1.default)
+default_for keywords e = if gives keywords e.0 then [] else elim (default_of e.1.default) [ None ↦ [] | Some v ↦ record { name = e.0; value = v } ∷ [] ]
 
 -- the defaults of all of them, in the order of the class
 abbrev pub defaults : List (Datum × Datum) → Class → List GivenAttribute

@@ -2,7 +2,8 @@
 use Rattle.std.proofs.Common.{◌≡◌, ◌∙◌, ℕ, List, [], ◌∷◌, ◌++◌, length, Option, Some, None, refl, sym, ap, arith}
 use Rattle.bq_value_rule_class.specs.declared.attribute.Attribute.{Attribute}
 use Rattle.bq_value_rule_class.specs.Class.{Class, extended}
-use Rattle.bq_package_schema.specs.Schema.{Rules, last_by, last_of, with_last, onto, with_attribute_of_last}
+use Rattle.bq_package_schema.specs.Schema.{Rules, last_of, with_last, with_attribute_of_last}
+use Rattle.bq_package_schema.proofs.Cases.{last_by, onto}
 
 abbrev rules_of : List (List ℕ) → List Class → Rules
 rules_of names classes = record { names = names; classes = classes }

@@ -1,3 +1,4 @@
+pub mod Cases
 pub mod Lasts
 pub mod Lines
 pub mod Differ

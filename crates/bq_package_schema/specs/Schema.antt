@@ -23,29 +23,19 @@ has names name = list_any (bytes_eq name) names
 unfoldable pub with_rule : Rules → List ℕ → Option Rules
 with_rule rules name = if has rules.names name then None else Some (record { names = rules.names ++ name ∷ []; classes = rules.classes ++ [] ∷ [] })
 
--- a list as all but its last element, and that
-abbrev pub last_by : {A : Type 0} → A → Option (List A × A) → List A × A
-last_by x None = ([], x)
-last_by x (Some p) = (x ∷ p.0, p.1)
-
 -- the last of a list, after those before it
 unfoldable pub last_of : {A : Type 0} → List A → Option (List A × A)
 last_of [] = None
-last_of (x ∷ xs) = Some (last_by x (last_of xs))
+last_of (x ∷ xs) = Some (elim (last_of xs) [ None ↦ ([], x) | Some p ↦ (x ∷ p.0, p.1) ])
 
 -- the rules with their last class as it is now
 abbrev pub with_last : Rules → List Class → Option Class → Option Rules
 with_last rules before None = None
 with_last rules before (Some class) = Some (record { names = rules.names; classes = before ++ class ∷ [] })
 
--- the last rule takes an attribute; there has to be one
-abbrev pub onto : Rules → List ℕ → Attribute → Option (List Class × Class) → Option Rules
-onto rules name attribute None = None
-onto rules name attribute (Some p) = with_last rules p.0 (extended p.1 name attribute)
-
 -- one more attribute of the last rule; `None` if there is no rule, or it has one of the name
 unfoldable pub with_attribute_of_last : Rules → List ℕ → Attribute → Option Rules
-with_attribute_of_last rules name attribute = onto rules name attribute (last_of rules.classes)
+with_attribute_of_last rules name attribute = elim (last_of rules.classes) [ None ↦ None | Some p ↦ with_last rules p.0 (extended p.1 name attribute) ]
 
 -- the rules after a further line; `None` if it is a bad one
 unfoldable pub after : Rules → Line → Option Rules

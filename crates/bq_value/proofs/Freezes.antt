@@ -6,7 +6,8 @@ use Rattle.std.specs.Option.{option_or}
 use Rattle.bq_value_datum.specs.Datum.{Datum}
 use Rattle.bq_value_content.specs.Contents.{Contents}
 use Rattle.bq_value.specs.Lending.{with_cell}
-use Rattle.bq_value.specs.Cells.{FrozenCells, Modules, StoreView, FrozenView, module_at, cell_of, content_at, frozen_at, frozen, placed, added, brought, with_loaded}
+use Rattle.bq_value.specs.Cells.{FrozenCells, Modules, StoreView, FrozenView, module_at, cell_of, content_at, frozen_at, frozen, placed, added}
+use Rattle.bq_value.proofs.Cases.{brought, with_loaded}
 
 pub frozen_keeps : (s : StoreView) (names : List (List ℕ)) (gs : List Datum) (home number : ℕ) → frozen_at (frozen s names gs) home number ≡ content_at s home number
 unfolding content_at frozen_at

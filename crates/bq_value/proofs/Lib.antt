@@ -5,6 +5,7 @@ pub use Rattle.bq_value_content.proofs.Lookups
 -- what a dict has after a pair was put or taken out
 pub use Rattle.bq_value_content.proofs.Puts
 -- a list of modules that is split at a number
+pub mod Cases
 pub mod Splits
 -- a trie of modules and the list of them
 pub mod Tries

@@ -9,8 +9,9 @@ use Rattle.bq_value_datum.specs.Datum.{Datum, none, boolean, int, string, tuple,
 use Rattle.bq_value_content.specs.Contents.{Contents, items, pairs, rule}
 use Rattle.bq_value_datum.specs.Same.{same}
 use Rattle.bq_value_content.specs.Kinds.{Kinds, kind_at, is_rule, rule_number, with_kind, kinds_from, kinds_of, first_holding}
-use Rattle.bq_value.specs.Cells.{StoreView, FrozenView, module_at, cell_of, content_at, kind_in, kind_of, frozen, added, brought, with_loaded}
+use Rattle.bq_value.specs.Cells.{StoreView, FrozenView, module_at, cell_of, content_at, kind_of, frozen, added}
 use Rattle.bq_value.proofs.Freezes.{at_loaded}
+use Rattle.bq_value.proofs.Cases.{brought, kind_in, with_loaded}
 
 or_none : {A : Type 0} (o : Option A) → option_or o None ≡ o
 or_none (Some x) = refl

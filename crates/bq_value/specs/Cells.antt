@@ -39,16 +39,6 @@ abbrev pub cell_of : ℕ → Option FrozenCells → Option Contents
 cell_of number None = None
 cell_of number (Some c) = slice_get c.cells number
 
--- the kind of a rule, by its cell in a loaded module
-abbrev pub kind_in : ℕ → Option FrozenCells → Option (List ℕ)
-kind_in number None = None
-kind_in number (Some c) = kind_at number c.kinds
-
--- the globals of a loaded module
-abbrev pub globals_of : Option FrozenCells → Option (List Datum)
-globals_of None = None
-globals_of (Some c) = Some c.globals
-
 -- what a cell holds
 unfoldable pub content_at : StoreView → ℕ → ℕ → Option Contents
 content_at s home number = cond (home == s.own) (slice_get s.cells number) (cell_of number (module_at home s.loaded))
@@ -67,14 +57,14 @@ HoldsRule s home number class = content_at s home number ≡ Some (rule class)
 
 -- the kind of the rule in a cell of a frozen module; a rule of the running module has none yet
 unfoldable pub kind_of : StoreView → ℕ → ℕ → Option (List ℕ)
-kind_of s home number = cond (home == s.own) None (kind_in number (module_at home s.loaded))
+kind_of s home number = cond (home == s.own) None (elim (module_at home s.loaded) [ Some c ↦ kind_at number c.kinds | None ↦ None ])
 
 unfoldable pub frozen_at : FrozenView → ℕ → ℕ → Option Contents
 frozen_at f home number = cond (home == f.own) (slice_get f.cells.cells number) (cell_of number (module_at home f.reached))
 
 -- the values of the globals of a module: of the frozen one, or of one that it reaches
 unfoldable pub globals_at : FrozenView → ℕ → Option (List Datum)
-globals_at f home = cond (home == f.own) (Some f.cells.globals) (globals_of (module_at home f.reached))
+globals_at f home = cond (home == f.own) (Some f.cells.globals) (elim (module_at home f.reached) [ Some c ↦ Some c.globals | None ↦ None ])
 
 -- the running module ends, and its globals have these names and values; after them come the values that it loads
 abbrev pub frozen : StoreView → List (List ℕ) → List Datum → FrozenView
@@ -95,17 +85,9 @@ placed m (n ∷ ms) = cond (nat_lt m.0 n.0) (m ∷ n ∷ ms) (n ∷ placed m ms)
 abbrev pub added : Modules → ℕ × FrozenCells → Modules
 added ms m = cond (is_some (module_at m.0 ms)) ms (placed m ms)
 
--- all modules that a frozen one brings along, itself first
-abbrev pub brought : FrozenView → Modules
-brought f = (f.own, f.cells) ∷ f.reached
-
--- a store with these loaded modules
-abbrev pub with_loaded : Modules → StoreView → StoreView
-with_loaded ms s = record s { loaded = ms }
-
 -- the store once it has loaded a module: it reaches all that the module brings along, and keeps those that it reached before
 abbrev pub loading : StoreView → FrozenView → StoreView
-loading s f = with_loaded (fold added s.loaded (brought f)) s
+loading s f = record s { loaded = fold added s.loaded ((f.own, f.cells) ∷ f.reached) }
 
 -- a store with these cells of the running module
 abbrev pub with_cells : List Contents → StoreView → StoreView

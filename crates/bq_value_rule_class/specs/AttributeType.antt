@@ -15,22 +15,16 @@ type_name t.LabelList = codes "label_list"
 type_name t.Output = codes "output"
 type_name t.OutputList = codes "output_list"
 
--- the types by their names
-abbrev pub types : List (List ℕ × AttributeType)
-types =
-    (codes "string", t.String) ∷ (codes "int", t.Int) ∷ (codes "bool", t.Bool) ∷ (codes "string_list", t.StringList) ∷ (codes "label", t.Label)
-    ∷ (codes "label_list", t.LabelList) ∷ (codes "output", t.Output) ∷ (codes "output_list", t.OutputList) ∷ []
-
 -- the type of this name in a schema
 abbrev pub type_named : List ℕ → Option AttributeType
-type_named name = lookup (bytes_eq name) types
-
--- the attributes that all rules have
-abbrev pub common_attributes : List (List ℕ × AttributeType)
-common_attributes =
-    (codes "name", t.String) ∷ (codes "visibility", t.StringList) ∷ (codes "tags", t.StringList) ∷ (codes "features", t.StringList)
-    ∷ (codes "testonly", t.Bool) ∷ (codes "deprecation", t.String) ∷ []
+type_named name =
+    lookup (bytes_eq name)
+    ((codes "string", t.String) ∷ (codes "int", t.Int) ∷ (codes "bool", t.Bool) ∷ (codes "string_list", t.StringList) ∷ (codes "label", t.Label)
+    ∷ (codes "label_list", t.LabelList) ∷ (codes "output", t.Output) ∷ (codes "output_list", t.OutputList) ∷ [])
 
 -- the type of an attribute that each rule has
 abbrev pub common_attribute : List ℕ → Option AttributeType
-common_attribute name = lookup (bytes_eq name) common_attributes
+common_attribute name =
+    lookup (bytes_eq name)
+    ((codes "name", t.String) ∷ (codes "visibility", t.StringList) ∷ (codes "tags", t.StringList) ∷ (codes "features", t.StringList)
+    ∷ (codes "testonly", t.Bool) ∷ (codes "deprecation", t.String) ∷ [])

@@ -21,12 +21,13 @@ use Rattle.bq_builtin_operators.specs.Union.{put_all}
 use Rattle.bq_builtin_collections.specs.Arguments as arguments
 use Rattle.bq_builtin_collections.specs.Arguments.{no_argument, one_argument, two_arguments, optional_argument, one_or_two, one_to_three, optional_integer, index_or_last, or_none}
 use Rattle.bq_builtin_collections.specs.Dict as dict
-use Rattle.bq_builtin_collections.specs.Dict.{on_pairs, DictChange, dict_of, pairs_in, pair_tuple, or_value, emptied, taken_out, first_out, with_default, key_to_change}
+use Rattle.bq_builtin_collections.specs.Dict.{on_pairs, DictChange, pairs_in, pair_tuple, or_value, emptied, taken_out, first_out, with_default, key_to_change}
 use Rattle.bq_builtin_collections.specs.List as list
-use Rattle.bq_builtin_collections.specs.List.{on_items, ListChange, appended, cleared, extended, inserted, popped, dropped, list_of, list_in, find, place_value, drop_at}
+use Rattle.bq_builtin_collections.specs.List.{on_items, ListChange, appended, cleared, extended, inserted, popped, dropped, list_in, find, place_value, drop_at}
 use Rattle.bq_builtin_collections.specs.PairsGiven.{Pairs, GivenView, take_elements, read_by, read, pairs_signature, first_value, nothing_read, read_optional, pairs_given, make_key, make_keys, all_pairs}
 use Rattle.bq_builtin_collections.specs.PairsGiven as given_pairs
 use Rattle.bq_builtin_collections.specs.Search.{found_between}
+use Rattle.bq_builtin_collections.proofs.Cases.{dict_of, list_of}
 use Rattle.bq_builtin_methods.specs.Call.{if_found, call_of_string, call_of_list, call_of_dict, call_by, call_of_cell, call_method}
 use Rattle.bq_builtin_methods.specs.DictMethod.{dict_methods, placed_call, dict_call}
 use Rattle.bq_builtin_methods.specs.ListMethod.{list_methods, list_call}

@@ -9,7 +9,8 @@ use Rattle.bq_value.specs.Datum.{Datum, string}
 use Rattle.bq_value.specs.Pairs.{found, put}
 use Rattle.bq_builtin_machine.specs.Args.{Passed}
 use Rattle.bq_builtin_machine.specs.Parameters.{ParameterView, SignatureView, places}
-use Rattle.bq_builtin_machine.specs.Binding.{BoundView, Binding, placed_values, placed, too_many, fill_by, fill, take_keyword, take_named_by, take_named, and_bind, take_all_named, is_given, has_value, complete_from, is_complete, if_complete, bind}
+use Rattle.bq_builtin_machine.specs.Binding.{BoundView, Binding, placed_values, placed, too_many, fill_by, fill, take_keyword, take_named_by, take_named, and_bind, take_all_named, has_value, complete_from, is_complete, if_complete, bind}
+use Rattle.bq_builtin_machine.proofs.Cases.{is_given}
 use Rattle.bq_eval_laws.specs.Calls.Misfits.{place_of, IsMisfit, left_over, unknown, placed_and_named, named_twice, missing}
 use Rattle.bq_value.proofs.Puts.{found_put, other_put}
 use Rattle.bq_value.specs.Same.{same}

@@ -14,8 +14,9 @@ use Rattle.bq_value.specs.Same.{same}
 use Rattle.bq_value.specs.SameLaws.{same-true}
 use Rattle.bq_value.proofs.Puts.{other_put}
 use Rattle.bq_builtin_machine.specs.Args.{Passed}
-use Rattle.bq_builtin_machine.specs.Parameters.{ParameterView, SignatureView, name_is, is_called, places}
-use Rattle.bq_builtin_machine.specs.Binding.{BoundView, Binding, placed_values, placed, too_many, fill_by, fill, take_keyword, take_named_by, take_named, and_bind, take_all_named, is_given, has_value, complete_from, is_complete, if_complete, bind}
+use Rattle.bq_builtin_machine.specs.Parameters.{ParameterView, SignatureView, is_called, places}
+use Rattle.bq_builtin_machine.specs.Binding.{BoundView, Binding, placed_values, placed, too_many, fill_by, fill, take_keyword, take_named_by, take_named, and_bind, take_all_named, has_value, complete_from, is_complete, if_complete, bind}
+use Rattle.bq_builtin_machine.proofs.Cases.{is_given, name_is}
 use Rattle.bq_eval_laws.specs.Calls.Misfits.{place_of, IsPlaced, IsMisfit, left_over, unknown, placed_and_named, named_twice, missing}
 use Rattle.bq_eval_laws.proofs.Calls.Misfits.{Taken, by_parameter, by_rest, Came, Named, IsKept, bound_to, same_bound, taken, value_stays, and_done, after_taken, placed_at, placed_only, before_taken, places_within}
 

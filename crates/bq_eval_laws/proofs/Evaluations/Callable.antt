@@ -4,9 +4,11 @@ use Rattle.std.proofs.lemmas.List.Elements.{Contains-append_cases, Contains-push
 use Rattle.bq_base.proofs.Choices.{left_of, right_of}
 use Rattle.bq_resolve_scope.specs.Names.{Name}
 use Rattle.bq_resolve_scope.specs.declared.code.Resolved.{Resolved}
-use Rattle.bq_value.specs.Cells.{StoreView, FrozenCells, FrozenView, Modules, module_at, globals_of, globals_at, frozen, placed, added, brought, loading}
+use Rattle.bq_value.specs.Cells.{StoreView, FrozenCells, FrozenView, Modules, module_at, globals_at, frozen, placed, added, loading}
 use Rattle.bq_value.specs.Datum.{Datum}
-use Rattle.bq_eval_meaning_spec.specs.Module.{frozen_unit, or_else, globals_among, frozen_units}
+use Rattle.bq_value.proofs.Cases.{brought, globals_of}
+use Rattle.bq_eval_meaning_spec.specs.Module.{frozen_unit, globals_among, frozen_units}
+use Rattle.bq_eval_meaning_spec.proofs.Cases.{or_else}
 use Rattle.bq_eval_operations.specs.Calling.{HostCalls}
 use Rattle.bq_eval.specs.Module.{first_store}
 use Rattle.bq_eval_laws.specs.Evaluations.Files.{HostTakes}

@@ -21,10 +21,11 @@ use Rattle.bq_package_typed_value.specs.Parameters.{argument}
 use Rattle.bq_package.specs.Bound.{glob_parameters, exports_parameters, texts_of}
 use Rattle.bq_package.specs.Calls.{Declaring, declaring, settled, declares, call_in, rule_by}
 use Rattle.bq_package.specs.Files.{files_named}
-use Rattle.bq_package.specs.Glob.{patterns, excludes_directories, allows_empty, asked, request_by, request_of, found, globbed}
+use Rattle.bq_package.specs.Glob.{patterns, excludes_directories, allows_empty, request_by, request_of, found, globbed}
 use Rattle.bq_package.specs.Groups.{group_named}
 use Rattle.bq_package.specs.Place.{PlaceView}
 use Rattle.bq_package.specs.Rules.{declared_target, rule_target}
+use Rattle.bq_package.proofs.Cases.{asked}
 use Rattle.bq_builtin_refusal_laws.specs.Refusals.{Check, when, first_fault, fault_of, fault_in, fault_then, IsRefusedForFirst, FailsForFirst}
 use Rattle.bq_eval_package_laws.specs.BuildFunctions.Orders.{taken, then_taken, adding, bzl_target, requesting, globbing, naming_files}
 
