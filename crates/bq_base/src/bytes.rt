@@ -31,9 +31,15 @@ enum Repr {
 ///
 /// A share copies at most 22 bytes, and else counts one owner more, so that a name may stand in many trees, labels and
 /// edges at once. Most names are short and take no memory of their own.
-#[derive(Drop)]
 pub struct Bytes {
     repr: Repr,
+}
+
+impl Drop for Bytes {
+    // PROOF: a drop that is written out is proved here alone, and a derived one in each crate that drops a byte string
+    fn drop(self) {
+        let Bytes { repr: _ } = self;
+    }
 }
 
 impl Model for Bytes {

@@ -10,11 +10,20 @@ use std::collections::BTreeMap;
 use std::marker::Model;
 
 /// Names, none of them twice, in the order in which they were added. Contracts see the list of them.
-#[derive(Drop)]
 pub struct NameSet {
     names: Vec<Bytes>,
     /// They may have places of names that are no longer there.
     places: Places,
+}
+
+impl Drop for NameSet {
+    // PROOF: a drop that is written out is proved here alone, and a derived one in each crate that drops a set of names
+    fn drop(self) {
+        let NameSet {
+            names: _,
+            places: _,
+        } = self;
+    }
 }
 
 impl Model for NameSet {

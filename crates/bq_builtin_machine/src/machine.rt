@@ -11,7 +11,6 @@ use std::alloc::Global;
 use std::marker::Model;
 
 /// What the evaluation of a module changes as it goes. Contracts see its `State`.
-#[derive(Drop)]
 pub struct Machine {
     pub(crate) store: Store,
     pub(crate) steps: u64,
@@ -22,6 +21,21 @@ pub struct Machine {
     pub(crate) walks: Vec<Cell>,
     pub(crate) line: u32,
     pub(crate) message: Bytes,
+}
+
+impl Drop for Machine {
+    // PROOF: a drop that is written out is proved here alone, and a derived one in each crate that drops a machine
+    fn drop(self) {
+        let Machine {
+            store: _,
+            steps: _,
+            prints: _,
+            active: _,
+            walks: _,
+            line: _,
+            message: _,
+        } = self;
+    }
 }
 
 impl Model for Machine {
@@ -129,7 +143,15 @@ impl Machine {
         ensures store { result.0 ≡ self.store }
         ensures prints { result.1.items ≡ self.prints }
     {
-        let Machine { store, prints, .. } = self;
+        let Machine {
+            store,
+            steps: _,
+            prints,
+            active: _,
+            walks: _,
+            line: _,
+            message: _,
+        } = self;
         (store, prints)
     }
 }

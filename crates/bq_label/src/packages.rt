@@ -184,9 +184,16 @@ fn nearest_above<'a>(packages: &'a [BuildFile], repo: &[u8], rest: &[u8]) -> Opt
 }
 
 /// The packages of a workspace. Contracts see the list of them, ascending by repository and then by path.
-#[derive(Debug, Drop)]
+#[derive(Debug)]
 pub struct Packages {
     packages: Vec<BuildFile>,
+}
+
+impl Drop for Packages {
+    // PROOF: a drop that is written out is proved here alone, and a derived one in each crate that drops a list of packages
+    fn drop(self) {
+        let Packages { packages: _ } = self;
+    }
 }
 
 impl Model for Packages {

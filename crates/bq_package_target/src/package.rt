@@ -11,10 +11,19 @@ use std::marker::Model;
 use std::sync::Arc;
 
 /// The package of a BUILD file. Contracts see the file's label and the targets in the order in which they are declared.
-#[derive(Drop)]
 pub struct Package {
     build_file: Label,
     targets: Arc<Items<Target>>,
+}
+
+impl Drop for Package {
+    // PROOF: a drop that is written out is proved here alone, and a derived one in each crate that drops a package
+    fn drop(self) {
+        let Package {
+            build_file: _,
+            targets: _,
+        } = self;
+    }
 }
 
 impl Model for Package {

@@ -7,10 +7,19 @@ use bq_base::Bytes;
 use bq_value_rule_class::{AttributeType, AttributeValue, RuleClass, common_attribute};
 
 /// An attribute with the value that a call gives it, or that it has by default.
-#[derive(Drop)]
 pub struct GivenAttribute {
     pub name: Bytes,
     pub value: AttributeValue,
+}
+
+impl Drop for GivenAttribute {
+    // PROOF: a drop that is written out is proved here alone, and a derived one in each crate that drops an attribute
+    fn drop(self) {
+        let GivenAttribute {
+            name: _,
+            value: _,
+        } = self;
+    }
 }
 
 /// Returns the type of an attribute of a rule: one that all rules have, or one of its own, if the rule has such an

@@ -220,7 +220,6 @@ pub struct LoadedSymbol {
 }
 
 /// A resolved file.
-#[derive(Drop)]
 pub struct Resolved {
     pub statements: Items<CodeTopLevel>,
     /// In the order of their `def`s.
@@ -229,4 +228,16 @@ pub struct Resolved {
     pub globals: Items<Bytes>,
     /// In the order in which they are written.
     pub loads: Items<LoadStmt>,
+}
+
+impl Drop for Resolved {
+    // PROOF: a drop that is written out is proved here alone, and a derived one in each crate that drops a resolved file
+    fn drop(self) {
+        let Resolved {
+            statements: _,
+            functions: _,
+            globals: _,
+            loads: _,
+        } = self;
+    }
 }

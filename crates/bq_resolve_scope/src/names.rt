@@ -10,9 +10,15 @@ use std::alloc::{AllocError, Global};
 use std::marker::Model;
 
 /// Names in order of first binding. Contracts see the list of them.
-#[derive(Drop)]
 pub struct Names {
     names: NameSet,
+}
+
+impl Drop for Names {
+    // PROOF: a drop that is written out is proved here alone, and a derived one in each crate that drops names
+    fn drop(self) {
+        let Names { names: _ } = self;
+    }
 }
 
 impl Model for Names {

@@ -11,11 +11,20 @@ use std::marker::Model;
 
 /// Attributes in the order in which they were added, with one owner. Contracts see the list of them, each with its
 /// name.
-#[derive(Drop)]
 pub struct Attributes {
     pub(crate) names: NameSet,
     /// The attribute of each name, in the same order.
     pub(crate) attributes: Vec<Attribute>,
+}
+
+impl Drop for Attributes {
+    // PROOF: a drop that is written out is proved here alone, and a derived one in each crate that drops attributes
+    fn drop(self) {
+        let Attributes {
+            names: _,
+            attributes: _,
+        } = self;
+    }
 }
 
 impl Model for Attributes {

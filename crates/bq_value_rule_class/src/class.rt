@@ -12,9 +12,15 @@ use std::marker::Model;
 use std::sync::Arc;
 
 /// The attributes that a rule has of its own, in order, with many owners. Contracts see the list of them, each with its name.
-#[derive(Drop)]
 pub struct RuleClass {
     attributes: Arc<Attributes>,
+}
+
+impl Drop for RuleClass {
+    // PROOF: a drop that is written out is proved here alone, and a derived one in each crate that drops a class
+    fn drop(self) {
+        let RuleClass { attributes: _ } = self;
+    }
 }
 
 impl Model for RuleClass {
