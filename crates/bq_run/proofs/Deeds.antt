@@ -3,14 +3,15 @@ use Rattle.std.proofs.Common.{◌≡◌, ◌⊎◌, ℕ, List, [], Option, None,
 use Rattle.std.specs.Prelude.{IfSome}
 use Rattle.std.specs.Io.KnownBytes.{Keeps}
 use Rattle.bq_label.specs.declared.workspace.File.{File}
-use Rattle.bq_run_report.specs.declared.ending.Status.{Status}
+use Rattle.bq_run_write.specs.declared.ending.Status.{Status}
 use Rattle.bq_run.specs.Bundle.{bundle_of}
-use Rattle.bq_run.specs.Run.{Run, DoesOne, IsRunOf, IsRunOver}
-use Rattle.bq_run.specs.declared.error.RunErr.{RunErr}
-use Rattle.bq_run.specs.declared.error.RunErr.TheVariants as run
+use Rattle.bq_run_write.specs.Deeds.{Run, DoesOne}
+use Rattle.bq_run.specs.Run.{IsRunOf, IsRunOver}
+use Rattle.bq_run_write.specs.declared.error.RunErr.{RunErr}
+use Rattle.bq_run_write.specs.declared.error.RunErr.TheVariants as run
 use Rattle.bq_run.specs.declared.options.Options.{Options}
 use Rattle.bq_run.proofs.Bundles.{holds, holds_none}
-use Rattle.bq_run.proofs.Transfers.{Appends-none}
+use Rattle.bq_run_device.proofs.Transfers.{Appends-none}
 
 keeps_itself : (known : Option (List ℕ)) → Keeps known known
 keeps_itself None = tt

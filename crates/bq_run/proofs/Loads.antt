@@ -16,7 +16,8 @@ use Rattle.bq_load_by_name.specs.Results.{Loaded, LoadsByNames}
 use Rattle.bq_load_by_name.proofs.Outcomes.{outcomes_agree}
 use Rattle.bq_query_check.specs.Checked.{IsChecked}
 use Rattle.bq_query_check.specs.Formula.{Formula}
-use Rattle.bq_run_report.specs.Report.{Inside, ReportView, Reports, inside}
+use Rattle.bq_run_write.specs.Report.{ReportView}
+use Rattle.bq_run_report.specs.Report.{Inside, Reports, inside}
 use Rattle.bq_run.specs.WorkspaceRun.{IsReportOn, inside_by, loaded_in}
 use Rattle.bq_run.specs.declared.options.Options.{Options}
 

@@ -19,9 +19,10 @@ use Rattle.bq_load_by_name.specs.Results.{outcomes}
 use Rattle.bq_query_lex.specs.declared.query_error.QueryErr.{QueryErr}
 use Rattle.bq_query_check.specs.Checked.{IsChecked, IsWrong}
 use Rattle.bq_query_check.specs.Formula.{Formula}
-use Rattle.bq_run_report.specs.Report.{Inside, ReportView, Reports}
-use Rattle.bq_run_report.specs.declared.ending.NoAnswer.{NoAnswer}
-use Rattle.bq_run_report.specs.declared.ending.NoAnswer.TheVariants.{Query, Schema, TooManyModules}
+use Rattle.bq_run_write.specs.Report.{ReportView}
+use Rattle.bq_run_report.specs.Report.{Inside, Reports}
+use Rattle.bq_run_write.specs.declared.ending.NoAnswer.{NoAnswer}
+use Rattle.bq_run_write.specs.declared.ending.NoAnswer.TheVariants.{Query, Schema, TooManyModules}
 use Rattle.bq_run.specs.declared.options.Options.{Options}
 
 -- nothing is loaded

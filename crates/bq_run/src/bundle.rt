@@ -5,11 +5,10 @@ ghost use Rattle.std.specs.List.{list_all};
 ghost use Rattle.bq_label.specs.Workspace.{workspace_of};
 ghost use Rattle.bq_run.specs.Bundle.{BeginsWith, max_bundle_bytes, bundle_of, cut, files_of, is_whole, lines};
 
-use crate::device::ByteSource;
-use crate::error::RunErr;
-use crate::transfer::{ReadFault, read_all};
 use bq_base::Bytes;
 use bq_label::{File, MAX_FILES, Workspace};
+use bq_run_device::{ByteSource, ReadFault, read_all};
+use bq_run_write::RunErr;
 use memchr::memchr;
 use std::alloc::{AllocError, Global};
 

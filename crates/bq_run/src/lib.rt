@@ -5,42 +5,33 @@
 //!
 //! In reading order:
 //!
-//! - `device`: readers and writers that count their failures;
-//! - `transfer`: reading to the end, and writing a whole text;
-//! - `error`: the errors of runs;
 //! - `bundle`: the text form of a workspace;
 //! - `options`: what a run is asked to do;
 //! - `loading`: what a workspace loads to, said by names;
 //! - `reports`: the report on a workspace;
 //! - `runs`: the run;
-//! - `status`: the exit status and the error line;
 //! - `laws`: what the definitions say together.
 #![tactic(auto)]
 
 mod bundle;
-mod device;
-mod error;
 pub mod laws;
 mod loading;
 mod options;
 mod reports;
 mod runs;
-mod status;
-mod transfer;
 
 pub use bq_load_by_name::Loaded;
 pub use bq_query::OutputForm;
 pub use bq_query_lex::QueryErr;
-pub use bq_run_report::Status;
+pub use bq_run_device::{
+    ByteSink, ByteSource, Counted, Metered, ReadFault, WriteFault, read_all, write_all, write_rope,
+};
+pub use bq_run_write::{
+    ANSWERED, DEVICE_FAILED, NO_MEMORY, REFUSED, RunErr, Status, WITH_FAULTS, end_run, send_report,
+    status_code, status_of, write_status_line,
+};
 pub use bundle::read_bundle;
-pub use device::{ByteSink, ByteSource, Counted, Metered};
-pub use error::RunErr;
 pub use loading::{load_graph, load_workspace};
 pub use options::{MAX_JOBS, Options};
 pub use reports::refused_report;
-pub use runs::{run, run_files, send_report};
-pub use status::{
-    ANSWERED, DEVICE_FAILED, NO_MEMORY, REFUSED, WITH_FAULTS, end_run, status_code, status_of,
-    write_status_line,
-};
-pub use transfer::{ReadFault, WriteFault, read_all, write_all, write_rope};
+pub use runs::{run, run_files};

@@ -4,7 +4,7 @@ ghost use Rattle.std.specs.Prelude.{◌≡◌, Ok, IfOk};
 ghost use Rattle.bq_load_by_name.specs.Schema.{schema_in};
 ghost use Rattle.bq_query_check.specs.Checked.{IsChecked};
 ghost use Rattle.bq_query_check.specs.Formula.{formula_of};
-ghost use Rattle.bq_run_report.specs.Report.{report_view};
+ghost use Rattle.bq_run_write.specs.Report.{report_view};
 ghost use Rattle.bq_run.specs.Run.{IsInRange};
 ghost use Rattle.bq_run.specs.WorkspaceRun.{IsReportOn, refused};
 
@@ -15,7 +15,8 @@ use bq_label::Workspace;
 use bq_load_by_name::{LoadErr, schema_of};
 use bq_package_schema::Schema;
 use bq_query_check::{CheckedQuery, parse_query};
-use bq_run_report::{NoAnswer, Question, Report, refusal_of, report_on};
+use bq_run_report::{Question, report_on};
+use bq_run_write::{NoAnswer, Report, refusal_of};
 use std::alloc::{AllocError, Global};
 use std::random::RandomSource;
 use std::sync::Wait;

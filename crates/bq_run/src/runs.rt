@@ -1,82 +1,21 @@
 //! A run: the bytes of a bundle are read, and the texts of the faults and of the answer are written.
 
-ghost use Rattle.std.specs.Prelude.{◌≡◌, ◌+◌, ◌-◌, ◌^◌, ◌<◌, ℕ, List, IfSome, IsErrOf, OnOk, OnErr};
+ghost use Rattle.std.specs.Prelude.{◌≡◌, ◌+◌, ◌-◌, ◌^◌, ◌<◌, IfSome, IsErrOf};
 ghost use Rattle.std.specs.Io.KnownBytes.{Keeps};
-ghost use Rattle.bq_run_report.specs.Report.{report_view};
-ghost use Rattle.bq_run.specs.Device.{OneFailed};
-ghost use Rattle.bq_run.specs.Run.{Does, DoesOne, IsInRange, IsRunOf, IsRunOver, IsSilent, WritesBeginnings, WritesWhole, run_by, run_report};
+ghost use Rattle.bq_run_device.specs.Device.{OneFailed};
+ghost use Rattle.bq_run_write.specs.Deeds.{DoesOne, IsSilent};
+ghost use Rattle.bq_run.specs.Run.{IsInRange, IsRunOf, IsRunOver};
 
 use crate::bundle::read_bundle;
-use crate::device::{ByteSink, ByteSource};
-use crate::error::RunErr;
 use crate::options::Options;
 use crate::reports::report_workspace;
-use crate::transfer::{WriteFault, write_all, write_rope};
 use bq_label::Workspace;
-use bq_run_report::{NoAnswer, Report, Status};
+use bq_run_device::{ByteSink, ByteSource};
+use bq_run_write::{RunErr, Status, send_report};
 use std::alloc::Global;
 use std::random::RandomSource;
 use std::sync::Wait;
 use std::thread::Threads;
-
-/// Writes the texts of a report, the faults first. A refusal has no answer, and if the workspace wasn't loaded no
-/// faults.
-fn write_texts<W: ByteSink, F: ByteSink>(
-    report: &Report,
-    writer: &mut W,
-    faults_writer: &mut F,
-) -> Result<(), WriteFault>
-    requires writer { W.failed writer.old < 2 ^ 64 - 1 }
-    requires faults_writer { F.failed faults_writer.old < 2 ^ 64 - 1 }
-    ensures whole { OnOk result (WritesWhole (run_report (report_view report.now)) (F.contents faults_writer.old) (F.contents faults_writer.new) (W.contents writer.old) (W.contents writer.new)) }
-    ensures begins { OnErr result (WritesBeginnings (run_report (report_view report.now)) (F.contents faults_writer.old) (F.contents faults_writer.new) (W.contents writer.old) (W.contents writer.new)) }
-    ensures device { OnErr result (OneFailed (F.failed faults_writer.old) (F.failed faults_writer.new) (W.failed writer.old) (W.failed writer.new)) }
-    ensures quiet { OnOk result ((F.failed faults_writer.new ≡ F.failed faults_writer.old) × (W.failed writer.new ≡ W.failed writer.old)) }
-{
-    match &report.end {
-        Ok(_) => {
-            write_rope(faults_writer, &report.faults)?;
-            write_all(writer, &report.answer)
-        }
-        Err(refusal) => {
-            if refusal.is_unanswered() {
-                write_rope(faults_writer, &report.faults)
-            } else {
-                Ok(())
-            }
-        }
-    }
-}
-
-/// Returns how a run ends once its texts are written, whatever they are.
-fn ended(end: Result<Status, NoAnswer>) -> Result<Status, RunErr>
-    ensures { (faults answer : List ℕ) → result ≡ (run_by faults answer end).end }
-{
-    match end {
-        Ok(status) => Ok(status),
-        Err(refusal) => Err(RunErr::from(refusal)),
-    }
-}
-
-/// Writes a report, the faults first, and returns how the run ends.
-pub fn send_report<W: ByteSink, F: ByteSink>(
-    report: Report,
-    writer: &mut W,
-    faults_writer: &mut F,
-) -> Result<Status, RunErr>
-    requires writer { W.failed writer.old < 2 ^ 64 - 1 }
-    requires faults_writer { F.failed faults_writer.old < 2 ^ 64 - 1 }
-    ensures does { Does (run_report (report_view report)) result (F.contents faults_writer.old) (F.contents faults_writer.new) (W.contents writer.old) (W.contents writer.new) }
-    ensures silent { IsSilent result → Keeps (F.contents faults_writer.old) (F.contents faults_writer.new) × Keeps (W.contents writer.old) (W.contents writer.new) }
-    ensures no_read { IsErrOf result RunErr.Read → ⊥ }
-    ensures write { IsErrOf result RunErr.Write → OneFailed (F.failed faults_writer.old) (F.failed faults_writer.new) (W.failed writer.old) (W.failed writer.new) }
-    ensures quiet { (IsErrOf result RunErr.Write → ⊥) → (F.failed faults_writer.new ≡ F.failed faults_writer.old) × (W.failed writer.new ≡ W.failed writer.old) }
-{
-    match write_texts(&report, writer, faults_writer) {
-        Ok(()) => ended(report.end),
-        Err(_) => Err(RunErr::Write),
-    }
-}
 
 /// Runs over a workspace: [`run`] without its reader.
 pub fn run_files<T: Threads + Wait + RandomSource + Sync, W: ByteSink, F: ByteSink>(

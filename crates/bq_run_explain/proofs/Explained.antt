@@ -9,8 +9,8 @@ use Rattle.bq_base.specs.declared.fault.FaultKind.TheVariants as f
 use Rattle.bq_base.specs.Fault.{fault_name}
 use Rattle.bq_query_lex.specs.declared.query_error.QueryErr.{QueryErr}
 use Rattle.bq_query_lex.specs.declared.query_error.QueryErr.TheVariants as query
-use Rattle.bq_run.specs.declared.error.RunErr.{RunErr}
-use Rattle.bq_run.specs.declared.error.RunErr.TheVariants as run
+use Rattle.bq_run_write.specs.declared.error.RunErr.{RunErr}
+use Rattle.bq_run_write.specs.declared.error.RunErr.TheVariants as run
 use Rattle.bq_run_explain.specs.Numbers.{lexis, grammar, names, loads, values, programs, results, calls, whole, queries, runs, tables, first_entry, found_in, entry_numbered}
 use Rattle.bq_run_explain.specs.Laws.{fault_word, IsPrinted, of_fault, of_error, EachFaultIsExplained, EachErrorIsExplained, NothingElseIsExplained}
 

@@ -8,7 +8,7 @@
 //! - `explanation`: an entry, and the look-up in a table;
 //! - `faults`, `queries`, `runs`: the tables;
 //! - `look_up`: the look-up by number;
-//! - `laws`: that the tables have the numbers and names of bq_base, bq_query_lex and bq_run.
+//! - `laws`: that the tables have the numbers and names of bq_base, bq_query_lex and bq_run_write.
 #![tactic(auto)]
 
 mod explanation;

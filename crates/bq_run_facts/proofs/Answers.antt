@@ -15,10 +15,11 @@ use Rattle.bq_query_verdict.specs.Verdict.{Fault}
 use Rattle.bq_query.specs.Faults.{fault_in}
 use Rattle.bq_query.specs.Printed.{printed}
 use Rattle.bq_query.specs.declared.print.OutputForm.{OutputForm}
-use Rattle.bq_run_report.specs.declared.ending.NoAnswer.{NoAnswer}
-use Rattle.bq_run_report.specs.declared.ending.Status.{Status}
-use Rattle.bq_run_report.specs.Ending.{status_by}
-use Rattle.bq_run_report.specs.Report.{Inside, ReplyView, ReportView, Reports, all_faults}
+use Rattle.bq_run_write.specs.declared.ending.NoAnswer.{NoAnswer}
+use Rattle.bq_run_write.specs.declared.ending.Status.{Status}
+use Rattle.bq_run_write.specs.Ending.{status_by}
+use Rattle.bq_run_write.specs.Report.{ReportView}
+use Rattle.bq_run_report.specs.Report.{Inside, ReplyView, Reports, all_faults}
 use Rattle.bq_run_report.proofs.Parts.{RepliesBy}
 use Rattle.bq_run.specs.WorkspaceRun.{IsReportOn, loaded_in, refused}
 use Rattle.bq_run.specs.declared.options.Options.{Options}

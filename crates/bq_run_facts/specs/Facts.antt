@@ -19,12 +19,13 @@ use Rattle.bq_query_check.specs.Checked.{IsChecked, IsWrong}
 use Rattle.bq_query_check.specs.Formula.{formula_of}
 use Rattle.bq_query_check.specs.declared.checked.CheckedQuery.{CheckedQuery}
 use Rattle.bq_query.specs.Faults.{fault_in}
-use Rattle.bq_run_report.specs.Ending.{status_by}
-use Rattle.bq_run_report.specs.Report.{Inside, IsAnswer, ReplyView, ReportView, all_faults, fault_text}
-use Rattle.bq_run_report.specs.declared.ending.NoAnswer.TheVariants.{Query, Schema, TooManyModules}
-use Rattle.bq_run_report.specs.declared.ending.Status.{Status}
+use Rattle.bq_run_write.specs.Ending.{status_by}
+use Rattle.bq_run_write.specs.Report.{ReportView}
+use Rattle.bq_run_report.specs.Report.{Inside, IsAnswer, ReplyView, all_faults, fault_text}
+use Rattle.bq_run_write.specs.declared.ending.NoAnswer.TheVariants.{Query, Schema, TooManyModules}
+use Rattle.bq_run_write.specs.declared.ending.Status.{Status}
 use Rattle.bq_run.specs.declared.options.Options.{Options}
-use Rattle.bq_run.specs.Run.{Run, run_report}
+use Rattle.bq_run_write.specs.Deeds.{Run, run_report}
 use Rattle.bq_run.specs.WorkspaceRun.{loaded_in, refused}
 use Rattle.bq_run_facts.specs.Lines.{target_lines, module_lines, fault_objects}
 

@@ -4,7 +4,7 @@ use Rattle.std.specs.List.{Contains}
 use Rattle.bq_label.specs.declared.workspace.File.{File}
 use Rattle.bq_query_graph.specs.Paths.{AreBelow, DepsWithin}
 use Rattle.bq_query_target_graph.specs.Graph.{GraphParts}
-use Rattle.bq_run_report.specs.Report.{ReportView}
+use Rattle.bq_run_write.specs.Report.{ReportView}
 use Rattle.bq_run.specs.WorkspaceRun.{IsReportOn}
 use Rattle.bq_run.specs.declared.options.Options.{Options}
 use Rattle.bq_run_facts.specs.Facts.{IsFactsOn}

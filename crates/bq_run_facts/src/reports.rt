@@ -8,10 +8,11 @@ ghost use Rattle.bq_load_discover.specs.Schema.{schema_in};
 ghost use Rattle.bq_label.specs.Packages.{packages_of};
 ghost use Rattle.bq_base_fault_line.specs.FaultLine.{put_lines};
 ghost use Rattle.bq_base_fault_line.specs.LineText.{line_text};
-ghost use Rattle.bq_run_report.specs.Report.{inside, report_view};
+ghost use Rattle.bq_run_write.specs.Report.{report_view};
+ghost use Rattle.bq_run_report.specs.Report.{inside};
 ghost use Rattle.bq_run.specs.Run.{IsInRange};
 ghost use Rattle.bq_run.specs.WorkspaceRun.{refused};
-ghost use Rattle.bq_run_report.specs.declared.ending.NoAnswer.TheVariants.{Schema as BadSchema, TooManyModules};
+ghost use Rattle.bq_run_write.specs.declared.ending.NoAnswer.TheVariants.{Schema as BadSchema, TooManyModules};
 ghost use Rattle.bq_run_facts.specs.Facts.{IsFactsBy, IsFactsOn, TellsAll, TellsFacts, TellsGraph};
 ghost use Rattle.bq_run_facts.specs.Lines.{module_lines};
 

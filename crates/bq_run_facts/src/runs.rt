@@ -3,8 +3,9 @@
 ghost use Rattle.std.specs.Prelude.{◌≡◌, ◌-◌, ◌^◌, ◌<◌, IsErrOf};
 ghost use Rattle.std.specs.Io.KnownBytes.{Keeps};
 ghost use Rattle.std.specs.Option.{option_copied};
-ghost use Rattle.bq_run.specs.Device.{OneFailed};
-ghost use Rattle.bq_run.specs.Run.{DoesOne, IsInRange, IsSilent};
+ghost use Rattle.bq_run_device.specs.Device.{OneFailed};
+ghost use Rattle.bq_run_write.specs.Deeds.{DoesOne, IsSilent};
+ghost use Rattle.bq_run.specs.Run.{IsInRange};
 ghost use Rattle.bq_run_facts.specs.Facts.{IsFactsOver};
 
 use crate::reports::report_facts;

@@ -10,14 +10,15 @@ use Rattle.bq_query_check.specs.Formula.{Formula}
 use Rattle.bq_query_parse.proofs.Texts.{one_tree}
 use Rattle.bq_query_tree.specs.declared.tree.Query.{Query}
 use Rattle.bq_query_verdict.specs.Verdict.{Need, no_fault, regex, needs}
-use Rattle.bq_run_report.specs.Report.{ReportView}
-use Rattle.bq_run_report.specs.declared.ending.NoAnswer.TheVariants as refusal
-use Rattle.bq_run_report.specs.declared.ending.Status.{Status}
-use Rattle.bq_run.specs.Run.{Run, run_report, IsRunOver}
+use Rattle.bq_run_write.specs.Report.{ReportView}
+use Rattle.bq_run_write.specs.declared.ending.NoAnswer.TheVariants as refusal
+use Rattle.bq_run_write.specs.declared.ending.Status.{Status}
+use Rattle.bq_run_write.specs.Deeds.{Run, run_report}
+use Rattle.bq_run.specs.Run.{IsRunOver}
 use Rattle.bq_package_schema.specs.Schema.{Rules}
 use Rattle.bq_run.specs.WorkspaceRun.{IsReportOn, refused}
-use Rattle.bq_run.specs.declared.error.RunErr.{RunErr}
-use Rattle.bq_run.specs.declared.error.RunErr.TheVariants as run
+use Rattle.bq_run_write.specs.declared.error.RunErr.{RunErr}
+use Rattle.bq_run_write.specs.declared.error.RunErr.TheVariants as run
 use Rattle.bq_run.specs.declared.options.Options.{Options}
 use Rattle.bq_run_laws.specs.Order.{EndsWithWrongQuery}
 

@@ -4,15 +4,16 @@ use Rattle.std.specs.List.{flat_map}
 use Rattle.bq_base_fault_line.specs.LineText.{line_text}
 use Rattle.bq_label.specs.declared.workspace.File.{File}
 use Rattle.bq_query_lex.specs.declared.query_error.QueryErr.{QueryErr}
-use Rattle.bq_run_report.specs.Ending.{names_nothing}
+use Rattle.bq_run_write.specs.Ending.{names_nothing}
 use Rattle.bq_run_report.specs.Report.{Inside, all_faults, fault_text}
-use Rattle.bq_run_report.specs.declared.ending.NoAnswer.{NoAnswer}
-use Rattle.bq_run_report.specs.declared.ending.NoAnswer.TheVariants as refusal
-use Rattle.bq_run_report.specs.declared.ending.Status.{Status}
-use Rattle.bq_run.specs.Run.{Run, run_by, IsRunOver, IsRunOf, IsSilent}
+use Rattle.bq_run_write.specs.declared.ending.NoAnswer.{NoAnswer}
+use Rattle.bq_run_write.specs.declared.ending.NoAnswer.TheVariants as refusal
+use Rattle.bq_run_write.specs.declared.ending.Status.{Status}
+use Rattle.bq_run_write.specs.Deeds.{Run, run_by, IsSilent}
+use Rattle.bq_run.specs.Run.{IsRunOver, IsRunOf}
 use Rattle.bq_run.specs.Written.{IsBundleOf}
-use Rattle.bq_run.specs.declared.error.RunErr.{RunErr}
-use Rattle.bq_run.specs.declared.error.RunErr.TheVariants as run
+use Rattle.bq_run_write.specs.declared.error.RunErr.{RunErr}
+use Rattle.bq_run_write.specs.declared.error.RunErr.TheVariants as run
 use Rattle.bq_run.specs.declared.options.Options.{Options}
 use Rattle.bq_run_laws.specs.Order.{WritesFaultsAlone}
 

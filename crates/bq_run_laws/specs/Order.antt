@@ -3,10 +3,10 @@ use Rattle.std.specs.Prelude.{◌≡◌, [], List, Err}
 use Rattle.bq_label.specs.declared.workspace.File.{File}
 use Rattle.bq_query_lex.specs.declared.query_error.QueryErr.{QueryErr}
 use Rattle.bq_query_check.specs.Checked.{IsWrong}
-use Rattle.bq_run_report.specs.Report.{ReportView}
-use Rattle.bq_run.specs.Run.{Run}
+use Rattle.bq_run_write.specs.Report.{ReportView}
+use Rattle.bq_run_write.specs.Deeds.{Run}
 use Rattle.bq_run.specs.WorkspaceRun.{IsReportOn}
-use Rattle.bq_run.specs.declared.error.RunErr.TheVariants as run
+use Rattle.bq_run_write.specs.declared.error.RunErr.TheVariants as run
 use Rattle.bq_run.specs.declared.options.Options.{Options}
 
 -- the run ends with what is wrong with its query

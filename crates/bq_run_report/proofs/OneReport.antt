@@ -9,11 +9,12 @@ use Rattle.bq_query_target_graph.specs.Edges.{DependsOn, IsGraphOf}
 use Rattle.bq_query.specs.Faults.{fault_in}
 use Rattle.bq_query.specs.Printed.{printed}
 use Rattle.bq_query.specs.declared.print.OutputForm.{OutputForm}
-use Rattle.bq_run_report.specs.declared.ending.NoAnswer.{NoAnswer}
-use Rattle.bq_run_report.specs.declared.ending.Status.{Status}
-use Rattle.bq_run_report.specs.Ending.{status_by}
+use Rattle.bq_run_write.specs.declared.ending.NoAnswer.{NoAnswer}
+use Rattle.bq_run_write.specs.declared.ending.Status.{Status}
+use Rattle.bq_run_write.specs.Ending.{status_by}
 use Rattle.bq_run_report.specs.Laws.{OneReport}
-use Rattle.bq_run_report.specs.Report.{IsAnswer, Inside, ReplyView, Replies, ReportView, all_faults}
+use Rattle.bq_run_write.specs.Report.{ReportView}
+use Rattle.bq_run_report.specs.Report.{IsAnswer, Inside, ReplyView, Replies, all_faults}
 use Rattle.bq_run_report.proofs.Parts.{RepliesBy}
 use Rattle.bq_run_report.proofs.OneList.{one_list}
 use Rattle.bq_run_report.proofs.SamePairs.{PairsIn, same_fault, same_set, graph}

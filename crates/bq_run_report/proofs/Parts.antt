@@ -5,8 +5,8 @@ use Rattle.bq_query_verdict.specs.Verdict.{Fault}
 use Rattle.bq_query_check.specs.Formula.{Formula}
 use Rattle.bq_query.specs.Printed.{printed}
 use Rattle.bq_query.specs.declared.print.OutputForm.{OutputForm}
-use Rattle.bq_run_report.specs.declared.ending.NoAnswer.TheVariants.{Query}
-use Rattle.bq_run_report.specs.declared.ending.Status.{Status}
+use Rattle.bq_run_write.specs.declared.ending.NoAnswer.TheVariants.{Query}
+use Rattle.bq_run_write.specs.declared.ending.Status.{Status}
 use Rattle.bq_run_report.specs.declared.session.Session.{Session}
 use Rattle.bq_run_report.specs.Report.{Inside, IsAnswer, IsOver, ReplyView, Replies, Reports}
 

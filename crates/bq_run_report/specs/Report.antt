@@ -15,13 +15,13 @@ use Rattle.bq_query.specs.Stands.{Stands}
 use Rattle.bq_query.specs.Faults.{fault_in}
 use Rattle.bq_query.specs.Printed.{printed}
 use Rattle.bq_query.specs.declared.print.OutputForm.{OutputForm}
-use Rattle.bq_run_report.specs.Ending.{status_by}
-use Rattle.bq_run_report.specs.declared.ending.NoAnswer.{NoAnswer}
-use Rattle.bq_run_report.specs.declared.ending.NoAnswer.TheVariants.{Query}
-use Rattle.bq_run_report.specs.declared.ending.Status.{Status}
+use Rattle.bq_run_write.specs.Ending.{status_by}
+use Rattle.bq_run_write.specs.Report.{ReportView}
+use Rattle.bq_run_write.specs.declared.ending.NoAnswer.{NoAnswer}
+use Rattle.bq_run_write.specs.declared.ending.NoAnswer.TheVariants.{Query}
+use Rattle.bq_run_write.specs.declared.ending.Status.{Status}
 use Rattle.bq_run_report.specs.declared.reply.Reply.{Reply}
 use Rattle.bq_run_report.specs.declared.session.Session.{Session}
-use Rattle.bq_run_report.specs.declared.whole.Report.{Report}
 
 -- ---- what is in a workspace that is loaded
 
@@ -74,16 +74,6 @@ Replies w x form status reply = elim (fault_in w x) [
 ]
 
 -- ---- the report
-
--- both texts, and how the run ends once they are written
-pub record ReportView : Type 0 where
-  pub faults : List ℕ
-  pub answer : List ℕ
-  pub end : Result Status NoAnswer
-
--- a `Report`, without where its texts lie in memory
-abbrev pub report_view : Report → ReportView
-report_view r = record { faults = r.faults; answer = r.answer.items; end = r.end }
 
 -- the report on a workspace and on the query of this formula
 pub record Reports (i : Inside) (x : Formula) (form : OutputForm) (r : ReportView) : Type 0 where

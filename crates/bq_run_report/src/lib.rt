@@ -6,21 +6,19 @@
 //!
 //! In reading order:
 //!
-//! - `ending`: how a run over a workspace ends;
 //! - `session`: a workspace that is loaded, ready for queries;
 //! - `reply`: the answer to a query, over the graph of the targets;
 //! - `whole`: the whole report;
 //! - `laws`: there is one.
 #![tactic(auto)]
 
-mod ending;
 mod laws;
 mod reply;
 mod session;
 mod whole;
 
-pub use ending::{NoAnswer, Status, refusal_of};
+pub use bq_run_write::{NoAnswer, Report, Status, refusal_of};
 pub use laws::one_report;
 pub use reply::{Question, Reply, reply_to};
 pub use session::{Session, session_over, status_by};
-pub use whole::{Report, report_on};
+pub use whole::report_on;

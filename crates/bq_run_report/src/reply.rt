@@ -4,10 +4,10 @@ ghost use Rattle.std.specs.Prelude.{IfOk};
 ghost use Rattle.bq_query_check.specs.Formula.{formula_of};
 ghost use Rattle.bq_run_report.specs.Report.{Replies, reply_view};
 
-use crate::ending::{NoAnswer, Status, refusal_of};
 use bq_query::{OutputForm, answer, print_answer};
 use bq_query_check::CheckedQuery;
 use bq_query_target_graph::TargetGraph;
+use bq_run_write::{NoAnswer, Status, refusal_of};
 use std::alloc::{AllocError, Global};
 
 /// What is asked of a workspace.

@@ -2,24 +2,14 @@
 
 ghost use Rattle.std.specs.Prelude.{IfOk};
 ghost use Rattle.bq_query_check.specs.Formula.{formula_of};
-ghost use Rattle.bq_run_report.specs.Report.{Reports, inside, report_view};
+ghost use Rattle.bq_run_write.specs.Report.{report_view};
+ghost use Rattle.bq_run_report.specs.Report.{Reports, inside};
 
-use crate::ending::{NoAnswer, Status};
 use crate::reply::{Question, reply_to};
 use crate::session::{Session, session_over};
-use bq_base_rope::Rope;
 use bq_load::Loaded;
+use bq_run_write::Report;
 use std::alloc::{AllocError, Global};
-
-/// The texts of a run, and how it ends once they are written.
-#[derive(Drop)]
-pub struct Report {
-    /// The lines for the faults writer.
-    pub faults: Rope,
-    /// The lines for the writer.
-    pub answer: Vec<u8>,
-    pub end: Result<Status, NoAnswer>,
-}
 
 /// Makes the report on a loaded workspace. Only out of memory is an error; Q5 and Q6 are in the ending.
 pub fn report_on(

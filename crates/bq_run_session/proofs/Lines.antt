@@ -5,7 +5,7 @@ use Rattle.std.specs.Prelude.{IfNone}
 use Rattle.std.specs.Io.KnownBytes.{Consumes, IsAtEnd}
 use Rattle.bq_run.specs.Bundle.{lines}
 use Rattle.bq_run.specs.Written.{HasNoNewline}
-use Rattle.bq_run.proofs.Transfers.{Consumes-more, Consumes-none}
+use Rattle.bq_run_device.proofs.Transfers.{Consumes-more, Consumes-none}
 use Rattle.bq_run.proofs.Writing.{lines_first}
 use Rattle.bq_run_session.specs.Queries.{is_skipped, line_of, max_line_bytes, onto, queries_in, query_of, without_last}
 use Rattle.bq_run_session.specs.Reading.{HasNoQuery, KeepsQueries, TakesLine, TakesQuery}

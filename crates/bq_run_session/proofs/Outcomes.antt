@@ -2,13 +2,13 @@
 use Rattle.std.proofs.Common.{◌≡◌, ℕ, Bool, List, Option, None, Some, Result, Err, subst, refl}
 use Rattle.std.specs.Io.KnownBytes.{Appends, Keeps}
 use Rattle.bq_label.specs.declared.workspace.File.{File}
-use Rattle.bq_run.specs.Device.{Begins}
-use Rattle.bq_run.specs.declared.error.RunErr.{RunErr}
-use Rattle.bq_run.specs.declared.error.RunErr.TheVariants as run
+use Rattle.bq_run_device.specs.Device.{Begins}
+use Rattle.bq_run_write.specs.declared.error.RunErr.{RunErr}
+use Rattle.bq_run_write.specs.declared.error.RunErr.TheVariants as run
 use Rattle.bq_run.specs.declared.options.Options.{Options}
-use Rattle.bq_run_report.specs.Ending.{status_by}
+use Rattle.bq_run_write.specs.Ending.{status_by}
 use Rattle.bq_run_report.specs.Report.{ReplyView, all_faults}
-use Rattle.bq_run_report.specs.declared.ending.Status.{Status}
+use Rattle.bq_run_write.specs.declared.ending.Status.{Status}
 use Rattle.bq_run_session.specs.Answer.{AreAnswered, IsAnswerTo}
 use Rattle.bq_run_session.specs.Outcome.{Answers, DoesAnswer, EndsIn, session_status}
 use Rattle.bq_run_session.specs.Session.{IsAnswerIn, IsOn}

@@ -3,12 +3,12 @@ use Rattle.std.proofs.Common.{◌≡◌, ◌++◌, ◌||◌, ℕ, Bool, false, L
 use Rattle.std.specs.Prelude.{IfSome, IsErrOf}
 use Rattle.std.specs.Io.KnownBytes.{Appends, Keeps}
 use Rattle.bq_run.specs.Bundle.{lines}
-use Rattle.bq_run.specs.Device.{Begins}
-use Rattle.bq_run.specs.declared.error.RunErr.{RunErr}
-use Rattle.bq_run.specs.declared.error.RunErr.TheVariants as run
-use Rattle.bq_run.proofs.Transfers.{Appends-keeps, Appends-more, Appends-none, Begins-more}
+use Rattle.bq_run_device.specs.Device.{Begins}
+use Rattle.bq_run_write.specs.declared.error.RunErr.{RunErr}
+use Rattle.bq_run_write.specs.declared.error.RunErr.TheVariants as run
+use Rattle.bq_run_device.proofs.Transfers.{Appends-keeps, Appends-more, Appends-none, Begins-more}
 use Rattle.bq_run_report.specs.Report.{ReplyView}
-use Rattle.bq_run_report.specs.declared.ending.Status.{Status}
+use Rattle.bq_run_write.specs.declared.ending.Status.{Status}
 use Rattle.bq_run_session.specs.Answer.{AreAnswered}
 use Rattle.bq_run_session.specs.Block.{block, is_refused}
 use Rattle.bq_run_session.specs.Outcome.{Answers, Covers, session_status}

@@ -4,11 +4,12 @@ use Rattle.bq_query.specs.declared.print.OutputForm.{OutputForm}
 use Rattle.bq_query_check.specs.Checked.{IsChecked, IsWrong}
 use Rattle.bq_query_check.specs.Formula.{Formula}
 use Rattle.bq_query_lex.specs.declared.query_error.QueryErr.{QueryErr}
-use Rattle.bq_run_report.specs.Ending.{status_by}
-use Rattle.bq_run_report.specs.Report.{Inside, ReplyView, ReportView, Replies, Reports, all_faults, fault_text}
-use Rattle.bq_run_report.specs.declared.ending.NoAnswer.{NoAnswer}
-use Rattle.bq_run_report.specs.declared.ending.NoAnswer.TheVariants.{Query}
-use Rattle.bq_run_report.specs.declared.ending.Status.{Status}
+use Rattle.bq_run_write.specs.Ending.{status_by}
+use Rattle.bq_run_write.specs.Report.{ReportView}
+use Rattle.bq_run_report.specs.Report.{Inside, ReplyView, Replies, Reports, all_faults, fault_text}
+use Rattle.bq_run_write.specs.declared.ending.NoAnswer.{NoAnswer}
+use Rattle.bq_run_write.specs.declared.ending.NoAnswer.TheVariants.{Query}
+use Rattle.bq_run_write.specs.declared.ending.Status.{Status}
 use Rattle.bq_run.specs.WorkspaceRun.{IsReportOn, loaded_in}
 use Rattle.bq_run_session.specs.Answer.{IsAnswerTo}
 use Rattle.bq_run_session.specs.Queries.{max_query_bytes}

@@ -11,7 +11,7 @@ use Rattle.bq_query_check.specs.Checked.{IsWrong}
 use Rattle.bq_query_lex.specs.declared.query_error.QueryErr.{QueryErr}
 use Rattle.bq_query_lex.specs.declared.query_error.QueryErr.TheVariants.{Syntax}
 use Rattle.bq_run_report.specs.Report.{Inside, ReplyView, fault_text}
-use Rattle.bq_run_report.specs.declared.ending.NoAnswer.TheVariants.{Query}
+use Rattle.bq_run_write.specs.declared.ending.NoAnswer.TheVariants.{Query}
 use Rattle.bq_run.specs.WorkspaceRun.{IsReportOn, Loads, Fronts, AreFronts, loaded_in}
 use Rattle.bq_run.specs.declared.options.Options.{Options}
 use Rattle.bq_run_session.specs.Queries.{max_query_bytes}

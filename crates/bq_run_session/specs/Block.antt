@@ -1,11 +1,11 @@
 -- What is written for a query: a header line, and as many lines as it says.
 use Rattle.std.specs.Prelude.{ℕ, ◌+◌, ◌++◌, ◌==◌, List, [], ◌∷◌, Bool, true, false, Result, Ok, Err, codes, decimal, take, if◌then◌else◌}
 use Rattle.bq_run_report.specs.Report.{ReplyView}
-use Rattle.bq_run_report.specs.declared.ending.NoAnswer.{NoAnswer}
-use Rattle.bq_run_report.specs.declared.ending.Status.{Status}
-use Rattle.bq_run.specs.Error.{run_err}
-use Rattle.bq_run.specs.Status.{status_code, status_line}
-use Rattle.bq_run.specs.declared.error.RunErr.{RunErr}
+use Rattle.bq_run_write.specs.declared.ending.NoAnswer.{NoAnswer}
+use Rattle.bq_run_write.specs.declared.ending.Status.{Status}
+use Rattle.bq_run_write.specs.Error.{run_err}
+use Rattle.bq_run_write.specs.Status.{status_code, status_line}
+use Rattle.bq_run_write.specs.declared.error.RunErr.{RunErr}
 use Rattle.bq_run_session.specs.Queries.{max_query_bytes}
 
 -- how many newlines there are

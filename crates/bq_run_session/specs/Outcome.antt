@@ -2,13 +2,13 @@
 use Rattle.std.specs.Prelude.{◌≡◌, ◌++◌, ℕ, Bool, true, false, List, Option, Result, Ok, Err, IfSome}
 use Rattle.std.specs.Io.KnownBytes.{Appends, Keeps}
 use Rattle.bq_label.specs.declared.workspace.File.{File}
-use Rattle.bq_run_report.specs.Ending.{status_by}
+use Rattle.bq_run_write.specs.Ending.{status_by}
 use Rattle.bq_run_report.specs.Report.{Inside, ReplyView, all_faults, fault_text}
-use Rattle.bq_run_report.specs.declared.ending.Status.{Status}
-use Rattle.bq_run_report.specs.declared.ending.Status.TheVariants as run_status
-use Rattle.bq_run.specs.Device.{Begins}
-use Rattle.bq_run.specs.declared.error.RunErr.{RunErr}
-use Rattle.bq_run.specs.declared.error.RunErr.TheVariants as run
+use Rattle.bq_run_write.specs.declared.ending.Status.{Status}
+use Rattle.bq_run_write.specs.declared.ending.Status.TheVariants as run_status
+use Rattle.bq_run_device.specs.Device.{Begins}
+use Rattle.bq_run_write.specs.declared.error.RunErr.{RunErr}
+use Rattle.bq_run_write.specs.declared.error.RunErr.TheVariants as run
 use Rattle.bq_run.specs.declared.options.Options.{Options}
 use Rattle.bq_run_session.specs.declared.ending.SessionStatus.{SessionStatus}
 use Rattle.bq_run_session.specs.declared.ending.SessionStatus.TheVariants.{Answered, Refused, WithFaults}

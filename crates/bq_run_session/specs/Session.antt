@@ -10,8 +10,8 @@ use Rattle.bq_query.specs.declared.print.OutputForm.{OutputForm}
 use Rattle.bq_run_report.specs.declared.session.Session.{Session}
 use Rattle.bq_run_report.specs.Report.{Inside, IsOver, ReplyView}
 use Rattle.bq_run.specs.WorkspaceRun.{Fronts, AreFronts}
-use Rattle.bq_run.specs.declared.error.RunErr.{RunErr}
-use Rattle.bq_run.specs.declared.error.RunErr.TheVariants as run
+use Rattle.bq_run_write.specs.declared.error.RunErr.{RunErr}
+use Rattle.bq_run_write.specs.declared.error.RunErr.TheVariants as run
 use Rattle.bq_run_session.specs.Answer.{IsAnswerTo, IsLoadedAs}
 
 -- the session is over these files

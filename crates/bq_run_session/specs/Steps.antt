@@ -2,9 +2,9 @@
 use Rattle.std.specs.Prelude.{◌≡◌, ◌||◌, ℕ, Bool, List, Option, Result, Ok, Err}
 use Rattle.std.specs.Io.KnownBytes.{Appends, Keeps}
 use Rattle.bq_run_report.specs.Report.{ReplyView}
-use Rattle.bq_run.specs.Device.{Begins}
-use Rattle.bq_run.specs.declared.error.RunErr.{RunErr}
-use Rattle.bq_run.specs.declared.error.RunErr.TheVariants as run
+use Rattle.bq_run_device.specs.Device.{Begins}
+use Rattle.bq_run_write.specs.declared.error.RunErr.{RunErr}
+use Rattle.bq_run_write.specs.declared.error.RunErr.TheVariants as run
 use Rattle.bq_run_session.specs.Block.{block, is_refused}
 
 -- The block of the query is written, or a beginning of it where the writer failed; out of memory nothing is. `before` says whether a query

@@ -3,8 +3,8 @@
 
 ghost use Rattle.std.specs.Prelude.{◌≡◌, ◌⊎◌, ◌+◌, ◌-◌, ◌^◌, ◌<◌, take, IfOk, IsErr, IsErrOf, OnOk};
 ghost use Rattle.std.specs.Io.KnownBytes.{Appends, Keeps};
-ghost use Rattle.bq_run.specs.Device.{Begins};
-ghost use Rattle.bq_run.specs.Status.{status_code};
+ghost use Rattle.bq_run_device.specs.Device.{Begins};
+ghost use Rattle.bq_run_write.specs.Status.{status_code};
 ghost use Rattle.bq_run_report.specs.Report.{reply_view};
 ghost use Rattle.bq_run_session.specs.Block.{block, body, header, line_count, run_end};
 ghost use Rattle.bq_run_session.specs.Queries.{max_query_bytes};

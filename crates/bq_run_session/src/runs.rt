@@ -1,7 +1,7 @@
 //! Queries, one after another, over a workspace that is loaded once.
 
 ghost use Rattle.std.specs.Prelude.{◌≡◌, ◌||◌, ◌+◌, ◌-◌, ◌^◌, ◌<◌, IsErrOf};
-ghost use Rattle.bq_run.specs.Device.{OneFailed};
+ghost use Rattle.bq_run_device.specs.Device.{OneFailed};
 ghost use Rattle.bq_run.specs.Run.{IsInRange};
 ghost use Rattle.bq_run_session.specs.Block.{is_refused};
 ghost use Rattle.bq_run_session.specs.Outcome.{Answers, DoesAnswer};

@@ -1,7 +1,8 @@
 use Rattle.std.proofs.Common.{rules, subst}
 use Rattle.std.proofs.lemmas.Result.{IfOk-weaker}
 use Rattle.bq_query_check.specs.Formula.{formula_of}
-use Rattle.bq_run_report.specs.Report.{Inside, Reports, report_view}
+use Rattle.bq_run_write.specs.Report.{report_view}
+use Rattle.bq_run_report.specs.Report.{Inside, Reports}
 use Rattle.bq_run.specs.WorkspaceRun.{IsReportOn}
 use Rattle.bq_run.proofs.Loads.{loaded_report}
 use Rattle.bq_run.proofs.reports.report_by.Goals as goal

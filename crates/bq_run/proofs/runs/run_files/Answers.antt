@@ -1,6 +1,6 @@
 use Rattle.std.proofs.Common.{refl}
-use Rattle.bq_run_report.specs.Report.{report_view}
-use Rattle.bq_run.specs.Run.{DoesOne, run_report}
+use Rattle.bq_run_write.specs.Report.{report_view}
+use Rattle.bq_run_write.specs.Deeds.{DoesOne, run_report}
 use Rattle.bq_run.proofs.runs.run_files.Goals as goal
 
 pub returns-clause-does : goal.returns-clause-does

@@ -2,8 +2,8 @@ use Rattle.std.specs.Prelude.{option_copied}
 use Rattle.std.proofs.lemmas.Result.{IfOk-weaker}
 use Rattle.std.proofs.Common.{◌≡◌, ℕ}
 use Rattle.bq_load_discover.specs.declared.load_err.LoadErr.TheVariants as e
-use Rattle.bq_run_report.specs.Report.{report_view}
-use Rattle.bq_run_report.specs.declared.ending.NoAnswer.TheVariants.{Schema}
+use Rattle.bq_run_write.specs.Report.{report_view}
+use Rattle.bq_run_write.specs.declared.ending.NoAnswer.TheVariants.{Schema}
 use Rattle.bq_run.specs.WorkspaceRun.{refused}
 use Rattle.bq_run_facts.specs.Facts.{IsFactsBy}
 use Rattle.bq_run_facts.proofs.reports.report_asked.Goals as goal

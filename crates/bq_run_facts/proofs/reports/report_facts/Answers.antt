@@ -1,7 +1,7 @@
 use Rattle.std.proofs.Common.{◌∙◌, None, Some, ap, refl, subst, sym}
 use Rattle.std.specs.Prelude.{option_copied}
 use Rattle.std.proofs.lemmas.Result.{IfOk-weaker}
-use Rattle.bq_run_report.specs.Report.{report_view}
+use Rattle.bq_run_write.specs.Report.{report_view}
 use Rattle.bq_run.specs.WorkspaceRun.{refused}
 use Rattle.bq_run_facts.specs.Facts.{IsFactsBy, IsFactsOn}
 use Rattle.bq_run_facts.proofs.reports.report_facts.Goals as goal

@@ -2,9 +2,9 @@ use Rattle.std.proofs.Common.{◌≡◌, Result, Ok, Err}
 use Rattle.std.specs.Prelude.{IfOk}
 use Rattle.std.specs.Prelude.{option_copied}
 use Rattle.std.proofs.lemmas.Result.{IfOk-weaker}
-use Rattle.bq_run_report.specs.Report.{report_view}
+use Rattle.bq_run_write.specs.Report.{report_view}
 use Rattle.bq_load_discover.specs.declared.load_err.LoadErr.TheVariants as e
-use Rattle.bq_run_report.specs.declared.ending.NoAnswer.TheVariants.{TooManyModules}
+use Rattle.bq_run_write.specs.declared.ending.NoAnswer.TheVariants.{TooManyModules}
 use Rattle.bq_run.specs.WorkspaceRun.{refused}
 use Rattle.bq_run_facts.specs.Facts.{IsFactsBy, TellsGraph}
 use Rattle.bq_run_facts.proofs.reports.report_schema.Goals as goal

@@ -1,8 +1,8 @@
 use Rattle.std.proofs.Common.{◌∙◌, subst}
 use Rattle.std.specs.Io.KnownBytes.{Appends}
-use Rattle.bq_run.specs.Device.{Begins}
-use Rattle.bq_run.specs.Status.{status_code}
-use Rattle.bq_run.proofs.Transfers.{Appends-more, Begins-front, Begins-more}
+use Rattle.bq_run_device.specs.Device.{Begins}
+use Rattle.bq_run_write.specs.Status.{status_code}
+use Rattle.bq_run_device.proofs.Transfers.{Appends-more, Begins-front, Begins-more}
 use Rattle.bq_run_session.specs.Block.{body, header, line_count, run_end}
 use Rattle.bq_run_report.specs.Report.{reply_view}
 use Rattle.bq_run_session.proofs.blocks.write_block.Goals as goal

@@ -1,5 +1,0 @@
-use Rattle.bq_run.proofs.Transfers.{right_or_failed}
-use Rattle.bq_run.proofs.status.end_run.Goals as goal
-
-pub returns-clause-line : goal.returns-clause-line
-returns-clause-line g c = right_or_failed c.write_status_line.result _ _ c.write_status_line.ensures.whole c.write_status_line.ensures.device

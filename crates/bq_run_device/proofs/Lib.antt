@@ -1,0 +1,2 @@
+-- one transfer after another, for what is left of a text
+pub mod Transfers

@@ -1,0 +1,14 @@
+//! The report on a workspace: what is written of it.
+
+use crate::ending::{NoAnswer, Status};
+use bq_base_rope::Rope;
+
+/// The texts of a run, and how it ends once they are written.
+#[derive(Drop)]
+pub struct Report {
+    /// The lines for the faults writer.
+    pub faults: Rope,
+    /// The lines for the writer.
+    pub answer: Vec<u8>,
+    pub end: Result<Status, NoAnswer>,
+}
