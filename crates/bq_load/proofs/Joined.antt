@@ -1,10 +1,10 @@
 -- What is read of a workspace is what its load graph decides, and what that gives is what loading the workspace gives.
-use Rattle.std.proofs.Common.{◌≡◌, ◌∙◌, ℕ, List, [], length, Ok, sym, ap, subst}
+use Rattle.std.proofs.Common.{◌≡◌, ◌∙◌, ℕ, List, length, Ok, sym, ap, subst}
 use Rattle.std.proofs.lemmas.List.{length-map}
 use Rattle.bq_label.specs.declared.workspace.File.{File}
 use Rattle.bq_label.specs.declared.packages.BuildFile.{BuildFile}
 use Rattle.bq_label.specs.Packages.{packages_of}
-use Rattle.bq_resolve_scope.specs.Names.{Name, with_each, with_name}
+use Rattle.bq_resolve_scope.specs.Names.{Name}
 use Rattle.bq_package_schema.specs.Schema.{Rules}
 use Rattle.bq_board.specs.Graph.{Loads}
 use Rattle.bq_load_discover.specs.declared.modules.Module.{Module}
@@ -26,7 +26,7 @@ pub outcomes_of_same : (x y : LoadingParts) (p q : Loads) (os : List OutcomeView
 outcomes_of_same x y p q os a b o = o ∙ (λ i. outcomes (a i) (b i))
 
 module _ (files : List File) (rules : Rules) (limit : ℕ) (g : GraphParts) (is : IsReadGraph (inputs_of files rules) g) where
-  pub decided : (modules : List Module) (packages : List BuildFile) (names : List Name) → modules ≡ g.modules → packages ≡ g.packages → names ≡ with_each with_name [] rules.names
+  pub decided : (modules : List Module) (packages : List BuildFile) (names : List Name) → modules ≡ g.modules → packages ≡ g.packages → names ≡ rules.names
       → parts modules files packages rules names limit ≡ loading_in files rules limit g
   decided modules packages names a b c = let known : packages ≡ packages_of files = b ∙ is.packages in λ i. parts (a i) files (known i) rules (c i) limit
 

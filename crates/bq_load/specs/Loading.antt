@@ -1,9 +1,9 @@
 -- What decides the outcomes of modules.
-use Rattle.std.specs.Prelude.{ℕ, List, []}
+use Rattle.std.specs.Prelude.{ℕ, List}
 use Rattle.bq_label.specs.declared.workspace.File.{File}
 use Rattle.bq_label.specs.declared.packages.BuildFile.{BuildFile}
 use Rattle.bq_label.specs.Packages.{packages_of}
-use Rattle.bq_resolve_scope.specs.Names.{Name, with_each, with_name}
+use Rattle.bq_resolve_scope.specs.Names.{Name}
 use Rattle.bq_package_schema.specs.Schema.{Rules}
 use Rattle.bq_load_discover.specs.declared.modules.Module.{Module}
 use Rattle.bq_load_discover.specs.LoadGraph.{GraphParts}
@@ -25,4 +25,4 @@ loading_of l = record { modules = l.modules.now; files = l.workspace.now; packag
 -- what the files of a workspace, its schema and its load graph decide
 abbrev pub loading_in : List File → Rules → ℕ → GraphParts → LoadingParts
 loading_in files rules limit g =
-    record { modules = g.modules; files = files; packages = packages_of files; rules = rules; names = with_each with_name [] rules.names; limit = limit }
+    record { modules = g.modules; files = files; packages = packages_of files; rules = rules; names = rules.names; limit = limit }

@@ -10,7 +10,7 @@ use bq_label::{Packages, Workspace};
 use bq_load_discover::{LoadGraph, Module};
 use bq_load_front::Front;
 use bq_package_host::BuiltIns;
-use bq_package_schema::{Schema, rule_names};
+use bq_package_schema::Schema;
 use bq_resolve_scope::Resolved;
 use bq_value_seed::Seed;
 use std::alloc::{AllocError, Global};
@@ -52,11 +52,12 @@ impl<'a> Loading<'a> {
         ensures wide { IfOk result (λ l. length graph.now.edges ≡ length l.modules.now) }
     {
         let modules = graph.modules();
+        let names = schema.shared_names()?;
         Ok(Loading {
             workspace,
             packages: graph.packages(),
             schema,
-            built_ins: BuiltIns::new(alloc, rule_names(schema))?,
+            built_ins: BuiltIns::new(&names)?,
             modules,
             code: codes_of(alloc, modules)?,
             limit,

@@ -1,11 +1,11 @@
 -- What decides the outcomes of modules by names: each module with what its file is on its own.
-use Rattle.std.specs.Prelude.{ℕ, List, [], map, Option, Some, None, Result, Ok, Err}
+use Rattle.std.specs.Prelude.{ℕ, List, map, Option, Some, None, Result, Ok, Err}
 use Rattle.bq_base.specs.declared.fault.Fault.{Fault}
 use Rattle.bq_label.specs.declared.workspace.File.{File}
 use Rattle.bq_label.specs.declared.packages.BuildFile.{BuildFile}
 use Rattle.bq_label.specs.Label.{LabelParts}
 use Rattle.bq_label.specs.Packages.{packages_of}
-use Rattle.bq_resolve_scope.specs.Names.{Name, with_each, with_name}
+use Rattle.bq_resolve_scope.specs.Names.{Name}
 use Rattle.bq_resolve_by_name.specs.Files.{ParsedFile}
 use Rattle.bq_package_schema.specs.Schema.{Rules}
 use Rattle.bq_load_front.specs.Parsed.{ParsedFront}
@@ -39,4 +39,4 @@ parsed_module fronts l = record { label = l; front = fronts l }
 -- what the files of a workspace, its schema and the labels of its modules decide
 abbrev pub parsed_in : List File → Rules → Fronts → ℕ → List LabelParts → ParsedParts
 parsed_in files rules fronts limit labels =
-    record { modules = map (parsed_module fronts) labels; files = files; packages = packages_of files; rules = rules; names = with_each with_name [] rules.names; limit = limit }
+    record { modules = map (parsed_module fronts) labels; files = files; packages = packages_of files; rules = rules; names = rules.names; limit = limit }

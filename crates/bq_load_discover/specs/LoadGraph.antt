@@ -1,11 +1,10 @@
 -- The load graph of a workspace.
-use Rattle.std.specs.Prelude.{◌≡◌, ℕ, List, [], length, map, Some, Result, Ok, Err, slice_get}
+use Rattle.std.specs.Prelude.{◌≡◌, ℕ, List, length, map, Some, Result, Ok, Err, slice_get}
 use Rattle.std.specs.List.Sorted.{IsStrictlySortedBy}
 use Rattle.bq_label.specs.declared.workspace.File.{File}
 use Rattle.bq_label.specs.declared.packages.BuildFile.{BuildFile}
 use Rattle.bq_label.specs.Label.{LabelParts}
 use Rattle.bq_label.specs.Packages.{packages_of}
-use Rattle.bq_resolve_scope.specs.Names.{with_each, with_name}
 use Rattle.bq_package_schema.specs.Schema.{Rules}
 use Rattle.bq_board_plan.specs.Graph.{Loads, IsGraph}
 use Rattle.bq_load_front.specs.Inputs.{InputParts}
@@ -33,7 +32,7 @@ pub record IsNumbered (g : GraphParts) : Type 0 where
 
 -- what is read of the files of a workspace, by a schema
 abbrev pub inputs_of : List File → Rules → InputParts
-inputs_of files rules = record { files = files; packages = packages_of files; rules = with_each with_name [] rules.names }
+inputs_of files rules = record { files = files; packages = packages_of files; rules = rules.names }
 
 -- the load graph of a workspace: the labels of its modules in order, and for each the numbers of the modules that it loads, each once, in the
 -- order in which it first loads them

@@ -19,7 +19,7 @@ use crate::waves::explore_by_workers;
 use bq_board_plan::MAX_MODULES;
 use bq_label::{Packages, Workspace};
 use bq_load_front::Inputs;
-use bq_package_schema::{Schema, rule_names};
+use bq_package_schema::Schema;
 use std::alloc::{AllocError, Global};
 use std::thread::Threads;
 
@@ -65,7 +65,8 @@ fn modules_of(
     requires { packages.now ≡ packages_of workspace.now }
     ensures { IfOk result (Finds (inputs_of workspace.now schema.now)) }
 {
-    let inputs = Inputs::new(alloc, workspace, packages, rule_names(schema))?;
+    let names = schema.shared_names()?;
+    let inputs = Inputs::new(workspace, packages, &names)?;
     explore(alloc, &inputs)
 }
 
@@ -82,7 +83,8 @@ fn modules_by_workers<R: Threads + Sync>(
     requires packages { packages.now ≡ packages_of workspace.now }
     ensures { IfOk result (Finds (inputs_of workspace.now schema.now)) }
 {
-    let inputs = Inputs::new(alloc, workspace, packages, rule_names(schema))?;
+    let names = schema.shared_names()?;
+    let inputs = Inputs::new(workspace, packages, &names)?;
     explore_by_workers(rt, alloc, &inputs, workers)
 }
 

@@ -1,15 +1,15 @@
 //! What files are read with.
 
-ghost use Rattle.std.specs.Prelude.{◌≡◌, [], IfOk};
-ghost use Rattle.bq_resolve_scope.specs.Names.{with_each, with_name};
+ghost use Rattle.std.specs.Prelude.{◌≡◌, IfOk};
 ghost use Rattle.bq_load_front.specs.Inputs.{universe_of};
 
-use bq_base::Bytes;
+use bq_base_names::NameSet;
 use bq_label::{Packages, Workspace};
 use bq_parse_grammar::FileKind;
 use bq_resolve_scope::Universe;
-use std::alloc::{AllocError, Global};
+use std::alloc::AllocError;
 use std::marker::Model;
+use std::sync::Arc;
 
 /// A workspace and its schema. Contracts see its files, its packages, and the names of its rules.
 #[derive(Drop)]
@@ -37,17 +37,16 @@ impl<'a> Model for Inputs<'a> {
 impl<'a> Inputs<'a> {
     /// Returns the workspace with its packages, and the names of its schema's rules.
     pub fn new(
-        alloc: Global,
         workspace: &'a Workspace,
         packages: &'a Packages,
-        rules: &[Bytes],
+        rules: &Arc<NameSet>,
     ) -> Result<Inputs<'a>, AllocError>
         ensures files { IfOk result (λ i. i.files ≡ workspace.now) }
         ensures packages { IfOk result (λ i. i.packages ≡ packages.now) }
-        ensures rules { IfOk result (λ i. i.rules ≡ with_each with_name [] rules.now) }
+        ensures rules { IfOk result (λ i. i.rules ≡ rules.now.value) }
     {
-        let build = Universe::new(alloc, FileKind::Build, rules)?;
-        let bzl = Universe::new(alloc, FileKind::Bzl, rules)?;
+        let build = Universe::of_names(FileKind::Build, rules)?;
+        let bzl = Universe::of_names(FileKind::Bzl, rules)?;
         Ok(Inputs {
             workspace,
             packages,

@@ -1,21 +1,19 @@
 //! The values of predeclared names.
 
-ghost use Rattle.std.specs.Prelude.{◌≡◌, [], IfOk};
-ghost use Rattle.bq_resolve_scope.specs.Names.{with_each, with_name};
+ghost use Rattle.std.specs.Prelude.{◌≡◌, IfOk};
 ghost use Rattle.bq_package_host.specs.BuiltIns.{predeclared_value};
 
-use bq_base::Bytes;
+use bq_base_names::NameSet;
 use bq_resolve_predeclared::{HostFunction, Predeclared};
-use bq_resolve_scope::Names;
 use bq_value::Value;
-use sqlite_items::Items;
-use std::alloc::{AllocError, Global};
+use std::alloc::AllocError;
 use std::marker::Model;
+use std::sync::Arc;
 
 /// The built-in functions of a workspace. Contracts see the names of the rules, in their order.
 #[derive(Drop)]
 pub struct BuiltIns {
-    rules: Items<Bytes>,
+    rules: Arc<NameSet>,
 }
 
 impl Model for BuiltIns {
@@ -26,20 +24,16 @@ impl Model for BuiltIns {
 
     ghost coded = { coded_list (coded_list coded_ℕ) };
 
-    ghost view = { λ b. b.rules };
+    ghost view = { λ b. b.rules.value };
 }
 
 impl BuiltIns {
-    /// Makes those of a workspace whose schema has these rules. Each name is kept once.
-    pub fn new(alloc: Global, rules: &[Bytes]) -> Result<BuiltIns, AllocError>
-        ensures { IfOk result (λ b. b ≡ with_each with_name [] rules.now) }
+    /// Makes those of a workspace whose schema has these rules. No name is copied.
+    pub fn new(rules: &Arc<NameSet>) -> Result<BuiltIns, AllocError>
+        ensures { IfOk result (λ b. b ≡ rules.now.value) }
     {
-        let mut distinct = Names::new(alloc);
-        for name in rules {
-            distinct.add(name)?;
-        }
         Ok(BuiltIns {
-            rules: distinct.list(alloc)?,
+            rules: rules.clone()?,
         })
     }
 

@@ -12,6 +12,7 @@ use bq_value_rule_class::{Attribute, Attributes, RuleClass};
 use sqlite_items::Items;
 use std::alloc::{AllocError, Global};
 use std::marker::Model;
+use std::sync::Arc;
 
 /// The classes of the rules so far.
 #[derive(Drop)]
@@ -68,7 +69,7 @@ impl Draft {
     {
         let Draft { names, classes } = self;
         Ok(Schema {
-            names,
+            names: Arc::new(alloc, names)?,
             classes: shared(alloc, classes)?,
         })
     }

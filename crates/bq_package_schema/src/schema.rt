@@ -1,17 +1,19 @@
 //! The rules that a schema declares.
 
-ghost use Rattle.std.specs.Prelude.{◌≡◌, position, slice_get, option_copied, bytes_eq};
+ghost use Rattle.std.specs.Prelude.{◌≡◌, position, slice_get, option_copied, bytes_eq, IfOk};
 
 use bq_base::Bytes;
 use bq_base_names::NameSet;
 use bq_value_rule_class::RuleClass;
 use sqlite_items::Items;
+use std::alloc::AllocError;
 use std::marker::Model;
+use std::sync::Arc;
 
 /// Rules with their typed attributes. Contracts see the names of the rules in the order in which they are declared, and the
 /// attributes of each in the same order.
 pub struct Schema {
-    pub(crate) names: NameSet,
+    pub(crate) names: Arc<NameSet>,
     pub(crate) classes: Items<RuleClass>,
 }
 
@@ -30,7 +32,7 @@ impl Model for Schema {
 
     ghost Value = { Rules };
 
-    ghost view = { λ s. record { names = s.names; classes = s.classes } };
+    ghost view = { λ s. record { names = s.names.value; classes = s.classes } };
 }
 
 /// Returns the names of the rules, in the order in which they are declared.
@@ -41,6 +43,13 @@ pub fn rule_names(schema: &Schema) -> &[Bytes]
 }
 
 impl Schema {
+    /// Returns another owner of the names of the rules, in the order in which they are declared. No name is copied.
+    pub fn shared_names(&self) -> Result<Arc<NameSet>, AllocError>
+        ensures { IfOk result (λ names. names.value ≡ self.now.names) }
+    {
+        Ok(self.names.clone()?)
+    }
+
     /// Returns the number of the rule of this name: its place in the order of declaration.
     pub fn rule(&self, name: &[u8]) -> Option<usize>
         ensures { result ≡ position (bytes_eq name.now) self.now.names }

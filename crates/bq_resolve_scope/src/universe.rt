@@ -4,8 +4,8 @@ ghost use Rattle.std.specs.Prelude.{◌≡◌, [], map, IfOk};
 ghost use Rattle.bq_resolve_scope.specs.Names.{with_each, with_name};
 ghost use Rattle.bq_resolve_scope.specs.Universe.{rule_named, member_named, namespace_named, universe_has};
 
-use crate::names::Names;
 use bq_base::Bytes;
+use bq_base_names::NameSet;
 use bq_parse_grammar::FileKind;
 use bq_resolve_predeclared::{
     HostFunction, Predeclared, RuleFunction, attr_named, predeclared_named,
@@ -44,7 +44,7 @@ impl Namespace {
 /// What the files of a kind have. Contracts see the kind, and the names of the rules in their order.
 pub struct Universe {
     kind: FileKind,
-    rules: Arc<Names>,
+    rules: Arc<NameSet>,
 }
 
 impl Drop for Universe {
@@ -71,13 +71,23 @@ impl Universe {
         ensures kind { IfOk result (λ u. u.kind ≡ kind) }
         ensures rules { IfOk result (λ u. u.rules ≡ with_each with_name [] rules.now) }
     {
-        let mut names = Names::new(alloc);
+        let mut names = NameSet::new(alloc);
         for rule in rules {
             names.add(rule)?;
         }
         Ok(Universe {
             kind,
             rules: Arc::new(alloc, names)?,
+        })
+    }
+
+    /// Returns a file of this kind in a workspace whose schema has these rules. No name is copied.
+    pub fn of_names(kind: FileKind, rules: &Arc<NameSet>) -> Result<Universe, AllocError>
+        ensures { IfOk result (λ u. u ≡ record { kind = kind; rules = rules.now.value }) }
+    {
+        Ok(Universe {
+            kind,
+            rules: rules.clone()?,
         })
     }
 
@@ -98,10 +108,11 @@ impl Universe {
     }
 
     /// Returns the rule of this name.
+    #[tactic(auto, using(crate::proofs::Places::place_position))]
     fn rule(&self, name: &Bytes) -> Option<HostFunction>
         ensures { result ≡ rule_named self.now.rules name.now }
     {
-        match self.rules.place(name) {
+        match self.rules.place(name.as_slice()) {
             None => None,
             Some(place) => {
                 if place < MAX_RULES {

@@ -6,6 +6,7 @@ ghost use Rattle.std.specs.Prelude.{◌≡◌};
 ghost use Rattle.bq_tests_program.specs.Noting.{is_licenses, noted};
 
 use bq_base::{Bytes, FaultKind};
+use bq_base_names::NameSet;
 use bq_builtin_machine::{Args, Machine};
 use bq_eval::{EvaluatedFile, FileOutcome, ResolvedModule, eval_module};
 use bq_load_front::code_of;
@@ -18,6 +19,7 @@ use bq_value::{EvalErr, Value};
 use bq_value_rule_class::{AttributeValue, RuleClass};
 use bq_value_seed::Seed;
 use std::alloc::{AllocError, Global};
+use std::sync::Arc;
 
 /// Notes the calls that it accepts: all but those of `licenses`, and of rules that a .bzl file declares, which are F70.
 #[derive(Drop)]
@@ -161,18 +163,18 @@ fn first_wrong(setting: Setting<'_>) -> Result<u64, AllocError> {
 }
 
 /// The names of two rules.
-fn rules(alloc: Global) -> Result<Vec<Bytes>, AllocError> {
-    let mut rules = Vec::new(alloc);
-    rules.push(Bytes::from_slice(alloc, b"filegroup")?)?;
-    rules.push(Bytes::from_slice(alloc, b"genrule")?)?;
-    Ok(rules)
+fn rules(alloc: Global) -> Result<Arc<NameSet>, AllocError> {
+    let mut rules = NameSet::new(alloc);
+    rules.add(&Bytes::from_slice(alloc, b"filegroup")?)?;
+    rules.add(&Bytes::from_slice(alloc, b"genrule")?)?;
+    Ok(Arc::new(alloc, rules)?)
 }
 
 /// The same, over two rules of a schema.
 fn first_wrong_of(alloc: Global) -> Result<u64, AllocError> {
     let rules = rules(alloc)?;
-    let universe = Universe::new(alloc, FileKind::Build, &rules)?;
-    let built_ins = BuiltIns::new(alloc, &rules)?;
+    let universe = Universe::of_names(FileKind::Build, &rules)?;
+    let built_ins = BuiltIns::new(&rules)?;
     first_wrong(Setting {
         alloc,
         universe: &universe,

@@ -23,4 +23,4 @@ pub packages_sync : IsSync (Packages.the_field).row
 packages_sync = let f = build_file_sync in search (crosses, sendable) depth 60 fits 20000
 
 pub schema_sync : IsSync (Schema.the_field).row
-schema_sync = let c = class_sync in search (Names.the_sync, crosses, sendable) depth 60 fits 100000
+schema_sync = let c = class_sync in search (Names.the_send, Names.the_sync, crosses, sendable) depth 60 fits 100000
