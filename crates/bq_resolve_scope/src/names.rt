@@ -74,6 +74,14 @@ impl Names {
         self.names.place(name.as_slice())
     }
 
+    /// Returns the names as the set that they are.
+    pub(crate) fn into_set(self) -> NameSet
+        ensures { result ≡ self }
+    {
+        let Names { names } = self;
+        names
+    }
+
     /// Returns the names, in this order.
     pub fn list(&self, alloc: Global) -> Result<Items<Bytes>, AllocError>
         ensures { IfOk result (λ names. names ≡ self.now) }

@@ -4,6 +4,7 @@ ghost use Rattle.std.specs.Prelude.{◌≡◌, [], map, IfOk};
 ghost use Rattle.bq_resolve_scope.specs.Names.{with_each, with_name};
 ghost use Rattle.bq_resolve_scope.specs.Universe.{rule_named, member_named, namespace_named, universe_has};
 
+use crate::names::Names;
 use bq_base::Bytes;
 use bq_base_names::NameSet;
 use bq_parse_grammar::FileKind;
@@ -71,13 +72,13 @@ impl Universe {
         ensures kind { IfOk result (λ u. u.kind ≡ kind) }
         ensures rules { IfOk result (λ u. u.rules ≡ with_each with_name [] rules.now) }
     {
-        let mut names = NameSet::new(alloc);
+        let mut names = Names::new(alloc);
         for rule in rules {
             names.add(rule)?;
         }
         Ok(Universe {
             kind,
-            rules: Arc::new(alloc, names)?,
+            rules: Arc::new(alloc, names.into_set())?,
         })
     }
 
