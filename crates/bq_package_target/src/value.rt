@@ -15,10 +15,7 @@ pub struct GivenAttribute {
 impl Drop for GivenAttribute {
     // PROOF: a drop that is written out is proved here alone, and a derived one in each crate that drops an attribute
     fn drop(self) {
-        let GivenAttribute {
-            name: _,
-            value: _,
-        } = self;
+        let GivenAttribute { name: _, value: _ } = self;
     }
 }
 

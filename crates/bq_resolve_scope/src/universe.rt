@@ -51,10 +51,7 @@ pub struct Universe {
 impl Drop for Universe {
     // PROOF: a drop that is written out is proved here alone, and a derived one in each crate that drops a universe
     fn drop(self) {
-        let Universe {
-            kind: _,
-            rules: _,
-        } = self;
+        let Universe { kind: _, rules: _ } = self;
     }
 }
 
