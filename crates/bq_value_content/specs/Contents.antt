@@ -1,5 +1,5 @@
 -- What a cell holds: the values of a list, the pairs of a dict, or the attributes of a rule.
-use Rattle.std.specs.Prelude.{◌≡◌, List, Option, Some, refl}
+use Rattle.std.specs.Prelude.{◌≡◌, ℕ, List, length, Option, Some, refl}
 use Rattle.std.specs.Coded.{Coded, code_by, coded×, coded⊎, coded_list}
 use Rattle.std.proofs.Common.{◌⊎◌, inl, inr}
 use Rattle.bq_value_datum.specs.Class.{Class}
@@ -12,6 +12,12 @@ pub data Contents : Type 0 where
   items : List Datum → Contents
   pairs : List (Datum × Datum) → Contents
   rule : Class → Contents
+
+-- how many elements a walk over it has
+abbrev pub walk_length : Contents → ℕ
+walk_length (items v) = length v
+walk_length (pairs v) = length v
+walk_length (rule c) = 0
 
 -- a dict has no key twice
 abbrev pub KeysDiffer : Option Contents → Type 0

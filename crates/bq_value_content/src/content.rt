@@ -1,8 +1,8 @@
 //! What a cell holds.
 
-ghost use Rattle.std.specs.Prelude.{◌≡◌, Some, IfOk, OnErr, IfSome};
+ghost use Rattle.std.specs.Prelude.{◌≡◌, ◌≤◌, ◌↔◌, IsTrue, Some, IfOk, OnErr, IfSome};
 ghost use Rattle.std.specs.Borrow.{sem};
-ghost use Rattle.bq_value_content.specs.Contents.{items, pairs, rule, KeysDiffer};
+ghost use Rattle.bq_value_content.specs.Contents.{items, pairs, rule, walk_length, KeysDiffer};
 ghost use Rattle.bq_value_content.specs.ContentOf.{contents_of, held_of};
 ghost use Rattle.bq_value_content.specs.Sharing.{LendsPut, LendsOwn, LendsBody};
 
@@ -76,7 +76,9 @@ impl Body {
     }
 
     /// Returns how many elements a walk over it has: what decides whether it is worth a share.
-    fn len(&self) -> usize {
+    fn len(&self) -> usize
+        ensures { result ≡ walk_length (contents_of self.now) }
+    {
         match self {
             Body::List(values) => values.len(),
             Body::Dict(dict) => dict.len(),
@@ -203,7 +205,9 @@ impl Content {
     }
 
     /// Returns whether it has so few elements that walks copy them.
-    pub fn is_small(&self) -> bool {
+    pub fn is_small(&self) -> bool
+        ensures { IsTrue result ↔ (walk_length self.now ≤ 16) }
+    {
         self.body().len() <= FEW
     }
 
