@@ -11,8 +11,11 @@ label_of_parts repo text o = elim o [ None ↦ label_at repo text (last_segment 
 
 -- a label behind `@`
 abbrev pub label_of_repository : List ℕ → Option (List ℕ × List ℕ) → Option LabelParts
-label_of_repository text o = elim o [ None ↦ Some (label_at text [] text) | Some p ↦
-    if first_is 47 p.1 then Some (absolute_label p.0 (drop 1 p.1)) else None ]
+label_of_repository text o = elim o [
+  | None ↦ Some (label_at text [] text)
+  | Some p ↦
+      if first_is 47 p.1 then Some (absolute_label p.0 (drop 1 p.1)) else None
+]
 
 -- a package behind `@`: a repository, `//` and a path
 abbrev pub package_of_repository : Option (List ℕ × List ℕ) → Option PackageParts

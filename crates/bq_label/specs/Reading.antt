@@ -24,8 +24,11 @@ first_is c (b ∷ bs) = b == c
 
 -- what follows `@`: without `//` it is the target of the repository's own name
 unfoldable pub external_label : List ℕ → Option LabelParts
-external_label text = elim (split_once 47 text) [ None ↦ Some (label_at text [] text) | Some p ↦
-    if first_is 47 p.1 then Some (absolute_label p.0 (drop 1 p.1)) else None ]
+external_label text = elim (split_once 47 text) [
+  | None ↦ Some (label_at text [] text)
+  | Some p ↦
+      if first_is 47 p.1 then Some (absolute_label p.0 (drop 1 p.1)) else None
+]
 
 -- the parts that a text names, which may be invalid
 unfoldable pub parts_of : PackageParts → List ℕ → Option LabelParts

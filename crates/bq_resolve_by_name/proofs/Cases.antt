@@ -20,5 +20,7 @@ stmt_loads o = elim o [ Stmt-F.Simple xs ↦ line_loads xs | _ ↦ [] ]
 -- the names bound and loaded so far, behind a statement of this form
 abbrev pub after_by : Before → Stmt-F Stmt Branch → Before
 after_by before o = elim o [
-    Stmt-F.Simple xs ↦ record { bound = with_each with_small before.bound xs; loaded = with_each with_load before.loaded xs }
-    | Stmt-F.Def n ps body ↦ record before { bound = with_name before.bound n.name } | _ ↦ before ]
+  | Stmt-F.Simple xs ↦ record { bound = with_each with_small before.bound xs; loaded = with_each with_load before.loaded xs }
+  | Stmt-F.Def n ps body ↦ record before { bound = with_name before.bound n.name }
+  | _ ↦ before
+]

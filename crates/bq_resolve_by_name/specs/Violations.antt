@@ -93,8 +93,10 @@ after_small before x = record { bound = with_small before.bound x; loaded = with
 -- the names bound and loaded so far, behind a statement
 unfoldable pub after : Before → TopLevel → Before
 after before t = elim (out-Stmt t.statement) [
-    Stmt-F.Simple xs ↦ record { bound = with_each with_small before.bound xs; loaded = with_each with_load before.loaded xs }
-    | Stmt-F.Def n ps body ↦ record before { bound = with_name before.bound n.name } | _ ↦ before ]
+  | Stmt-F.Simple xs ↦ record { bound = with_each with_small before.bound xs; loaded = with_each with_load before.loaded xs }
+  | Stmt-F.Def n ps body ↦ record before { bound = with_name before.bound n.name }
+  | _ ↦ before
+]
 
 module _ (file : FileParts) where
   -- ---- F20: a name that nothing binds

@@ -56,4 +56,6 @@ in_bzl name (Some x) = Some x
 -- what the name stands for in a file that doesn't bind it
 unfoldable pub universe_has : UniverseParts → List ℕ → Option Predeclared
 universe_has universe name = elim universe.kind [
-    file.Build ↦ in_build universe.rules name (predeclared_named name) | file.Bzl ↦ in_bzl name (predeclared_named name) ]
+  | file.Build ↦ in_build universe.rules name (predeclared_named name)
+  | file.Bzl ↦ in_bzl name (predeclared_named name)
+]

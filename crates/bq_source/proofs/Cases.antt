@@ -23,8 +23,12 @@ escape_by o = elim o [ None ↦ BadEscape | Some b ↦ Byte b ]
 
 -- the items of a body, by its first part
 abbrev pub items_by : BodyPart → ℕ → List ℕ → (ℕ → Option (List BodyItem)) → Option (List BodyItem)
-items_by o b bs later = elim o [ Closing ↦ Some [] | Unclosed ↦ None | Item more value ↦
-    option_map (λ is. record { spelled = b ∷ take more bs; value = item_value value } ∷ is) (later more) ]
+items_by o b bs later = elim o [
+  | Closing ↦ Some []
+  | Unclosed ↦ None
+  | Item more value ↦
+      option_map (λ is. record { spelled = b ∷ take more bs; value = item_value value } ∷ is) (later more)
+]
 
 -- a string literal, by how it begins
 abbrev pub scan_string_by : Option Quoting → List ℕ → Option StringLiteral
@@ -45,8 +49,9 @@ quoted_byte_by b o = elim o [ None ↦ b ∷ [] | Some c ↦ 92 ∷ c ∷ [] ]
 -- a string literal, or its bad escape
 abbrev pub escapes_by : Option ℕ → ℕ → List ℕ → Piece
 escapes_by o n text = elim o [
-    None ↦ Lexed (Plain k.String) (record { len = n; lines = newlines (take n text) })
-    | Some before ↦ Bad f.Escape (newlines (take before text)) ]
+  | None ↦ Lexed (Plain k.String) (record { len = n; lines = newlines (take n text) })
+  | Some before ↦ Bad f.Escape (newlines (take before text))
+]
 
 -- the piece of a string literal, if it has an end
 abbrev pub string_by : Option StringLiteral → List ℕ → Piece

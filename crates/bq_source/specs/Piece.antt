@@ -28,9 +28,13 @@ number text = let n = number_len text in if is_some (int_value (take n text)) th
 
 -- "String literals": a missing end takes precedence over a bad escape, which is a fault of its own line (ours)
 unfoldable pub string : List ℕ → Piece
-string text = elim (scan_string text) [ None ↦ Bad f.OpenString 0 | Some l ↦ elim l.bad_escape [
-    None ↦ Lexed (Plain k.String) (record { len = l.len; lines = newlines (take l.len text) })
-    | Some before ↦ Bad f.Escape (newlines (take before text)) ] ]
+string text = elim (scan_string text) [
+  | None ↦ Bad f.OpenString 0
+  | Some l ↦ elim l.bad_escape [
+    | None ↦ Lexed (Plain k.String) (record { len = l.len; lines = newlines (take l.len text) })
+    | Some before ↦ Bad f.Escape (newlines (take before text))
+  ]
+]
 
 -- "Punctuation": the longest spelling; any other byte is not one of the lexis
 unfoldable pub mark : List ℕ → Piece

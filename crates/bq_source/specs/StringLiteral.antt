@@ -111,8 +111,12 @@ item_value BadEscape = None
 unfoldable pub items : Quoting → ℕ → List ℕ → Option (List BodyItem)
 items q skip [] = None
 items q (suc skip) (b ∷ bs) = items q skip bs
-items q zero (b ∷ bs) = elim (body_part q (b ∷ bs)) [ Closing ↦ Some [] | Unclosed ↦ None | Item more value ↦
-    option_map (λ is. record { spelled = b ∷ take more bs; value = item_value value } ∷ is) (items q more bs) ]
+items q zero (b ∷ bs) = elim (body_part q (b ∷ bs)) [
+  | Closing ↦ Some []
+  | Unclosed ↦ None
+  | Item more value ↦
+      option_map (λ is. record { spelled = b ∷ take more bs; value = item_value value } ∷ is) (items q more bs)
+]
 
 -- their spellings in a row
 abbrev pub spelling : List BodyItem → List ℕ

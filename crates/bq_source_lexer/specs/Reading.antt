@@ -101,8 +101,11 @@ set_width width line s =
 
 -- The first token of a line is preceded by what its margin makes, which has no tab (ours).
 unfoldable pub indent : State → Result State Fault
-indent s = elim s.margin [ None ↦ Ok s | Some margin ↦ if margin.tab then Err (fault_at f.Tab margin.line)
-    else set_width margin.width margin.line (record s { margin = None }) ]
+indent s = elim s.margin [
+  | None ↦ Ok s
+  | Some margin ↦ if margin.tab then Err (fault_at f.Tab margin.line)
+      else set_width margin.width margin.line (record s { margin = None })
+]
 
 -- a closing bracket must be of the innermost open one's kind
 abbrev pub close_by : List OpenBracket → TokenKind → State → Result State Fault
@@ -134,14 +137,20 @@ refuse fault s = and_then (indent s) (λ t. Err fault)
 
 -- past the next piece of the text
 unfoldable pub step : State → Result State Fault
-step s = elim (next_piece s.rest) [ Gap extent ↦ Ok (skip extent s) | LineEnd extent ↦ Ok (end_line extent s)
-    | Lexed lexeme extent ↦ take_token lexeme extent s | Bad kind lines ↦ refuse (fault_at kind (s.line + lines)) s ]
+step s = elim (next_piece s.rest) [
+  | Gap extent ↦ Ok (skip extent s)
+  | LineEnd extent ↦ Ok (end_line extent s)
+  | Lexed lexeme extent ↦ take_token lexeme extent s
+  | Bad kind lines ↦ refuse (fault_at kind (s.line + lines)) s
+]
 
 -- The end of the text ends a logical line that no newline ended, and closes every width. A bracket that is open is never closed: the
 -- innermost one is named.
 unfoldable pub finish : State → Result (List Token) Fault
-finish s = elim s.open_brackets [ o ∷ os ↦ Err (fault_at f.Bracket o.line)
-    | [] ↦ Ok ((close_above 0 s.widths (elim s.margin [ Some margin ↦ s | None ↦ push_empty k.Newline s ])).tokens) ]
+finish s = elim s.open_brackets [
+  | o ∷ os ↦ Err (fault_at f.Bracket o.line)
+  | [] ↦ Ok ((close_above 0 s.widths (elim s.margin [ Some margin ↦ s | None ↦ push_empty k.Newline s ])).tokens)
+]
 
 -- from a state the text is cut up to its end, or up to the first place from where it can't be cut
 pub data Runs : State → Result (List Token) Fault → Type 0 where
