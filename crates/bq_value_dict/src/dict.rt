@@ -33,7 +33,11 @@ enum Pairs {
 impl Drop for Dict {
     // PROOF: a drop that is written out is proved here alone, and a derived one in each crate that drops a dict
     fn drop(self) {
-        let Dict { pairs: _, alloc: _, seed: _ } = self;
+        let Dict {
+            pairs: _,
+            alloc: _,
+            seed: _,
+        } = self;
     }
 }
 

