@@ -10,3 +10,5 @@ pub mod Empty
 pub mod Freed
 -- a dict that gets the pairs of another in turn
 pub mod Copies
+-- the pair of a key by its index
+pub mod Ranks

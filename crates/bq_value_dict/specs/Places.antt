@@ -1,6 +1,7 @@
 -- The places of a dict, of which some are empty: a pair that was taken out leaves its key at its place, without a value.
 use Rattle.std.specs.Prelude.{ℕ, suc, ◌≤◌, cond, nat_lt, Bool, true, false, List, [], ◌∷◌, Option, Some, None}
 use Rattle.bq_value_datum.specs.Datum.{Datum}
+use Rattle.bq_value_datum.specs.Same.{same}
 
 abbrev pub Places : Type 0
 Places = List (Datum × Option Datum)
@@ -37,3 +38,8 @@ passed at (i ∷ is) = cond (nat_lt at i) at (passed (suc at) is)
 abbrev pub with_index : ℕ → List ℕ → List ℕ
 with_index at [] = at ∷ []
 with_index at (i ∷ is) = cond (nat_lt at i) (at ∷ i ∷ is) (i ∷ with_index at is)
+
+-- the index of the pair of a key, or the number of pairs
+abbrev pub rank : Datum → List (Datum × Datum) → ℕ
+rank k [] = 0
+rank k (p ∷ ps) = cond (same k p.0) 0 (suc (rank k ps))

@@ -3,42 +3,94 @@
 ghost use Rattle.std.specs.Prelude.{◌≡◌, [], length, option_copied, drop, ◌∷◌, ◌+◌, ◌<◌, IfOk, OnOk, OnErr};
 ghost use Rattle.std.specs.Map.Iter.{deref_pair};
 ghost use Rattle.bq_value_dict.specs.Pairs.{found, put, without, HasNoKeyTwice};
+ghost use Rattle.bq_value_dict.specs.DictOf.{pairs_of};
 
-use crate::places::{free_key, leave_empty, place_of};
+use crate::few::Few;
+use crate::many::Many;
 use bq_value_datum::{Key, Value};
 use bq_value_seed::Seed;
-use indexmap::IndexMap;
 use std::alloc::{AllocError, Global};
 use std::marker::Model;
-use std::mem;
+
+/// A dict of no more pairs than this has no table: its keys are compared one by one.
+const FEW: usize = 8;
 
 /// Pairs with distinct keys, in the order in which the keys were inserted. Contracts see the list of the pairs.
-///
-/// Removing a pair moves no other: its place is left empty, with its key and without its value, until so many are empty
-/// that taking them out costs little for each. Where the key of an empty place is inserted again, it goes last, and a
-/// key that the dict doesn't have takes the empty place.
-#[derive(Drop)]
 pub struct Dict {
-    entries: IndexMap<Key, Option<Value>, Seed>,
-    /// The indices of the empty places, in order.
-    empty: Vec<usize>,
-    /// The integer that is tried next as a key that the dict doesn't have.
-    next: i64,
+    pairs: Pairs,
+    alloc: Global,
+    /// By this the keys are hashed once there are many.
+    seed: Seed,
+}
+
+#[derive(Drop)]
+enum Pairs {
+    Few(Few),
+    /// In a box, so that moving a dict moves few bytes.
+    Many(Box<Many>),
+}
+
+impl Drop for Dict {
+    // PROOF: a drop that is written out is proved here alone, and a derived one in each crate that drops a dict
+    fn drop(self) {
+        let Dict {
+            pairs: _,
+            alloc: _,
+            seed: _,
+        } = self;
+    }
 }
 
 impl Model for Dict {
-    ghost use Rattle.std.specs.Prelude.{◌≡◌, List};
+    ghost use Rattle.std.specs.Prelude.{List};
     ghost use Rattle.bq_value_datum.specs.Datum.{Datum};
     ghost use Rattle.bq_value_dict.specs.Pairs.{coded_pairs};
-    ghost use Rattle.bq_value_dict.specs.Places.{live, empty_from};
+    ghost use Rattle.bq_value_dict.specs.DictOf.{pairs_of};
 
     ghost Value = { List (Datum × Datum) };
 
     ghost coded = { coded_pairs };
 
-    ghost view = { λ d. live d.entries.entries };
+    ghost view = { λ d. pairs_of d.pairs };
+}
 
-    ghost invariant = { λ d. d.empty.items ≡ empty_from 0 d.entries.entries };
+impl Pairs {
+    /// Sets the value of `key`, and returns its value before. A new key goes last.
+    fn insert(&mut self, key: Key, value: Value) -> Result<Option<Value>, AllocError>
+        ensures before { IfOk result (λ before. before ≡ found key (pairs_of self.old)) }
+        ensures after { OnOk result (pairs_of self.new ≡ put key value (pairs_of self.old)) }
+        ensures err { OnErr result (pairs_of self.new ≡ pairs_of self.old) }
+    {
+        match self {
+            Pairs::Few(few) => few.insert(key, value),
+            Pairs::Many(many) => many.insert(key, value),
+        }
+    }
+
+    /// Removes `key`, and returns its value. The other pairs keep their order.
+    fn remove(&mut self, key: &Key) -> Option<Value>
+        ensures before { result ≡ found key.now (pairs_of self.old) }
+        ensures after { pairs_of self.new ≡ without key.now (pairs_of self.old) }
+    {
+        match self {
+            Pairs::Few(few) => few.remove(key),
+            Pairs::Many(many) => many.remove(key),
+        }
+    }
+}
+
+/// Returns the same pairs, as many.
+#[inline(never)]
+fn many_of(alloc: Global, seed: Seed, few: &Few) -> Result<Many, AllocError>
+    ensures { IfOk result (λ many. many ≡ few.now) }
+{
+    few.has_no_key_twice();
+    let mut many = Many::new(alloc, seed);
+    for i in 0..few.len() {
+        let (key, value) = few.pair(i);
+        many.insert(key.share()?, value.share()?)?;
+    }
+    Ok(many)
 }
 
 impl Dict {
@@ -47,9 +99,9 @@ impl Dict {
         ensures { result ≡ [] }
     {
         Dict {
-            entries: IndexMap::with_hasher(alloc, seed),
-            empty: Vec::new(alloc),
-            next: i64::MIN,
+            pairs: Pairs::Few(Few::new(alloc)),
+            alloc,
+            seed,
         }
     }
 
@@ -57,24 +109,29 @@ impl Dict {
     pub fn has_no_key_twice(&self)
         ensures { HasNoKeyTwice self.now }
     {
-        let _len = self.entries.len(); // PROOF: the map says so
+        match &self.pairs {
+            Pairs::Few(few) => few.has_no_key_twice(),
+            Pairs::Many(many) => many.has_no_key_twice(),
+        }
     }
 
     /// Returns the number of pairs.
     pub fn len(&self) -> usize
         ensures { result ≡ length self.now }
     {
-        self.entries.len() - self.empty.len()
+        match &self.pairs {
+            Pairs::Few(few) => few.len(),
+            Pairs::Many(many) => many.len(),
+        }
     }
 
     /// Returns the value of `key`.
     pub fn get(&self, key: &Key) -> Option<&Value>
         ensures { option_copied result ≡ found key.now self.now }
     {
-        let _len = self.entries.len(); // PROOF: no key is there twice
-        match self.entries.get(key) {
-            None => None,
-            Some(place) => place.as_ref(),
+        match &self.pairs {
+            Pairs::Few(few) => few.get(key),
+            Pairs::Many(many) => many.get(key),
         }
     }
 
@@ -83,12 +140,27 @@ impl Dict {
         requires { index < length self.now }
         ensures { drop index self.now ≡ deref_pair result ∷ drop (index + 1) self.now }
     {
-        let _len = self.entries.len(); // PROOF: the sum fits
-        let (key, value) = self
-            .entries
-            .get_index(place_of(&self.empty, index))
-            .unwrap();
-        (key, value.as_ref().unwrap())
+        match &self.pairs {
+            Pairs::Few(few) => few.pair(index),
+            Pairs::Many(many) => many.pair(index),
+        }
+    }
+
+    /// Puts the pairs into a table if they are no longer few.
+    fn make_room(&mut self) -> Result<(), AllocError>
+        ensures { self.new ≡ self.old }
+    {
+        let many = match &self.pairs {
+            Pairs::Many(_) => return Ok(()),
+            Pairs::Few(few) => {
+                if few.len() < FEW {
+                    return Ok(());
+                }
+                many_of(self.alloc, self.seed, few)?
+            }
+        };
+        self.pairs = Pairs::Many(Box::new(self.alloc, many)?);
+        Ok(())
     }
 
     /// Sets the value of `key`, and returns its value before. A new key goes last.
@@ -97,8 +169,8 @@ impl Dict {
         ensures after { OnOk result (self.new ≡ put key value self.old) }
         ensures err { OnErr result (self.new ≡ self.old) }
     {
-        free_key(&mut self.entries, &mut self.empty, &mut self.next, &key)?;
-        Ok(self.entries.insert(key, Some(value))?.flatten())
+        self.make_room()?;
+        self.pairs.insert(key, value)
     }
 
     /// Removes `key`, and returns its value. The other pairs keep their order.
@@ -106,13 +178,7 @@ impl Dict {
         ensures before { result ≡ found key.now self.old }
         ensures after { self.new ≡ without key.now self.old }
     {
-        let index = self.entries.get_index_of(key)?;
-        if self.entries[index].is_none() {
-            return None;
-        }
-        let value = mem::replace(&mut self.entries[index], None);
-        leave_empty(&mut self.entries, &mut self.empty, index);
-        value
+        self.pairs.remove(key)
     }
 
     /// Returns a dict of the same pairs.
@@ -120,7 +186,7 @@ impl Dict {
         ensures { IfOk result (λ copy. copy ≡ self.now) }
     {
         self.has_no_key_twice();
-        let mut copy = Dict::new(*self.entries.allocator(), *self.entries.hasher());
+        let mut copy = Dict::new(self.alloc, self.seed);
         for i in 0..self.len() {
             let (key, value) = self.pair(i);
             copy.insert(key.share()?, value.share()?)?;
@@ -132,7 +198,9 @@ impl Dict {
     pub fn clear(&mut self)
         ensures { self.new ≡ [] }
     {
-        self.entries.clear();
-        self.empty.clear();
+        match &mut self.pairs {
+            Pairs::Few(few) => few.clear(),
+            Pairs::Many(many) => many.clear(),
+        }
     }
 }

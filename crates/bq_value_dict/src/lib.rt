@@ -5,13 +5,17 @@
 //!
 //! In reading order:
 //!
-//! - `places`: the places of a dict, of which some are empty;
+//! - `few`: the pairs of a dict that has few of them;
+//! - `places`: the places of a dict that has many, of which some are empty;
+//! - `many`: the pairs of a dict, however many;
 //! - `dict`: pairs with distinct keys in the order in which the keys were inserted;
 //! - `laws`: what the definitions say together.
 #![tactic(auto)]
 
 mod dict;
+mod few;
 pub mod laws;
+mod many;
 mod places;
 
 pub use dict::Dict;

@@ -4,7 +4,7 @@ use Rattle.bq_value_dict.specs.Pairs.{found, put}
 use Rattle.bq_value_dict.specs.Places.{live, empty_from}
 use Rattle.bq_value_dict.proofs.Live.{found_before, put_live}
 use Rattle.bq_value_dict.proofs.Empty.{put_empty}
-use Rattle.bq_value_dict.proofs.dict.Dict.insert.Goals as goal
+use Rattle.bq_value_dict.proofs.many.Many.insert.Goals as goal
 
 pub invariant_of-self-2 : goal.invariant_of-self-2
 invariant_of-self-2 c =

@@ -5,7 +5,7 @@ use Rattle.bq_value_datum.specs.Datum.{Datum}
 use Rattle.bq_value_dict.specs.Places.{live, empty_from, Rises, passed}
 use Rattle.bq_value_dict.proofs.Live.{place_at, nth, same_some}
 use Rattle.bq_value_dict.proofs.Empty.{length_live, rises, passed_place}
-use Rattle.bq_value_dict.proofs.dict.Dict.pair.Goals as goal
+use Rattle.bq_value_dict.proofs.many.Many.pair.Goals as goal
 
 pub place_of-requires-clause-rises : goal.place_of-requires-clause-rises
 place_of-requires-clause-rises c = subst (Rises 0) (sym (c.deref.ensures.value ∙ c.self.invariant)) (rises 0 c.self.inside.entries.entries)

@@ -6,7 +6,7 @@ use Rattle.bq_value_dict.specs.Places.{live, empty_from, with_index}
 use Rattle.bq_value_dict.proofs.Puts.{absent}
 use Rattle.bq_value_dict.proofs.Live.{first, found_live, without_live, none_of, same_some, at_first}
 use Rattle.bq_value_dict.proofs.Empty.{left_empty}
-use Rattle.bq_value_dict.proofs.dict.Dict.remove.Goals as goal
+use Rattle.bq_value_dict.proofs.many.Many.remove.Goals as goal
 
 pub returns-in_err-index-clause-before : goal.returns-in_err-index-clause-before
 returns-in_err-index-clause-before c =

@@ -2,7 +2,7 @@ use Rattle.std.proofs.Common.{◌∙◌, ap, sym}
 use Rattle.std.specs.Option.{option_flatten}
 use Rattle.bq_value_dict.specs.Pairs.{found}
 use Rattle.bq_value_dict.proofs.Live.{found_live}
-use Rattle.bq_value_dict.proofs.dict.Dict.get.Goals as goal
+use Rattle.bq_value_dict.proofs.many.Many.get.Goals as goal
 
 pub returns-in-None : goal.returns-in-None
 returns-in-None c =
