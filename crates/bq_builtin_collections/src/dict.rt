@@ -222,5 +222,5 @@ pub fn new_dict(alloc: Global, machine: &mut Machine, args: Args) -> Result<Valu
     let pairs = given.into_pairs(machine)?;
     let mut dict = Dict::new(alloc, machine.store().seed());
     put_pairs(&mut dict, &pairs)?;
-    machine.new_dict(alloc, dict)
+    machine.new_dict(dict)
 }

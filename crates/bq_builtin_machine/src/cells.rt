@@ -10,7 +10,6 @@ ghost use Rattle.bq_builtin_machine.specs.Lending.{LendsContent};
 use crate::machine::Machine;
 use bq_base::FaultKind;
 use bq_value::{Cell, Content, Dict, EvalErr, Value};
-use std::alloc::Global;
 
 impl Machine {
     /// Makes a list, a dict or a rule.
@@ -31,10 +30,10 @@ impl Machine {
 
     /// Makes a dict.
     #[tactic(auto, unfolding(crate::specs::Cells::new_dict))]
-    pub fn new_dict(&mut self, alloc: Global, pairs: Dict) -> Result<Value, EvalErr>
+    pub fn new_dict(&mut self, pairs: Dict) -> Result<Value, EvalErr>
         ensures { Does (λ v. v) result self.new (new_dict pairs self.old) }
     {
-        self.new_content(Content::dict(alloc, pairs)?)
+        self.new_content(Content::dict(pairs))
     }
 
     /// Returns what a list, dict or rule holds.

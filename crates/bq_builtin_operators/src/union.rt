@@ -29,7 +29,7 @@ pub(crate) fn union(
     match &a.node {
         Node::Cell(_) => {
             let dict = dict_union(alloc, machine.store(), a, b)?;
-            machine.new_content(Content::dict(alloc, dict)?)
+            machine.new_content(Content::dict(dict))
         }
         _ => Ok(integers(Operator::BitOr, a, b)?),
     }

@@ -63,7 +63,7 @@ fn bound_entry<'f, R: Runtime>(
         rest,
         keywords,
     } = bound;
-    let keywords = keywords_of(alloc, runtime, has_star_star(parameters), keywords)?;
+    let keywords = keywords_of(runtime, has_star_star(parameters), keywords)?;
     let mut frame = Frame::with_room(alloc, function.slots)?;
     let filling = Filling {
         values: values.as_slice(),

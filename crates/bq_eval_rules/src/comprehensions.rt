@@ -302,8 +302,7 @@ impl<
         requires { EvaluatesInside R.means R.seen self.now F.pre F.post }
         ensures { Returns R.means R.seen (meaning.comprehension R.means (evals_in R.means self.now) (pairs []) comprehension.now clauses.now (frame_of self.now)) runtime.old result runtime.new }
     {
-        let alloc = self.context.alloc;
-        let empty = Content::dict(alloc, Dict::new(alloc, runtime.seed()))?;
+        let empty = Content::dict(Dict::new(self.context.alloc, runtime.seed()));
         self.comprehension(runtime, empty, comprehension, clauses)
     }
 }

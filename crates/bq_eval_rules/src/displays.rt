@@ -91,8 +91,7 @@ impl<
         ensures { Returns R.means R.seen (meaning.dict_display R.means (evals_in R.means self.now) pairs.now (frame_of self.now)) runtime.old result runtime.new }
     {
         runtime.step(1)?;
-        let alloc = self.context.alloc;
-        let mut content = Content::dict(alloc, Dict::new(alloc, runtime.seed()))?;
+        let mut content = Content::dict(Dict::new(self.context.alloc, runtime.seed()));
         self.pairs_each(runtime, &mut content, pairs)?;
         runtime.make(content)
     }

@@ -122,7 +122,6 @@ pub fn bind_args(
 /// Returns the dict for `**`, or `None` if there is no `**`.
 #[tactic(auto, unfolding(bq_eval_meaning_spec::specs::Calls::keywords_of))]
 pub fn keywords_of<R: Runtime>(
-    alloc: Global,
     runtime: &mut R,
     takes: bool,
     keywords: Dict,
@@ -130,7 +129,7 @@ pub fn keywords_of<R: Runtime>(
     ensures { Returns R.means R.seen (meaning.keywords_of R.means takes keywords) runtime.old result runtime.new }
 {
     if takes {
-        return runtime.make(Content::dict(alloc, keywords)?);
+        return runtime.make(Content::dict(keywords));
     }
     Ok(Value::none())
 }

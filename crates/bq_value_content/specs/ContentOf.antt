@@ -7,7 +7,7 @@ use Rattle.bq_value_content.specs.declared.content.Held.TheVariants.{Own, Shared
 
 abbrev pub contents_of : Body → Contents
 contents_of (List v) = items v.items
-contents_of (Dict d) = pairs d.value
+contents_of (Dict d) = pairs d
 contents_of (Rule c) = rule c
 
 -- whether it is shared is of no account

@@ -28,8 +28,7 @@ pub struct Content {
 #[derive(Drop)]
 pub enum Body {
     List(Vec<Value>),
-    /// In a box, so that moving a list moves few bytes.
-    Dict(Box<Dict>),
+    Dict(Dict),
     /// A rule that a `.bzl` file declares. Nothing changes it.
     Rule(RuleClass),
 }
@@ -70,7 +69,7 @@ impl Body {
     {
         match self {
             Body::List(values) => Ok(Body::List(copies(alloc, values)?)),
-            Body::Dict(dict) => Ok(Body::Dict(Box::new(alloc, dict.copy()?)?)),
+            Body::Dict(dict) => Ok(Body::Dict(dict.copy()?)),
             Body::Rule(class) => Ok(Body::Rule(class.share()?)),
         }
     }
@@ -170,12 +169,12 @@ impl Content {
         }
     }
 
-    pub fn dict(alloc: Global, dict: Dict) -> Result<Content, AllocError>
-        ensures { IfOk result (λ c. c ≡ pairs dict) }
+    pub fn dict(dict: Dict) -> Content
+        ensures { result ≡ pairs dict }
     {
-        Ok(Content {
-            held: Held::Own(Body::Dict(Box::new(alloc, dict)?)),
-        })
+        Content {
+            held: Held::Own(Body::Dict(dict)),
+        }
     }
 
     pub fn rule(class: RuleClass) -> Content
