@@ -43,7 +43,7 @@ opened_name [] rest h = refl
 opened_name (c ∷ cs) rest (first, inside) =
     let unlike : (c == 123) ≡ false = grind (arith, nat_tests, first) in
     let n = inside_len (c ∷ cs) rest inside in
-    rw (unlike, n, take_front (c ∷ cs) (125 ∷ rest), drop_front (c ∷ cs) (125 ∷ rest)) refl
+    rw (unlike, n, drop_front (c ∷ cs) (125 ∷ rest), n, take_front (c ∷ cs) (125 ∷ rest)) refl
 
 field_name : (b : ℕ) (text name rest : List ℕ) → b ≡ 123 → text ≡ name ++ 125 ∷ rest → IsFieldText name → field_of (b ∷ text) ≡ Some (name, rest)
 unfolding field_of
