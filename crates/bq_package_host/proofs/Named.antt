@@ -1,6 +1,9 @@
 -- The value of a predeclared name calls what the name stands for, and prints that name.
-use Rattle.std.proofs.Common.{◌≡◌, ◌<◌, ℕ, true, List, Option, Some, None, refl, ap, length, slice_get, nat_lt, arith}
+use Rattle.std.proofs.Common.{◌≡◌, ◌∙◌, ◌<◌, ℕ, true, List, Option, Some, None, refl, ap, length, slice_get, nat_lt, arith}
+use Rattle.std.specs.Prelude.{if◌then◌else◌}
+use Rattle.std.specs.Option.{option_map}
 use Rattle.std.proofs.lemmas.Option.{slice_get_within}
+use Rattle.bq_resolve_predeclared.specs.declared.host_function.HostFunction.{HostFunction}
 use Rattle.bq_resolve_predeclared.specs.declared.host_function.HostFunction.TheVariants as h
 use Rattle.bq_resolve_predeclared.specs.declared.predeclared.Predeclared.{Predeclared}
 use Rattle.bq_resolve_predeclared.specs.declared.predeclared.Predeclared.TheVariants as p
@@ -16,13 +19,17 @@ named : (rules : List Name) (x : Predeclared) (name : Name) → EachNameIsFound 
 unfolding function_named
 named rules x name each e = ap (in_build rules name) (each x name e)
 
+abbrev rule_at : Option ℕ → Option HostFunction
+rule_at o = elim o [ None ↦ None | Some place ↦ if nat_lt place max_rules then Some (h.Rule place) else None ]
+
 rule : (rules : List Name) (place : ℕ) (name : Name) → AreRules rules → slice_get rules place ≡ Some name → function_named rules name ≡ Some (p.Host (h.Rule place))
 unfolding function_named
 rule rules place name are there =
     let within : place < length rules = slice_get_within rules place name there in
     let few = are.few in
     let has : nat_lt place max_rules ≡ true = grind arith in
-    rw (are.own place name there) rw (are.once place name there) rw has refl
+    rw (are.own place name there)
+    (ap (λ o. option_map p.Host (rule_at o)) (are.once place name there) ∙ ap (λ b. option_map p.Host (if b then Some (h.Rule place) else None)) has)
 
 rule_by : (rules : List Name) (place : ℕ) (o : Option Name) → AreRules rules → slice_get rules place ≡ o → IsWhatItIsCalled rules (p.Host (h.Rule place)) (rule_value place o)
 rule_by rules place None are e = tt
