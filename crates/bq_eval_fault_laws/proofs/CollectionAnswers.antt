@@ -9,15 +9,13 @@ use Rattle.bq_builtin_machine.specs.Args.{Passed}
 use Rattle.bq_builtin_numbers.specs.Length.{within}
 use Rattle.bq_builtin_numbers.specs.Place.{indexed}
 use Rattle.bq_builtin_collections.specs.Arguments.{no_argument, one_argument, two_arguments, optional_argument, one_or_two, integer, index_or_last, one_to_three, optional_integer}
-use Rattle.bq_builtin_collections.specs.Dict as dict
 use Rattle.bq_builtin_collections.specs.Dict.{DictChange, on_pairs, emptied, or_no_key, taken_out, first_out, with_default}
-use Rattle.bq_builtin_collections.specs.List as list
 use Rattle.bq_builtin_collections.specs.List.{ListChange, on_items, and_then, appended, extended, inserted, popped, cleared, dropped, place_value}
 use Rattle.bq_builtin_collections.specs.PairsGiven.{GivenView, parts_of, two, pair_in, take_element, take_elements}
 use Rattle.bq_builtin_methods.specs.Placed.{placed}
 use Rattle.bq_eval_fault_laws.proofs.Fine.{Fine}
 use Rattle.bq_eval_fault_laws.proofs.Sequences.{within_fine, indexed_fine}
-use Rattle.bq_builtin_collections.proofs.Cases.{as_items, as_pairs, dropped_by, place_by, taken_by, taken_out_by, values_of_content, with_default_by, with_pair}
+use Rattle.bq_builtin_collections.proofs.Cases.{as_items, as_pairs, dict_of, dropped_by, list_of, place_by, taken_by, taken_out_by, values_of_content, with_default_by, with_pair}
 use Rattle.bq_builtin_methods.proofs.Cases.{placed_by}
 
 then_fine : {A B : Type 0} (r : Result A FaultKind) (next : A → Result B FaultKind) → Fine r → ((x : A) → Fine (next x)) → Fine (and_then r next)
@@ -134,7 +132,7 @@ dropped_fine at xs = by_value (slice_get xs at)
     by_value (Some v) = tt
     by_value None = refl
 
-pub list_of_fine : (c : Contents) → Fine (list.list_of c)
+pub list_of_fine : (c : Contents) → Fine (list_of c)
 list_of_fine (items xs) = tt
 list_of_fine (pairs ps) = refl
 list_of_fine (rule class) = refl
@@ -159,7 +157,7 @@ on_pairs_fine f h (pairs ps) = pairs_fine (f ps) (h ps)
 on_pairs_fine f h (items xs) = refl
 on_pairs_fine f h (rule class) = refl
 
-pub dict_of_fine : (c : Contents) → Fine (dict.dict_of c)
+pub dict_of_fine : (c : Contents) → Fine (dict_of c)
 dict_of_fine (pairs ps) = tt
 dict_of_fine (items xs) = refl
 dict_of_fine (rule class) = refl
