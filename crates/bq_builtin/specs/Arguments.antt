@@ -5,6 +5,7 @@ use Rattle.bq_base.specs.declared.fault.FaultKind.{FaultKind}
 use Rattle.bq_base.specs.declared.fault.FaultKind.TheVariants.{WrongType, Args}
 use Rattle.bq_value.specs.Datum.{Datum, int, boolean, string}
 use Rattle.bq_builtin_machine.specs.Args.{Passed}
+use Rattle.bq_builtin_collections.specs.Arguments.{one_argument, optional_argument, one_or_two}
 
 -- an answer, and then another, which knows what the first one was
 abbrev pub and_then : {A B : Type 0} → Result A FaultKind → (A → Result B FaultKind) → Result B FaultKind
@@ -14,30 +15,6 @@ and_then (Err kind) next = Err kind
 -- no argument by name
 unfoldable pub by_place : Passed → Result (List Datum) FaultKind
 by_place p = elim p.named [ [] ↦ Ok p.positional | n ∷ named ↦ Err Args ]
-
--- the argument of a function that takes one
-unfoldable pub one_argument : List Datum → Result Datum FaultKind
-one_argument (v ∷ []) = Ok v
-one_argument _ = Err Args
-
--- the argument of a function that takes one or none
-unfoldable pub optional_argument : List Datum → Result (Option Datum) FaultKind
-optional_argument [] = Ok None
-optional_argument (v ∷ []) = Ok (Some v)
-optional_argument _ = Err Args
-
--- the second may be left out
-unfoldable pub one_or_two : List Datum → Result (Datum × Option Datum) FaultKind
-one_or_two (v ∷ []) = Ok (v, None)
-one_or_two (v ∷ w ∷ []) = Ok (v, Some w)
-one_or_two _ = Err Args
-
--- the second and the third may be left out
-unfoldable pub one_to_three : List Datum → Result (Datum × (Option Datum × Option Datum)) FaultKind
-one_to_three (v ∷ []) = Ok (v, (None, None))
-one_to_three (v ∷ w ∷ []) = Ok (v, (Some w, None))
-one_to_three (v ∷ w ∷ x ∷ []) = Ok (v, (Some w, Some x))
-one_to_three _ = Err Args
 
 -- the one argument of a call, passed by place
 unfoldable pub only_argument : Passed → Result Datum FaultKind

@@ -1,4 +1,4 @@
--- Arguments by place alone: another number of them is F52, and a value of the wrong type F40.
+-- Arguments by place, of methods and of functions: another number of them is F52, and a value of the wrong type F40.
 use Rattle.std.specs.Prelude.{ℤ, negsuc, List, [], ◌∷◌, Option, Some, None, Result, Ok, Err}
 use Rattle.bq_base.specs.declared.fault.FaultKind.{FaultKind}
 use Rattle.bq_base.specs.declared.fault.FaultKind.TheVariants.{WrongType, Args}
@@ -9,7 +9,7 @@ unfoldable pub no_argument : List Datum → Result (Unit {0}) FaultKind
 no_argument [] = Ok tt
 no_argument _ = Err Args
 
--- the argument of a method that takes one
+-- the argument of a call that takes one
 unfoldable pub one_argument : List Datum → Result Datum FaultKind
 one_argument (v ∷ []) = Ok v
 one_argument _ = Err Args
@@ -19,7 +19,7 @@ unfoldable pub two_arguments : List Datum → Result (Datum × Datum) FaultKind
 two_arguments (v ∷ w ∷ []) = Ok (v, w)
 two_arguments _ = Err Args
 
--- the argument of a method that takes one or none
+-- the argument of a call that takes one or none
 unfoldable pub optional_argument : List Datum → Result (Option Datum) FaultKind
 optional_argument [] = Ok None
 optional_argument (v ∷ []) = Ok (Some v)

@@ -12,7 +12,8 @@ use Rattle.bq_builtin_machine.specs.Args.{Passed}
 use Rattle.bq_builtin_machine.specs.Iteration.{elements_in}
 use Rattle.bq_builtin_numbers.specs.Integer.{fitted}
 use Rattle.bq_builtin_numbers.specs.Length.{max_len}
-use Rattle.bq_builtin.specs.Arguments.{and_then, by_place, one_argument, optional_argument, one_or_two, one_to_three, only_argument, only_argument_if_any, only_named, passed_once, one_and_named, integer, flag, text}
+use Rattle.bq_builtin.specs.Arguments.{and_then, by_place, only_argument, only_argument_if_any, only_named, passed_once, one_and_named, integer, flag, text}
+use Rattle.bq_builtin_collections.specs.Arguments.{one_argument, optional_argument, one_or_two, one_to_three}
 use Rattle.bq_builtin.specs.Choosing.{integers_of, strings_of, extreme, choices, chosen, in_order, sorted}
 use Rattle.bq_builtin.specs.declared.choosing.ExtremeKind.{ExtremeKind}
 use Rattle.bq_builtin.specs.Elements.{room_for, listed, listed_if_any}
@@ -21,6 +22,7 @@ use Rattle.bq_builtin.specs.Sequences.{tuple, list, reversed, start_or_zero, num
 use Rattle.bq_builtin.specs.Texts.{content_type, type_name, type_of, separator_of, separator_in}
 use Rattle.bq_builtin.specs.Truths.{all, any, bool}
 use Rattle.bq_eval_fault_laws.proofs.Fine.{Fine, fine_cond}
+use Rattle.bq_eval_fault_laws.proofs.CollectionAnswers.{one_argument_fine, optional_argument_fine, one_or_two_fine, one_to_three_fine}
 use Rattle.bq_eval_fault_laws.proofs.Sequences.{elements_fine, fitted_fine}
 use Rattle.bq_builtin.proofs.Cases.{without_names}
 
@@ -38,40 +40,13 @@ pub by_place_fine : (p : Passed) → Fine (by_place p)
 unfolding by_place
 by_place_fine p = names_fine p.named p.positional
 
-one_fine : (vs : List Datum) → Fine (one_argument vs)
-unfolding one_argument
-one_fine [] = refl
-one_fine (v ∷ []) = tt
-one_fine (v ∷ w ∷ vs) = refl
-
-optional_fine : (vs : List Datum) → Fine (optional_argument vs)
-unfolding optional_argument
-optional_fine [] = tt
-optional_fine (v ∷ []) = tt
-optional_fine (v ∷ w ∷ vs) = refl
-
-two_fine : (vs : List Datum) → Fine (one_or_two vs)
-unfolding one_or_two
-two_fine [] = refl
-two_fine (v ∷ []) = tt
-two_fine (v ∷ w ∷ []) = tt
-two_fine (v ∷ w ∷ x ∷ vs) = refl
-
-three_fine : (vs : List Datum) → Fine (one_to_three vs)
-unfolding one_to_three
-three_fine [] = refl
-three_fine (v ∷ []) = tt
-three_fine (v ∷ w ∷ []) = tt
-three_fine (v ∷ w ∷ x ∷ []) = tt
-three_fine (v ∷ w ∷ x ∷ y ∷ vs) = refl
-
 pub only_fine : (p : Passed) → Fine (only_argument p)
 unfolding only_argument
-only_fine p = then_fine (by_place p) one_argument (by_place_fine p) one_fine
+only_fine p = then_fine (by_place p) one_argument (by_place_fine p) one_argument_fine
 
 if_any_fine : (p : Passed) → Fine (only_argument_if_any p)
 unfolding only_argument_if_any
-if_any_fine p = then_fine (by_place p) optional_argument (by_place_fine p) optional_fine
+if_any_fine p = then_fine (by_place p) optional_argument (by_place_fine p) optional_argument_fine
 
 named_fine : (name : List ℕ) (named : List (List ℕ × Datum)) → Fine (only_named name named)
 unfolding only_named
@@ -86,7 +61,7 @@ once_fine v (Some w) (Some u) = refl
 
 and_named_fine : (name : List ℕ) (p : Passed) → Fine (one_and_named name p)
 unfolding one_and_named
-and_named_fine name p = then_fine (one_or_two p.positional) _ (two_fine p.positional) (λ r. then_fine (only_named name p.named) _ (named_fine name p.named) (λ o. once_fine r.0 r.1 o))
+and_named_fine name p = then_fine (one_or_two p.positional) _ (one_or_two_fine p.positional) (λ r. then_fine (only_named name p.named) _ (named_fine name p.named) (λ o. once_fine r.0 r.1 o))
 
 integer_fine : (v : Datum) → Fine (integer v)
 unfolding integer
@@ -249,7 +224,7 @@ range_from_fine (v, (Some w, o)) =
 
 pub range_fine : (p : Passed) → Fine (range p)
 unfolding range
-range_fine p = then_fine (by_place p) _ (by_place_fine p) (λ vs. then_fine (one_to_three vs) _ (three_fine vs) range_from_fine)
+range_fine p = then_fine (by_place p) _ (by_place_fine p) (λ vs. then_fine (one_to_three vs) _ (one_to_three_fine vs) range_from_fine)
 
 -- ---- texts and truths
 
