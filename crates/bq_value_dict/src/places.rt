@@ -56,14 +56,14 @@ pub(crate) fn leave_empty(
         close_up(entries, empty);
         return;
     }
-    let at = rank_of(empty, index);
+    let at = index_among(empty, index);
     if empty.insert(at, index).is_err() {
         close_up(entries, empty);
     }
 }
 
 /// Returns where the index goes among others in order.
-fn rank_of(empty: &[usize], index: usize) -> usize
+fn index_among(empty: &[usize], index: usize) -> usize
     ensures within { result ≤ length empty.now }
     ensures order { insert empty.now result index ≡ with_index index empty.now }
 {

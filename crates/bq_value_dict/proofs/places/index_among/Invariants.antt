@@ -1,5 +1,5 @@
 use Rattle.std.proofs.Common.{◌-◌, ◌<◌, ◌≤◌, ℕ, length, get_or}
-use Rattle.bq_value_dict.proofs.places.rank_of.Given as goal
+use Rattle.bq_value_dict.proofs.places.index_among.Given as goal
 
 abbrev pub invariant-loop-at : goal.invariant-loop-at
 invariant-loop-at l = record { within : l.at ≤ length l.empty; before : (j : ℕ) → j < l.at → get_or l.empty j 0 ≤ l.index }

@@ -1,6 +1,6 @@
 use Rattle.std.proofs.Common.{arith}
 use Rattle.bq_value_dict.proofs.Empty.{inserted}
-use Rattle.bq_value_dict.proofs.places.rank_of.Goals as goal
+use Rattle.bq_value_dict.proofs.places.index_among.Goals as goal
 
 pub returns-then-empty-at-clause-order : goal.returns-then-empty-at-clause-order
 returns-then-empty-at-clause-order c =
