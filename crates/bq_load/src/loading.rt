@@ -52,12 +52,11 @@ impl<'a> Loading<'a> {
         ensures wide { IfOk result (λ l. length graph.now.edges ≡ length l.modules.now) }
     {
         let modules = graph.modules();
-        let names = schema.shared_names()?;
         Ok(Loading {
             workspace,
             packages: graph.packages(),
             schema,
-            built_ins: BuiltIns::new(&names)?,
+            built_ins: BuiltIns::new(schema.shared_names()?),
             modules,
             code: codes_of(alloc, modules)?,
             limit,

@@ -29,12 +29,10 @@ impl Model for BuiltIns {
 
 impl BuiltIns {
     /// Makes those of a workspace whose schema has these rules. No name is copied.
-    pub fn new(rules: &Arc<NameSet>) -> Result<BuiltIns, AllocError>
-        ensures { IfOk result (λ b. b ≡ rules.now.value) }
+    pub fn new(rules: Arc<NameSet>) -> BuiltIns
+        ensures { result ≡ rules.value }
     {
-        Ok(BuiltIns {
-            rules: rules.clone()?,
-        })
+        BuiltIns { rules }
     }
 
     /// Returns the value of a predeclared name.

@@ -174,7 +174,7 @@ fn rules(alloc: Global) -> Result<Arc<NameSet>, AllocError> {
 fn first_wrong_of(alloc: Global) -> Result<u64, AllocError> {
     let rules = rules(alloc)?;
     let universe = Universe::of_names(FileKind::Build, &rules)?;
-    let built_ins = BuiltIns::new(&rules)?;
+    let built_ins = BuiltIns::new(rules);
     first_wrong(Setting {
         alloc,
         universe: &universe,
