@@ -6,7 +6,7 @@ use Rattle.std.proofs.lemmas.Int.{ints}
 use Rattle.bq_base.specs.declared.fault.FaultKind.{FaultKind}
 use Rattle.bq_base.specs.declared.fault.FaultKind.TheVariants.{Overflow}
 use Rattle.bq_builtin_numbers.proofs.Fits.{fitted_some, fitted_none}
-use Rattle.bq_builtin.specs.Arguments.{and_then}
+use Rattle.bq_builtin_machine.specs.Answer.{and_then}
 use Rattle.bq_builtin.specs.Sequences.{numbers_fit}
 
 above_fits : (low z : ℤ) → FitsSigned w64 low → low ≤ℤ z → z <ℤ pos (2 ^ 63) → FitsSigned w64 z

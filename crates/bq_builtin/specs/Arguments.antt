@@ -5,12 +5,8 @@ use Rattle.bq_base.specs.declared.fault.FaultKind.{FaultKind}
 use Rattle.bq_base.specs.declared.fault.FaultKind.TheVariants.{WrongType, Args}
 use Rattle.bq_value.specs.Datum.{Datum, int, boolean, string}
 use Rattle.bq_builtin_machine.specs.Args.{Passed}
+use Rattle.bq_builtin_machine.specs.Answer.{and_then}
 use Rattle.bq_builtin_collections.specs.Arguments.{one_argument, optional_argument, one_or_two}
-
--- an answer, and then another, which knows what the first one was
-abbrev pub and_then : {A B : Type 0} → Result A FaultKind → (A → Result B FaultKind) → Result B FaultKind
-and_then (Ok a) next = next a
-and_then (Err kind) next = Err kind
 
 -- no argument by name
 unfoldable pub by_place : Passed → Result (List Datum) FaultKind

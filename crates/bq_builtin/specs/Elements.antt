@@ -6,7 +6,7 @@ use Rattle.bq_builtin_numbers.specs.Length.{max_len}
 use Rattle.bq_value.specs.Datum.{Datum}
 use Rattle.bq_value.specs.Cells.{StoreView}
 use Rattle.bq_builtin_machine.specs.Iteration.{elements_in}
-use Rattle.bq_builtin.specs.Arguments.{and_then}
+use Rattle.bq_builtin_machine.specs.Answer.{and_then}
 
 -- whether a list or tuple may have `n` elements (F54)
 unfoldable pub room_for : ℕ → Result (Unit {0}) FaultKind

@@ -14,7 +14,7 @@ use Rattle.bq_builtin_machine.specs.Action.{Action, ◌>>=◌, ◌>>◌, pure, g
 use Rattle.bq_builtin_machine.specs.Args.{Passed}
 use Rattle.bq_builtin_machine.specs.Machine as machine
 use Rattle.bq_builtin_machine.specs.Machine.{walk}
-use Rattle.bq_builtin.specs.Arguments.{and_then}
+use Rattle.bq_builtin_machine.specs.Answer.{and_then}
 use Rattle.bq_builtin.specs.Arguments.{by_place, only_argument, only_named, text}
 
 -- ---- `type(x)`

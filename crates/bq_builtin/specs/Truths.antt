@@ -7,7 +7,7 @@ use Rattle.bq_value.specs.Cells.{StoreView}
 use Rattle.bq_value_compare.specs.Truth.{truth_of}
 use Rattle.bq_builtin_machine.specs.Args.{Passed}
 use Rattle.bq_builtin_machine.specs.Iteration.{elements_in}
-use Rattle.bq_builtin.specs.Arguments.{and_then}
+use Rattle.bq_builtin_machine.specs.Answer.{and_then}
 use Rattle.bq_builtin.specs.Arguments.{only_argument, only_argument_if_any}
 
 -- whether each of these counts as true

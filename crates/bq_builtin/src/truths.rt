@@ -7,7 +7,7 @@ ghost use Rattle.bq_value.specs.Cells.{StoreView};
 ghost use Rattle.bq_value.specs.Datum.{int};
 ghost use Rattle.bq_value.specs.Pairs.{keys};
 ghost use Rattle.bq_builtin_machine.specs.Iteration.{range_integers, content_elements, elements_in};
-ghost use Rattle.bq_builtin.specs.Arguments.{and_then};
+ghost use Rattle.bq_builtin_machine.specs.Answer.{and_then};
 ghost use Rattle.bq_builtin.specs.Truths.{all_true, any_true, counts, one_counts, all, any, bool, truth_if_any};
 
 use crate::arguments::{only_argument, only_argument_if_any};

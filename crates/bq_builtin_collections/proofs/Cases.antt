@@ -7,7 +7,8 @@ use Rattle.bq_value.specs.Contents.{Contents, items, pairs}
 use Rattle.bq_value.specs.Datum.{Datum, none}
 use Rattle.bq_value.specs.Pairs.{put, without}
 use Rattle.bq_builtin_collections.specs.Dict.{DictChange, or_no_key}
-use Rattle.bq_builtin_collections.specs.List.{ListChange, and_then}
+use Rattle.bq_builtin_collections.specs.List.{ListChange}
+use Rattle.bq_builtin_machine.specs.Answer.{and_then}
 use Rattle.bq_builtin_collections.specs.PairsGiven.{Pairs, GivenView}
 
 -- `setdefault`, by what the dict has at the key

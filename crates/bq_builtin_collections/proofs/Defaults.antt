@@ -8,7 +8,7 @@ use Rattle.bq_value.specs.SameLaws.{same-true}
 use Rattle.bq_value.specs.Pairs.{found, put, without, HasNoKeyTwice}
 use Rattle.bq_value.proofs.Puts.{found_put}
 use Rattle.bq_builtin_collections.specs.Dict.{with_default, taken_out}
-use Rattle.bq_builtin_collections.specs.List.{and_then}
+use Rattle.bq_builtin_machine.specs.Answer.{and_then}
 use Rattle.bq_builtin_collections.specs.Laws.{Dict}
 use Rattle.bq_builtin_collections.proofs.Cases.{taken_out_by, with_default_by}
 

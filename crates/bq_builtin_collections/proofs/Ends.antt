@@ -11,7 +11,7 @@ use Rattle.bq_builtin_machine.specs.Action.{Run, Action, done, stopped, followin
 use Rattle.bq_builtin_machine.specs.Args.{Passed}
 use Rattle.bq_builtin_machine.specs.Binding.{bind, take_all_named, take_named, take_keyword, BoundView}
 use Rattle.bq_builtin_machine.specs.Cells.{Change, changing, can_change, may_change, is_walked, content, or_wrong, put_content, with_content}
-use Rattle.bq_builtin_operators.specs.Operand.{and_then}
+use Rattle.bq_builtin_machine.specs.Answer.{and_then}
 use Rattle.bq_builtin_operators.specs.Union.{put_all}
 use Rattle.bq_builtin_in_place.specs.InPlace.{dict_united}
 use Rattle.bq_builtin_collections.specs.PairsGiven.{Pairs, GivenView, pairs_signature, pairs_given, read, read_by, read_optional, first_value, nothing_read, all_pairs}

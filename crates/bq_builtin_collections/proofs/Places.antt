@@ -5,7 +5,8 @@ use Rattle.bq_base.specs.declared.fault.FaultKind.{FaultKind}
 use Rattle.bq_builtin_numbers.specs.Length.{within}
 use Rattle.bq_builtin_numbers.specs.Place.{clamped, indexed}
 use Rattle.bq_value.specs.Datum.{Datum, none}
-use Rattle.bq_builtin_collections.specs.List.{and_then, appended, inserted, popped, taken}
+use Rattle.bq_builtin_collections.specs.List.{appended, inserted, popped, taken}
+use Rattle.bq_builtin_machine.specs.Answer.{and_then}
 use Rattle.bq_builtin_collections.proofs.Cases.{taken_by}
 
 there : (xs : List Datum) (i : ℕ) (v : Datum) → i ≤ length xs → slice_get (insert xs i v) i ≡ Some v

@@ -17,7 +17,7 @@ use Rattle.bq_builtin_in_place.specs.InPlace.{dict_united}
 use Rattle.bq_builtin_collections.specs.declared.dict_edit.DictEdit.{DictEdit}
 use Rattle.bq_builtin_collections.specs.declared.dict_edit.DictEdit.TheVariants as edit
 use Rattle.bq_builtin_collections.specs.Arguments.{no_argument, one_or_two, or_none}
-use Rattle.bq_builtin_collections.specs.List.{and_then}
+use Rattle.bq_builtin_machine.specs.Answer.{and_then}
 use Rattle.bq_builtin_collections.specs.PairsGiven.{Pairs, pairs_given, all_pairs}
 
 -- a change of a dict: an answer, and the dict then

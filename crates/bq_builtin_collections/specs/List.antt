@@ -7,6 +7,7 @@ use Rattle.bq_builtin_numbers.specs.Place.{clamped, indexed}
 use Rattle.bq_value.specs.Datum.{Datum, none, int}
 use Rattle.bq_value.specs.Contents.{items}
 use Rattle.bq_builtin_machine.specs.State.{State}
+use Rattle.bq_builtin_machine.specs.Answer.{and_then}
 use Rattle.bq_builtin_machine.specs.Action.{Action, ◌>>=◌, ◌>>◌, stop, given}
 use Rattle.bq_builtin_machine.specs.Cells.{Change, changing, may_change, content}
 use Rattle.bq_builtin_machine.specs.Iteration.{elements}
@@ -24,11 +25,6 @@ ListChange = List Datum → Result (Datum × List Datum) FaultKind
 unfoldable pub on_items : ListChange → Change Datum
 on_items f (items xs) = elim (f xs) [ Ok r ↦ Ok (r.0, items r.1) | Err kind ↦ Err kind ]
 on_items f _ = Err WrongType
-
--- what follows a result, unless that is a fault
-abbrev pub and_then : {A B : Type 0} → Result A FaultKind → (A → Result B FaultKind) → Result B FaultKind
-and_then (Ok a) next = next a
-and_then (Err kind) next = Err kind
 
 -- `append(v)`: one element more, at the end (F54)
 unfoldable pub appended : Datum → ListChange

@@ -15,7 +15,7 @@ use Rattle.bq_builtin_machine.specs.Parameters.{SignatureView}
 use Rattle.bq_builtin_machine.specs.Binding.{bind}
 use Rattle.bq_builtin_machine.specs.Iteration.{elements}
 use Rattle.bq_builtin_machine.specs.Machine.{key}
-use Rattle.bq_builtin_collections.specs.List.{and_then}
+use Rattle.bq_builtin_machine.specs.Answer.{and_then}
 
 -- the pairs of a dict, in its order
 abbrev pub Pairs : Type 0

@@ -12,7 +12,8 @@ use Rattle.bq_builtin_machine.specs.Action.{Action, ◌>>=◌, ◌>>◌, pure, s
 use Rattle.bq_builtin_machine.specs.Cells.{Change, content, may_change, changing}
 use Rattle.bq_builtin_machine.specs.Iteration.{elements}
 use Rattle.bq_builtin_machine.specs.Machine.{key}
-use Rattle.bq_builtin_operators.specs.Operand.{and_then, int_of, list_in, dict_in}
+use Rattle.bq_builtin_operators.specs.Operand.{int_of, list_in, dict_in}
+use Rattle.bq_builtin_machine.specs.Answer.{and_then}
 use Rattle.bq_builtin_operators.specs.Sequence.{limited, joined}
 use Rattle.bq_builtin_operators.specs.Sum.{sum}
 use Rattle.bq_builtin_operators.specs.Union.{put_all, union}

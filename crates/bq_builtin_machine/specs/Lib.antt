@@ -1,4 +1,5 @@
 pub mod State
+pub mod Answer
 pub mod Action
 pub mod StateOf
 pub mod Machine

@@ -12,7 +12,7 @@ use Rattle.bq_builtin_numbers.specs.Length.{max_len, within, times_of}
 use Rattle.bq_builtin_numbers.specs.Slice.{slice_start, slice_stop, element_at, taken, taken_by}
 use Rattle.bq_builtin_numbers.proofs.Slices.{places_within}
 use Rattle.bq_builtin_numbers.proofs.Taken.{taken_next, first_element}
-use Rattle.bq_builtin_operators.specs.Operand.{and_then}
+use Rattle.bq_builtin_machine.specs.Answer.{and_then}
 use Rattle.bq_builtin_operators.specs.Sequence.{limited, joined, copies, repeated, AreWithin}
 
 limited_when : {A : Type 0} (xs : List A) (n : ℕ) (b : Bool) → cond b (Ok xs) (Err TooLong) ≡ and_then (cond b (Ok n) (Err TooLong)) (λ _. Ok xs)

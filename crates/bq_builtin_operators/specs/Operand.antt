@@ -5,11 +5,7 @@ use Rattle.bq_base.specs.declared.fault.FaultKind.TheVariants.{WrongType}
 use Rattle.bq_value.specs.Datum.{Datum, int, string, tuple, cell, data_of}
 use Rattle.bq_value.specs.Contents.{Contents, items, pairs}
 use Rattle.bq_value.specs.Cells.{StoreView, content_at}
-
--- goes on with an answer
-abbrev pub and_then : {A B : Type 0} → Result A FaultKind → (A → Result B FaultKind) → Result B FaultKind
-and_then (Ok a) next = next a
-and_then (Err kind) next = Err kind
+use Rattle.bq_builtin_machine.specs.Answer.{and_then}
 
 -- an integer as a value
 abbrev pub as_int : Result ℤ FaultKind → Result Datum FaultKind

@@ -5,7 +5,7 @@ use Rattle.bq_base.specs.declared.fault.FaultKind.{FaultKind}
 use Rattle.bq_base.specs.declared.fault.FaultKind.TheVariants.{WrongType, BadValue}
 use Rattle.bq_value.specs.Datum.{Datum, none, int}
 use Rattle.bq_builtin_numbers.specs.Slice.{slice_of}
-use Rattle.bq_builtin_operators.specs.Operand.{and_then}
+use Rattle.bq_builtin_machine.specs.Answer.{and_then}
 
 -- an integer, or `None` where the bound is left out
 abbrev pub bound_of : Datum → Result (Option ℤ) FaultKind

@@ -12,7 +12,8 @@ use Rattle.bq_builtin_string_parts.proofs.Places.{found_whole}
 use Rattle.bq_builtin_string_parts.proofs.Cases.{cuts_by, replace_by}
 use Rattle.bq_builtin_numbers.specs.Length.{max_len, within}
 use Rattle.bq_value.specs.Datum.{Datum}
-use Rattle.bq_builtin_string_methods.specs.Argument.{and_then, most_in, text_in}
+use Rattle.bq_builtin_string_methods.specs.Argument.{most_in, text_in}
+use Rattle.bq_builtin_machine.specs.Answer.{and_then}
 use Rattle.bq_builtin_string_methods.specs.Longer.{fit_replaced, fits, join, replace, times, unless_too_long}
 
 parts_len_by : (old text before after : List ℕ) (at : Option ℕ) → find old text ≡ at → around old text at ≡ Some (before, after) → length text ≡ length before + (length old + length after)

@@ -5,7 +5,8 @@ use Rattle.std.specs.Prelude.{◌||◌}
 use Rattle.std.specs.List.{list_any}
 use Rattle.bq_base.specs.declared.fault.FaultKind.{FaultKind}
 use Rattle.bq_value.specs.Datum.{Datum, none}
-use Rattle.bq_builtin_string_methods.specs.Argument.{and_then, text_in}
+use Rattle.bq_builtin_string_methods.specs.Argument.{text_in}
+use Rattle.bq_builtin_machine.specs.Answer.{and_then}
 use Rattle.bq_builtin_string_methods.specs.Affixes.{texts_of}
 
 module _ (p : List ℕ → Bool) where

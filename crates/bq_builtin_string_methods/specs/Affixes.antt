@@ -4,7 +4,8 @@ use Rattle.std.specs.List.{starts_with, ends_with, list_any}
 use Rattle.bq_base.specs.declared.fault.FaultKind.{FaultKind}
 use Rattle.bq_base.specs.declared.fault.FaultKind.TheVariants.{Args, WrongType}
 use Rattle.bq_value.specs.Datum.{Datum, boolean, string, tuple, list_of}
-use Rattle.bq_builtin_string_methods.specs.Argument.{and_then, text_in, region}
+use Rattle.bq_builtin_string_methods.specs.Argument.{text_in, region}
+use Rattle.bq_builtin_machine.specs.Answer.{and_then}
 use Rattle.bq_builtin_string_methods.specs.declared.affixes.EndMethod.{EndMethod}
 use Rattle.bq_builtin_string_methods.specs.declared.affixes.EndMethod.TheVariants.{Startswith, Endswith}
 

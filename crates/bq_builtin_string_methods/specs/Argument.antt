@@ -5,11 +5,7 @@ use Rattle.bq_base.specs.declared.fault.FaultKind.TheVariants.{Args, WrongType}
 use Rattle.bq_value.specs.Datum.{Datum, none, boolean, int, string}
 use Rattle.bq_builtin_string_parts.specs.Trim.{spaces}
 use Rattle.bq_builtin_numbers.specs.Place.{bound}
-
--- an answer, and then another, which knows what the first one was
-abbrev pub and_then : {A B : Type 0} → Result A FaultKind → (A → Result B FaultKind) → Result B FaultKind
-and_then (Ok a) next = next a
-and_then (Err kind) next = Err kind
+use Rattle.bq_builtin_machine.specs.Answer.{and_then}
 
 -- What a call returned that takes no memory is what the definition gives.
 abbrev pub Says : {A B : Type 0} → (A → B) → Result A FaultKind → Result B FaultKind → Type 0

@@ -7,7 +7,8 @@ use Rattle.bq_value.specs.Datum.{Datum, string, tuple, data_of}
 use Rattle.bq_builtin_string_parts.specs.Parts as parts
 use Rattle.bq_builtin_string_classes.specs.Word as word
 use Rattle.bq_builtin_string_classes.specs.Line.{lines, part}
-use Rattle.bq_builtin_string_methods.specs.Argument.{and_then, text_in, separator_in, most_in, truth_in}
+use Rattle.bq_builtin_string_methods.specs.Argument.{text_in, separator_in, most_in, truth_in}
+use Rattle.bq_builtin_machine.specs.Answer.{and_then}
 use Rattle.bq_builtin_string_methods.specs.declared.cuts.Side.{Side}
 use Rattle.bq_builtin_string_methods.specs.declared.cuts.Side.TheVariants.{Left, Right}
 

@@ -5,7 +5,8 @@ use Rattle.bq_base.specs.declared.fault.FaultKind.TheVariants.{TooLong}
 use Rattle.bq_value.specs.Datum.{Datum}
 use Rattle.bq_builtin_string_parts.specs.Parts as parts
 use Rattle.bq_builtin_numbers.specs.Length.{max_len}
-use Rattle.bq_builtin_string_methods.specs.Argument.{and_then, text_in, most_in}
+use Rattle.bq_builtin_string_methods.specs.Argument.{text_in, most_in}
+use Rattle.bq_builtin_machine.specs.Answer.{and_then}
 
 -- F54 where there would be more bytes
 abbrev pub fits : ℕ → Result (Unit {0}) FaultKind

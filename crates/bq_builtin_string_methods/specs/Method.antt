@@ -15,7 +15,7 @@ use Rattle.bq_builtin_machine.specs.Args.{Passed}
 use Rattle.bq_builtin_machine.specs.Cells.{new_content}
 use Rattle.bq_builtin_machine.specs.Iteration.{elements}
 use Rattle.bq_builtin_machine.specs.Machine.{walk}
-use Rattle.bq_builtin_string_methods.specs.Argument.{and_then}
+use Rattle.bq_builtin_machine.specs.Answer.{and_then}
 use Rattle.bq_builtin_string_methods.specs.Searches.{search}
 use Rattle.bq_builtin_string_methods.specs.Affixes.{ends, texts_of}
 use Rattle.bq_builtin_string_methods.specs.Classes.{test, in_case}

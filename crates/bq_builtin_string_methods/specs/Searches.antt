@@ -6,7 +6,8 @@ use Rattle.bq_base.specs.declared.fault.FaultKind.TheVariants.{BadValue, Overflo
 use Rattle.bq_value.specs.Datum.{Datum, int}
 use Rattle.bq_builtin_string_parts.specs.Search.{find, rfind}
 use Rattle.bq_builtin_string_parts.specs.Parts.{count}
-use Rattle.bq_builtin_string_methods.specs.Argument.{and_then, text_in, region}
+use Rattle.bq_builtin_string_methods.specs.Argument.{text_in, region}
+use Rattle.bq_builtin_machine.specs.Answer.{and_then}
 use Rattle.bq_builtin_string_methods.specs.declared.searches.SearchMethod.{SearchMethod}
 use Rattle.bq_builtin_string_methods.specs.declared.searches.SearchMethod.TheVariants.{Count, Find, Rfind, Index, Rindex}
 

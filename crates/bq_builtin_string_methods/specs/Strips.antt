@@ -5,7 +5,8 @@ use Rattle.bq_base.specs.declared.fault.FaultKind.{FaultKind}
 use Rattle.bq_value.specs.Datum.{Datum}
 use Rattle.bq_builtin_string_parts.specs.Trim as trim
 use Rattle.bq_builtin_string_parts.specs.Trim.{remove_prefix, remove_suffix}
-use Rattle.bq_builtin_string_methods.specs.Argument.{and_then, text_in, bytes_in}
+use Rattle.bq_builtin_string_methods.specs.Argument.{text_in, bytes_in}
+use Rattle.bq_builtin_machine.specs.Answer.{and_then}
 use Rattle.bq_builtin_string_methods.specs.declared.strips.StripMethod.{StripMethod}
 use Rattle.bq_builtin_string_methods.specs.declared.strips.StripMethod.TheVariants.{Strip, Lstrip, Rstrip, Removeprefix, Removesuffix}
 

@@ -2,7 +2,7 @@
 
 ghost use Rattle.std.specs.Prelude.{◌≡◌, Ok};
 ghost use Rattle.std.specs.List.{list_any};
-ghost use Rattle.bq_builtin_string_methods.specs.Argument.{and_then};
+ghost use Rattle.bq_builtin_machine.specs.Answer.{and_then};
 ghost use Rattle.bq_builtin_string_methods.specs.Affixes.{has_end, texts_of, ends};
 
 use crate::argument::{argument, region};

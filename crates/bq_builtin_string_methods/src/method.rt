@@ -7,7 +7,8 @@ ghost use Rattle.bq_base.specs.Gives.{Gives};
 ghost use Rattle.bq_value.specs.Datum.{string};
 ghost use Rattle.bq_value.specs.declared.error.EvalErr.TheVariants.{Bad};
 ghost use Rattle.bq_builtin_machine.specs.Action.{Does};
-ghost use Rattle.bq_builtin_string_methods.specs.Argument.{and_then, text_in};
+ghost use Rattle.bq_builtin_string_methods.specs.Argument.{text_in};
+ghost use Rattle.bq_builtin_machine.specs.Answer.{and_then};
 ghost use Rattle.bq_builtin_string_methods.specs.Affixes.{texts_of};
 ghost use Rattle.bq_builtin_string_methods.specs.Method.{string_method, value_counts, parts_counts, placed, takes, value, parts, new_strings, joined, made, answered, call};
 

@@ -10,7 +10,8 @@ use Rattle.bq_builtin_numbers.specs.Length.{within}
 use Rattle.bq_builtin_numbers.specs.Place.{indexed}
 use Rattle.bq_builtin_collections.specs.Arguments.{no_argument, one_argument, two_arguments, optional_argument, one_or_two, integer, index_or_last, one_to_three, optional_integer}
 use Rattle.bq_builtin_collections.specs.Dict.{DictChange, on_pairs, emptied, or_no_key, taken_out, first_out, with_default}
-use Rattle.bq_builtin_collections.specs.List.{ListChange, on_items, and_then, appended, extended, inserted, popped, cleared, dropped, place_value}
+use Rattle.bq_builtin_collections.specs.List.{ListChange, on_items, appended, extended, inserted, popped, cleared, dropped, place_value}
+use Rattle.bq_builtin_machine.specs.Answer.{and_then}
 use Rattle.bq_builtin_collections.specs.PairsGiven.{GivenView, parts_of, two, pair_in, take_element, take_elements}
 use Rattle.bq_builtin_methods.specs.Placed.{placed}
 use Rattle.bq_eval_fault_laws.proofs.Fine.{Fine}

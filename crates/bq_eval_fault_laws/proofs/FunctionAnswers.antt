@@ -12,7 +12,8 @@ use Rattle.bq_builtin_machine.specs.Args.{Passed}
 use Rattle.bq_builtin_machine.specs.Iteration.{elements_in}
 use Rattle.bq_builtin_numbers.specs.Integer.{fitted}
 use Rattle.bq_builtin_numbers.specs.Length.{max_len}
-use Rattle.bq_builtin.specs.Arguments.{and_then, by_place, only_argument, only_argument_if_any, only_named, passed_once, one_and_named, integer, flag, text}
+use Rattle.bq_builtin.specs.Arguments.{by_place, only_argument, only_argument_if_any, only_named, passed_once, one_and_named, integer, flag, text}
+use Rattle.bq_builtin_machine.specs.Answer.{and_then}
 use Rattle.bq_builtin_collections.specs.Arguments.{one_argument, optional_argument, one_or_two, one_to_three}
 use Rattle.bq_builtin.specs.Choosing.{integers_of, strings_of, extreme, choices, chosen, in_order, sorted}
 use Rattle.bq_builtin.specs.declared.choosing.ExtremeKind.{ExtremeKind}

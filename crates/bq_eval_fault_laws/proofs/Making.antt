@@ -7,7 +7,8 @@ use Rattle.bq_builtin_machine.specs.Action.{given, look}
 use Rattle.bq_builtin_machine.specs.Args.{Passed}
 use Rattle.bq_builtin_machine.specs.Iteration.{elements, elements_in}
 use Rattle.bq_builtin_machine.specs.Machine.{key}
-use Rattle.bq_builtin_operators.specs.Operand.{and_then, dict_in}
+use Rattle.bq_builtin_operators.specs.Operand.{dict_in}
+use Rattle.bq_builtin_machine.specs.Answer.{and_then}
 use Rattle.bq_eval_operations.specs.Making.{with_element, with_pair, with_new_pair, add, put_pair, add_pair}
 use Rattle.bq_eval_operations.specs.Passing.{if_few, with_positional, with_named, name_of, with_pairs, pass, pass_named, pass_all, pass_all_named}
 use Rattle.bq_eval_operations.specs.Unpacking.{just, parts}

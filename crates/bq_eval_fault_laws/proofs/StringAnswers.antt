@@ -7,7 +7,8 @@ use Rattle.bq_builtin_numbers.specs.Length.{max_len}
 use Rattle.bq_builtin_string_parts.specs.Parts.{count}
 use Rattle.bq_builtin_string_parts.specs.Search.{find, rfind}
 use Rattle.bq_builtin_string_methods.specs.Affixes.{texts_of, texts_in, ends}
-use Rattle.bq_builtin_string_methods.specs.Argument.{and_then, text_in, place_in, bytes_in, separator_in, most_in, truth_in, region}
+use Rattle.bq_builtin_string_methods.specs.Argument.{text_in, place_in, bytes_in, separator_in, most_in, truth_in, region}
+use Rattle.bq_builtin_machine.specs.Answer.{and_then}
 use Rattle.bq_builtin_string_methods.specs.Cuts.{when_some, partition, split_by, split, splitlines}
 use Rattle.bq_builtin_string_methods.specs.Longer.{fits, unless_too_long, replace, join}
 use Rattle.bq_builtin_string_methods.specs.Method.{value_counts, parts_counts, placed, takes, as_string, value, parts}

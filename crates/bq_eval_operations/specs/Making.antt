@@ -8,7 +8,7 @@ use Rattle.bq_value.specs.Pairs.{found, put}
 use Rattle.bq_builtin_machine.specs.State.{State}
 use Rattle.bq_builtin_machine.specs.Action.{Action, ◌>>=◌, given}
 use Rattle.bq_builtin_machine.specs.Machine.{key}
-use Rattle.bq_builtin_operators.specs.Operand.{and_then}
+use Rattle.bq_builtin_machine.specs.Answer.{and_then}
 use Rattle.bq_builtin_operators.specs.Sequence.{limited}
 
 -- a list with one more element (F54)

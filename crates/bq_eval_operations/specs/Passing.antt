@@ -7,7 +7,8 @@ use Rattle.bq_builtin_machine.specs.State.{State}
 use Rattle.bq_builtin_machine.specs.Action.{Action, ◌>>=◌, given, look}
 use Rattle.bq_builtin_machine.specs.Args.{Passed}
 use Rattle.bq_builtin_machine.specs.Iteration.{elements}
-use Rattle.bq_builtin_operators.specs.Operand.{and_then, dict_in}
+use Rattle.bq_builtin_operators.specs.Operand.{dict_in}
+use Rattle.bq_builtin_machine.specs.Answer.{and_then}
 use Rattle.bq_builtin_numbers.specs.Length.{max_len}
 
 -- there are so few that one call may pass them, else F54

@@ -5,7 +5,8 @@ ghost use Rattle.bq_base.specs.Gives.{Gives};
 ghost use Rattle.bq_base.specs.declared.fault.FaultKind.TheVariants.{TooLong};
 ghost use Rattle.bq_value.specs.declared.error.EvalErr.TheVariants.{Bad};
 ghost use Rattle.bq_builtin_numbers.specs.Length.{max_len};
-ghost use Rattle.bq_builtin_operators.specs.Operand.{and_then, dict_in};
+ghost use Rattle.bq_builtin_operators.specs.Operand.{dict_in};
+ghost use Rattle.bq_builtin_machine.specs.Answer.{and_then};
 ghost use Rattle.bq_eval_operations.specs.Passing.{if_few, with_positional, with_named, with_pairs, name_of};
 
 use bq_base::FaultKind;

@@ -14,7 +14,8 @@ use Rattle.bq_builtin_machine.specs.State.{State}
 use Rattle.bq_builtin_numbers.specs.Length.{max_len}
 use Rattle.bq_builtin_numbers.specs.Place.{bound}
 use Rattle.bq_builtin_collections.specs.Arguments.{one_to_three, optional_integer}
-use Rattle.bq_builtin_collections.specs.List.{and_then, list_in, find, place_value, index}
+use Rattle.bq_builtin_collections.specs.List.{list_in, find, place_value, index}
+use Rattle.bq_builtin_machine.specs.Answer.{and_then}
 use Rattle.bq_builtin_collections.specs.Search.{if_unequal, first_equal, found_between}
 use Rattle.bq_builtin_laws.specs.Collections.Laws.{IsList}
 use Rattle.bq_builtin_laws.specs.Collections.Looks.{IsCompared, IsFirstPlace, IsFirstIndex}

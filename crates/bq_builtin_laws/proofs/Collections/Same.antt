@@ -13,7 +13,8 @@ use Rattle.bq_builtin_machine.specs.Iteration.{elements_in, elements}
 use Rattle.bq_builtin_machine.specs.State.{State}
 use Rattle.bq_builtin_numbers.specs.Length.{max_len}
 use Rattle.bq_builtin_in_place.specs.InPlace.{list_extended, augment_sum, augment}
-use Rattle.bq_builtin_operators.specs.Operand.{and_then, list_in}
+use Rattle.bq_builtin_operators.specs.Operand.{list_in}
+use Rattle.bq_builtin_machine.specs.Answer.{and_then}
 use Rattle.bq_builtin_operators.specs.Sequence.{joined}
 use Rattle.bq_builtin_operators.proofs.Cases.{list_of_content}
 use Rattle.bq_builtin_collections.proofs.Ends.{changed}

@@ -7,7 +7,8 @@ use Rattle.bq_builtin_numbers.specs.Length.{max_len}
 use Rattle.bq_value.specs.Cells.{StoreView}
 use Rattle.bq_value.specs.Datum.{Datum, boolean}
 use Rattle.bq_builtin_machine.specs.Iteration.{elements_in}
-use Rattle.bq_builtin.specs.Arguments.{and_then, only_named, one_and_named, flag}
+use Rattle.bq_builtin.specs.Arguments.{only_named, one_and_named, flag}
+use Rattle.bq_builtin_machine.specs.Answer.{and_then}
 use Rattle.bq_builtin_collections.specs.Arguments.{one_or_two}
 use Rattle.bq_builtin.specs.Choosing.{in_order, sorted}
 use Rattle.bq_builtin.specs.Elements.{room_for}

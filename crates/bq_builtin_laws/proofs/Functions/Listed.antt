@@ -9,7 +9,8 @@ use Rattle.bq_value.specs.Datum as datum
 use Rattle.bq_value.specs.Datum.{Datum, data_of}
 use Rattle.bq_builtin_machine.specs.Iteration.{elements_in}
 use Rattle.bq_builtin.specs.Arguments as arguments
-use Rattle.bq_builtin.specs.Arguments.{and_then, only_argument_if_any}
+use Rattle.bq_builtin.specs.Arguments.{only_argument_if_any}
+use Rattle.bq_builtin_machine.specs.Answer.{and_then}
 use Rattle.bq_builtin_collections.specs.Arguments.{optional_argument}
 use Rattle.bq_builtin.specs.Elements.{room_for, listed, listed_if_any}
 use Rattle.bq_builtin.specs.Sequences.{list, tuple}

@@ -9,7 +9,8 @@ use Rattle.bq_value.specs.Cells.{StoreView}
 use Rattle.bq_value.specs.Datum.{Datum, tuple, data_of, list_of_data_of}
 use Rattle.bq_builtin_machine.specs.Iteration.{elements_in}
 use Rattle.bq_builtin.specs.Arguments as arguments
-use Rattle.bq_builtin.specs.Arguments.{and_then, only_argument}
+use Rattle.bq_builtin.specs.Arguments.{only_argument}
+use Rattle.bq_builtin_machine.specs.Answer.{and_then}
 use Rattle.bq_builtin_collections.specs.Arguments.{one_argument}
 use Rattle.bq_builtin.specs.Elements.{room_for, listed}
 use Rattle.bq_builtin.specs.Sequences.{reversed}

@@ -8,6 +8,7 @@ use Rattle.bq_value.specs.Contents.{Contents, items, pairs, rule}
 use Rattle.bq_value.specs.Datum.{Datum, none, string, cell}
 use Rattle.bq_value.specs.Pairs.{found, keys}
 use Rattle.bq_builtin_format.specs.Method.{formatted}
+use Rattle.bq_builtin_machine.specs.Answer.{and_then}
 use Rattle.bq_builtin_machine.specs.Action.{Action, ◌>>=◌, ◌>>◌, pure, given}
 use Rattle.bq_builtin_machine.specs.Args.{Passed}
 use Rattle.bq_builtin_machine.specs.Binding.{bind}
@@ -33,7 +34,6 @@ use Rattle.bq_builtin_methods.specs.DictMethod.{dict_methods, placed_call, dict_
 use Rattle.bq_builtin_methods.specs.ListMethod.{list_methods, list_call}
 use Rattle.bq_builtin_methods.specs.Placed.{placed}
 use Rattle.bq_builtin_string_methods.specs.Affixes.{texts_of}
-use Rattle.bq_builtin_string_methods.specs.Argument as argument
 use Rattle.bq_builtin_string_methods.specs.Longer.{join}
 use Rattle.bq_builtin_string_methods.specs.Method.{string_method, takes, as_string, value, parts, new_strings, joined, made, answered, call}
 use Rattle.bq_builtin_string_methods.specs.declared.method.StringMethod.{StringMethod}
@@ -224,7 +224,7 @@ strings_own strings = new_owns (items (map string strings))
 joined_owns : (text : List ℕ) (o : Option Datum) → Own (joined text o)
 joined_owns text None = stop_owns Datum f.Args
 joined_owns text (Some v) =
-    bind_owns (elements v) _ (elements_owns v) (λ vs. given_owns (as_string (argument.and_then (texts_of vs) (λ strings. join text strings))))
+    bind_owns (elements v) _ (elements_owns v) (λ vs. given_owns (as_string (and_then (texts_of vs) (λ strings. join text strings))))
 
 answered_owns : (method : StringMethod) (text : List ℕ) (args : Passed) → Own (answered method text args)
 unfolding answered

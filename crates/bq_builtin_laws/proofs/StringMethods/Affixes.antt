@@ -7,7 +7,8 @@ use Rattle.bq_base.specs.declared.fault.FaultKind.{FaultKind}
 use Rattle.bq_builtin_numbers.specs.Place.{bound}
 use Rattle.bq_value.specs.Datum.{Datum, boolean, string, tuple, data_of, list_of_data_of}
 use Rattle.bq_builtin_string_methods.specs.Affixes.{has_end, texts_of, ends}
-use Rattle.bq_builtin_string_methods.specs.Argument.{and_then, part_of}
+use Rattle.bq_builtin_string_methods.specs.Argument.{part_of}
+use Rattle.bq_builtin_machine.specs.Answer.{and_then}
 use Rattle.bq_builtin_string_methods.specs.declared.affixes.EndMethod.{EndMethod}
 
 -- the region that is looked at where none is given

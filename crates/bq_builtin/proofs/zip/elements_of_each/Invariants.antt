@@ -1,6 +1,6 @@
 -- what is left gives, after the columns so far, what all give
 use Rattle.std.proofs.Common.{◌≡◌, ◌++◌, drop, Ok}
-use Rattle.bq_builtin.specs.Arguments.{and_then}
+use Rattle.bq_builtin_machine.specs.Answer.{and_then}
 use Rattle.bq_builtin.specs.Sequences.{elements_of_each}
 use Rattle.bq_builtin.proofs.zip.elements_of_each.Given as goal
 

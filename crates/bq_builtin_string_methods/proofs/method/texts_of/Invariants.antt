@@ -1,5 +1,5 @@
 use Rattle.std.proofs.Common.{◌≡◌, ◌++◌, length, Ok}
-use Rattle.bq_builtin_string_methods.specs.Argument.{and_then}
+use Rattle.bq_builtin_machine.specs.Answer.{and_then}
 use Rattle.bq_builtin_string_methods.specs.Affixes.{texts_of}
 use Rattle.bq_builtin_string_methods.proofs.method.texts_of.Given as goal
 
