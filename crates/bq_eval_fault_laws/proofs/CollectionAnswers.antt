@@ -11,17 +11,12 @@ use Rattle.bq_builtin_numbers.specs.Place.{indexed}
 use Rattle.bq_builtin_collections.specs.Arguments.{no_argument, one_argument, two_arguments, optional_argument, one_or_two, integer, index_or_last, one_to_three, optional_integer}
 use Rattle.bq_builtin_collections.specs.Dict.{DictChange, on_pairs, emptied, or_no_key, taken_out, first_out, with_default}
 use Rattle.bq_builtin_collections.specs.List.{ListChange, on_items, appended, extended, inserted, popped, cleared, dropped, place_value}
-use Rattle.bq_builtin_machine.specs.Answer.{and_then}
 use Rattle.bq_builtin_collections.specs.PairsGiven.{GivenView, parts_of, two, pair_in, take_element, take_elements}
 use Rattle.bq_builtin_methods.specs.Placed.{placed}
-use Rattle.bq_eval_fault_laws.proofs.Fine.{Fine}
+use Rattle.bq_eval_fault_laws.proofs.Fine.{Fine, fine_then}
 use Rattle.bq_eval_fault_laws.proofs.Sequences.{within_fine, indexed_fine}
 use Rattle.bq_builtin_collections.proofs.Cases.{as_items, as_pairs, dict_of, dropped_by, list_of, place_by, taken_by, taken_out_by, values_of_content, with_default_by, with_pair}
 use Rattle.bq_builtin_methods.proofs.Cases.{placed_by}
-
-then_fine : {A B : Type 0} (r : Result A FaultKind) (next : A → Result B FaultKind) → Fine r → ((x : A) → Fine (next x)) → Fine (and_then r next)
-then_fine (Ok x) next h k = k x
-then_fine (Err kind) next h k = h
 
 -- ---- arguments
 
@@ -103,15 +98,15 @@ on_items_fine f h (rule class) = refl
 
 pub appended_fine : (v : Datum) (xs : List Datum) → Fine (appended v xs)
 unfolding appended
-appended_fine v xs = then_fine (within (length xs + 1)) _ (within_fine (length xs + 1)) (λ n. tt)
+appended_fine v xs = fine_then (within (length xs + 1)) _ (within_fine (length xs + 1)) (λ n. tt)
 
 pub extended_fine : (ys xs : List Datum) → Fine (extended ys xs)
 unfolding extended
-extended_fine ys xs = then_fine (within (length xs + length ys)) _ (within_fine (length xs + length ys)) (λ n. tt)
+extended_fine ys xs = fine_then (within (length xs + length ys)) _ (within_fine (length xs + length ys)) (λ n. tt)
 
 pub inserted_fine : (i : ℤ) (v : Datum) (xs : List Datum) → Fine (inserted i v xs)
 unfolding inserted
-inserted_fine i v xs = then_fine (within (length xs + 1)) _ (within_fine (length xs + 1)) (λ n. tt)
+inserted_fine i v xs = fine_then (within (length xs + 1)) _ (within_fine (length xs + 1)) (λ n. tt)
 
 taken_fine : (o : Option Datum) (at : ℕ) (xs : List Datum) → Fine (taken_by o at xs)
 taken_fine (Some v) at xs = tt
@@ -119,7 +114,7 @@ taken_fine None at xs = refl
 
 pub popped_fine : (i : ℤ) (xs : List Datum) → Fine (popped i xs)
 unfolding popped
-popped_fine i xs = then_fine (indexed (length xs) i) _ (indexed_fine (length xs) i) (λ at. taken_fine (slice_get xs at) at xs)
+popped_fine i xs = fine_then (indexed (length xs) i) _ (indexed_fine (length xs) i) (λ at. taken_fine (slice_get xs at) at xs)
 
 pub cleared_fine : (xs : List Datum) → Fine (cleared xs)
 unfolding cleared
@@ -144,7 +139,7 @@ place_fine None = refl
 
 pub place_value_fine : (o : Option ℕ) → Fine (place_value o)
 unfolding place_value
-place_value_fine o = then_fine (place_by o) _ (place_fine o) (λ n. tt)
+place_value_fine o = fine_then (place_by o) _ (place_fine o) (λ n. tt)
 
 -- ---- dicts
 
@@ -190,7 +185,7 @@ with_default_fine k d ps = by_value (found k ps)
   where
     by_value : (o : Option Datum) → Fine (with_default_by o k d ps)
     by_value (Some v) = tt
-    by_value None = then_fine (within (length ps + 1)) _ (within_fine (length ps + 1)) (λ n. tt)
+    by_value None = fine_then (within (length ps + 1)) _ (within_fine (length ps + 1)) (λ n. tt)
 
 -- ---- pairs that are given
 
@@ -209,4 +204,4 @@ pub take_elements_fine : (s : StoreView) (vs : List Datum) (g : GivenView) → F
 unfolding take_element pair_in
 take_elements_fine s [] g = tt
 take_elements_fine s (v ∷ vs) g =
-    then_fine (take_element s v g) (take_elements s vs) (then_fine (pair_in s v) (λ o. Ok (with_pair o g)) (then_fine (parts_of s v) (λ xs. Ok (two xs)) (parts_fine s v) (λ xs. tt)) (λ o. tt)) (take_elements_fine s vs)
+    fine_then (take_element s v g) (take_elements s vs) (fine_then (pair_in s v) (λ o. Ok (with_pair o g)) (fine_then (parts_of s v) (λ xs. Ok (two xs)) (parts_fine s v) (λ xs. tt)) (λ o. tt)) (take_elements_fine s vs)

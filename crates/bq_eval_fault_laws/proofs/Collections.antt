@@ -38,12 +38,12 @@ use Rattle.bq_builtin_string_methods.specs.Longer.{join}
 use Rattle.bq_builtin_string_methods.specs.Method.{string_method, takes, as_string, value, parts, new_strings, joined, made, answered, call}
 use Rattle.bq_builtin_string_methods.specs.declared.method.StringMethod.{StringMethod}
 use Rattle.bq_builtin_string_methods.specs.declared.method.StringMethod.TheVariants as s
-use Rattle.bq_eval_fault_laws.proofs.Fine.{fine_cond}
+use Rattle.bq_eval_fault_laws.proofs.Fine.{fine_cond, fine_then}
 use Rattle.bq_eval_fault_laws.proofs.Arguments.{bind_fine}
 use Rattle.bq_eval_fault_laws.proofs.CollectionAnswers.{no_argument_fine, one_argument_fine, two_arguments_fine, optional_argument_fine, one_or_two_fine, one_to_three_fine, integer_fine, index_or_last_fine, optional_integer_fine, placed_fine, on_items_fine, appended_fine, extended_fine, inserted_fine, popped_fine, cleared_fine, dropped_fine, list_of_fine, place_value_fine, on_pairs_fine, dict_of_fine, emptied_fine, taken_out_fine, first_out_fine, with_default_fine, take_elements_fine}
 use Rattle.bq_eval_fault_laws.proofs.Machine.{Own, pure_owns, stop_owns, given_owns, bind_owns, then_owns, look_owns, walk_owns, key_owns, new_owns, new_list_owns, new_dict_owns, content_owns, may_owns, changing_owns, elements_owns}
 use Rattle.bq_eval_fault_laws.proofs.Sequences.{limited_fine, dict_united_fine}
-use Rattle.bq_eval_fault_laws.proofs.StringAnswers.{then_fine, texts_fine, join_fine, as_string_fine, takes_fine, value_fine, parts_answer_fine}
+use Rattle.bq_eval_fault_laws.proofs.StringAnswers.{texts_fine, join_fine, as_string_fine, takes_fine, value_fine, parts_answer_fine}
 use Rattle.bq_eval_fault_laws.proofs.Walks.{found_walks, formatted_walks}
 
 -- ---- lists
@@ -209,7 +209,7 @@ strings_own strings = new_owns (items (map string strings))
 joined_owns : (text : List ℕ) (o : Option Datum) → Own (joined text o)
 joined_owns text None = stop_owns Datum f.Args refl
 joined_owns text (Some v) =
-    bind_owns (elements v) _ (elements_owns v) (λ vs. given_owns (as_string (and_then (texts_of vs) (λ strings. join text strings))) (as_string_fine (and_then (texts_of vs) (λ strings. join text strings)) (then_fine (texts_of vs) (λ strings. join text strings) (texts_fine vs) (λ strings. join_fine text strings))))
+    bind_owns (elements v) _ (elements_owns v) (λ vs. given_owns (as_string (and_then (texts_of vs) (λ strings. join text strings))) (as_string_fine (and_then (texts_of vs) (λ strings. join text strings)) (fine_then (texts_of vs) (λ strings. join text strings) (texts_fine vs) (λ strings. join_fine text strings))))
 
 answered_owns : (method : StringMethod) (text : List ℕ) (args : Passed) → Own (answered method text args)
 unfolding answered

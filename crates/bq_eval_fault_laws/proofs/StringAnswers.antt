@@ -1,5 +1,5 @@
 -- What methods of strings answer is refused for faults of evaluation alone.
-use Rattle.std.proofs.Common.{ℕ, ◌+◌, ◌^◌, pos, negsuc, nat_lt, nat_le, ◌&&◌, List, [], ◌∷◌, length, slice_get, Option, Some, None, Result, Ok, Err, bytes_eq, refl}
+use Rattle.std.proofs.Common.{ℕ, ◌+◌, ◌^◌, pos, negsuc, nat_lt, nat_le, ◌&&◌, List, [], ◌∷◌, length, slice_get, Option, Some, None, Result, Ok, bytes_eq, refl}
 use Rattle.bq_base.specs.declared.fault.FaultKind.{FaultKind}
 use Rattle.bq_value.specs.Datum.{Datum, none, boolean, int, string, tuple, list_of}
 use Rattle.bq_builtin_machine.specs.Args.{Passed}
@@ -8,7 +8,6 @@ use Rattle.bq_builtin_string_parts.specs.Parts.{count}
 use Rattle.bq_builtin_string_parts.specs.Search.{find, rfind}
 use Rattle.bq_builtin_string_methods.specs.Affixes.{texts_of, texts_in, ends}
 use Rattle.bq_builtin_string_methods.specs.Argument.{text_in, place_in, bytes_in, separator_in, most_in, truth_in, region}
-use Rattle.bq_builtin_machine.specs.Answer.{and_then}
 use Rattle.bq_builtin_string_methods.specs.Cuts.{when_some, partition, split_by, split, splitlines}
 use Rattle.bq_builtin_string_methods.specs.Longer.{fits, unless_too_long, replace, join}
 use Rattle.bq_builtin_string_methods.specs.Method.{value_counts, parts_counts, placed, takes, as_string, value, parts}
@@ -26,11 +25,7 @@ use Rattle.bq_builtin_string_methods.specs.declared.searches.SearchMethod.{Searc
 use Rattle.bq_builtin_string_methods.specs.declared.searches.SearchMethod.TheVariants.{Count, Find, Rfind, Index, Rindex}
 use Rattle.bq_builtin_string_methods.specs.declared.strips.StripMethod.{StripMethod}
 use Rattle.bq_builtin_string_methods.specs.declared.strips.StripMethod.TheVariants.{Strip, Lstrip, Rstrip, Removeprefix, Removesuffix}
-use Rattle.bq_eval_fault_laws.proofs.Fine.{Fine, fine_if}
-
-pub then_fine : {A B : Type 0} (r : Result A FaultKind) (next : A → Result B FaultKind) → Fine r → ((x : A) → Fine (next x)) → Fine (and_then r next)
-then_fine (Ok x) next h k = k x
-then_fine (Err kind) next h k = h
+use Rattle.bq_eval_fault_laws.proofs.Fine.{Fine, fine_if, fine_then}
 
 -- ---- arguments
 
@@ -69,7 +64,7 @@ truth_fine (Some (boolean so)) = tt
 truth_fine (Some v) = refl
 
 region_fine : (text : List ℕ) (start end : Option Datum) → Fine (region text start end)
-region_fine text start end = then_fine (place_in start) _ (place_fine start) (λ from. then_fine (place_in end) _ (place_fine end) (λ to. tt))
+region_fine text start end = fine_then (place_in start) _ (place_fine start) (λ from. fine_then (place_in end) _ (place_fine end) (λ to. tt))
 
 -- ---- searches
 
@@ -94,13 +89,13 @@ said_fine Rindex sub from part = fault_fine from (rfind sub part)
 search_fine : (s : SearchMethod) (text : List ℕ) (vs : List Datum) → Fine (search s text vs)
 unfolding search
 search_fine s text vs =
-    then_fine (text_in (slice_get vs 0)) _ (text_fine (slice_get vs 0)) (λ sub. then_fine (region text (slice_get vs 1) (slice_get vs 2)) _ (region_fine text (slice_get vs 1) (slice_get vs 2)) (λ r. said_fine s sub r.0 r.1))
+    fine_then (text_in (slice_get vs 0)) _ (text_fine (slice_get vs 0)) (λ sub. fine_then (region text (slice_get vs 1) (slice_get vs 2)) _ (region_fine text (slice_get vs 1) (slice_get vs 2)) (λ r. said_fine s sub r.0 r.1))
 
 -- ---- ends
 
 pub texts_fine : (vs : List Datum) → Fine (texts_of vs)
 texts_fine [] = tt
-texts_fine (v ∷ vs) = then_fine (text_in (Some v)) _ (text_fine (Some v)) (λ text. then_fine (texts_of vs) _ (texts_fine vs) (λ texts. tt))
+texts_fine (v ∷ vs) = fine_then (text_in (Some v)) _ (text_fine (Some v)) (λ text. fine_then (texts_of vs) _ (texts_fine vs) (λ texts. tt))
 
 texts_in_fine : (o : Option Datum) → Fine (texts_in o)
 texts_in_fine None = refl
@@ -111,7 +106,7 @@ texts_in_fine (Some v) = refl
 ends_fine : (e : EndMethod) (text : List ℕ) (vs : List Datum) → Fine (ends e text vs)
 unfolding ends
 ends_fine e text vs =
-    then_fine (region text (slice_get vs 1) (slice_get vs 2)) _ (region_fine text (slice_get vs 1) (slice_get vs 2)) (λ r. then_fine (texts_in (slice_get vs 0)) _ (texts_in_fine (slice_get vs 0)) (λ texts. tt))
+    fine_then (region text (slice_get vs 1) (slice_get vs 2)) _ (region_fine text (slice_get vs 1) (slice_get vs 2)) (λ r. fine_then (texts_in (slice_get vs 0)) _ (texts_in_fine (slice_get vs 0)) (λ texts. tt))
 
 end_fine : (s : StripMethod) (vs : List Datum) → Fine (end_in s vs)
 end_fine Strip vs = bytes_fine (slice_get vs 0)
@@ -122,7 +117,7 @@ end_fine Removesuffix vs = text_fine (slice_get vs 0)
 
 strip_fine : (s : StripMethod) (text : List ℕ) (vs : List Datum) → Fine (strip s text vs)
 unfolding strip
-strip_fine s text vs = then_fine (end_in s vs) _ (end_fine s vs) (λ end. tt)
+strip_fine s text vs = fine_then (end_in s vs) _ (end_fine s vs) (λ end. tt)
 
 -- ---- cuts
 
@@ -131,7 +126,7 @@ some_fine sep a = fine_if (bytes_eq sep []) _ _ refl tt
 
 partition_fine : (side : Side) (text : List ℕ) (vs : List Datum) → Fine (partition side text vs)
 unfolding partition
-partition_fine side text vs = then_fine (text_in (slice_get vs 0)) _ (text_fine (slice_get vs 0)) (λ sep. some_fine sep _)
+partition_fine side text vs = fine_then (text_in (slice_get vs 0)) _ (text_fine (slice_get vs 0)) (λ sep. some_fine sep _)
 
 split_by_fine : (side : Side) (text : List ℕ) (most : ℕ) (o : Option (List ℕ)) → Fine (split_by side text most o)
 split_by_fine side text most None = tt
@@ -140,24 +135,24 @@ split_by_fine side text most (Some sep) = some_fine sep _
 split_fine : (side : Side) (text : List ℕ) (vs : List Datum) → Fine (split side text vs)
 unfolding split
 split_fine side text vs =
-    then_fine (separator_in (slice_get vs 0)) _ (separator_fine (slice_get vs 0))
-    (λ sep. then_fine (most_in (length text) (slice_get vs 1)) _ (most_fine (length text) (slice_get vs 1)) (λ most. split_by_fine side text most sep))
+    fine_then (separator_in (slice_get vs 0)) _ (separator_fine (slice_get vs 0))
+    (λ sep. fine_then (most_in (length text) (slice_get vs 1)) _ (most_fine (length text) (slice_get vs 1)) (λ most. split_by_fine side text most sep))
 
 splitlines_fine : (text : List ℕ) (vs : List Datum) → Fine (splitlines text vs)
 unfolding splitlines
-splitlines_fine text vs = then_fine (truth_in (slice_get vs 0)) _ (truth_fine (slice_get vs 0)) (λ keep. tt)
+splitlines_fine text vs = fine_then (truth_in (slice_get vs 0)) _ (truth_fine (slice_get vs 0)) (λ keep. tt)
 
 -- ---- longer strings
 
 long_fine : (text : List ℕ) → Fine (unless_too_long text)
-long_fine text = then_fine (fits (length text)) _ (fine_if (nat_le (length text) max_len) _ _ tt refl) (λ _. tt)
+long_fine text = fine_then (fits (length text)) _ (fine_if (nat_le (length text) max_len) _ _ tt refl) (λ _. tt)
 
 replace_fine : (text : List ℕ) (vs : List Datum) → Fine (replace text vs)
 unfolding replace
 replace_fine text vs =
-    then_fine (text_in (slice_get vs 0)) _ (text_fine (slice_get vs 0))
-    (λ old. then_fine (text_in (slice_get vs 1)) _ (text_fine (slice_get vs 1))
-    (λ new. then_fine (most_in (length text) (slice_get vs 2)) _ (most_fine (length text) (slice_get vs 2)) (λ most. long_fine _)))
+    fine_then (text_in (slice_get vs 0)) _ (text_fine (slice_get vs 0))
+    (λ old. fine_then (text_in (slice_get vs 1)) _ (text_fine (slice_get vs 1))
+    (λ new. fine_then (most_in (length text) (slice_get vs 2)) _ (most_fine (length text) (slice_get vs 2)) (λ most. long_fine _)))
 
 pub join_fine : (text : List ℕ) (strings : List (List ℕ)) → Fine (join text strings)
 unfolding join
@@ -166,7 +161,7 @@ join_fine text strings = long_fine _
 -- ---- methods
 
 pub as_string_fine : (r : Result (List ℕ) FaultKind) → Fine r → Fine (as_string r)
-as_string_fine r h = then_fine r (λ text. Ok (string text)) h (λ text. tt)
+as_string_fine r h = fine_then r (λ text. Ok (string text)) h (λ text. tt)
 
 placed_fine : (counts : ℕ × ℕ) (args : Passed) → Fine (placed counts args)
 placed_fine counts args = fine_if (nat_le (length args.named) 0 && (nat_le (counts.0) (length args.positional) && nat_le (length args.positional) (counts.1))) _ _ tt refl
