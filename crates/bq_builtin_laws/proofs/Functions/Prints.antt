@@ -12,7 +12,6 @@ use Rattle.bq_builtin_machine.specs.Machine as machine
 use Rattle.bq_builtin_machine.specs.Machine.{after_walk}
 use Rattle.bq_builtin_machine.specs.State.{State}
 use Rattle.bq_builtin.specs.Arguments.{only_named}
-use Rattle.bq_builtin_machine.specs.Answer.{and_then}
 use Rattle.bq_builtin.specs.Arguments as arguments
 use Rattle.bq_builtin.specs.Texts.{joined_texts, space, separator_in, print}
 use Rattle.bq_builtin_laws.specs.Functions.Words.{by_place}

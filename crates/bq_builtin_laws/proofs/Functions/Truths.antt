@@ -10,7 +10,6 @@ use Rattle.bq_value_compare.specs.Truth.{truth_of}
 use Rattle.bq_builtin_machine.specs.Iteration.{elements_in}
 use Rattle.bq_builtin.specs.Arguments as arguments
 use Rattle.bq_builtin.specs.Arguments.{only_argument}
-use Rattle.bq_builtin_machine.specs.Answer.{and_then}
 use Rattle.bq_builtin_collections.specs.Arguments.{one_argument}
 use Rattle.bq_builtin.specs.Truths.{all_true, any_true, all, any}
 use Rattle.bq_builtin_laws.specs.Functions.Words.{by_place}
