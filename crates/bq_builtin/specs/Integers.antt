@@ -12,14 +12,10 @@ use Rattle.bq_value.specs.Range.{range_count}
 use Rattle.bq_value.specs.Contents.{Contents, items, pairs}
 use Rattle.bq_value.specs.Cells.{StoreView, content_at}
 use Rattle.bq_builtin_machine.specs.Args.{Passed}
-use Rattle.bq_builtin_machine.specs.Answer.{and_then}
+use Rattle.bq_builtin_machine.specs.Answer.{and_then, as_int}
 use Rattle.bq_builtin.specs.Arguments.{integer}
 use Rattle.bq_builtin_collections.specs.Arguments.{one_to_three}
 use Rattle.bq_builtin.specs.Arguments.{by_place, only_argument}
-
--- an integer as a value
-abbrev pub as_int : Result ℤ FaultKind → Result Datum FaultKind
-as_int r = and_then r (λ i. Ok (datum.int i))
 
 -- ---- `int(x)`
 

@@ -5,7 +5,7 @@ use Rattle.bq_parse_grammar.specs.declared.tree.Operator.TheVariants as op
 use Rattle.bq_value.specs.Datum.{Datum, int}
 use Rattle.bq_builtin_machine.specs.Action.{given}
 use Rattle.bq_builtin_machine.specs.State.{State}
-use Rattle.bq_builtin_operators.specs.Operand.{as_int}
+use Rattle.bq_builtin_machine.specs.Answer.{as_int}
 use Rattle.bq_builtin_operators.specs.Integers.{arithmetic, integers}
 use Rattle.bq_builtin_operators.specs.Operate.{binary}
 use Rattle.bq_builtin_operators.specs.Product.{product, int_product}

@@ -12,8 +12,8 @@ use Rattle.bq_value_compare.specs.Truth.{truth_of}
 use Rattle.bq_builtin_numbers.specs.Integer.{fitted, both, either, one_of}
 use Rattle.bq_builtin_numbers.specs.Division.{divided, remainder}
 use Rattle.bq_builtin_numbers.specs.Shift.{shifted_left, shifted_right}
-use Rattle.bq_builtin_operators.specs.Operand.{as_int, int_of}
-use Rattle.bq_builtin_machine.specs.Answer.{and_then}
+use Rattle.bq_builtin_operators.specs.Operand.{int_of}
+use Rattle.bq_builtin_machine.specs.Answer.{and_then, as_int}
 
 -- `x op y` of two integers. The language has no `/`, and `and` and `or` are not evaluated as operators between values
 unfoldable pub arithmetic : Operator → ℤ → ℤ → Result ℤ FaultKind

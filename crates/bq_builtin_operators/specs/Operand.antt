@@ -1,19 +1,11 @@
 -- Operands by their types (Starlark, "Data types"); one of another type is F40.
-use Rattle.std.specs.Prelude.{ℕ, ℤ, List, Option, Some, Result, Ok, Err}
+use Rattle.std.specs.Prelude.{ℤ, List, Some, Result, Ok, Err}
 use Rattle.bq_base.specs.declared.fault.FaultKind.{FaultKind}
 use Rattle.bq_base.specs.declared.fault.FaultKind.TheVariants.{WrongType}
-use Rattle.bq_value.specs.Datum.{Datum, int, string, tuple, cell, data_of}
-use Rattle.bq_value.specs.Contents.{Contents, items, pairs}
+use Rattle.bq_value.specs.Datum.{Datum, int, tuple, cell, data_of}
+use Rattle.bq_value.specs.Contents.{items, pairs}
 use Rattle.bq_value.specs.Cells.{StoreView, content_at}
 use Rattle.bq_builtin_machine.specs.Answer.{and_then}
-
--- an integer as a value
-abbrev pub as_int : Result ℤ FaultKind → Result Datum FaultKind
-as_int r = and_then r (λ n. Ok (int n))
-
--- a text as a value
-abbrev pub as_string : Result (List ℕ) FaultKind → Result Datum FaultKind
-as_string r = and_then r (λ text. Ok (string text))
 
 -- elements as a tuple
 abbrev pub as_tuple : Result (List Datum) FaultKind → Result Datum FaultKind

@@ -7,8 +7,8 @@ use Rattle.bq_value.specs.Datum.{Datum, int, string, tuple, cell, list_of}
 use Rattle.bq_value.specs.Cells.{StoreView}
 use Rattle.bq_builtin_machine.specs.State.{State}
 use Rattle.bq_builtin_machine.specs.Action.{Action, ◌>>=◌, stop, given}
-use Rattle.bq_builtin_operators.specs.Operand.{as_int, as_string, as_tuple, int_of, list_in}
-use Rattle.bq_builtin_machine.specs.Answer.{and_then}
+use Rattle.bq_builtin_operators.specs.Operand.{as_tuple, int_of, list_in}
+use Rattle.bq_builtin_machine.specs.Answer.{and_then, as_int, as_string}
 use Rattle.bq_builtin_operators.specs.Integers.{arithmetic}
 use Rattle.bq_builtin_operators.specs.Sequence.{repeated}
 use Rattle.bq_builtin_operators.specs.Sum.{listed}

@@ -10,8 +10,8 @@ use Rattle.bq_value_compare.specs.Looked.{Looked, max_levels}
 use Rattle.bq_value_compare.specs.KeyWalk.{walked_at, keyed}
 use Rattle.bq_builtin_numbers.specs.Place.{indexed}
 use Rattle.bq_builtin_numbers.specs.RangeItem.{range_item}
-use Rattle.bq_builtin_operators.specs.Operand.{as_int, int_of}
-use Rattle.bq_builtin_machine.specs.Answer.{and_then}
+use Rattle.bq_builtin_operators.specs.Operand.{int_of}
+use Rattle.bq_builtin_machine.specs.Answer.{and_then, as_int}
 
 -- what was found, or this fault
 abbrev pub or_fault : {A : Type 0} → FaultKind → Option A → Result A FaultKind

@@ -9,8 +9,8 @@ use Rattle.bq_value.specs.Cells.{StoreView}
 use Rattle.bq_builtin_machine.specs.State.{State}
 use Rattle.bq_builtin_machine.specs.Action.{Action, ◌>>=◌, given, look}
 use Rattle.bq_builtin_machine.specs.Cells.{new_content}
-use Rattle.bq_builtin_operators.specs.Operand.{as_string, as_tuple, list_in}
-use Rattle.bq_builtin_machine.specs.Answer.{and_then}
+use Rattle.bq_builtin_operators.specs.Operand.{as_tuple, list_in}
+use Rattle.bq_builtin_machine.specs.Answer.{and_then, as_string}
 use Rattle.bq_builtin_operators.specs.Integers.{integers}
 use Rattle.bq_builtin_operators.specs.Sequence.{joined}
 

@@ -15,7 +15,7 @@ use Rattle.bq_builtin_machine.specs.Args.{Passed}
 use Rattle.bq_builtin_machine.specs.Cells.{new_content}
 use Rattle.bq_builtin_machine.specs.Iteration.{elements}
 use Rattle.bq_builtin_machine.specs.Machine.{walk}
-use Rattle.bq_builtin_machine.specs.Answer.{and_then}
+use Rattle.bq_builtin_machine.specs.Answer.{and_then, as_string}
 use Rattle.bq_builtin_string_methods.specs.Searches.{search}
 use Rattle.bq_builtin_string_methods.specs.Affixes.{ends, texts_of}
 use Rattle.bq_builtin_string_methods.specs.Classes.{test, in_case}
@@ -107,10 +107,6 @@ takes m.Join args = placed (1, 1) args
 takes m.Format args = Ok tt
 
 -- ---- answers
-
--- a text as a value
-abbrev pub as_string : Result (List ℕ) FaultKind → Result Datum FaultKind
-as_string r = and_then r (λ text. Ok (string text))
 
 -- a value, which needs no more than the string and the arguments
 abbrev pub value : ValueMethod → List ℕ → List Datum → Result Datum FaultKind

@@ -8,7 +8,7 @@ use Rattle.bq_value.specs.Contents.{Contents, items, pairs, rule}
 use Rattle.bq_value.specs.Datum.{Datum, none, string, cell}
 use Rattle.bq_value.specs.Pairs.{found, keys}
 use Rattle.bq_builtin_format.specs.Method.{formatted}
-use Rattle.bq_builtin_machine.specs.Answer.{and_then}
+use Rattle.bq_builtin_machine.specs.Answer.{and_then, as_string}
 use Rattle.bq_builtin_machine.specs.Action.{Action, ◌>>=◌, ◌>>◌, pure, given}
 use Rattle.bq_builtin_machine.specs.Args.{Passed}
 use Rattle.bq_builtin_machine.specs.Binding.{bind}
@@ -35,15 +35,15 @@ use Rattle.bq_builtin_methods.specs.ListMethod.{list_methods, list_call}
 use Rattle.bq_builtin_methods.specs.Placed.{placed}
 use Rattle.bq_builtin_string_methods.specs.Affixes.{texts_of}
 use Rattle.bq_builtin_string_methods.specs.Longer.{join}
-use Rattle.bq_builtin_string_methods.specs.Method.{string_method, takes, as_string, value, parts, new_strings, joined, made, answered, call}
+use Rattle.bq_builtin_string_methods.specs.Method.{string_method, takes, value, parts, new_strings, joined, made, answered, call}
 use Rattle.bq_builtin_string_methods.specs.declared.method.StringMethod.{StringMethod}
 use Rattle.bq_builtin_string_methods.specs.declared.method.StringMethod.TheVariants as s
 use Rattle.bq_eval_fault_laws.proofs.Fine.{fine_cond, fine_then}
 use Rattle.bq_eval_fault_laws.proofs.Arguments.{bind_fine}
 use Rattle.bq_eval_fault_laws.proofs.CollectionAnswers.{no_argument_fine, one_argument_fine, two_arguments_fine, optional_argument_fine, one_or_two_fine, one_to_three_fine, integer_fine, index_or_last_fine, optional_integer_fine, placed_fine, on_items_fine, appended_fine, extended_fine, inserted_fine, popped_fine, cleared_fine, dropped_fine, list_of_fine, place_value_fine, on_pairs_fine, dict_of_fine, emptied_fine, taken_out_fine, first_out_fine, with_default_fine, take_elements_fine}
 use Rattle.bq_eval_fault_laws.proofs.Machine.{Own, pure_owns, stop_owns, given_owns, bind_owns, then_owns, look_owns, walk_owns, key_owns, new_owns, new_list_owns, new_dict_owns, content_owns, may_owns, changing_owns, elements_owns}
-use Rattle.bq_eval_fault_laws.proofs.Sequences.{limited_fine, dict_united_fine}
-use Rattle.bq_eval_fault_laws.proofs.StringAnswers.{texts_fine, join_fine, as_string_fine, takes_fine, value_fine, parts_answer_fine}
+use Rattle.bq_eval_fault_laws.proofs.Sequences.{limited_fine, as_string_fine, dict_united_fine}
+use Rattle.bq_eval_fault_laws.proofs.StringAnswers.{texts_fine, join_fine, takes_fine, value_fine, parts_answer_fine}
 use Rattle.bq_eval_fault_laws.proofs.Walks.{found_walks, formatted_walks}
 
 -- ---- lists

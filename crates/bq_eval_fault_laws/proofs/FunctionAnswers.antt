@@ -1,8 +1,7 @@
 -- What built-in functions answer is refused for faults of evaluation alone.
-use Rattle.std.proofs.Common.{ℕ, zero, suc, ℤ, pos, ◌+ℤ◌, true, false, List, [], ◌∷◌, length, nat_le, Option, Some, None, Result, Ok, Err, bytes_eq, codes, refl}
+use Rattle.std.proofs.Common.{ℕ, zero, suc, ℤ, pos, ◌+ℤ◌, true, false, List, [], ◌∷◌, length, nat_le, Option, Some, None, Err, bytes_eq, codes, refl}
 use Rattle.std.specs.Ordering.{int_eq}
 use Rattle.std.specs.Str.Parse.{without_leading_sign, signed_digits_value}
-use Rattle.bq_base.specs.declared.fault.FaultKind.{FaultKind}
 use Rattle.bq_base.specs.declared.fault.FaultKind.TheVariants.{BadValue}
 use Rattle.bq_value.specs.Cells.{StoreView, content_at}
 use Rattle.bq_value.specs.Contents.{Contents, items, pairs, rule}
@@ -17,13 +16,13 @@ use Rattle.bq_builtin_collections.specs.Arguments.{one_argument, optional_argume
 use Rattle.bq_builtin.specs.Choosing.{integers_of, strings_of, extreme, choices, chosen, in_order, sorted}
 use Rattle.bq_builtin.specs.declared.choosing.ExtremeKind.{ExtremeKind}
 use Rattle.bq_builtin.specs.Elements.{room_for, listed, listed_if_any}
-use Rattle.bq_builtin.specs.Integers.{as_int, is_numeral, read_integer, integer_from, int, content_length, length_in, len, step_or_one, range_by, range_from, range}
+use Rattle.bq_builtin.specs.Integers.{is_numeral, read_integer, integer_from, int, content_length, length_in, len, step_or_one, range_by, range_from, range}
 use Rattle.bq_builtin.specs.Sequences.{tuple, list, reversed, start_or_zero, numbers_fit, enumerate, elements_of_each, shortest, zip}
 use Rattle.bq_builtin.specs.Texts.{content_type, type_name, type_of, separator_of, separator_in}
 use Rattle.bq_builtin.specs.Truths.{all, any, bool}
 use Rattle.bq_eval_fault_laws.proofs.Fine.{Fine, fine_cond, fine_then}
 use Rattle.bq_eval_fault_laws.proofs.CollectionAnswers.{one_argument_fine, optional_argument_fine, one_or_two_fine, one_to_three_fine}
-use Rattle.bq_eval_fault_laws.proofs.Sequences.{elements_fine, fitted_fine}
+use Rattle.bq_eval_fault_laws.proofs.Sequences.{elements_fine, fitted_fine, as_int_fine}
 use Rattle.bq_builtin.proofs.Cases.{without_names}
 
 -- ---- arguments
@@ -170,9 +169,6 @@ zip_fine s p =
     fine_then (by_place p) _ (by_place_fine p) (λ vs. fine_then (elements_of_each s vs) _ (each_fine s vs) (λ xss. fine_then (room_for (shortest xss)) _ (room_fine (shortest xss)) (λ _. tt)))
 
 -- ---- integers
-
-as_int_fine : (r : Result ℤ FaultKind) → Fine r → Fine (as_int r)
-as_int_fine r h = fine_then r (λ i. Ok (datum.int i)) h (λ i. tt)
 
 from_fine : (v : Datum) → Fine (integer_from v)
 unfolding integer_from read_integer

@@ -14,7 +14,8 @@ use Rattle.bq_builtin_machine.specs.Action.{pure, given, look}
 use Rattle.bq_builtin_machine.specs.Cells.{content, may_change, changing, new_content}
 use Rattle.bq_builtin_machine.specs.Iteration.{elements}
 use Rattle.bq_builtin_machine.specs.Machine.{walk, key, text}
-use Rattle.bq_builtin_operators.specs.Operand.{as_int, as_string, as_tuple, int_of, list_in, dict_in}
+use Rattle.bq_builtin_operators.specs.Operand.{as_tuple, int_of, list_in, dict_in}
+use Rattle.bq_builtin_machine.specs.Answer.{as_int, as_string}
 use Rattle.bq_builtin_operators.specs.Integers.{arithmetic, integers, signed}
 use Rattle.bq_builtin_operators.specs.Comparing.{compared}
 use Rattle.bq_builtin_operators.specs.Sequence.{repeated}

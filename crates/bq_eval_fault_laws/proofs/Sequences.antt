@@ -21,7 +21,8 @@ use Rattle.bq_builtin_numbers.specs.Place.{indexed}
 use Rattle.bq_builtin_numbers.specs.Shift.{shift_count, scaled}
 use Rattle.bq_builtin_in_place.specs.InPlace.{list_extended, dict_united, element_set, pair_put}
 use Rattle.bq_builtin_operators.specs.Integers.{arithmetic, integers, signed}
-use Rattle.bq_builtin_operators.specs.Operand.{as_int, as_string, as_tuple, int_of, list_in, dict_in}
+use Rattle.bq_builtin_operators.specs.Operand.{as_tuple, int_of, list_in, dict_in}
+use Rattle.bq_builtin_machine.specs.Answer.{as_int, as_string}
 use Rattle.bq_builtin_operators.specs.Operate.{list_slice}
 use Rattle.bq_builtin_operators.specs.Product.{list_product}
 use Rattle.bq_builtin_operators.specs.Sequence.{limited, joined, repeated}

@@ -1,6 +1,5 @@
 -- What methods of strings answer is refused for faults of evaluation alone.
-use Rattle.std.proofs.Common.{ℕ, ◌+◌, ◌^◌, pos, negsuc, nat_lt, nat_le, ◌&&◌, List, [], ◌∷◌, length, slice_get, Option, Some, None, Result, Ok, bytes_eq, refl}
-use Rattle.bq_base.specs.declared.fault.FaultKind.{FaultKind}
+use Rattle.std.proofs.Common.{ℕ, ◌+◌, ◌^◌, pos, negsuc, nat_lt, nat_le, ◌&&◌, List, [], ◌∷◌, length, slice_get, Option, Some, None, bytes_eq, refl}
 use Rattle.bq_value.specs.Datum.{Datum, none, boolean, int, string, tuple, list_of}
 use Rattle.bq_builtin_machine.specs.Args.{Passed}
 use Rattle.bq_builtin_numbers.specs.Length.{max_len}
@@ -10,7 +9,7 @@ use Rattle.bq_builtin_string_methods.specs.Affixes.{texts_of, texts_in, ends}
 use Rattle.bq_builtin_string_methods.specs.Argument.{text_in, place_in, bytes_in, separator_in, most_in, truth_in, region}
 use Rattle.bq_builtin_string_methods.specs.Cuts.{when_some, partition, split_by, split, splitlines}
 use Rattle.bq_builtin_string_methods.specs.Longer.{fits, unless_too_long, replace, join}
-use Rattle.bq_builtin_string_methods.specs.Method.{value_counts, parts_counts, placed, takes, as_string, value, parts}
+use Rattle.bq_builtin_string_methods.specs.Method.{value_counts, parts_counts, placed, takes, value, parts}
 use Rattle.bq_builtin_string_methods.specs.Searches.{number, place_or_less, place_or_fault, said, search}
 use Rattle.bq_builtin_string_methods.specs.Strips.{end_in, strip}
 use Rattle.bq_builtin_string_methods.specs.declared.affixes.EndMethod.{EndMethod}
@@ -26,6 +25,7 @@ use Rattle.bq_builtin_string_methods.specs.declared.searches.SearchMethod.TheVar
 use Rattle.bq_builtin_string_methods.specs.declared.strips.StripMethod.{StripMethod}
 use Rattle.bq_builtin_string_methods.specs.declared.strips.StripMethod.TheVariants.{Strip, Lstrip, Rstrip, Removeprefix, Removesuffix}
 use Rattle.bq_eval_fault_laws.proofs.Fine.{Fine, fine_if, fine_then}
+use Rattle.bq_eval_fault_laws.proofs.Sequences.{as_string_fine}
 
 -- ---- arguments
 
@@ -159,9 +159,6 @@ unfolding join
 join_fine text strings = long_fine _
 
 -- ---- methods
-
-pub as_string_fine : (r : Result (List ℕ) FaultKind) → Fine r → Fine (as_string r)
-as_string_fine r h = fine_then r (λ text. Ok (string text)) h (λ text. tt)
 
 placed_fine : (counts : ℕ × ℕ) (args : Passed) → Fine (placed counts args)
 placed_fine counts args = fine_if (nat_le (length args.named) 0 && (nat_le (counts.0) (length args.positional) && nat_le (length args.positional) (counts.1))) _ _ tt refl

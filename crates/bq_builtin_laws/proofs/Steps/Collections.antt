@@ -8,7 +8,7 @@ use Rattle.bq_value.specs.Contents.{Contents, items, pairs, rule}
 use Rattle.bq_value.specs.Datum.{Datum, none, string, cell}
 use Rattle.bq_value.specs.Pairs.{found, keys}
 use Rattle.bq_builtin_format.specs.Method.{formatted}
-use Rattle.bq_builtin_machine.specs.Answer.{and_then}
+use Rattle.bq_builtin_machine.specs.Answer.{and_then, as_string}
 use Rattle.bq_builtin_machine.specs.Action.{Action, ◌>>=◌, ◌>>◌, pure, given}
 use Rattle.bq_builtin_machine.specs.Args.{Passed}
 use Rattle.bq_builtin_machine.specs.Binding.{bind}
@@ -35,7 +35,7 @@ use Rattle.bq_builtin_methods.specs.ListMethod.{list_methods, list_call}
 use Rattle.bq_builtin_methods.specs.Placed.{placed}
 use Rattle.bq_builtin_string_methods.specs.Affixes.{texts_of}
 use Rattle.bq_builtin_string_methods.specs.Longer.{join}
-use Rattle.bq_builtin_string_methods.specs.Method.{string_method, takes, as_string, value, parts, new_strings, joined, made, answered, call}
+use Rattle.bq_builtin_string_methods.specs.Method.{string_method, takes, value, parts, new_strings, joined, made, answered, call}
 use Rattle.bq_builtin_string_methods.specs.declared.method.StringMethod.{StringMethod}
 use Rattle.bq_builtin_string_methods.specs.declared.method.StringMethod.TheVariants as s
 use Rattle.bq_builtin_laws.specs.Steps.Steps.{machine}
