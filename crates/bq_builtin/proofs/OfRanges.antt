@@ -21,7 +21,8 @@ use Rattle.bq_builtin_machine.specs.Iteration.{integers, range_integers, element
 use Rattle.bq_builtin_machine.proofs.Integers.{length-integers}
 use Rattle.std.specs.Prelude.{codes, Option}
 use Rattle.bq_builtin_machine.specs.Args.{Passed}
-use Rattle.bq_builtin.specs.Arguments.{integer, one_and_named, flag}
+use Rattle.bq_builtin.specs.Arguments.{one_and_named, flag}
+use Rattle.bq_builtin_collections.specs.Arguments.{integer}
 use Rattle.bq_builtin_machine.specs.Answer.{and_then}
 use Rattle.bq_builtin.specs.Elements.{room_for}
 use Rattle.bq_builtin.specs.Truths.{all_true, any_true}

@@ -1,9 +1,9 @@
 -- The arguments that a function takes (Starlark, "Function and method calls"): what it doesn't take is F52. All are passed by place
 -- but for one, which some functions take by its name.
-use Rattle.std.specs.Prelude.{ℕ, ℤ, Bool, false, cond, List, [], ◌∷◌, bytes_eq, Option, Some, None, Result, Ok, Err}
+use Rattle.std.specs.Prelude.{ℕ, Bool, false, cond, List, [], ◌∷◌, bytes_eq, Option, Some, None, Result, Ok, Err}
 use Rattle.bq_base.specs.declared.fault.FaultKind.{FaultKind}
 use Rattle.bq_base.specs.declared.fault.FaultKind.TheVariants.{WrongType, Args}
-use Rattle.bq_value.specs.Datum.{Datum, int, boolean, string}
+use Rattle.bq_value.specs.Datum.{Datum, boolean, string}
 use Rattle.bq_builtin_machine.specs.Args.{Passed}
 use Rattle.bq_builtin_machine.specs.Answer.{and_then}
 use Rattle.bq_builtin_collections.specs.Arguments.{one_argument, optional_argument, one_or_two}
@@ -35,11 +35,6 @@ passed_once v (Some w) (Some u) = Err Args
 -- one argument, and a second one that may be left out, by place or by that name
 unfoldable pub one_and_named : List ℕ → Passed → Result (Datum × Option Datum) FaultKind
 one_and_named name p = and_then (one_or_two p.positional) (λ r. and_then (only_named name p.named) (λ o. passed_once r.0 r.1 o))
-
--- an integer (F40)
-unfoldable pub integer : Datum → Result ℤ FaultKind
-integer (int i) = Ok i
-integer v = Err WrongType
 
 -- a bool; left out, `False` (F40)
 unfoldable pub flag : Option Datum → Result Bool FaultKind

@@ -13,8 +13,7 @@ use Rattle.bq_value.specs.Contents.{Contents, items, pairs}
 use Rattle.bq_value.specs.Cells.{StoreView, content_at}
 use Rattle.bq_builtin_machine.specs.Args.{Passed}
 use Rattle.bq_builtin_machine.specs.Answer.{and_then, as_int}
-use Rattle.bq_builtin.specs.Arguments.{integer}
-use Rattle.bq_builtin_collections.specs.Arguments.{one_to_three}
+use Rattle.bq_builtin_collections.specs.Arguments.{one_to_three, integer}
 use Rattle.bq_builtin.specs.Arguments.{by_place, only_argument}
 
 -- ---- `int(x)`

@@ -8,7 +8,7 @@ use Rattle.bq_value.specs.Cells.{StoreView}
 use Rattle.bq_builtin_machine.specs.Args.{Passed}
 use Rattle.bq_builtin_machine.specs.Iteration.{elements_in}
 use Rattle.bq_builtin_machine.specs.Answer.{and_then}
-use Rattle.bq_builtin.specs.Arguments.{integer}
+use Rattle.bq_builtin_collections.specs.Arguments.{integer}
 use Rattle.bq_builtin.specs.Arguments.{by_place, only_argument, only_argument_if_any, one_and_named}
 use Rattle.bq_builtin.specs.Elements.{room_for, listed, listed_if_any}
 

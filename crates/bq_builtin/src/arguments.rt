@@ -3,8 +3,7 @@
 ghost use Rattle.std.specs.Prelude.{option_copied};
 ghost use Rattle.bq_base.specs.Gives.{Gives};
 ghost use Rattle.bq_value.specs.declared.error.EvalErr.TheVariants.{Bad};
-ghost use Rattle.bq_builtin.specs.Arguments.{integer};
-ghost use Rattle.bq_builtin_collections.specs.Arguments.{one_argument, optional_argument, one_or_two, one_to_three};
+ghost use Rattle.bq_builtin_collections.specs.Arguments.{one_argument, optional_argument, one_or_two, one_to_three, integer};
 ghost use Rattle.bq_builtin.specs.Arguments.{by_place, only_argument, only_argument_if_any, only_named, passed_once, one_and_named, flag, text};
 
 use bq_base::{Bytes, FaultKind};
@@ -135,7 +134,7 @@ pub(crate) fn one_and_named<'a>(
 }
 
 /// Returns an integer (F40).
-#[tactic(auto, unfolding(crate::specs::Arguments::integer))]
+#[tactic(auto, unfolding(bq_builtin_collections::specs::Arguments::integer))]
 pub(crate) fn integer(value: &Value) -> Result<i64, EvalErr>
     ensures { Gives (λ i. i) Bad result (integer value.now) }
 {

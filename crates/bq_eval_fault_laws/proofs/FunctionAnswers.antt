@@ -11,8 +11,8 @@ use Rattle.bq_builtin_machine.specs.Args.{Passed}
 use Rattle.bq_builtin_machine.specs.Iteration.{elements_in}
 use Rattle.bq_builtin_numbers.specs.Integer.{fitted}
 use Rattle.bq_builtin_numbers.specs.Length.{max_len}
-use Rattle.bq_builtin.specs.Arguments.{by_place, only_argument, only_argument_if_any, only_named, passed_once, one_and_named, integer, flag, text}
-use Rattle.bq_builtin_collections.specs.Arguments.{one_argument, optional_argument, one_or_two, one_to_three}
+use Rattle.bq_builtin.specs.Arguments.{by_place, only_argument, only_argument_if_any, only_named, passed_once, one_and_named, flag, text}
+use Rattle.bq_builtin_collections.specs.Arguments.{one_argument, optional_argument, one_or_two, one_to_three, integer}
 use Rattle.bq_builtin.specs.Choosing.{integers_of, strings_of, extreme, choices, chosen, in_order, sorted}
 use Rattle.bq_builtin.specs.declared.choosing.ExtremeKind.{ExtremeKind}
 use Rattle.bq_builtin.specs.Elements.{room_for, listed, listed_if_any}
@@ -21,7 +21,7 @@ use Rattle.bq_builtin.specs.Sequences.{tuple, list, reversed, start_or_zero, num
 use Rattle.bq_builtin.specs.Texts.{content_type, type_name, type_of, separator_of, separator_in}
 use Rattle.bq_builtin.specs.Truths.{all, any, bool}
 use Rattle.bq_eval_fault_laws.proofs.Fine.{Fine, fine_cond, fine_then}
-use Rattle.bq_eval_fault_laws.proofs.CollectionAnswers.{one_argument_fine, optional_argument_fine, one_or_two_fine, one_to_three_fine}
+use Rattle.bq_eval_fault_laws.proofs.CollectionAnswers.{one_argument_fine, optional_argument_fine, one_or_two_fine, one_to_three_fine, integer_fine}
 use Rattle.bq_eval_fault_laws.proofs.Sequences.{elements_fine, fitted_fine, as_int_fine}
 use Rattle.bq_builtin.proofs.Cases.{without_names}
 
@@ -57,11 +57,6 @@ once_fine v (Some w) (Some u) = refl
 and_named_fine : (name : List ℕ) (p : Passed) → Fine (one_and_named name p)
 unfolding one_and_named
 and_named_fine name p = fine_then (one_or_two p.positional) _ (one_or_two_fine p.positional) (λ r. fine_then (only_named name p.named) _ (named_fine name p.named) (λ o. once_fine r.0 r.1 o))
-
-integer_fine : (v : Datum) → Fine (integer v)
-unfolding integer
-integer_fine (datum.int i) = tt
-integer_fine v = refl
 
 flag_fine : (o : Option Datum) → Fine (flag o)
 unfolding flag
