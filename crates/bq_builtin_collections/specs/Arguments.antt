@@ -41,11 +41,6 @@ unfoldable pub index_or_last : Option Datum → Result ℤ FaultKind
 index_or_last None = Ok (negsuc 0)
 index_or_last (Some v) = integer v
 
--- a value, `None` where it is missing
-abbrev pub or_none : Option Datum → Datum
-or_none None = none
-or_none (Some v) = v
-
 -- the second and the third may be left out
 unfoldable pub one_to_three : List Datum → Result (Datum × (Option Datum × Option Datum)) FaultKind
 one_to_three (v ∷ []) = Ok (v, (None, None))

@@ -3,7 +3,7 @@ use Rattle.std.specs.Prelude.{ℕ, ◌+◌, List, [], ◌∷◌, map, length, Op
 use Rattle.bq_base.specs.declared.fault.FaultKind.{FaultKind}
 use Rattle.bq_base.specs.declared.fault.FaultKind.TheVariants.{WrongType, NoKey}
 use Rattle.bq_builtin_numbers.specs.Length.{within}
-use Rattle.bq_value.specs.Datum.{Datum, none, tuple, end, datum}
+use Rattle.bq_value.specs.Datum.{Datum, none, tuple, end, datum, or_none}
 use Rattle.bq_value.specs.Contents.{items, pairs, rule}
 use Rattle.bq_value.specs.Pairs.{found, put, without, keys}
 use Rattle.bq_builtin_machine.specs.State.{State}
@@ -16,7 +16,7 @@ use Rattle.bq_builtin_operators.specs.Union.{put_all}
 use Rattle.bq_builtin_in_place.specs.InPlace.{dict_united}
 use Rattle.bq_builtin_collections.specs.declared.dict_edit.DictEdit.{DictEdit}
 use Rattle.bq_builtin_collections.specs.declared.dict_edit.DictEdit.TheVariants as edit
-use Rattle.bq_builtin_collections.specs.Arguments.{no_argument, one_or_two, or_none}
+use Rattle.bq_builtin_collections.specs.Arguments.{no_argument, one_or_two}
 use Rattle.bq_builtin_machine.specs.Answer.{and_then}
 use Rattle.bq_builtin_collections.specs.PairsGiven.{Pairs, pairs_given, all_pairs}
 

@@ -2,7 +2,7 @@
 
 ghost use Rattle.std.specs.Prelude.{◌≡◌, map, IfOk, option_copied};
 ghost use Rattle.bq_builtin_machine.specs.Action.{Does};
-ghost use Rattle.bq_builtin_collections.specs.Arguments.{or_none};
+ghost use Rattle.bq_value.specs.Datum.{or_none};
 ghost use Rattle.bq_builtin_collections.specs.Dict.{pairs_in, pair_tuple, clear, get, dict_items, dict_keys, dict_values, key_to_change, pop, popitem, setdefault, update, dict_made};
 
 use crate::arguments::{no_argument, one_or_two};

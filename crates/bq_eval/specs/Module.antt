@@ -8,7 +8,7 @@ use Rattle.bq_base.specs.declared.fault.FaultKind.TheVariants as f
 use Rattle.bq_resolve_scope.specs.Names.{Name}
 use Rattle.bq_resolve_scope.specs.declared.code.Resolved.{Resolved}
 use Rattle.bq_value.specs.Cells.{StoreView, FrozenView, frozen, loading}
-use Rattle.bq_value.specs.Datum.{Datum, none}
+use Rattle.bq_value.specs.Datum.{Datum, or_none}
 use Rattle.bq_builtin_machine.specs.Action.{Run, done, stopped}
 use Rattle.bq_builtin_machine.specs.State.{State, Stop, started}
 use Rattle.bq_eval_meaning_spec.specs.Frame.{Frame}
@@ -29,12 +29,7 @@ first_store number loaded = fold loading (record { own = number; cells = []; loa
 
 -- ---- after
 
--- a global that no statement has bound, which no file has that ran to its end, is `None`
-abbrev pub or_none : Option Datum → Datum
-or_none None = none
-or_none (Some v) = v
-
--- of globals of these names, from the one of that slot on
+-- of globals of these names, from the one of that slot on; no file that ran to its end has one that no statement has bound
 abbrev pub values_from : ℕ → List Name → Frame → List Datum
 values_from slot [] globals = []
 values_from slot (name ∷ names) globals = or_none (globals slot) ∷ values_from (slot + 1) names globals

@@ -5,12 +5,12 @@ use Rattle.std.specs.Option.{option_map}
 use Rattle.std.proofs.lemmas.Slice.Eq.{bytes_eq-Decides}
 use Rattle.bq_resolve_scope.specs.declared.code.Resolved.{Resolved}
 use Rattle.bq_resolve_scope.specs.Names.{Name, has, place_among, global_names}
-use Rattle.bq_value.specs.Datum.{Datum}
+use Rattle.bq_value.specs.Datum.{Datum, or_none}
 use Rattle.bq_eval_meaning_spec.specs.Frame.{Frame}
 use Rattle.bq_eval_by_name_spec.specs.Names.{Env}
 use Rattle.bq_eval_by_name_expression_laws.specs.Shows.{through, Reads}
 use Rattle.bq_eval.specs.Module as by_slots
-use Rattle.bq_eval.specs.Module.{or_none, values_from}
+use Rattle.bq_eval.specs.Module.{values_from}
 use Rattle.bq_eval_by_name.specs.Agreement.{FrozenModulesKeepTheirGlobals}
 use Rattle.bq_resolve_by_name.specs.Files.{ParsedFile}
 use Rattle.bq_eval_by_name.specs.Evaluation.{values_named, frozen_values}

@@ -4,7 +4,7 @@ use Rattle.std.specs.Prelude.{ℕ, List, [], ◌∷◌, ◌++◌, length, drop, 
 use Rattle.bq_resolve_scope.specs.Names.{Name, global_names}
 use Rattle.bq_resolve_by_name.specs.Files.{ParsedFile}
 use Rattle.bq_value.specs.Cells.{FrozenView, frozen}
-use Rattle.bq_value.specs.Datum.{Datum, none}
+use Rattle.bq_value.specs.Datum.{Datum, none, or_none}
 use Rattle.bq_builtin_machine.specs.Action.{Run, done, stopped}
 use Rattle.bq_builtin_machine.specs.State.{State, started}
 use Rattle.bq_eval_meaning_spec.specs.Module.{globals_among}
@@ -13,7 +13,7 @@ use Rattle.bq_eval_by_name_spec.specs.Module as meaning
 use Rattle.bq_eval_by_name_spec.specs.Names.{Env}
 use Rattle.bq_eval.specs.Calling.{HostCalls}
 use Rattle.bq_eval.specs.Runtime.{primitives}
-use Rattle.bq_eval.specs.Module.{Ended, evaluated, failed, first_store, or_none, fault_of}
+use Rattle.bq_eval.specs.Module.{Ended, evaluated, failed, first_store, fault_of}
 
 -- ---- before
 

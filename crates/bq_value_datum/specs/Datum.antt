@@ -49,6 +49,11 @@ mutual
     end : Data
     datum : Datum → Data → Data
 
+-- a value, `None` where it is missing
+abbrev pub or_none : Option Datum → Datum
+or_none None = none
+or_none (Some v) = v
+
 -- a list of values, as a tuple has it
 abbrev pub data_of : List Datum → Data
 data_of [] = end

@@ -2,7 +2,7 @@
 use Rattle.std.proofs.Common.{◌≡◌, ◌∙◌, ap, refl, sym, subst, ℕ, List, [], ◌∷◌, Option, Some, None, Result, Ok, Err}
 use Rattle.bq_base.specs.declared.fault.FaultKind.{FaultKind}
 use Rattle.bq_value.specs.Contents.{pairs}
-use Rattle.bq_value.specs.Datum.{Datum, none, cell}
+use Rattle.bq_value.specs.Datum.{Datum, none, cell, or_none}
 use Rattle.bq_value_compare.specs.KeyWalk.{walked_at, keyed}
 use Rattle.bq_value_compare.specs.Looked.{Looked, max_levels}
 use Rattle.bq_builtin_machine.specs.Action.{Action, Run, done, stopped, following, given, look, pure, ◌>>=◌, ◌>>◌}
@@ -13,7 +13,7 @@ use Rattle.bq_builtin_machine.specs.Iteration.{elements_in, elements}
 use Rattle.bq_builtin_machine.specs.Machine.{with_steps, after_walk, key}
 use Rattle.bq_builtin_machine.specs.State.{State}
 use Rattle.bq_builtin_in_place.specs.InPlace.{dict_united, pair_put, set_item, set_index}
-use Rattle.bq_builtin_collections.specs.Arguments.{no_argument, one_or_two, or_none}
+use Rattle.bq_builtin_collections.specs.Arguments.{no_argument, one_or_two}
 use Rattle.bq_builtin_collections.specs.Dict as dict
 use Rattle.bq_builtin_collections.specs.Dict.{DictChange, on_pairs, emptied, taken_out, first_out, with_default, key_to_change, pairs_in}
 use Rattle.bq_builtin_collections.specs.PairsGiven.{Pairs, GivenView, pairs_signature, first_value, nothing_read, dict_of, take_elements, read_by, read, read_optional, pairs_given, all_pairs}

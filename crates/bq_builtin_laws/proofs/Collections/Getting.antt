@@ -2,7 +2,7 @@
 use Rattle.std.proofs.Common.{◌≡◌, ◌∙◌, refl, sym, ap, subst, ℕ, ◌⊎◌, inl, inr, Bool, true, false, cond, List, [], ◌∷◌, map, Option, Some, Ok, Err}
 use Rattle.std.specs.List.{Contains}
 use Rattle.std.proofs.lemmas.List.Elements.{Contains-append_left, Contains-append_right, Contains-push}
-use Rattle.bq_value.specs.Datum.{Datum}
+use Rattle.bq_value.specs.Datum.{Datum, or_none}
 use Rattle.bq_value.specs.Pairs.{found}
 use Rattle.bq_value.specs.Same.{same}
 use Rattle.bq_value_compare.specs.KeyWalk.{walked_at, keyed}
@@ -11,7 +11,7 @@ use Rattle.bq_builtin_machine.specs.Action.{Run, done, following, ◌>>=◌, pur
 use Rattle.bq_builtin_machine.specs.Cells.{content}
 use Rattle.bq_builtin_machine.specs.Machine.{with_steps, after_walk, key}
 use Rattle.bq_builtin_machine.specs.State.{State}
-use Rattle.bq_builtin_collections.specs.Arguments.{one_or_two, or_none}
+use Rattle.bq_builtin_collections.specs.Arguments.{one_or_two}
 use Rattle.bq_builtin_collections.specs.Dict.{pairs_in, or_value, get}
 use Rattle.bq_builtin_laws.specs.Collections.Laws.{IsDict}
 use Rattle.bq_builtin_laws.specs.Collections.Looks.{OnlyLooks}

@@ -5,7 +5,7 @@ use Rattle.std.specs.Map.{lookup}
 use Rattle.std.specs.Str.{bytes_eq}
 use Rattle.bq_base.specs.declared.fault.FaultKind.TheVariants as f
 use Rattle.bq_value.specs.Contents.{Contents, items, pairs, rule}
-use Rattle.bq_value.specs.Datum.{Datum, none, string, cell}
+use Rattle.bq_value.specs.Datum.{Datum, none, string, cell, or_none}
 use Rattle.bq_value.specs.Pairs.{found, keys}
 use Rattle.bq_builtin_format.specs.Method.{formatted}
 use Rattle.bq_builtin_machine.specs.Answer.{and_then, as_string}
@@ -20,7 +20,7 @@ use Rattle.bq_builtin_in_place.specs.InPlace.{dict_united}
 use Rattle.bq_builtin_operators.specs.Sequence.{limited}
 use Rattle.bq_builtin_operators.specs.Union.{put_all}
 use Rattle.bq_builtin_collections.specs.Arguments as arguments
-use Rattle.bq_builtin_collections.specs.Arguments.{no_argument, one_argument, two_arguments, optional_argument, one_or_two, one_to_three, optional_integer, index_or_last, or_none}
+use Rattle.bq_builtin_collections.specs.Arguments.{no_argument, one_argument, two_arguments, optional_argument, one_or_two, one_to_three, optional_integer, index_or_last}
 use Rattle.bq_builtin_collections.specs.Dict as dict
 use Rattle.bq_builtin_collections.specs.Dict.{on_pairs, DictChange, pairs_in, pair_tuple, or_value, emptied, taken_out, first_out, with_default, key_to_change}
 use Rattle.bq_builtin_collections.specs.List as list

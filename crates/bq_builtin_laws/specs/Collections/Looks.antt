@@ -1,12 +1,12 @@
 -- What the methods that look into a list or dict answer, in words of its elements.
 use Rattle.std.specs.Prelude.{◌≡◌, ◌<◌, ◌≤◌, ◌⊎◌, ℕ, ℤ, pos, Bool, true, false, List, length, map, slice_get, Option, Some, Ok}
 use Rattle.std.specs.List.{Contains}
-use Rattle.bq_value.specs.Datum.{Datum, int}
+use Rattle.bq_value.specs.Datum.{Datum, int, or_none}
 use Rattle.bq_builtin_machine.specs.Action.{done}
 use Rattle.bq_builtin_machine.specs.Machine.{looked_equal}
 use Rattle.bq_builtin_machine.specs.State.{State}
 use Rattle.bq_builtin_numbers.specs.Place.{bound}
-use Rattle.bq_builtin_collections.specs.Arguments.{one_or_two, one_to_three, optional_integer, or_none}
+use Rattle.bq_builtin_collections.specs.Arguments.{one_or_two, one_to_three, optional_integer}
 use Rattle.bq_builtin_collections.specs.Dict as dict
 use Rattle.bq_builtin_collections.specs.List as list
 use Rattle.bq_builtin_collections.specs.PairsGiven.{Pairs}

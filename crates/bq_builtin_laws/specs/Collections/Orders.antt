@@ -3,7 +3,7 @@
 use Rattle.std.specs.Prelude.{◌≡◌, ℕ, ◌+◌, not, nat_le, ◌==◌, List, [], ◌∷◌, length, Option, None, Ok}
 use Rattle.bq_base.specs.declared.fault.FaultKind.TheVariants.{Frozen, Iterating, TooLong}
 use Rattle.bq_value.specs.Contents.{items, pairs}
-use Rattle.bq_value.specs.Datum.{Datum}
+use Rattle.bq_value.specs.Datum.{Datum, or_none}
 use Rattle.bq_builtin_machine.specs.Action.{◌>>=◌}
 use Rattle.bq_builtin_machine.specs.Args.{Passed}
 use Rattle.bq_builtin_machine.specs.Cells.{is_walked, changing}
@@ -13,7 +13,7 @@ use Rattle.bq_builtin_machine.specs.State.{State}
 use Rattle.bq_builtin_numbers.specs.Length.{max_len}
 use Rattle.bq_builtin_in_place.specs.InPlace.{element_set, pair_put, dict_united}
 use Rattle.bq_builtin_operators.specs.Operand.{int_of}
-use Rattle.bq_builtin_collections.specs.Arguments.{one_or_two, or_none}
+use Rattle.bq_builtin_collections.specs.Arguments.{one_or_two}
 use Rattle.bq_builtin_collections.specs.Dict.{setdefault, first_out, taken_out, with_default}
 use Rattle.bq_builtin_collections.specs.List.{popped, find, drop_at}
 use Rattle.bq_builtin_collections.specs.PairsGiven.{Pairs, pairs_given, all_pairs}
