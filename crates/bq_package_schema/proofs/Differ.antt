@@ -9,7 +9,8 @@ use Rattle.bq_value_rule_class.specs.Class.{Class, has_attribute, extended}
 use Rattle.bq_package_schema.specs.declared.line.Line.{Line}
 use Rattle.bq_package_schema.specs.declared.line.Line.TheVariants as line
 use Rattle.bq_package_schema.specs.Line.{line_of}
-use Rattle.bq_package_schema.specs.Schema.{Rules, has, with_rule, with_attribute_of_last, last_of, with_last, after}
+use Rattle.bq_package_schema.specs.Schema.{Rules, with_rule, with_attribute_of_last, last_of, with_last, after}
+use Rattle.bq_base_names.specs.Names.{has}
 use Rattle.bq_package_schema.specs.Reading.{declared_by}
 use Rattle.bq_package_schema.specs.Laws.{NoneTwice, EachNoneTwice, AreRules, names_of}
 use Rattle.bq_package_schema.proofs.Lines.{nothing_left, goes_on}

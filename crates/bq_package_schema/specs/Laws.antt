@@ -5,7 +5,8 @@ use Rattle.bq_value_rule_class.specs.Class.{Class}
 use Rattle.bq_value_rule_class.specs.declared.attribute.Attribute.{Attribute}
 use Rattle.bq_package_schema.specs.declared.line.Line.TheVariants as line
 use Rattle.bq_package_schema.specs.Line.{line_of}
-use Rattle.bq_package_schema.specs.Schema.{Rules, no_rules, has, after}
+use Rattle.bq_package_schema.specs.Schema.{Rules, no_rules, after}
+use Rattle.bq_base_names.specs.Names.{has}
 use Rattle.bq_package_schema.specs.Reading.{lines, bad_line, declared_by, schema_of}
 
 -- the lines before this one declare rules, and it is a bad one after them

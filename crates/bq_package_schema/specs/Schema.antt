@@ -1,6 +1,6 @@
 -- The rules that the lines of a schema have declared so far, and what a further line makes of them (ours).
-use Rattle.std.specs.Prelude.{ℕ, List, [], ◌∷◌, ◌++◌, Bool, Option, Some, None, bytes_eq, if◌then◌else◌}
-use Rattle.std.specs.List.{list_any}
+use Rattle.std.specs.Prelude.{ℕ, List, [], ◌∷◌, ◌++◌, Option, Some, None, if◌then◌else◌}
+use Rattle.bq_base_names.specs.Names.{has}
 use Rattle.bq_value_rule_class.specs.Class.{Class, extended}
 use Rattle.bq_value_rule_class.specs.declared.attribute.Attribute.{Attribute}
 use Rattle.bq_package_schema.specs.declared.line.Line.{Line}
@@ -14,10 +14,6 @@ pub record Rules : Type 0 where
 -- a schema without a line
 abbrev pub no_rules : Rules
 no_rules = record { names = []; classes = [] }
-
--- a name is among these
-abbrev pub has : List (List ℕ) → List ℕ → Bool
-has names name = list_any (bytes_eq name) names
 
 -- one more rule, without attributes of its own; `None` if one has the name
 unfoldable pub with_rule : Rules → List ℕ → Option Rules

@@ -14,7 +14,8 @@ use Rattle.bq_package_target.specs.declared.target.Target.{Target}
 use Rattle.bq_value_rule_class.specs.declared.value.AttributeValue.{AttributeValue}
 use Rattle.bq_value_rule_class.specs.declared.value.AttributeValue.TheVariants as v
 use Rattle.bq_package_target.specs.Value.{labels_of}
-use Rattle.bq_package_target.specs.Names.{has, with_name}
+use Rattle.bq_package_target.specs.Names.{with_name}
+use Rattle.bq_base_names.specs.Names.{has}
 use Rattle.bq_package_target.specs.Target.{is_of, source}
 use Rattle.bq_package_target.specs.Package.{new_files}
 use Rattle.bq_package_target.specs.Files.{Finds, FindsOwn}

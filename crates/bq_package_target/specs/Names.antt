@@ -1,10 +1,6 @@
 -- The names that are taken in a package.
-use Rattle.std.specs.Prelude.{ℕ, List, [], ◌∷◌, ◌++◌, Bool, true, not, ◌&&◌, bytes_eq, if◌then◌else◌}
-use Rattle.std.specs.List.{list_any}
-
--- a name is among these
-abbrev pub has : List (List ℕ) → List ℕ → Bool
-has names name = list_any (bytes_eq name) names
+use Rattle.std.specs.Prelude.{ℕ, List, [], ◌∷◌, ◌++◌, Bool, true, not, ◌&&◌, if◌then◌else◌}
+use Rattle.bq_base_names.specs.Names.{has}
 
 -- the name as the last, where it isn't there
 unfoldable pub with_name : List (List ℕ) → List ℕ → List (List ℕ)

@@ -1,7 +1,8 @@
 //! The names that are taken in a package.
 
 ghost use Rattle.std.specs.Prelude.{◌≡◌, [], not, length, take, position, bytes_eq, IfOk, OnOk};
-ghost use Rattle.bq_package_target.specs.Names.{has, with_name};
+ghost use Rattle.bq_package_target.specs.Names.{with_name};
+ghost use Rattle.bq_base_names.specs.Names.{has};
 
 use bq_base::Bytes;
 use bq_base_names::NameSet;

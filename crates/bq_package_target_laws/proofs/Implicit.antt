@@ -10,7 +10,7 @@ use Rattle.bq_label.proofs.Orders.{at_head, in_tail, head_or_tail}
 use Rattle.bq_package_target.specs.declared.target.Target.{Target}
 use Rattle.bq_package_target.specs.Value.{labels_in}
 use Rattle.bq_package_target.specs.Target.{is_of, names_of, source}
-use Rattle.bq_package_target.specs.Names.{has}
+use Rattle.bq_base_names.specs.Names.{has}
 use Rattle.bq_package_target.specs.Package.{PackageTargets, new_files, files, own_labels, finished}
 use Rattle.bq_package_target.proofs.Finding.{no_files, old_file, new_file}
 use Rattle.bq_package_target_laws.specs.Files.{IsWanted, IsImplicit, HasTargetNamed}

@@ -4,7 +4,7 @@ use Rattle.std.specs.List.{Contains}
 use Rattle.bq_label.specs.Label.{LabelParts, package_of}
 use Rattle.bq_package_target.specs.declared.target.Target.{Target}
 use Rattle.bq_package_target.specs.Target.{is_source, is_of, names_of, source}
-use Rattle.bq_package_target.specs.Names.{has}
+use Rattle.bq_base_names.specs.Names.{has}
 use Rattle.bq_package_target.specs.Package.{PackageTargets}
 use Rattle.bq_package_target_laws.specs.Names.{WritesLabel}
 

@@ -6,7 +6,7 @@ ghost use Rattle.bq_label.specs.Label.{LabelParts};
 ghost use Rattle.bq_package_target.specs.declared.state.Declared.TheVariants.{Refused};
 ghost use Rattle.bq_package_target.specs.declared.target.Target.{Target};
 ghost use Rattle.bq_package_target.specs.Calls.{exported};
-ghost use Rattle.bq_package_target.specs.Names.{has};
+ghost use Rattle.bq_base_names.specs.Names.{has};
 ghost use Rattle.bq_package_target.specs.Package.{PackageTargets, finished};
 ghost use Rattle.bq_package_target.specs.Target.{dependencies, names_of, source};
 ghost use Rattle.bq_package_target_laws.specs.Names.{Depends};
