@@ -1,6 +1,6 @@
 -- The first clause of a comprehension, and those after it: what they do, and how many turns and ends of loops come; what a
 -- comprehension's parts do, one after another.
-use Rattle.std.proofs.Common.{◌≡◌, ◌<◌, ◌≤◌, ◌-◌, ◌∙◌, Bool, true, false, List, [], ◌∷◌, length, take, drop, get_or, refl, sym, ap, arith}
+use Rattle.std.proofs.Common.{◌≡◌, ◌<◌, ◌≤◌, ◌-◌, ◌∙◌, Bool, true, false, List, [], ◌∷◌, length, take, drop, get_or, Some, refl, sym, ap, arith}
 use Rattle.std.specs.Prelude.{if◌then◌else◌}
 use Rattle.std.proofs.lemmas.List.{take_all}
 use Rattle.bq_resolve_scope.specs.declared.code.Code.{Code}
@@ -15,7 +15,8 @@ use Rattle.bq_eval_meaning_spec.specs.Frame.{Frame}
 use Rattle.bq_eval_meaning_spec.specs.Primitives.{Primitives}
 use Rattle.bq_eval_meaning_spec.specs.Trees.{Eval, ClauseLayer}
 use Rattle.bq_eval_meaning_spec.specs.Comprehensions.{Turn, body, clause, clause_by, clauses, comprehension, for_clause}
-use Rattle.bq_eval_rules.specs.OpenLoops.{Count, clause_count_by, clauses_count, counted, Loop, loop_count, loop_left, opening, turns_count}
+use Rattle.bq_eval_rules.specs.declared.open_loop.ForClause.{ForClause}
+use Rattle.bq_eval_rules.specs.OpenLoops.{Count, clause_count_by, clauses_count, counted, Loop, loop_count, loop_left, opening, reached_count, reached_left, turns_count}
 use Rattle.bq_eval_rules.proofs.Deciding.{if_decides}
 use Rattle.bq_eval_rules.proofs.Following.{counted_twice, following_twice}
 
@@ -54,23 +55,22 @@ module _ {S : Type 0} (m : Primitives S) (eval : Eval S) (inner : Turn S) (env :
 
   -- ---- a `for` clause opens its loop, and then the loop runs
 
-  pub for_opens : (t : CodeTarget) (x : Code) (cs : List CodeClause)
-      → for_clause m eval t x (clauses m eval cs inner) env c s ≡ following (opening m eval t x cs env s) (λ l. loop_left m eval inner l env c)
+  pub for_opens : (f : ForClause) → for_clause m eval f.target.now f.iterable.now (clauses m eval f.after.now inner) env c s ≡ reached_left m eval inner (Some f) env c s
   unfolding for_clause opening loop_left
-  for_opens t x cs =
-      let loop : Datum → List Datum → Loop = λ v vs. record { target = t; after = cs; walked = v; elements = vs } in
-      sym (following_twice (eval x env s) (λ v r. following (m.begin_walk v r) (λ vs. pure (loop v vs))) (λ l. loop_left m eval inner l env c)
-      ∙ (λ i. following (eval x env s) (λ v r. following_twice (m.begin_walk v r) (λ vs. pure (loop v vs)) (λ l. loop_left m eval inner l env c) i)))
+  for_opens f =
+      let loop : Datum → List Datum → Loop = λ v vs. record { target = f.target.now; after = f.after.now; walked = v; elements = vs } in
+      sym (following_twice (eval f.iterable.now env s) (λ v r. following (m.begin_walk v r) (λ vs. pure (loop v vs))) (λ l. loop_left m eval inner l env c)
+      ∙ (λ i. following (eval f.iterable.now env s) (λ v r. following_twice (m.begin_walk v r) (λ vs. pure (loop v vs)) (λ l. loop_left m eval inner l env c) i)))
 
-  pub for_counts : (t : CodeTarget) (x : Code) (cs : List CodeClause)
-      → clause_count_by m eval inner (CodeClause-F.For t x) (clauses m eval cs inner) (clauses_count m eval inner cs) env c s
-      ≡ counted (opening m eval t x cs env s) (λ l. loop_count m eval inner l env c)
+  pub for_counts : (f : ForClause)
+      → clause_count_by m eval inner (CodeClause-F.For f.target.now f.iterable.now) (clauses m eval f.after.now inner) (clauses_count m eval inner f.after.now) env c s
+      ≡ reached_count m eval inner (Some f) env c s
   unfolding opening loop_count
-  for_counts t x cs =
-      let loop : Datum → List Datum → Loop = λ v vs. record { target = t; after = cs; walked = v; elements = vs } in
-      counted_twice (eval x env s) m.begin_walk (λ vs. turns_count m eval inner t (clauses m eval cs inner) (clauses_count m eval inner cs) vs env c)
-      ∙ sym (counted_twice (eval x env s) (λ v r. following (m.begin_walk v r) (λ vs. pure (loop v vs))) (λ l. loop_count m eval inner l env c)
-      ∙ (λ i. counted (eval x env s) (λ v r. counted_twice (m.begin_walk v r) (λ vs. pure (loop v vs)) (λ l. loop_count m eval inner l env c) i)))
+  for_counts f =
+      let loop : Datum → List Datum → Loop = λ v vs. record { target = f.target.now; after = f.after.now; walked = v; elements = vs } in
+      counted_twice (eval f.iterable.now env s) m.begin_walk (λ vs. turns_count m eval inner f.target.now (clauses m eval f.after.now inner) (clauses_count m eval inner f.after.now) vs env c)
+      ∙ sym (counted_twice (eval f.iterable.now env s) (λ v r. following (m.begin_walk v r) (λ vs. pure (loop v vs))) (λ l. loop_count m eval inner l env c)
+      ∙ (λ i. counted (eval f.iterable.now env s) (λ v r. counted_twice (m.begin_walk v r) (λ vs. pure (loop v vs)) (λ l. loop_count m eval inner l env c) i)))
 
   -- ---- an `if` clause decides
 
@@ -82,20 +82,17 @@ module _ {S : Type 0} (m : Primitives S) (eval : Eval S) (inner : Turn S) (env :
 -- ---- what the first clause decides
 
 module _ {S : Type 0} (m : Primitives S) (eval : Eval S) (inner : Turn S) (env : Frame) (c : Contents) (s : S) (cs : List CodeClause) (first : CodeClause) (some : 1 ≤ length cs) (is : first ≡ get_or cs 0 first) where
-  module _ (t : CodeTarget) (x : Code) (layer : out-CodeClause first ≡ CodeClause-F.For t x) where
-    for_left : clauses m eval cs inner env c s ≡ following (opening m eval t x (take (length cs - 1) (drop 1 cs)) env s) (λ l. loop_left m eval inner l env c)
-    for_left = first_clause m eval inner env c s cs first (CodeClause-F.For t x) some is layer ∙ for_opens m eval inner env c s t x (take (length cs - 1) (drop 1 cs))
+  module _ (f : ForClause) (after : f.after.now ≡ take (length cs - 1) (drop 1 cs)) (layer : out-CodeClause first ≡ CodeClause-F.For f.target.now f.iterable.now) where
+    pub loop_left_to : clauses m eval cs inner env c s ≡ reached_left m eval inner (Some f) env c s
+    loop_left_to =
+        first_clause m eval inner env c s cs first (CodeClause-F.For f.target.now f.iterable.now) some is layer
+        ∙ (ap (λ rest. for_clause m eval f.target.now f.iterable.now (clauses m eval rest inner) env c s) (sym after) ∙ for_opens m eval inner env c s f)
 
-    pub loop_opens : (l : Loop) (after : S) → opening m eval t x (take (length cs - 1) (drop 1 cs)) env s ≡ done l after → clauses m eval cs inner env c s ≡ loop_left m eval inner l env c after
-    loop_opens l after e = for_left ∙ ap (λ r. following r (λ k. loop_left m eval inner k env c)) e
-
-    pub loop_fails : (why : Stop) → opening m eval t x (take (length cs - 1) (drop 1 cs)) env s ≡ stopped why → clauses m eval cs inner env c s ≡ stopped why
-    loop_fails why e = for_left ∙ ap (λ r. following r (λ k. loop_left m eval inner k env c)) e
-
-    pub loop_counts : (l : Loop) (after : S) → opening m eval t x (take (length cs - 1) (drop 1 cs)) env s ≡ done l after → clauses_count m eval inner cs env c s ≡ loop_count m eval inner l env c after
-    loop_counts l after e =
-        first_count m eval inner env c s cs first (CodeClause-F.For t x) some is layer
-        ∙ (for_counts m eval inner env c s t x (take (length cs - 1) (drop 1 cs)) ∙ ap (λ r. counted r (λ k. loop_count m eval inner k env c)) e)
+    pub loop_counts : clauses_count m eval inner cs env c s ≡ reached_count m eval inner (Some f) env c s
+    loop_counts =
+        first_count m eval inner env c s cs first (CodeClause-F.For f.target.now f.iterable.now) some is layer
+        ∙ (ap (λ rest. clause_count_by m eval inner (CodeClause-F.For f.target.now f.iterable.now) (clauses m eval rest inner) (clauses_count m eval inner rest) env c s) (sym after)
+        ∙ for_counts m eval inner env c s f)
 
   module _ (x : Code) (layer : out-CodeClause first ≡ CodeClause-F.If x) where
     if_left : clauses m eval cs inner env c s

@@ -10,7 +10,8 @@ use Rattle.bq_eval_meaning_spec.specs.Frame.{Frame}
 use Rattle.bq_eval_meaning_spec.specs.Primitives.{Primitives, change}
 use Rattle.bq_eval_meaning_spec.specs.Trees.{Eval}
 use Rattle.bq_eval_meaning_spec.specs.Comprehensions.{Turn, clauses, turn, turns}
-use Rattle.bq_eval_rules.specs.OpenLoops.{clauses_count, counted, inner_count, inner_left, inner_of, Loop, loop_count, loop_left, loop_of, loops_count, loops_left, loops_of, turn_count, turns_count}
+use Rattle.bq_eval_rules.specs.OpenLoops.{clauses_count, counted, Loop, loop_count, loop_left, loop_of, loops_count, loops_left, loops_of, opening, reached_count, reached_left, turn_count, turns_count}
+use Rattle.bq_eval_rules.specs.declared.open_loop.ForClause.{ForClause}
 use Rattle.bq_eval_rules.specs.declared.open_loop.OpenLoop.{OpenLoop}
 use Rattle.bq_eval_rules.proofs.Following.{following_thrice}
 use Rattle.bq_eval_rules.proofs.Reversed.{popped}
@@ -19,11 +20,6 @@ use Rattle.bq_eval_rules.proofs.Reversed.{popped}
 pub loops_pushed : (ls : List OpenLoop) (l : OpenLoop) → loops_of (ls ++ l ∷ []) ≡ loop_of l ∷ loops_of ls
 unfolding loops_of
 loops_pushed ls l = ap reverse (map_push loop_of ls l) ∙ popped (map loop_of ls) (loop_of l)
-
--- the loop that a turn opened, if it opened one
-abbrev pub with_inner : Option Loop → List Loop → List Loop
-with_inner None ls = ls
-with_inner (Some l) ls = l ∷ ls
 
 module _ {S : Type 0} (m : Primitives S) (eval : Eval S) (body : Turn S) where
   all_gives : (run : Run S (Contents × Frame)) → following run (λ r. pure (r.0, r.1)) ≡ run
@@ -64,11 +60,15 @@ module _ {S : Type 0} (m : Primitives S) (eval : Eval S) (body : Turn S) where
       pub turn_stops : (why : Stop) → turn m eval l.target (clauses m eval l.after body) v env c s ≡ stopped why → loops_left m eval body (l ∷ ls) env c s ≡ stopped why
       turn_stops why e = next_left ∙ ap (λ r. following r (λ r. loops_left m eval body (record l { elements = vs } ∷ ls) r.1 r.0)) e
 
-      pub turn_leaves : (inner : Option Loop) (new : Frame) (made : Contents) (after : S) → turn m eval l.target (clauses m eval l.after body) v env c s ≡ inner_left m eval body inner new made after
-          → loops_left m eval body (l ∷ ls) env c s ≡ loops_left m eval body (with_inner inner (record l { elements = vs } ∷ ls)) new made after
+      -- the turn reaches no loop, or one that begins
+      pub turn_ends : (new : Frame) (made : Contents) (after : S) → turn m eval l.target (clauses m eval l.after body) v env c s ≡ done (made, new) after
+          → loops_left m eval body (l ∷ ls) env c s ≡ loops_left m eval body (record l { elements = vs } ∷ ls) new made after
+      turn_ends new made after e = next_left ∙ ap (λ r. following r (λ r. loops_left m eval body (record l { elements = vs } ∷ ls) r.1 r.0)) e
+
+      pub turn_begins : (i : Loop) (new : Frame) (made : Contents) (after : S) → turn m eval l.target (clauses m eval l.after body) v env c s ≡ loop_left m eval body i new made after
+          → loops_left m eval body (l ∷ ls) env c s ≡ loops_left m eval body (i ∷ record l { elements = vs } ∷ ls) new made after
       unfolding loops_left
-      turn_leaves None new made after e = next_left ∙ ap (λ r. following r (λ r. loops_left m eval body (record l { elements = vs } ∷ ls) r.1 r.0)) e
-      turn_leaves (Some inner) new made after e = next_left ∙ ap (λ r. following r (λ r. loops_left m eval body (record l { elements = vs } ∷ ls) r.1 r.0)) e
+      turn_begins i new made after e = next_left ∙ ap (λ r. following r (λ r. loops_left m eval body (record l { elements = vs } ∷ ls) r.1 r.0)) e
 
       -- the count of a turn, and what is counted after it
       sums : (k : ℕ) (run : Run S (Contents × Frame))
@@ -88,19 +88,21 @@ module _ {S : Type 0} (m : Primitives S) (eval : Eval S) (body : Turn S) where
           + counted (following (turns m eval l.target (clauses m eval l.after body) xs env c s) (λ r. λ t. following (change m (m.end_walk l.walked) t) (λ _. pure r))) (λ r. loops_count m eval body ls r.1 r.0)) is
           ∙ sums (turn_count m eval body l.target (clauses_count m eval body l.after) v env c s) (turn m eval l.target (clauses m eval l.after body) v env c s)
 
-      opened : (o : Option Loop) (new : Frame) (made : Contents) (after : S)
-          → suc (inner_count m eval body o new made after + counted (inner_left m eval body o new made after) (λ r. loops_count m eval body (record l { elements = vs } ∷ ls) r.1 r.0))
-          ≡ suc (loops_count m eval body (with_inner o (record l { elements = vs } ∷ ls)) new made after)
-      unfolding loops_count
-      opened None new made after = omega arith
-      opened (Some i) new made after = refl
+      pub turn_ends_count : (new : Frame) (made : Contents) (after : S) → turn m eval l.target (clauses m eval l.after body) v env c s ≡ done (made, new) after
+          → turn_count m eval body l.target (clauses_count m eval body l.after) v env c s ≡ 0
+          → loops_count m eval body (l ∷ ls) env c s ≡ suc (loops_count m eval body (record l { elements = vs } ∷ ls) new made after)
+      turn_ends_count new made after e f =
+          let rest : counted (turn m eval l.target (clauses m eval l.after body) v env c s) (λ r. loops_count m eval body (record l { elements = vs } ∷ ls) r.1 r.0) ≡ loops_count m eval body (record l { elements = vs } ∷ ls) new made after =
+          ap (λ run. counted run (λ r. loops_count m eval body (record l { elements = vs } ∷ ls) r.1 r.0)) e in
+          omega (arith, next_count, f, rest)
 
-      pub turn_counts : (inner : Option Loop) (new : Frame) (made : Contents) (after : S) → turn m eval l.target (clauses m eval l.after body) v env c s ≡ inner_left m eval body inner new made after
-          → turn_count m eval body l.target (clauses_count m eval body l.after) v env c s ≡ inner_count m eval body inner new made after
-          → loops_count m eval body (l ∷ ls) env c s ≡ suc (loops_count m eval body (with_inner inner (record l { elements = vs } ∷ ls)) new made after)
-      turn_counts inner new made after e f =
+      pub turn_begins_count : (i : Loop) (new : Frame) (made : Contents) (after : S) → turn m eval l.target (clauses m eval l.after body) v env c s ≡ loop_left m eval body i new made after
+          → turn_count m eval body l.target (clauses_count m eval body l.after) v env c s ≡ loop_count m eval body i new made after
+          → loops_count m eval body (l ∷ ls) env c s ≡ suc (loops_count m eval body (i ∷ record l { elements = vs } ∷ ls) new made after)
+      unfolding loops_count
+      turn_begins_count i new made after e f =
           next_count ∙ (ap (λ k. suc (k + counted (turn m eval l.target (clauses m eval l.after body) v env c s) (λ r. loops_count m eval body (record l { elements = vs } ∷ ls) r.1 r.0))) f
-          ∙ (ap (λ run. suc (inner_count m eval body inner new made after + counted run (λ r. loops_count m eval body (record l { elements = vs } ∷ ls) r.1 r.0))) e ∙ opened inner new made after))
+          ∙ ap (λ run. suc (loop_count m eval body i new made after + counted run (λ r. loops_count m eval body (record l { elements = vs } ∷ ls) r.1 r.0))) e)
 
 -- ---- the list of the code, which has the innermost loop last
 
@@ -138,32 +140,42 @@ module _ {S : Type 0} (m : Primitives S) (eval : Eval S) (body : Turn S) (env : 
           ∙ (ap (λ ks. suc (loops_count m eval body ks env c (m.end_walk l.walked s))) (loops_pushed rest next) ∙ ap (λ t. suc (loops_count m eval body (loop_of next ∷ loops_of rest) env c t)) (sym ends)))
 
   -- a turn, of which it is known what its clauses leave, and how much that counts
-  module _ (l : OpenLoop) (ls : List OpenLoop) (s : S) (v : Datum) (vs : List Datum) (is : l.elements ≡ v ∷ vs) (inside : Option OpenLoop) (new : Frame) (made : Contents) (after : S)
-      (e : turn m eval l.target.now (clauses m eval l.after.now body) v env c s ≡ inner_left m eval body (inner_of inside) new made after) where
-    pub none_opens : inside ≡ None → loops_left m eval body (loop_of l ∷ loops_of ls) env c s ≡ loops_left m eval body (loop_of (record l { elements = vs }) ∷ loops_of ls) new made after
-    none_opens none =
-        turn_leaves m eval body (loop_of l) (loops_of ls) env c s v vs is (inner_of inside) new made after e
-        ∙ ap (λ o. loops_left m eval body (with_inner (inner_of o) (loop_of (record l { elements = vs }) ∷ loops_of ls)) new made after) none
+  module _ (l : OpenLoop) (ls : List OpenLoop) (s : S) (v : Datum) (vs : List Datum) (is : l.elements ≡ v ∷ vs) (reached : Option ForClause) (new : Frame) (made : Contents) (after : S)
+      (e : turn m eval l.target.now (clauses m eval l.after.now body) v env c s ≡ reached_left m eval body reached new made after) where
+    pub none_opens : reached ≡ None → loops_left m eval body (loop_of l ∷ loops_of ls) env c s ≡ loops_left m eval body (loop_of (record l { elements = vs }) ∷ loops_of ls) new made after
+    none_opens none = turn_ends m eval body (loop_of l) (loops_of ls) env c s v vs is new made after (e ∙ ap (λ o. reached_left m eval body o new made after) none)
 
-    pub one_opens : (i : OpenLoop) (more : List OpenLoop) → inside ≡ Some i → more ≡ ls ++ record l { elements = vs } ∷ []
-        → loops_left m eval body (loop_of l ∷ loops_of ls) env c s ≡ loops_left m eval body (loop_of i ∷ loops_of more) new made after
-    one_opens i more one pushed =
-        turn_leaves m eval body (loop_of l) (loops_of ls) env c s v vs is (inner_of inside) new made after e
-        ∙ (ap (λ o. loops_left m eval body (with_inner (inner_of o) (loop_of (record l { elements = vs }) ∷ loops_of ls)) new made after) one
-        ∙ ap (λ ks. loops_left m eval body (loop_of i ∷ ks) new made after) (sym (ap loops_of pushed ∙ loops_pushed ls (record l { elements = vs }))))
+    module _ (f : ForClause) (one : reached ≡ Some f) where
+      goes_on : turn m eval l.target.now (clauses m eval l.after.now body) v env c s ≡ following (opening m eval f new after) (λ k. loop_left m eval body k new made)
+      goes_on = e ∙ ap (λ o. reached_left m eval body o new made after) one
 
-    module _ (f : turn_count m eval body l.target.now (clauses_count m eval body l.after.now) v env c s ≡ inner_count m eval body (inner_of inside) new made after) where
-      pub none_counts : inside ≡ None → loops_count m eval body (loop_of l ∷ loops_of ls) env c s ≡ suc (loops_count m eval body (loop_of (record l { elements = vs }) ∷ loops_of ls) new made after)
-      none_counts none =
-          turn_counts m eval body (loop_of l) (loops_of ls) env c s v vs is (inner_of inside) new made after e f
-          ∙ ap (λ o. suc (loops_count m eval body (with_inner (inner_of o) (loop_of (record l { elements = vs }) ∷ loops_of ls)) new made after)) none
+      pub opening_stops : (why : Stop) → opening m eval f new after ≡ stopped why → loops_left m eval body (loop_of l ∷ loops_of ls) env c s ≡ stopped why
+      opening_stops why o = turn_stops m eval body (loop_of l) (loops_of ls) env c s v vs is why (goes_on ∙ ap (λ r. following r (λ k. loop_left m eval body k new made)) o)
 
-      pub one_counts : (i : OpenLoop) (more : List OpenLoop) → inside ≡ Some i → more ≡ ls ++ record l { elements = vs } ∷ []
-          → loops_count m eval body (loop_of l ∷ loops_of ls) env c s ≡ suc (loops_count m eval body (loop_of i ∷ loops_of more) new made after)
-      one_counts i more one pushed =
-          turn_counts m eval body (loop_of l) (loops_of ls) env c s v vs is (inner_of inside) new made after e f
-          ∙ (ap (λ o. suc (loops_count m eval body (with_inner (inner_of o) (loop_of (record l { elements = vs }) ∷ loops_of ls)) new made after)) one
-          ∙ ap (λ ks. suc (loops_count m eval body (loop_of i ∷ ks) new made after)) (sym (ap loops_of pushed ∙ loops_pushed ls (record l { elements = vs }))))
+      module _ (i : OpenLoop) (begun : S) (o : opening m eval f new after ≡ done (loop_of i) begun) (more : List OpenLoop) (pushed : more ≡ ls ++ record l { elements = vs } ∷ []) where
+        begins : turn m eval l.target.now (clauses m eval l.after.now body) v env c s ≡ loop_left m eval body (loop_of i) new made begun
+        begins = goes_on ∙ ap (λ r. following r (λ k. loop_left m eval body k new made)) o
+
+        more_loops : loop_of (record l { elements = vs }) ∷ loops_of ls ≡ loops_of more
+        more_loops = sym (ap loops_of pushed ∙ loops_pushed ls (record l { elements = vs }))
+
+        pub one_opens : loops_left m eval body (loop_of l ∷ loops_of ls) env c s ≡ loops_left m eval body (loop_of i ∷ loops_of more) new made begun
+        one_opens =
+            turn_begins m eval body (loop_of l) (loops_of ls) env c s v vs is (loop_of i) new made begun begins
+            ∙ ap (λ ks. loops_left m eval body (loop_of i ∷ ks) new made begun) more_loops
+
+        pub one_counts : turn_count m eval body l.target.now (clauses_count m eval body l.after.now) v env c s ≡ reached_count m eval body reached new made after
+            → loops_count m eval body (loop_of l ∷ loops_of ls) env c s ≡ suc (loops_count m eval body (loop_of i ∷ loops_of more) new made begun)
+        one_counts counts =
+            turn_begins_count m eval body (loop_of l) (loops_of ls) env c s v vs is (loop_of i) new made begun begins
+            (counts ∙ (ap (λ k. reached_count m eval body k new made after) one ∙ ap (λ r. counted r (λ k. loop_count m eval body k new made)) o))
+            ∙ ap (λ ks. suc (loops_count m eval body (loop_of i ∷ ks) new made begun)) more_loops
+
+    pub none_counts : turn_count m eval body l.target.now (clauses_count m eval body l.after.now) v env c s ≡ reached_count m eval body reached new made after → reached ≡ None
+        → loops_count m eval body (loop_of l ∷ loops_of ls) env c s ≡ suc (loops_count m eval body (loop_of (record l { elements = vs }) ∷ loops_of ls) new made after)
+    none_counts counts none =
+        turn_ends_count m eval body (loop_of l) (loops_of ls) env c s v vs is new made after (e ∙ ap (λ o. reached_left m eval body o new made after) none)
+        (counts ∙ ap (λ o. reached_count m eval body o new made after) none)
 
 -- one less is less
 pub falls : (less more : ℕ) → more ≡ suc less → less < more

@@ -9,10 +9,11 @@ use Rattle.bq_eval_meaning_spec.specs.Comprehensions.{Turn, body, clauses, turn}
 use Rattle.bq_eval_meaning_spec.specs.Frame.{Frame}
 use Rattle.bq_eval_meaning_spec.specs.Primitives.{Primitives}
 use Rattle.bq_eval_rules.specs.declared.evaluator.Evaluator.{Evaluator}
+use Rattle.bq_eval_rules.specs.declared.open_loop.ForClause.{ForClause}
 use Rattle.bq_eval_rules.specs.declared.open_loop.OpenLoop.{OpenLoop}
 use Rattle.bq_eval_rules.specs.Acts.{Leaves}
 use Rattle.bq_eval_rules.specs.Evaluators.{evals_in}
-use Rattle.bq_eval_rules.specs.OpenLoops.{Loop, Count, inner_of, loop_left, inner_left, turn_count, clauses_count, inner_count}
+use Rattle.bq_eval_rules.specs.OpenLoops.{Loop, Count, loop_left, reached_left, turn_count, clauses_count, reached_count}
 
 module _ {S R C F : Type 0} (m : Primitives S) (e : Evaluator R C F) (comprehension : Code) where
   -- what is before the clauses
@@ -28,31 +29,31 @@ module _ {S R C F : Type 0} (m : Primitives S) (e : Evaluator R C F) (comprehens
   turns_left l = loop_left m (evals_in m e) element_in l
 
 module _ {S R C F : Type 0} (m : Primitives S) (seen : R → S) (e : Evaluator R C F) (comprehension : Code) where
-  -- A call did the first part of a turn: up to a loop, which it opened, or up to the end of the turn. After the turn come
+  -- A call did the first part of a turn: up to a loop, which it returns, or up to the end of the turn. After the turn come
   -- the frame, the list or dict and the runtime before the call, its result, and these three after it.
-  abbrev pub OpensLoop : Turn S → Frame → Contents → R → Result (Option OpenLoop) EvalErr → Frame → Contents → R → Type 0
-  OpensLoop whole frame content old result changed filled new =
-      Leaves m (λ inner. inner_left m (evals_in m e) (element_in m e comprehension) (inner_of inner) changed filled (seen new))
+  abbrev pub ReachesLoop : Turn S → Frame → Contents → R → Result (Option ForClause) EvalErr → Frame → Contents → R → Type 0
+  ReachesLoop whole frame content old result changed filled new =
+      Leaves m (λ reached. reached_left m (evals_in m e) (element_in m e comprehension) reached changed filled (seen new))
       result (seen new) (whole frame content (seen old))
 
   -- such a call left as many turns and ends of loops to its loop as there are in the turn
-  abbrev pub CountsLoop : Count S → Frame → Contents → R → Result (Option OpenLoop) EvalErr → Frame → Contents → R → Type 0
+  abbrev pub CountsLoop : Count S → Frame → Contents → R → Result (Option ForClause) EvalErr → Frame → Contents → R → Type 0
   CountsLoop whole frame content old result changed filled new =
-      IfOk result (λ inner. whole frame content (seen old)
-      ≡ inner_count m (evals_in m e) (element_in m e comprehension) (inner_of inner) changed filled (seen new))
+      IfOk result (λ reached. whole frame content (seen old)
+      ≡ reached_count m (evals_in m e) (element_in m e comprehension) reached changed filled (seen new))
 
   -- these two of a call that runs clauses, which leave the frame as it is
-  abbrev pub ClausesOpen : List CodeClause → Frame → Contents → R → Result (Option OpenLoop) EvalErr → Contents → R → Type 0
-  ClausesOpen cs frame content old result filled new = OpensLoop (clauses_in m e comprehension cs) frame content old result frame filled new
+  abbrev pub ClausesReach : List CodeClause → Frame → Contents → R → Result (Option ForClause) EvalErr → Contents → R → Type 0
+  ClausesReach cs frame content old result filled new = ReachesLoop (clauses_in m e comprehension cs) frame content old result frame filled new
 
-  abbrev pub ClausesCount : List CodeClause → Frame → Contents → R → Result (Option OpenLoop) EvalErr → Contents → R → Type 0
+  abbrev pub ClausesCount : List CodeClause → Frame → Contents → R → Result (Option ForClause) EvalErr → Contents → R → Type 0
   ClausesCount cs frame content old result filled new =
       CountsLoop (clauses_count m (evals_in m e) (element_in m e comprehension) cs) frame content old result frame filled new
 
   -- these two of a call that begins a turn of a loop, with an element
-  abbrev pub TurnOpens : OpenLoop → Datum → Frame → Contents → R → Result (Option OpenLoop) EvalErr → Frame → Contents → R → Type 0
-  TurnOpens l v = OpensLoop (turn m (evals_in m e) l.target.now (clauses_in m e comprehension l.after.now) v)
+  abbrev pub TurnReaches : OpenLoop → Datum → Frame → Contents → R → Result (Option ForClause) EvalErr → Frame → Contents → R → Type 0
+  TurnReaches l v = ReachesLoop (turn m (evals_in m e) l.target.now (clauses_in m e comprehension l.after.now) v)
 
-  abbrev pub TurnCounts : OpenLoop → Datum → Frame → Contents → R → Result (Option OpenLoop) EvalErr → Frame → Contents → R → Type 0
+  abbrev pub TurnCounts : OpenLoop → Datum → Frame → Contents → R → Result (Option ForClause) EvalErr → Frame → Contents → R → Type 0
   TurnCounts l v =
       CountsLoop (turn_count m (evals_in m e) (element_in m e comprehension) l.target.now (clauses_count m (evals_in m e) (element_in m e comprehension) l.after.now) v)

@@ -13,6 +13,7 @@ use Rattle.bq_eval_meaning_spec.specs.Frame.{Frame}
 use Rattle.bq_eval_meaning_spec.specs.Primitives.{Primitives, change}
 use Rattle.bq_eval_meaning_spec.specs.Targets.{bind_variables}
 use Rattle.bq_eval_meaning_spec.specs.Trees.{Eval, ClauseLayer}
+use Rattle.bq_eval_rules.specs.declared.open_loop.ForClause.{ForClause}
 use Rattle.bq_eval_rules.specs.declared.open_loop.OpenLoop.{OpenLoop}
 
 -- a `for` clause whose walk has begun: the clauses after it, what is walked, and the elements that are still to come
@@ -24,10 +25,6 @@ pub record Loop : Type 0 where
 
 abbrev pub loop_of : OpenLoop → Loop
 loop_of l = record { target = l.target.now; after = l.after.now; walked = l.walked; elements = l.elements }
-
-abbrev pub inner_of : Option OpenLoop → Option Loop
-inner_of None = None
-inner_of (Some l) = Some (loop_of l)
 
 -- the code has the innermost loop last
 unfoldable pub loops_of : List OpenLoop → List Loop
@@ -44,8 +41,8 @@ Count S = Frame → Contents → S → ℕ
 
 module _ {S : Type 0} (m : Primitives S) (eval : Eval S) where
   -- a `for` clause opens its loop
-  unfoldable pub opening : CodeTarget → Code → List CodeClause → Frame → Action S Loop
-  opening t x cs env = eval x env >>= λ v. m.begin_walk v >>= λ vs. pure (record { target = t; after = cs; walked = v; elements = vs })
+  unfoldable pub opening : ForClause → Frame → Action S Loop
+  opening f env = eval f.iterable.now env >>= λ v. m.begin_walk v >>= λ vs. pure (record { target = f.target.now; after = f.after.now; walked = v; elements = vs })
 
   module _ (body : Turn S) where
     -- the turns that are left, and the end of the walk
@@ -57,10 +54,10 @@ module _ {S : Type 0} (m : Primitives S) (eval : Eval S) where
     loops_left [] env c = pure (c, env)
     loops_left (l ∷ ls) env c = loop_left l env c >>= λ r. loops_left ls r.1 r.0
 
-    -- after clauses of which the last may have opened a loop
-    abbrev pub inner_left : Option Loop → Turn S
-    inner_left None env c = pure (c, env)
-    inner_left (Some l) env c = loop_left l env c
+    -- after clauses that may have reached a loop
+    abbrev pub reached_left : Option ForClause → Turn S
+    reached_left None env c = pure (c, env)
+    reached_left (Some f) env c = opening f env >>= λ l. loop_left l env c
 
     -- ---- the same, counted
 
@@ -87,6 +84,6 @@ module _ {S : Type 0} (m : Primitives S) (eval : Eval S) where
     loops_count [] env c s = 0
     loops_count (l ∷ ls) env c s = loop_count l env c s + counted (loop_left l env c s) (λ r. loops_count ls r.1 r.0)
 
-    abbrev pub inner_count : Option Loop → Count S
-    inner_count None env c s = 0
-    inner_count (Some l) env c s = loop_count l env c s
+    abbrev pub reached_count : Option ForClause → Count S
+    reached_count None env c s = 0
+    reached_count (Some f) env c s = counted (opening f env s) (λ l. loop_count l env c)

@@ -9,11 +9,11 @@ ghost use Rattle.bq_eval_rules.specs.Acts.{Acts};
 ghost use Rattle.bq_eval_rules.specs.OpenLoops.{loop_of, opening};
 ghost use Rattle.bq_eval_rules.specs.Effects.{Returns, Produces, Collects};
 ghost use Rattle.bq_eval_rules.specs.Evaluators.{EvaluatesInside, evals_in, frame_of};
-ghost use Rattle.bq_eval_rules.specs.ComprehensionClauses.{element_in, clauses_in, turns_left, ClausesOpen, ClausesCount, TurnOpens, TurnCounts};
+ghost use Rattle.bq_eval_rules.specs.ComprehensionClauses.{element_in, clauses_in, turns_left, ClausesReach, ClausesCount, TurnReaches, TurnCounts};
 
 use crate::context::Context;
 use crate::evaluator::Evaluator;
-use crate::open_loop::OpenLoop;
+use crate::open_loop::{ForClause, OpenLoop};
 use crate::runtime::Runtime;
 use crate::targets::begin_turn;
 use bq_eval_frame::Frame;
@@ -71,45 +71,27 @@ impl<
         }
     }
 
-    /// Opens the loop `for target in iterable`, with the clauses after it.
-    #[tactic(auto, unfolding(crate::specs::OpenLoops::opening))]
-    fn open<'c>(
-        &self,
-        runtime: &mut R,
-        target: &'c CodeTarget,
-        iterable: &Code,
-        after: &'c [CodeClause],
-    ) -> Result<OpenLoop<'c>, EvalErr>
-        requires { EvaluatesInside R.means R.seen self.now F.pre F.post }
-        ensures { Acts R.means loop_of result (R.seen runtime.new) (opening R.means (evals_in R.means self.now) target.now iterable.now after.now (frame_of self.now) (R.seen runtime.old)) }
-    {
-        let walked = self.value(runtime, iterable)?;
-        let elements = runtime.begin_walk(self.context.alloc, &walked)?;
-        Ok(OpenLoop {
-            target,
-            after,
-            walked,
-            elements,
-        })
-    }
-
-    /// Runs the clauses up to the first loop, which it opens. If there is none, evaluates what is before the clauses.
+    /// Runs the clauses up to the first loop, which it returns. If there is none, evaluates what is before the clauses.
     fn inward<'c>(
         &self,
         runtime: &mut R,
         content: &mut Content,
         clauses: &'c [CodeClause],
         comprehension: &Code,
-    ) -> Result<Option<OpenLoop<'c>>, EvalErr>
+    ) -> Result<Option<ForClause<'c>>, EvalErr>
         requires { EvaluatesInside R.means R.seen self.now F.pre F.post }
-        ensures leaves { ClausesOpen R.means R.seen self.now comprehension.now clauses.now (frame_of self.now) content.old runtime.old result content.new runtime.new }
+        ensures leaves { ClausesReach R.means R.seen self.now comprehension.now clauses.now (frame_of self.now) content.old runtime.old result content.new runtime.new }
         ensures counts { ClausesCount R.means R.seen self.now comprehension.now clauses.now (frame_of self.now) content.old runtime.old result content.new runtime.new }
     {
         let mut rest = clauses;
         while let [clause, after @ ..] = rest {
             match clause {
                 CodeClause::For(target, iterable) => {
-                    return Ok(Some(self.open(runtime, target, iterable, after)?));
+                    return Ok(Some(ForClause {
+                        target,
+                        iterable,
+                        after,
+                    }));
                 }
                 CodeClause::If(condition) => {
                     if !self.holds(runtime, condition)? {
@@ -137,16 +119,16 @@ impl<
     C: Copy,
     F: Copy + Fn(&Context<'_>, usize, C, &Frame<'_>, &mut R, &Code) -> Result<Value, EvalErr>,
 > Comprehension<'a, R, C, F> {
-    /// Runs clauses in a frame, up to the first loop, which it opens.
+    /// Runs clauses in a frame, up to the first loop, which it returns.
     fn inward<'c>(
         &self,
         frame: &Frame<'_>,
         runtime: &mut R,
         content: &mut Content,
         clauses: &'c [CodeClause],
-    ) -> Result<Option<OpenLoop<'c>>, EvalErr>
+    ) -> Result<Option<ForClause<'c>>, EvalErr>
         requires { EvaluatesInside R.means R.seen self.now.rules.now F.pre F.post }
-        ensures leaves { ClausesOpen R.means R.seen self.now.rules.now self.now.code.now clauses.now (slots_of frame.now) content.old runtime.old result content.new runtime.new }
+        ensures leaves { ClausesReach R.means R.seen self.now.rules.now self.now.code.now clauses.now (slots_of frame.now) content.old runtime.old result content.new runtime.new }
         ensures counts { ClausesCount R.means R.seen self.now.rules.now self.now.code.now clauses.now (slots_of frame.now) content.old runtime.old result content.new runtime.new }
     {
         Evaluator {
@@ -160,6 +142,35 @@ impl<
         .inward(runtime, content, clauses, self.code)
     }
 
+    /// Begins the walk of a loop, in a frame.
+    #[tactic(auto, unfolding(crate::specs::OpenLoops::opening))]
+    fn open<'c>(
+        &self,
+        frame: &Frame<'_>,
+        runtime: &mut R,
+        clause: ForClause<'c>,
+    ) -> Result<OpenLoop<'c>, EvalErr>
+        requires { EvaluatesInside R.means R.seen self.now.rules.now F.pre F.post }
+        ensures { Acts R.means loop_of result (R.seen runtime.new) (opening R.means (evals_in R.means self.now.rules.now) clause.entry (slots_of frame.now) (R.seen runtime.old)) }
+    {
+        let rules = self.rules;
+        let walked = (rules.eval)(
+            rules.context,
+            rules.depth,
+            rules.call,
+            frame,
+            runtime,
+            clause.iterable,
+        )?;
+        let elements = runtime.begin_walk(rules.context.alloc, &walked)?;
+        Ok(OpenLoop {
+            target: clause.target,
+            after: clause.after,
+            walked,
+            elements,
+        })
+    }
+
     /// Begins a turn of a loop, and runs it up to the first loop inside it.
     #[tactic(auto, unfolding(bq_eval_meaning_spec::specs::Comprehensions::turn, crate::specs::OpenLoops::turn_count))]
     fn turn<'c>(
@@ -169,9 +180,9 @@ impl<
         content: &mut Content,
         innermost: &OpenLoop<'c>,
         value: Value,
-    ) -> Result<Option<OpenLoop<'c>>, EvalErr>
+    ) -> Result<Option<ForClause<'c>>, EvalErr>
         requires { EvaluatesInside R.means R.seen self.now.rules.now F.pre F.post }
-        ensures leaves { TurnOpens R.means R.seen self.now.rules.now self.now.code.now innermost.now value (slots_of frame.old) content.old runtime.old result (slots_of frame.new) content.new runtime.new }
+        ensures leaves { TurnReaches R.means R.seen self.now.rules.now self.now.code.now innermost.now value (slots_of frame.old) content.old runtime.old result (slots_of frame.new) content.new runtime.new }
         ensures counts { TurnCounts R.means R.seen self.now.rules.now self.now.code.now innermost.now value (slots_of frame.old) content.old runtime.old result (slots_of frame.new) content.new runtime.new }
     {
         begin_turn(
@@ -207,11 +218,11 @@ impl<
                 continue;
             };
             let inside = self.turn(frame, runtime, content, &innermost, value)?;
-            let Some(inner) = inside else {
+            let Some(clause) = inside else {
                 continue;
             };
             outer.push(innermost)?;
-            innermost = inner;
+            innermost = self.open(&*frame, runtime, clause)?;
         }
     }
 
@@ -228,7 +239,10 @@ impl<
     {
         match self.inward(&*frame, runtime, content, clauses)? {
             None => Ok(()),
-            Some(first) => self.turns(frame, runtime, content, first),
+            Some(clause) => {
+                let first = self.open(&*frame, runtime, clause)?;
+                self.turns(frame, runtime, content, first)
+            }
         }
     }
 }

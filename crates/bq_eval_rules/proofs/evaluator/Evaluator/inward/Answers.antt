@@ -1,4 +1,4 @@
-use Rattle.std.proofs.Common.{rules, ◌≡◌, ◌∙◌, sym, ap}
+use Rattle.std.proofs.Common.{rules, ◌≡◌, ◌∙◌, refl, sym, ap}
 use Rattle.bq_base.specs.declared.fault.FaultKind.{FaultKind}
 use Rattle.bq_resolve_scope.specs.declared.code.Code.TheOpen.{CodeClause-F}
 use Rattle.bq_resolve_scope.specs.declared.code.CodeClause.{out-CodeClause}
@@ -9,19 +9,8 @@ use Rattle.bq_builtin_machine.specs.State.{stop_at}
 use Rattle.bq_eval_meaning_spec.specs.Comprehensions.{body, clauses}
 use Rattle.bq_eval_frame.specs.Slots.{slots_of}
 use Rattle.bq_eval_rules.specs.Nests.{nested}
-use Rattle.bq_eval_rules.specs.OpenLoops.{loop_of}
-use Rattle.bq_eval_rules.proofs.Clauses.{loop_opens, loop_fails, loop_counts, condition_stops, condition_holds, holds_count, condition_fails, fails_count, no_clause, no_count}
+use Rattle.bq_eval_rules.proofs.Clauses.{loop_left_to, loop_counts, condition_stops, condition_holds, holds_count, condition_fails, fails_count, no_clause, no_count}
 use Rattle.bq_eval_rules.proofs.evaluator.Evaluator.inward.Goals as goal
-
-pub returns-in_err-open-in-For-clause-leaves : goal.returns-in_err-open-in-For-clause-leaves
-returns-in_err-open-in-For-clause-leaves g c =
-    let h = g.R.Runtime in
-    let e = nested h.means c.args.self.now.depth c.args.self.now.context.now in
-    let b = body h.means e c.args.comprehension.now in
-    let layer : out-CodeClause c.clause-item.result ≡ CodeClause-F.For c.in-For.target c.in-For.iterable = ap out-CodeClause c.in-For.is ∙ outs-For c.in-For.target c.in-For.iterable in
-    let bad : (why : FaultKind) → c.in_err-open-in-For.field-0.0 ≡ Bad why → clauses h.means e c.args.clauses.now b (slots_of c.args.self.now.frame.now) c.args.content.now (h.seen c.args.runtime.now) ≡ stopped (stop_at why (h.means.machine (h.seen c.open.new.runtime))) =
-    λ why is. sym c.loop-rest.invariant.left ∙ loop_fails h.means e b (slots_of c.args.self.now.frame.now) c.args.content.now (h.seen c.loop-rest.runtime) c.loop-rest.rest.now c.clause-item.result c.in-len1-up.len_at_least c.clause-item.is c.in-For.target c.in-For.iterable layer _ (c.in_err-open-in-For.ensures why is) in
-    search (rules, bad)
 
 pub returns-in-For-clause-leaves : goal.returns-in-For-clause-leaves
 returns-in-For-clause-leaves g c =
@@ -29,7 +18,7 @@ returns-in-For-clause-leaves g c =
     let e = nested h.means c.args.self.now.depth c.args.self.now.context.now in
     let b = body h.means e c.args.comprehension.now in
     let layer : out-CodeClause c.clause-item.result ≡ CodeClause-F.For c.in-For.target c.in-For.iterable = ap out-CodeClause c.in-For.is ∙ outs-For c.in-For.target c.in-For.iterable in
-    sym c.loop-rest.invariant.left ∙ loop_opens h.means e b (slots_of c.args.self.now.frame.now) c.args.content.now (h.seen c.loop-rest.runtime) c.loop-rest.rest.now c.clause-item.result c.in-len1-up.len_at_least c.clause-item.is c.in-For.target c.in-For.iterable layer (loop_of c.in_ok-open-in-For.field-0) (h.seen c.open.new.runtime) c.in_ok-open-in-For.ensures
+    sym c.loop-rest.invariant.left ∙ loop_left_to h.means e b (slots_of c.args.self.now.frame.now) c.args.content.now (h.seen c.loop-rest.runtime) c.loop-rest.rest.now c.clause-item.result c.in-len1-up.len_at_least c.clause-item.is _ refl layer
 
 pub returns-in-For-clause-counts : goal.returns-in-For-clause-counts
 returns-in-For-clause-counts g c =
@@ -37,7 +26,7 @@ returns-in-For-clause-counts g c =
     let e = nested h.means c.args.self.now.depth c.args.self.now.context.now in
     let b = body h.means e c.args.comprehension.now in
     let layer : out-CodeClause c.clause-item.result ≡ CodeClause-F.For c.in-For.target c.in-For.iterable = ap out-CodeClause c.in-For.is ∙ outs-For c.in-For.target c.in-For.iterable in
-    sym c.loop-rest.invariant.count ∙ loop_counts h.means e b (slots_of c.args.self.now.frame.now) c.args.content.now (h.seen c.loop-rest.runtime) c.loop-rest.rest.now c.clause-item.result c.in-len1-up.len_at_least c.clause-item.is c.in-For.target c.in-For.iterable layer (loop_of c.in_ok-open-in-For.field-0) (h.seen c.open.new.runtime) c.in_ok-open-in-For.ensures
+    sym c.loop-rest.invariant.count ∙ loop_counts h.means e b (slots_of c.args.self.now.frame.now) c.args.content.now (h.seen c.loop-rest.runtime) c.loop-rest.rest.now c.clause-item.result c.in-len1-up.len_at_least c.clause-item.is _ refl layer
 
 pub returns-in_err-holds-in-If-clause-leaves : goal.returns-in_err-holds-in-If-clause-leaves
 returns-in_err-holds-in-If-clause-leaves g c =
