@@ -167,6 +167,7 @@ fn element_set(content: &mut Content, at: i64, value: Value) -> Result<(), EvalE
     }
 }
 
+#[inline(always)]
 #[tactic(auto, unfolding(bq_builtin_machine::specs::Cells::changing))]
 fn set_value(machine: &mut Machine, dict: Cell, key: Key, value: Value) -> Result<(), EvalErr>
     ensures { Does (λ _. tt) result machine.new (changing dict.module dict.number (pair_put key value) machine.old) }

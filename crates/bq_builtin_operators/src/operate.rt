@@ -25,6 +25,7 @@ use std::alloc::Global;
 
 /// Returns `a op b`. An operator that the language leaves out, or that stops early, is F40. Two integers, which are the
 /// most frequent operands, are looked for first.
+#[inline(always)]
 pub fn binary(
     alloc: Global,
     machine: &mut Machine,
