@@ -3,6 +3,8 @@ pub mod Cases
 pub mod Steps
 -- names without a slash cross into another package alike
 pub mod Crossings
+-- plain names are labels of the package, and read as them
+pub mod PlainNames
 -- labels that are read in a package, and the files that a rule makes, are of the package
 pub mod Own
 -- an attribute of each type takes the values that the words of `Taken` have, and refuses the others

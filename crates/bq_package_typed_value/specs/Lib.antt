@@ -3,6 +3,7 @@ pub mod Parameters
 pub mod Scope
 pub mod Texts
 pub mod LabelTexts
+pub mod PlainNames
 pub mod Written
 pub mod Values
 pub mod Taken

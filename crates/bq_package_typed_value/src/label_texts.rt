@@ -1,11 +1,16 @@
 //! The labels that the texts of a call stand for.
 
-ghost use Rattle.std.specs.Prelude.{◌≡◌, IfOk};
+ghost use Rattle.std.specs.Prelude.{◌≡◌, IfOk, true, map};
+ghost use Rattle.std.specs.List.{list_all};
 ghost use Rattle.std.specs.Option.{ForSome};
 ghost use Rattle.bq_base.specs.Gives.{Gives};
+ghost use Rattle.bq_label.specs.Label.{label_in};
+ghost use Rattle.bq_label.specs.Paths.{is_path};
 ghost use Rattle.bq_value.specs.declared.error.EvalErr.TheVariants.{Bad};
+ghost use Rattle.bq_package_typed_value.specs.PlainNames.{is_plain_name};
 ghost use Rattle.bq_package_typed_value.specs.LabelTexts.{named, without_colon, read, IsReadLast, read_all, label, labels};
 
+use crate::plain_names::{are_plain_names, is_plain_name};
 use crate::scope::Scope;
 use bq_base::{Bytes, FaultKind, SourceErr};
 use bq_label::{Label, PackageId, is_path, read_shared_label};
@@ -24,6 +29,27 @@ pub enum TextKind {
     Output,
 }
 
+/// Returns the label of the package with this name. No byte is copied.
+fn own_label(own: &PackageId, name: &Bytes) -> Result<Label, AllocError>
+    requires { is_path name.now ≡ true }
+    ensures { IfOk result (λ l. l ≡ label_in own.now name.now) }
+{
+    let name = name.share()?;
+    Ok(Label::new(own.share()?, name))
+}
+
+/// Returns the labels of the package with these names.
+fn own_labels(alloc: Global, own: &PackageId, names: &[Bytes]) -> Result<Items<Label>, AllocError>
+    requires { list_all is_plain_name names.now ≡ true }
+    ensures { IfOk result (λ ls. ls ≡ map (label_in own.now) names.now) }
+{
+    let mut labels = Vec::with_capacity(alloc, names.len())?;
+    for name in names {
+        labels.push(own_label(own, name)?)?;
+    }
+    Ok(Items::from_vec(labels))
+}
+
 /// Returns the target of the package with this name, or F75. No byte is copied.
 fn named(own: &PackageId, name: &Bytes) -> Result<Label, EvalErr>
     ensures { Gives (λ l. l) Bad result (named own.now name.now) }
@@ -31,8 +57,7 @@ fn named(own: &PackageId, name: &Bytes) -> Result<Label, EvalErr>
     if !is_path(name.as_slice()) {
         return Err(EvalErr::Bad(FaultKind::BadName));
     }
-    let name = name.share()?;
-    Ok(Label::new(own.share()?, name))
+    Ok(own_label(own, name)?)
 }
 
 #[tactic(auto, unfolding(crate::specs::LabelTexts::without_colon))]
@@ -102,7 +127,7 @@ fn read_all(
 
 /// Returns the label that a text stands for: F78 or F75, and F37 if it crosses into another package.
 #[tactic(auto, unfolding(crate::specs::LabelTexts::label, crate::specs::Scope::inside))]
-pub fn label(
+fn any_label(
     alloc: Global,
     scope: Scope<'_>,
     kind: TextKind,
@@ -117,10 +142,25 @@ pub fn label(
     Ok(label)
 }
 
+/// Returns the same. A plain name is read in one pass, and looked up nowhere.
+pub fn label(
+    alloc: Global,
+    scope: Scope<'_>,
+    kind: TextKind,
+    text: &Bytes,
+) -> Result<Label, EvalErr>
+    ensures { Gives (λ l. l) Bad result (label scope.entry.own.now scope.entry.packages.now kind text.now) }
+{
+    if is_plain_name(text.as_slice()) && !scope.short_names_cross() {
+        return Ok(own_label(scope.own, text)?);
+    }
+    any_label(alloc, scope, kind, text)
+}
+
 /// Returns the labels that texts stand for. All are read, and then it is checked whether one crosses into another
 /// package.
 #[tactic(auto, unfolding(crate::specs::LabelTexts::labels, crate::specs::Scope::all_inside))]
-pub fn labels(
+fn any_labels(
     alloc: Global,
     scope: Scope<'_>,
     kind: TextKind,
@@ -133,4 +173,19 @@ pub fn labels(
         return Err(EvalErr::Bad(FaultKind::CrossesPackage));
     }
     Ok(labels)
+}
+
+/// Returns the same. Plain names are read in one pass, and looked up nowhere.
+pub fn labels(
+    alloc: Global,
+    scope: Scope<'_>,
+    kind: TextKind,
+    texts: &[Bytes],
+) -> Result<Items<Label>, EvalErr>
+    ensures { Gives (λ ls. ls) Bad result (labels scope.entry.own.now scope.entry.packages.now kind texts.now) }
+{
+    if are_plain_names(texts) && !scope.short_names_cross() {
+        return Ok(own_labels(alloc, scope.own, texts)?);
+    }
+    any_labels(alloc, scope, kind, texts)
 }

@@ -14,6 +14,7 @@
 //! - `parameters`: the arguments that parameters take;
 //! - `scope`: a package among the others, and which labels cross into another one;
 //! - `texts`: strings, and lists of strings, in values;
+//! - `plain_names`: names that one pass over their bytes shows to be the package's own;
 //! - `label_texts`: the labels that texts stand for;
 //! - `written`: a value as one of a type, before its labels are read;
 //! - `values`: typed values;
@@ -23,6 +24,7 @@
 mod label_texts;
 mod laws;
 mod parameters;
+mod plain_names;
 mod scope;
 mod texts;
 mod values;

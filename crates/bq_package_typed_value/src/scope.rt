@@ -3,6 +3,7 @@
 ghost use Rattle.std.specs.Prelude.{◌≡◌, ◌↔◌, false, IfOk, IsTrue};
 ghost use Rattle.std.specs.Option.{ForSome};
 ghost use Rattle.std.specs.List.{list_any};
+ghost use Rattle.bq_label.specs.Label.{IsPackage};
 ghost use Rattle.bq_label.specs.Paths.{is_slash};
 ghost use Rattle.bq_package_typed_value.specs.Scope.{crosses, own_label_crosses, ShortNamesCross};
 
@@ -68,6 +69,15 @@ impl<'a> Scope<'a> {
             packages,
             short_cross,
         })
+    }
+
+    /// Returns whether the package's names without a slash cross into another package.
+    pub(crate) fn short_names_cross(&self) -> bool
+        ensures cross { ShortNamesCross self.now.own.now self.now.packages.now result }
+        ensures valid { IsPackage self.now.own.now }
+    {
+        let _ = self.own.repo(); // for the proof: a package is valid
+        self.short_cross
     }
 
     /// Returns whether the label is of this package, and another package owns the path that it names.
