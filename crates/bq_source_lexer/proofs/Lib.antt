@@ -11,5 +11,7 @@ pub mod Lying
 pub mod Widths
 -- The readings are those that `Layout` says.
 pub mod LaidOut
+-- Frequent pieces are known by their first byte.
+pub mod FirstBytes
 -- Parts of definitions, as words that proofs name.
 pub mod Cases

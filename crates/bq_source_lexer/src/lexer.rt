@@ -8,9 +8,10 @@ ghost use Rattle.bq_base.specs.Gives.{Gives, GivesOneOf};
 ghost use Rattle.bq_source_lexer.specs.Lexing.{the_tokens};
 ghost use Rattle.bq_source.specs.Piece.{IsPart, Fits};
 
+use crate::frequent::piece;
 use crate::place::{Lexer, MAX_FILE_BYTES, Margin, OpenBracket};
 use bq_base::{Fault, FaultKind, SourceErr};
-use bq_source::{Extent, Lexeme, Piece, RunClass, Token, TokenKind, newlines, next_piece, run_len};
+use bq_source::{Extent, Lexeme, Piece, RunClass, Token, TokenKind, newlines, run_len};
 use std::alloc::{AllocError, Global};
 
 /// A token with the blanks before it mostly takes more: so much room is taken at once, and of a text with more tokens the list grows.
@@ -179,7 +180,7 @@ impl<'a> Lexer<'a> {
         requires { 0 < length self.old.rest }
         ensures { Gives (λ _. self.new) SourceErr.Bad result (spec.step self.old) }
     {
-        match next_piece(self.rest()) {
+        match piece(self.rest()) {
             Piece::Gap(extent) => {
                 self.skip(extent);
                 Ok(())

@@ -5,11 +5,13 @@
 //!
 //! In reading order:
 //!
+//! - `frequent`: the pieces that most texts are made of, known by their first byte;
 //! - `place`: how far a text is cut into tokens;
 //! - `lexer`: one pass over the bytes, a piece at a time;
 //! - `laws`: what every reading of a text is, in words of the text and the tokens.
 #![tactic(auto)]
 
+mod frequent;
 mod laws;
 mod lexer;
 mod place;
