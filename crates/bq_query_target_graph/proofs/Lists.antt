@@ -1,23 +1,32 @@
 -- Lists that are walked along, and lists of which no two elements are equal.
 use Rattle.std.proofs.Common.{◌≡◌, ◌<◌, ◌+◌, ◌∙◌, ℕ, zero, suc, Bool, false, List, [], ◌∷◌, ◌++◌, length, take, get_or, set, sym, ap, subst, arith, append_assoc}
 use Rattle.std.proofs.lemmas.List.Elements.{All-cons}
-use Rattle.std.specs.List.{All, AllByRecursion, IsDistinct, flat_map, swap}
-use Rattle.std.specs.List.Sorted.{IsPermutation}
+use Rattle.std.specs.List.{All, AllByRecursion, flat_map, swap}
+use Rattle.std.specs.List.Sorted.{IsPermutation, IsStrictlySortedBy}
+use Rattle.std.specs.declared.cmp.Ordering.{Ordering}
+use Rattle.std.specs.declared.cmp.Ordering.TheVariants.{Less}
 use Rattle.std.proofs.lemmas.List.{take_more}
 use Rattle.std.proofs.lemmas.List.Sorted.{IsPermutation-refl, IsPermutation-trans, IsPermutation-keeps, IsPermutation-append_left, IsPermutation-append_right, IsPermutation-append_comm}
-use Rattle.std.proofs.lemmas.Map.Keys.{IsDistinct-head, IsDistinct-tail, IsDistinct-cons}
 
 pub next_taken : {X : Type 0} (xs : List X) (i : ℕ) (x : X) → i < length xs → x ≡ get_or xs i x → take (i + 1) xs ≡ take i xs ++ x ∷ []
 next_taken {X} xs i x h e = take_more xs i x h ∙ ap (λ (z : X). take i xs ++ z ∷ []) (sym e)
 
-all_recursion-append : {X : Type 0} (P : X → Type 0) (xs ys : List X) → AllByRecursion P xs → AllByRecursion P ys → AllByRecursion P (xs ++ ys)
+pub all_recursion-append : {X : Type 0} (P : X → Type 0) (xs ys : List X) → AllByRecursion P xs → AllByRecursion P ys → AllByRecursion P (xs ++ ys)
 all_recursion-append P [] ys f g = g
 all_recursion-append P (x ∷ xs) ys f g = (f.0, all_recursion-append P xs ys f.1 g)
 
-pub distinct-append : {X : Type 0} (e : X → X → Bool) (xs ys : List X) → IsDistinct e xs → IsDistinct e ys → AllByRecursion (λ x. AllByRecursion (λ y. e x y ≡ false) ys) xs → IsDistinct e (xs ++ ys)
-distinct-append e [] ys f g a = g
-distinct-append e (x ∷ xs) ys f g a =
-    IsDistinct-cons e x (xs ++ ys) (all_recursion-append (λ y. e x y ≡ false) xs ys (IsDistinct-head e x xs f) a.0) (distinct-append e xs ys (IsDistinct-tail e x xs f) g a.1)
+pub parts_of : {X : Type 0} (P : X → Type 0) (xs ys : List X) → AllByRecursion P (xs ++ ys) → AllByRecursion P xs × AllByRecursion P ys
+parts_of P [] ys f = (tt, f)
+parts_of P (x ∷ xs) ys f = let rest = parts_of P xs ys f.1 in ((f.0, rest.0), rest.1)
+
+pub both : {X : Type 0} (P Q : X → Type 0) (xs : List X) → AllByRecursion P xs → AllByRecursion Q xs → AllByRecursion (λ x. P x × Q x) xs
+both P Q [] f g = tt
+both P Q (x ∷ xs) f g = ((f.0, g.0), both P Q xs f.1 g.1)
+
+pub strict-append : {X : Type 0} (c : X → X → Ordering) (xs ys : List X) → IsStrictlySortedBy c xs → IsStrictlySortedBy c ys → AllByRecursion (λ x. AllByRecursion (λ y. c x y ≡ Less) ys) xs → IsStrictlySortedBy c (xs ++ ys)
+unfolding IsStrictlySortedBy
+strict-append c [] ys f g a = g
+strict-append c (x ∷ xs) ys f g a = (all_recursion-append (λ y. c x y ≡ Less) xs ys f.0 a.0, strict-append c xs ys f.1 g a.1)
 
 -- ---- lists made of parts have the same elements in whatever order the parts are joined
 
@@ -51,19 +60,11 @@ module _ {X Y : Type 0} (f : X → List Y) where
   permuted_parts xs ys s =
       IsPermutation-keeps xs (λ l. IsPermutation (flat_map f xs) (flat_map f l)) (IsPermutation-refl (flat_map f xs)) (λ l i j p q h. IsPermutation-trans _ _ _ h (swapped l i j p q)) ys s
 
--- a part that was put in order and appended
-pub appended : {X : Type 0} (all targets part sorted now : List X) → part ≡ targets → IsPermutation part sorted → now ≡ all ++ sorted → IsPermutation (all ++ targets) now
-appended {X} all targets part sorted now e s n =
-    let moved : IsPermutation targets sorted = subst (λ (z : List X). IsPermutation z sorted) e s in
-    subst (λ (z : List X). IsPermutation (all ++ targets) z) (sym n) (IsPermutation-append_right all _ _ moved)
-
 -- ---- one step along a list that is moved out of
 
-pub parts_next : {X Y : Type 0} (f : X → List Y) (all done now : List Y) (old rest : List X) (x : X) → old ≡ x ∷ rest → IsPermutation all (done ++ flat_map f old) → IsPermutation (done ++ f x) now → IsPermutation all (now ++ flat_map f rest)
+pub parts_next : {X Y : Type 0} (f : X → List Y) (all done now : List Y) (old rest : List X) (x : X) → old ≡ x ∷ rest → done ++ flat_map f old ≡ all → now ≡ done ++ f x → now ++ flat_map f rest ≡ all
 parts_next {X} {Y} f all done now old rest x e h n =
-    let last : IsPermutation ((done ++ f x) ++ flat_map f rest) (now ++ flat_map f rest) = IsPermutation-append_left (flat_map f rest) (done ++ f x) now n in
-    let first : IsPermutation all (done ++ (f x ++ flat_map f rest)) = subst (λ (z : List X). IsPermutation all (done ++ flat_map f z)) e h in
-    IsPermutation-trans _ _ _ (subst (λ (z : List Y). IsPermutation all z) (sym (append_assoc done (f x) (flat_map f rest))) first) last
+    ap (λ (z : List Y). z ++ flat_map f rest) n ∙ (append_assoc done (f x) (flat_map f rest) ∙ (ap (λ (z : List X). done ++ flat_map f z) (sym e) ∙ h))
 
 pub all_next : {X : Type 0} (P : X → Type 0) (all old rest : List X) (x : X) → old ≡ x ∷ rest → (All P old → All P all) → P x → All P rest → All P all
 all_next {X} P all old rest x e f p q = f (subst (λ (z : List X). All P z) (sym e) (All-cons P x rest p q))

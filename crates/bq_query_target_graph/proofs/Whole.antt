@@ -2,9 +2,8 @@
 use Rattle.std.proofs.Common.{◌≡◌, ℕ, List, [], ◌∷◌, length, map, ap, sym, subst, ◌∙◌}
 use Rattle.std.specs.List.{All, AllByRecursion}
 use Rattle.std.specs.declared.cmp.Ordering.TheVariants.{Less}
-use Rattle.std.specs.List.Sorted.{IsPermutation, IsSorted, IsStrictlySortedBy}
-use Rattle.std.proofs.lemmas.List.Sorted.{IsPermutation-trans, IsPermutation-sym, All-permutation}
-use Rattle.bq_label.specs.Label.{LabelParts, PackageParts, IsLabel, package_of}
+use Rattle.std.specs.List.Sorted.{IsPermutation, IsStrictlySortedBy}
+use Rattle.bq_label.specs.Label.{LabelParts, PackageParts, package_of}
 use Rattle.bq_label.specs.Packages.{id_cmp}
 use Rattle.bq_label.proofs.Orders.{in_order_moves}
 use Rattle.bq_base_fault_line.specs.declared.fault_line.FaultLine.{FaultLine}
@@ -14,30 +13,15 @@ use Rattle.bq_query_graph.specs.Edges.{AreBetween, HasPairsOf}
 use Rattle.bq_package_target.specs.declared.target.Target.{Target}
 use Rattle.bq_package_target.specs.Package.{PackageTargets, AreTargetsOf}
 use Rattle.bq_package_list.specs.Order.{id_of, PackagesAscend}
-use Rattle.bq_query_target_graph.specs.Order.{target_cmp, target_cmp_total, all_targets, targets_of, labels_of, AreValid}
+use Rattle.bq_query_target_graph.specs.Order.{target_cmp, target_cmp_total, all_targets, targets_of, labels_of}
 use Rattle.bq_query_target_graph.specs.Graph.{IsGraph}
 use Rattle.bq_query_target_graph.specs.BuildFiles.{build_files}
 use Rattle.bq_query_target_graph.specs.Dangling.{dangling_from, dangling_lines}
 use Rattle.bq_query_target_graph.specs.Edges.{IsGraphOf, edges_from}
-use Rattle.bq_query_target_graph.proofs.Ascends.{ascends, are_targets, distinct_from_order}
+use Rattle.bq_query_target_graph.proofs.Ascends.{distinct_from_order}
 use Rattle.bq_query_target_graph.proofs.Danglings.{found_lines}
 use Rattle.bq_query_target_graph.proofs.Depends.{edges_are, are_between}
 use Rattle.bq_query_target_graph.proofs.Files.{ids_are}
-
--- what a sort makes of the targets that were moved out of packages
-module _ (ps : List PackageTargets) (o : PackagesAscend ps) (v : All (λ p. AreTargetsOf (id_of p) p.targets) ps) (moved : List Target) (f : IsPermutation (all_targets ps) moved)
-    (ts : List Target) (m : IsPermutation moved ts) (s : IsSorted target_cmp ts) (valid : AreValid ts) where
-  all_moved : IsPermutation (all_targets ps) ts
-  all_moved = IsPermutation-trans (all_targets ps) moved ts f m
-
-  all_valid : AreValid (all_targets ps)
-  all_valid = All-permutation (λ (t : Target). IsLabel t.label) ts (all_targets ps) (IsPermutation-sym (all_targets ps) ts all_moved) valid
-
-  pub whole_ascends : IsStrictlySortedBy target_cmp ts
-  whole_ascends = ascends ps o v all_valid ts all_moved s
-
-  pub whole_targets : ts ≡ targets_of ps
-  whole_targets = are_targets ps o v all_valid ts all_moved s
 
 ids_ascend : (ps : List PackageTargets) → PackagesAscend ps → IsStrictlySortedBy id_cmp (map id_of ps)
 unfolding IsStrictlySortedBy
