@@ -7,3 +7,4 @@ pub mod Accepted
 pub mod PutBack
 -- Parts of definitions, as words that proofs name.
 pub mod Cases
+mod ByNames

@@ -4,4 +4,5 @@ pub mod Names
 pub mod Package
 pub mod Calls
 pub mod Files
+pub mod ByName
 pub mod Laws

@@ -12,6 +12,7 @@
 //! - `target`: what a target is, and which targets it names;
 //! - `names`: the names that are taken;
 //! - `kept`: long values that stand once, however many targets have them;
+//! - `by_name`: the targets of a package in the order of their names;
 //! - `package`: a package and its targets;
 //! - `state`: the package of a BUILD file that is being evaluated;
 //! - `declare`: the calls of rules and of `package_group`;
@@ -21,6 +22,7 @@
 //! - `laws`: what holds of every package.
 #![tactic(auto)]
 
+mod by_name;
 mod declare;
 mod files;
 mod finish;

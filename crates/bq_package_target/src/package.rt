@@ -1,8 +1,8 @@
 //! A package and its targets.
 
-ghost use Rattle.std.specs.Prelude.{◌≡◌, IfOk};
+ghost use Rattle.std.specs.Prelude.{◌≡◌, ◌++◌, length, IfOk, OnOk};
 
-use crate::share;
+use crate::by_name::TargetsByName;
 use crate::target::Target;
 use bq_label::{Label, PackageId};
 use sqlite_items::Items;
@@ -13,7 +13,7 @@ use std::sync::Arc;
 /// The package of a BUILD file. Contracts see the file's label and the targets in the order in which they are declared.
 pub struct Package {
     build_file: Label,
-    targets: Arc<Items<Target>>,
+    targets: Arc<TargetsByName>,
 }
 
 impl Drop for Package {
@@ -39,6 +39,7 @@ impl Model for Package {
 
 impl Package {
     ghost use Rattle.bq_label.specs.Label.{package_of};
+    ghost use Rattle.bq_package_target.specs.ByName.{by_name};
     ghost use Rattle.bq_package_target.specs.Package.{AreTargetsOf, no_targets};
 
     /// Makes the package of a BUILD file that has a fault. It has no targets.
@@ -59,7 +60,7 @@ impl Package {
     {
         Ok(Package {
             build_file,
-            targets: Arc::new(alloc, targets)?,
+            targets: Arc::new(alloc, TargetsByName::of(alloc, targets)?)?,
         })
     }
 
@@ -86,10 +87,17 @@ impl Package {
         self.build_file.package_id()
     }
 
-    /// Returns the targets themselves if this is their only owner, else shares of them, in time linear in what they
-    /// name.
-    pub fn into_targets(self, alloc: Global) -> Result<Items<Target>, AllocError>
-        ensures value { IfOk result (λ ts. ts ≡ self.targets) }
+    /// Returns how many targets there are.
+    pub fn len(&self) -> usize
+        ensures { result ≡ length self.now.targets }
+    {
+        self.targets.len()
+    }
+
+    /// Appends the targets in the order of their names: these themselves if this is their only owner, else shares of them, in time
+    /// linear in what they name. No two of them have one name.
+    pub fn append_by_name(self, alloc: Global, all: &mut Vec<Target>) -> Result<(), AllocError>
+        ensures appended { OnOk result (all.new.items ≡ all.old.items ++ by_name self.targets) }
         ensures valid { AreTargetsOf (package_of self.build_file) self.targets }
     {
         let Package {
@@ -97,16 +105,8 @@ impl Package {
             targets,
         } = self;
         match Arc::try_unwrap(targets) {
-            Ok(targets) => Ok(targets),
-            Err(shared) => share::targets(alloc, shared.as_slice()),
+            Ok(targets) => targets.move_to(all),
+            Err(shared) => shared.share_to(alloc, all),
         }
-    }
-
-    /// Returns the targets. No two of them have one name.
-    pub fn targets(&self) -> &[Target]
-        ensures value { result.now ≡ self.now.targets }
-        ensures valid { AreTargetsOf (package_of self.now.build_file) self.now.targets }
-    {
-        self.targets.as_slice()
     }
 }

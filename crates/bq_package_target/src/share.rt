@@ -20,17 +20,6 @@ fn attributes(
     Ok(Items::from_vec(shared))
 }
 
-/// Shares targets.
-pub(crate) fn targets(alloc: Global, targets: &[Target]) -> Result<Items<Target>, AllocError>
-    ensures { IfOk result (λ shared. shared ≡ targets.now) }
-{
-    let mut shared = Vec::with_capacity(alloc, targets.len())?;
-    for target in targets {
-        shared.push(target.share(alloc)?)?;
-    }
-    Ok(Items::from_vec(shared))
-}
-
 impl GivenAttribute {
     /// Shares the attribute with its value.
     pub fn share(&self) -> Result<GivenAttribute, AllocError>

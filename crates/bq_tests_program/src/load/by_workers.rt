@@ -16,7 +16,7 @@ use std::thread::Threads;
 fn targets(loaded: &Loaded) -> usize {
     let mut count = 0usize;
     for package in loaded.packages.as_slice() {
-        count = count.wrapping_add(package.targets().len());
+        count = count.wrapping_add(package.len());
     }
     count
 }
