@@ -3,8 +3,8 @@
 //! The promise: a refused call leaves the package as it was ([`PackageState::declare`], [`PackageState::export`]), and
 //! [`PackageState::finish`] returns the targets that the accepted calls declare, in their order, and after them the
 //! BUILD file and each file of the package that one of them names and none declares (`specs/Package.antt`). Every call
-//! takes time linear in what it declares; only texts of up to 22 bytes are copied, and a long list that targets of the
-//! package have in common is there once.
+//! takes time linear in what it declares, and the end a sort of the names; only texts of up to 22 bytes are copied, and a
+//! long list that targets of the package have in common is there once.
 //!
 //! In reading order:
 //!
