@@ -1,6 +1,6 @@
 //! The calls of rules and of `package_group`.
 
-ghost use Rattle.std.specs.Prelude.{◌≡◌, ◌++◌, map, if◌then◌else◌, IfOk, OnOk};
+ghost use Rattle.std.specs.Prelude.{◌≡◌, ◌∷◌, ◌++◌, map, if◌then◌else◌, IfOk, OnOk};
 ghost use Rattle.bq_package_target.specs.Value.{outputs_of, outputs_in};
 ghost use Rattle.bq_package_target.specs.Target.{names_of, generated, declares};
 ghost use Rattle.bq_package_target.specs.Names.{are_new};
@@ -76,25 +76,29 @@ fn take_names(names: &mut TargetNames, targets: &[Target]) -> Result<bool, Alloc
     Ok(true)
 }
 
-/// Returns the targets that a call declares: its own, whose long values are kept, and the files that the rule makes.
-#[tactic(auto, unfolding(crate::specs::Target::declares))]
-fn declares(
-    alloc: Global,
-    kept: &mut KeptValues,
-    target: Target,
-) -> Result<Items<Target>, AllocError>
-    ensures { IfOk result (λ ts. ts ≡ declares target) }
+/// Takes the names of a target and of the files that it makes, if all are new, and else none. Returns which.
+fn take_all_names(
+    names: &mut TargetNames,
+    target: &Target,
+    made: &[Target],
+) -> Result<bool, AllocError>
+    ensures new { IfOk result (λ new. new ≡ are_new names.old (names_of (target.now ∷ made.now))) }
+    ensures after { IfOk result (λ new. names.new ≡ (if new then names.old ++ names_of (target.now ∷ made.now) else names.old)) }
 {
-    let mut target = target;
-    kept.share_long(&mut target.attributes)?;
-    let made = outputs(alloc, &target);
-    let mut declared = Items::new(alloc);
-    declared.push(target)?;
-    declared.append(made?)?;
-    Ok(declared)
+    let first = names.len();
+    if !names.add(target.label.name())? {
+        return Ok(false);
+    }
+    if !take_names(names, made)? {
+        names.truncate(first);
+        return Ok(false);
+    }
+    Ok(true)
 }
 
-/// Appends the targets that a call declares, if all their names are new. Returns whether they are.
+/// Appends the targets that a call declares, if all their names are new: its own, whose long values are kept, and the files
+/// that the rule makes. Returns whether they are.
+#[tactic(auto, unfolding(crate::specs::Target::declares))]
 fn add_target(
     alloc: Global,
     targets: &mut Items<Target>,
@@ -106,11 +110,14 @@ fn add_target(
     ensures targets { IfOk result (λ new. targets.new ≡ (if new then targets.old ++ declares target else targets.old)) }
     ensures names { IfOk result (λ new. names.new ≡ (if new then names.old ++ names_of (declares target) else names.old)) }
 {
-    let declared = declares(alloc, kept, target)?;
-    if !take_names(names, declared.as_slice())? {
+    let mut target = target;
+    kept.share_long(&mut target.attributes)?;
+    let made = outputs(alloc, &target)?;
+    if !take_all_names(names, &target, made.as_slice())? {
         return Ok(false);
     }
-    targets.append(declared)?;
+    targets.push(target)?;
+    targets.append(made)?;
     Ok(true)
 }
 

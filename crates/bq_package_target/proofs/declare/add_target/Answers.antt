@@ -1,30 +1,19 @@
-use Rattle.std.proofs.Common.{◌∙◌, ◌++◌, cond, ap, sym, List}
+use Rattle.std.proofs.Common.{◌∙◌, ◌++◌, [], ◌∷◌, map, ap, append_assoc, List}
 use Rattle.bq_package_target.specs.declared.target.Target.{Target}
-use Rattle.bq_package_target.specs.Names.{are_new}
-use Rattle.bq_package_target.specs.Target.{names_of}
+use Rattle.bq_package_target.specs.declared.value.GivenAttribute.{GivenAttribute}
+use Rattle.bq_package_target.specs.Value.{outputs_in}
+use Rattle.bq_package_target.specs.Target.{generated, declares}
 use Rattle.bq_package_target.proofs.declare.add_target.Goals as goal
 
-pub returns-then-not-branch-clause-new : goal.returns-then-not-branch-clause-new
-returns-then-not-branch-clause-new c =
-    let all = c.as_slice.ensures ∙ c.in_ok-declared.ensures in
-    sym c.if-not-branch.true ∙ (c.in_ok-take_names.ensures.new ∙ ap (λ (ts : List Target). are_new c.args.names.now (names_of ts)) all)
-
-pub returns-then-not-branch-clause-names : goal.returns-then-not-branch-clause-names
-returns-then-not-branch-clause-names c =
-    let names = c.args.names.now in
-    c.in_ok-take_names.ensures.after ∙ ap (λ b. cond b (names ++ names_of c.as_slice.result.now) names) c.if-not-branch.true
-
-pub returns-clause-new : goal.returns-clause-new
-returns-clause-new c =
-    let all = c.as_slice.ensures ∙ c.in_ok-declared.ensures in
-    sym c.if-not-branch.false ∙ (c.in_ok-take_names.ensures.new ∙ ap (λ (ts : List Target). are_new c.args.names.now (names_of ts)) all)
-
 pub returns-clause-targets : goal.returns-clause-targets
-returns-clause-targets c = c.in_ok-append.ensures ∙ ap (λ (ts : List Target). c.args.targets.now ++ ts) c.in_ok-declared.ensures
-
-pub returns-clause-names : goal.returns-clause-names
-returns-clause-names c =
-    let names = c.args.names.now in
-    let all = c.as_slice.ensures ∙ c.in_ok-declared.ensures in
-    c.in_ok-take_names.ensures.after
-    ∙ (ap (λ b. cond b (names ++ names_of c.as_slice.result.now) names) c.if-not-branch.false ∙ ap (λ (ts : List Target). names ++ names_of ts) all)
+unfolding declares
+returns-clause-targets c =
+    let targets = c.args.targets.now in
+    let target = c.args.target in
+    let shared = record target { attributes = c.share_long.new.attributes } in
+    let same = ap (λ (given : List GivenAttribute). record target { attributes = given }) c.in_ok-share_long.ensures in
+    c.in_ok-append.ensures
+    ∙ (ap (λ (ts : List Target). ts ++ c.in_ok-made.made) c.in_ok-push.ensures.ok
+    ∙ (append_assoc targets (shared ∷ []) c.in_ok-made.made
+    ∙ (ap (λ (ts : List Target). targets ++ shared ∷ ts) c.in_ok-made.ensures
+    ∙ ap (λ (t : Target). targets ++ t ∷ map (generated t) (outputs_in t.attributes)) same)))
