@@ -11,3 +11,5 @@ pub mod Own
 pub mod Turns
 pub mod Standing
 pub mod Taken
+-- a list of plain names is, as a list of labels, that of the package's own labels of these names
+pub mod PlainLists

@@ -16,7 +16,7 @@ use Rattle.bq_package_typed_value.specs.LabelTexts.{without_colon, read, read_al
 use Rattle.bq_package_typed_value.proofs.Cases.{label_found}
 use Rattle.bq_package_typed_value.proofs.Crossings.{in_own}
 
-both_true : (a b : Bool) → a ≡ true → b ≡ true → (a && b) ≡ true
+pub both_true : (a b : Bool) → a ≡ true → b ≡ true → (a && b) ≡ true
 both_true true b h k = k
 both_true false b h k = absurd (false≢true h)
 
@@ -49,12 +49,16 @@ plain_is_path n h =
     let segments : list_all is_segment (slice_split is_slash n) ≡ true = ap (list_all is_segment) (one_segment n (no_slash n h)) ∙ both_true (is_segment n) true (plain_segment n h) refl in
     both_true (list_all is_path_byte n) (list_all is_segment (slice_split is_slash n)) (path_bytes n (plain_bytes n h)) segments
 
+-- one of those that pass, by its place
+pub passes_at : {X : Type 0} (p : X → Bool) (xs : List X) (i : ℕ) (x : X) → list_all p xs ≡ true → i < length xs → x ≡ get_or xs i x → p x ≡ true
+passes_at p xs i x h within is = elim (cases_Bool (p x)) [
+  | inl y ↦ y
+  | inr o ↦ absurd (false≢true (sym (list_all_at p xs i x within (ap p (sym is) ∙ o)) ∙ h))
+]
+
 -- one of the names, by its place
 pub plain_at : (ns : List (List ℕ)) (i : ℕ) (n : List ℕ) → list_all is_plain_name ns ≡ true → i < length ns → n ≡ get_or ns i n → is_path n ≡ true
-plain_at ns i n h within is = elim (cases_Bool (is_plain_name n)) [
-  | inl y ↦ plain_is_path n y
-  | inr o ↦ absurd (false≢true (sym (list_all_at is_plain_name ns i n within (ap is_plain_name (sym is) ∙ o)) ∙ h))
-]
+plain_at ns i n h within is = plain_is_path n (passes_at is_plain_name ns i n h within is)
 
 begins_other : (n : List ℕ) → is_plain_name n ≡ true → BeginsOther at_sign n
 begins_other [] h = tt

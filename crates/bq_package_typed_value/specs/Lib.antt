@@ -4,6 +4,7 @@ pub mod Scope
 pub mod Texts
 pub mod LabelTexts
 pub mod PlainNames
+pub mod PlainLists
 pub mod Written
 pub mod Values
 pub mod Taken

@@ -1,11 +1,12 @@
 -- The typed value that a value is in a package (Bazel, "attr"), with its labels read there: the faults of its labels come after those of
 -- its type.
-use Rattle.std.specs.Prelude.{List, Result, Ok}
+use Rattle.std.specs.Prelude.{◌≡◌, List, Result, Ok}
 use Rattle.bq_base.specs.declared.fault.FaultKind.{FaultKind}
 use Rattle.bq_base.specs.declared.fault.FaultKind.TheVariants as f
 use Rattle.bq_label.specs.declared.packages.BuildFile.{BuildFile}
-use Rattle.bq_label.specs.Label.{PackageParts}
+use Rattle.bq_label.specs.Label.{PackageParts, LabelParts}
 use Rattle.bq_value_rule_class.specs.declared.attribute_type.AttributeType.{AttributeType}
+use Rattle.bq_value_rule_class.specs.declared.attribute_type.AttributeType.TheVariants as t
 use Rattle.bq_value_rule_class.specs.declared.value.AttributeValue.{AttributeValue}
 use Rattle.bq_value_rule_class.specs.declared.value.AttributeValue.TheVariants as a
 use Rattle.bq_value.specs.Datum.{Datum}
@@ -28,3 +29,7 @@ typed own packages (w.OutputList texts) = and_then (labels own packages k.Output
 -- the value of an attribute of a type that a call gives: F73 where it is of another type
 unfoldable pub value_as : PackageParts → List BuildFile → StoreView → AttributeType → Datum → Result AttributeValue FaultKind
 value_as own packages store type v = and_then (written_as f.AttributeType store type v) (typed own packages)
+
+-- these are the labels that the value is as a list of labels
+abbrev pub AreLabelsOf : PackageParts → List BuildFile → StoreView → Datum → List LabelParts → Type 0
+AreLabelsOf own packages store v ls = value_as own packages store t.LabelList v ≡ Ok (a.LabelList ls)

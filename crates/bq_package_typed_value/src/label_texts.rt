@@ -30,7 +30,7 @@ pub enum TextKind {
 }
 
 /// Returns the label of the package with this name. No byte is copied.
-fn own_label(own: &PackageId, name: &Bytes) -> Result<Label, AllocError>
+pub(crate) fn own_label(own: &PackageId, name: &Bytes) -> Result<Label, AllocError>
     requires { is_path name.now ≡ true }
     ensures { IfOk result (λ l. l ≡ label_in own.now name.now) }
 {
@@ -125,7 +125,7 @@ fn read_all(
     Ok(Items::from_vec(labels))
 }
 
-/// Returns the label that a text stands for: F78 or F75, and F37 if it crosses into another package.
+/// Returns what [`label`] does, whatever the text is.
 #[tactic(auto, unfolding(crate::specs::LabelTexts::label, crate::specs::Scope::inside))]
 fn any_label(
     alloc: Global,
@@ -142,7 +142,8 @@ fn any_label(
     Ok(label)
 }
 
-/// Returns the same. A plain name is read in one pass, and looked up nowhere.
+/// Returns the label that a text stands for: F78 or F75, and F37 if it crosses into another package. A plain name is read in
+/// one pass, and looked up nowhere.
 pub fn label(
     alloc: Global,
     scope: Scope<'_>,
@@ -157,8 +158,8 @@ pub fn label(
     any_label(alloc, scope, kind, text)
 }
 
-/// Returns the labels that texts stand for. All are read, and then it is checked whether one crosses into another
-/// package.
+/// Returns what [`labels`] does, whatever the texts are. All are read, and then it is checked whether one crosses into
+/// another package.
 #[tactic(auto, unfolding(crate::specs::LabelTexts::labels, crate::specs::Scope::all_inside))]
 fn any_labels(
     alloc: Global,
@@ -175,7 +176,8 @@ fn any_labels(
     Ok(labels)
 }
 
-/// Returns the same. Plain names are read in one pass, and looked up nowhere.
+/// Returns the labels that texts stand for: F78 or F75, and then F37 if one crosses into another package. Plain names are
+/// read in one pass, and looked up nowhere.
 pub fn labels(
     alloc: Global,
     scope: Scope<'_>,

@@ -16,6 +16,7 @@
 //! - `texts`: strings, and lists of strings, in values;
 //! - `plain_names`: names that one pass over their bytes shows to be the package's own;
 //! - `label_texts`: the labels that texts stand for;
+//! - `plain_lists`: lists of plain names in values, and their labels;
 //! - `written`: a value as one of a type, before its labels are read;
 //! - `values`: typed values;
 //! - `laws`: which values an attribute of each type takes.
@@ -24,6 +25,7 @@
 mod label_texts;
 mod laws;
 mod parameters;
+mod plain_lists;
 mod plain_names;
 mod scope;
 mod texts;

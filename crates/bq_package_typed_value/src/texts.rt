@@ -3,7 +3,7 @@
 ghost use Rattle.std.specs.Prelude.{◌≡◌};
 ghost use Rattle.bq_base.specs.Gives.{Gives};
 ghost use Rattle.bq_value.specs.declared.error.EvalErr.TheVariants.{Bad};
-ghost use Rattle.bq_package_typed_value.specs.Texts.{text_in, all_texts, texts_in};
+ghost use Rattle.bq_package_typed_value.specs.Texts.{text_in, elements_in, all_texts, texts_in};
 
 use bq_base::{Bytes, FaultKind};
 use bq_value::{Body, EvalErr, Node, Store, Value};
@@ -33,8 +33,31 @@ fn all_texts(alloc: Global, values: &[Value], why: FaultKind) -> Result<Items<By
     Ok(Items::from_vec(texts))
 }
 
+/// Returns the elements of a list or a tuple; `why` is the fault of another value.
+#[tactic(auto, using(bq_value_datum::specs::Datum::list_of_data_of))]
+pub(crate) fn elements_in<'a>(
+    store: &'a Store,
+    value: &'a Value,
+    why: FaultKind,
+) -> Result<&'a [Value], EvalErr>
+    ensures { Gives (λ values. values.now) Bad result (elements_in why store.now value.now) }
+{
+    match &value.node {
+        Node::Tuple(values) => Ok(values),
+        Node::Cell(cell) => match store.content(*cell) {
+            None => Err(EvalErr::Bad(why)),
+            Some(content) => match content.body() {
+                Body::List(values) => Ok(values),
+                Body::Dict(_) => Err(EvalErr::Bad(why)),
+                Body::Rule(_) => Err(EvalErr::Bad(why)),
+            },
+        },
+        _ => Err(EvalErr::Bad(why)),
+    }
+}
+
 /// Returns the strings of a list or a tuple; `why` is the fault of another value.
-#[tactic(auto, using(bq_value_datum::specs::Datum::list_of_data_of), unfolding(crate::specs::Texts::texts_in))]
+#[tactic(auto, unfolding(crate::specs::Texts::texts_in))]
 pub fn texts_in(
     alloc: Global,
     store: &Store,
@@ -43,16 +66,6 @@ pub fn texts_in(
 ) -> Result<Items<Bytes>, EvalErr>
     ensures { Gives (λ texts. texts) Bad result (texts_in why store.now value.now) }
 {
-    match &value.node {
-        Node::Tuple(values) => all_texts(alloc, values, why),
-        Node::Cell(cell) => match store.content(*cell) {
-            None => Err(EvalErr::Bad(why)),
-            Some(content) => match content.body() {
-                Body::List(values) => all_texts(alloc, values, why),
-                Body::Dict(_) => Err(EvalErr::Bad(why)),
-                Body::Rule(_) => Err(EvalErr::Bad(why)),
-            },
-        },
-        _ => Err(EvalErr::Bad(why)),
-    }
+    let values = elements_in(store, value, why)?;
+    all_texts(alloc, values, why)
 }
