@@ -1,13 +1,12 @@
 -- The first line of a text, and the parts that the headers cut.
-use Rattle.std.proofs.Common.{◌≡◌, ◌≤◌, ◌<◌, ◌+◌, ◌-◌, ◌++◌, ◌==◌, ℕ, zero, suc, true, false, None, option_and_then, List, [], ◌∷◌, length, take, drop, map, slice_index, refl, sym, ap, subst, ◌∙◌, arith, append_assoc, take_all, nat_eq, nat_le, le_refl, length-take-le, length-append, inl, inr, length-drop}
+use Rattle.std.proofs.Common.{◌≡◌, ◌≤◌, ◌<◌, ◌-◌, ◌++◌, ◌==◌, ℕ, zero, suc, true, false, None, option_and_then, List, [], ◌∷◌, length, take, drop, map, slice_index, refl, sym, ap, subst, ◌∙◌, arith, append_assoc, take_all, nat_le, le_refl, length-take-le, length-append, inl, inr, length-drop}
 use Rattle.std.proofs.lemmas.Bool.{false_from_ne_true, cases_Bool}
 use Rattle.std.proofs.lemmas.Bool.Decides.{nat_tests}
-use Rattle.std.proofs.lemmas.List.{drop_all, drop-drop}
-use Rattle.std.proofs.Math.Seq.{take-add}
-use Rattle.std.specs.List.{starts_with, list_all}
+use Rattle.std.proofs.lemmas.List.{drop_all}
+use Rattle.std.specs.List.{list_all}
 use Rattle.bq_label.specs.declared.workspace.File.{File}
 use Rattle.bq_label.specs.Workspace.{max_files, workspace_of}
-use Rattle.bq_run.specs.Bundle.{lines, Cut, cut, marker, is_header, is_whole, file_of, is_bundle, files_of, BeginsWith}
+use Rattle.bq_run.specs.Bundle.{lines, Cut, cut, is_header, is_whole, file_of, is_bundle, files_of, BeginsWith}
 
 -- a line ends at the first newline
 pub line_at : (text : List ℕ) (k : ℕ) → k < length text → (slice_index text k == 10) ≡ true → ((j : ℕ) → j < k → ¬ ((slice_index text j == 10) ≡ true)) → lines text ≡ take (suc k) text ∷ lines (drop (suc k) text)
@@ -38,34 +37,8 @@ cut_past line ls h = rw h refl
 pub cut_here : (line : List ℕ) (ls : List (List ℕ)) → is_header line ≡ true → cut (line ∷ ls) ≡ record { before = []; parts = record { header = line; content = (cut ls).before } ∷ (cut ls).parts }
 cut_here line ls h = rw h refl
 
-pub length-rest : (text : List ℕ) (i : ℕ) → length (take (length text - i) (drop i text)) ≡ length text - i
-length-rest text i = rw (rest_of text i) (length-drop i text)
-
 pub all_of_it : (text : List ℕ) → lines text ≡ text ∷ [] → lines text ≡ take (length text) text ∷ lines (drop (length text) text)
 all_of_it text h = h ∙ rw (take_all (length text) text (le_refl (length text)), drop_all (length text) text (le_refl (length text))) refl
-
--- what is known up to a place, one line further
-pub record Lead (text : List ℕ) (at : ℕ) : Type 0 where
-  pub bytes : (cut (lines text)).before ≡ take at text ++ (cut (lines (drop at text))).before
-  pub parts : (cut (lines text)).parts ≡ (cut (lines (drop at text))).parts
-
-pub lead_more : (text : List ℕ) (at n : ℕ) → Lead text at → lines (drop at text) ≡ take n (drop at text) ∷ lines (drop n (drop at text)) → is_header (take n (drop at text)) ≡ false → Lead text (at + n)
-lead_more text at n h first other =
-    let line : List ℕ = take n (drop at text) in
-    let rest : List (List ℕ) = lines (drop n (drop at text)) in
-    let here : cut (lines (drop at text)) ≡ record { before = line ++ (cut rest).before; parts = (cut rest).parts } = ap cut first ∙ cut_past line rest other in
-    let same : rest ≡ lines (drop (at + n) text) = ap lines (drop-drop n at text) in
-    let whole : take at text ++ line ≡ take (at + n) text = sym (take-add at n text) in
-    record {
-      bytes = h.bytes ∙ (ap (λ (c : Cut). take at text ++ c.before) here ∙ (sym (append_assoc (take at text) line (cut rest).before) ∙ (ap (λ t. t ++ (cut rest).before) whole ∙ ap (λ t. take (at + n) text ++ (cut t).before) same)));
-      parts = h.parts ∙ (ap (λ (c : Cut). c.parts) here ∙ ap (λ t. (cut t).parts) same);
-    }
-
-pub lead_none : (text : List ℕ) → Lead text 0
-lead_none text = record { bytes = refl; parts = refl }
-
-pub lead_step : (text : List ℕ) (at n : ℕ) → Lead text at → let rest = take (length text - at) (drop at text) in lines rest ≡ take n rest ∷ lines (drop n rest) → starts_with nat_eq (take n rest) marker ≡ false → Lead text (at + n)
-lead_step text at n h = rw (rest_of text at) (lead_more text at n h)
 
 -- the files so far, and what they leave of the text, which begins with a header
 pub record Parts (text : List ℕ) (done : List File) (rest : List ℕ) : Type 0 where

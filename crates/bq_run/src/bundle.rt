@@ -9,11 +9,14 @@ use bq_base::Bytes;
 use bq_label::{File, MAX_FILES, Workspace};
 use bq_run_device::{ByteSource, ReadFault, read_all};
 use bq_run_write::RunErr;
-use memchr::memchr;
+use memchr::{memchr, memmem};
 use std::alloc::{AllocError, Global};
 
 /// What a header line begins with.
 const MARKER: &[u8] = b"=== ";
+
+/// The end of a line, and then what a header line begins with.
+const NEXT_HEADER: &[u8] = b"\n=== ";
 
 /// The most bytes that a bundle has.
 const MAX_BUNDLE_BYTES: usize = 1 << 30;
@@ -38,16 +41,13 @@ fn lead(text: &[u8]) -> usize
     ensures parts { (cut (lines text.now)).parts ≡ (cut (lines (drop result text.now))).parts }
     ensures stops { (cut (lines (drop result text.now))).before ≡ [] }
 {
-    let mut at = 0;
-    while at < text.len() {
-        let rest = &text[at..];
-        let n = line_len(rest);
-        if rest[..n].starts_with(MARKER) {
-            return at;
-        }
-        at += n;
+    if text.starts_with(MARKER) {
+        return 0;
     }
-    at
+    match memmem::find(text, NEXT_HEADER) {
+        Some(newline) => newline + 1,
+        None => text.len(),
+    }
 }
 
 /// A file as the text has it: its path, its content, and the text from the next header on.
