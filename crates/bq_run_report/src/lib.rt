@@ -8,15 +8,18 @@
 //!
 //! - `session`: a workspace that is loaded, ready for queries;
 //! - `reply`: the answer to a query, over the graph of the targets;
+//! - `aside`: graphs that nobody needs any more;
 //! - `whole`: the whole report;
 //! - `laws`: there is one.
 #![tactic(auto)]
 
+mod aside;
 mod laws;
 mod reply;
 mod session;
 mod whole;
 
+pub use aside::drop_aside;
 pub use bq_run_write::{NoAnswer, Report, Status, refusal_of};
 pub use laws::one_report;
 pub use reply::{Question, Reply, reply_to};

@@ -5,14 +5,17 @@ ghost use Rattle.bq_query_check.specs.Formula.{formula_of};
 ghost use Rattle.bq_run_write.specs.Report.{report_view};
 ghost use Rattle.bq_run_report.specs.Report.{Reports, inside};
 
+use crate::aside::drop_aside;
 use crate::reply::{Question, reply_to};
 use crate::session::{Session, session_over};
 use bq_load::Loaded;
 use bq_run_write::Report;
 use std::alloc::{AllocError, Global};
+use std::thread::Threads;
 
 /// Makes the report on a loaded workspace. Only out of memory is an error; Q5 and Q6 are in the ending.
-pub fn report_on(
+pub fn report_on<R: Threads>(
+    rt: &R,
     alloc: Global,
     loaded: Loaded,
     question: Question<'_>,
@@ -25,7 +28,7 @@ pub fn report_on(
         graph,
     } = session_over(alloc, loaded)?;
     let reply = reply_to(alloc, &graph, question, status);
-    drop(graph); // PROOF: one call lets the graph go
+    drop_aside(rt, graph); // PROOF: one call lets the graph go
     let reply = reply?;
     Ok(Report {
         faults,
