@@ -26,7 +26,7 @@ use bq_package_schema::Schema;
 use bq_query_check::{CheckedQuery, parse_query};
 use bq_query_target_graph::{TargetGraph, build_graph};
 use bq_run::{Loaded, Options, load_graph, refused_report};
-use bq_run_report::{NoAnswer, Report, refusal_of, status_by};
+use bq_run_report::{NoAnswer, Report, drop_aside, refusal_of, status_by};
 use std::alloc::{AllocError, Global};
 use std::random::RandomSource;
 use std::sync::Wait;
@@ -100,7 +100,8 @@ fn report_over(
 }
 
 /// Makes the report on a loaded workspace. A label that names no target is one more fault.
-fn report_loaded(
+fn report_loaded<R: Threads>(
+    rt: &R,
     alloc: Global,
     before: Before,
     loaded: Loaded,
@@ -122,7 +123,7 @@ fn report_loaded(
         dangling,
     };
     let report = report_over(alloc, before, told, &graph, asked);
-    drop(graph); // PROOF: one call lets the graph go
+    drop_aside(rt, graph); // PROOF: one call lets the graph go
     report
 }
 
@@ -145,7 +146,7 @@ fn report_graph<T: Threads + Wait + RandomSource + Sync>(
         return Err(AllocError);
     };
     let loaded = load_graph(rt, alloc, workspace, schema, graph, options)?;
-    report_loaded(alloc, before, loaded, asked)
+    report_loaded(rt, alloc, before, loaded, asked)
 }
 
 /// Makes the report of a run that finds no load graph.
