@@ -14,7 +14,7 @@ use crate::queries::next_query;
 use crate::session::{ask, open_session};
 use bq_label::Workspace;
 use bq_run::{ByteSink, ByteSource, Options, OutputForm, RunErr, write_rope};
-use bq_run_report::{NoAnswer, Session, Status};
+use bq_run_report::{NoAnswer, Session, Status, drop_aside};
 use std::alloc::Global;
 use std::random::RandomSource;
 use std::sync::Wait;
@@ -111,5 +111,7 @@ pub fn run_queries<
 {
     let session = open_session(rt, alloc, workspace, options)?;
     write_rope(faults_writer, &session.faults)?;
-    answer_all(alloc, &session, queries, options.output, writer)
+    let answered = answer_all(alloc, &session, queries, options.output, writer);
+    drop_aside(rt, session.graph);
+    answered
 }
