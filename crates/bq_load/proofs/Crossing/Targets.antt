@@ -4,6 +4,8 @@ use Rattle.std.proofs.Crossing.{crosses}
 use Rattle.bq_package_target.specs.contracts.value.GivenAttribute as GivenAttribute
 use Rattle.bq_package_target.specs.contracts.target.TargetKind as TargetKind
 use Rattle.bq_package_target.specs.contracts.target.Target as Target
+use Rattle.bq_package_target.specs.contracts.by_name.PlacedTarget as PlacedTarget
+use Rattle.bq_package_target.specs.contracts.by_name.TargetsByName as TargetsByName
 use Rattle.bq_package_target.specs.contracts.package.Package as Package
 use Rattle.bq_load.proofs.Crossing.Classes.{label_send, label_sync, value_send, value_sync, class_send, class_sync}
 
@@ -25,8 +27,20 @@ target_send = let l = label_send in let k = kind_send in let g = given_send in s
 pub target_sync : IsSync (Target.the_field).row
 target_sync = let l = label_sync in let k = kind_sync in let g = given_sync in search (crosses, sendable) depth 60 fits 20000
 
+pub placed_send : IsSend (PlacedTarget.the_field).row
+placed_send = let t = target_send in search (crosses, sendable) depth 60 fits 20000
+
+pub placed_sync : IsSync (PlacedTarget.the_field).row
+placed_sync = let t = target_sync in search (crosses, sendable) depth 60 fits 20000
+
+pub by_name_send : IsSend (TargetsByName.the_field).row
+by_name_send = let p = placed_send in search (crosses, sendable) depth 60 fits 20000
+
+pub by_name_sync : IsSync (TargetsByName.the_field).row
+by_name_sync = let p = placed_sync in search (crosses, sendable) depth 60 fits 20000
+
 pub package_send : IsSend (Package.the_field).row
-package_send = let l = label_send in let ts = target_send in let ty = target_sync in search (crosses, sendable) depth 60 fits 20000
+package_send = let l = label_send in let ts = by_name_send in let ty = by_name_sync in search (crosses, sendable) depth 60 fits 20000
 
 pub package_sync : IsSync (Package.the_field).row
-package_sync = let l = label_sync in let ts = target_send in let ty = target_sync in search (crosses, sendable) depth 60 fits 20000
+package_sync = let l = label_sync in let ts = by_name_send in let ty = by_name_sync in search (crosses, sendable) depth 60 fits 20000
