@@ -6,5 +6,3 @@ pub mod OneList
 pub mod Parts
 -- a workspace and a query have one report
 pub mod OneReport
--- graphs may go to another thread
-pub mod Crossing
