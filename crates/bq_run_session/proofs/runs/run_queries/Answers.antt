@@ -19,5 +19,5 @@ returns-in_err-write_rope-clause-does g c =
 pub returns-clause-does : goal.returns-clause-does
 returns-clause-does g c =
     all_written c.args.options.now c.args.workspace.now c.in_ok-session.session c.in_ok-session.ensures (g.Q.ByteSource.remaining c.args.queries.now)
-    (g.F.ByteSink.contents c.args.faults_writer.now) (g.F.ByteSink.contents c.write_rope.new.writer) (g.W.ByteSink.contents c.args.writer.now) (g.W.ByteSink.contents c.answer_all.new.writer)
-    c.answer_all.result c.in_ok-write_rope.ensures.whole c.answer_all.ensures.does
+    (g.F.ByteSink.contents c.args.faults_writer.now) (g.F.ByteSink.contents c.write_rope.new.writer) (g.W.ByteSink.contents c.args.writer.now) (g.W.ByteSink.contents c.answer_all-answered.new.writer)
+    c.answer_all-answered.result c.in_ok-write_rope.ensures.whole c.answer_all-answered.ensures.does
