@@ -1,4 +1,4 @@
-"""The workspaces that bench/run and bench/peers measure, each as the paths of its files with their texts."""
+"""The workspaces that bench/run, bench/steps and bench/peers measure, each as the paths of its files with their texts."""
 
 MACROS = """def {name}(name, srcs):
     for i in range(10):
@@ -18,6 +18,60 @@ LOOP = """def turns(n):
         total += i
     return total
 """
+# a function of so many turns, for some 1,000,000 steps
+LOOPS = {
+    "arithmetic": (
+        1_000,
+        """def work(n):
+    total = 0
+    for i in range(n):
+        for j in range(100):
+            total = (total + i * j) % 1000003
+    return total
+""",
+    ),
+    "strings": (
+        30_000,
+        """def work(n):
+    total = 0
+    for i in range(n):
+        text = "//base/" + str(i) + ":name"
+        total += len(text.replace("base", "core").split(":"))
+    return total
+""",
+    ),
+    "dicts": (
+        60_000,
+        """def work(n):
+    counts = {}
+    for i in range(n):
+        key = i * 7 % 1000
+        counts[key] = counts.get(key, 0) + 1
+    return len(counts)
+""",
+    ),
+    "calls": (
+        100_000,
+        """def add(a, b = 1):
+    return a + b
+
+def work(n):
+    total = 0
+    for i in range(n):
+        total = add(total, b = i)
+    return total
+""",
+    ),
+    "comprehensions": (
+        1_500,
+        """def work(n):
+    total = 0
+    for i in range(n):
+        total += len([j * i for j in range(100) if j % 3])
+    return total
+""",
+    ),
+}
 # how many files before it one of a fan loads, and how many files such a group has
 FAN = 16
 GROUP = 900
@@ -84,6 +138,21 @@ def steps(files=900, packages=1000, turns=1000):
         yield f"chain/m{m}.bzl", f'load("//chain:m{m - 1}.bzl", before = "value")\n{LOOP}value = before + turns({2 * turns})\n'
     for p in range(packages):
         yield f"tree/package_{p}/BUILD", f'load("//chain:m{files - 1}.bzl", "value", "turns")\nfilegroup(name = "t" + str(turns({turns}) + value))\n'
+
+
+def steps_whole(files=900, packages=1000, turns=1000):
+    """`steps` as one program without loads, whose rule calls name their packages."""
+    yield f"{LOOP}value_0 = turns({2 * turns})\n"
+    for m in range(1, files):
+        yield f"value_{m} = value_{m - 1} + turns({2 * turns})\n"
+    for p in range(packages):
+        yield f'filegroup(package = "tree/package_{p}", name = "t" + str(turns({turns}) + value_{files - 1}))\n'
+
+
+def loop(name, times=1):
+    turns, work = LOOPS[name]
+    yield "BUILD", f'load("//:work.bzl", "work")\nfilegroup(name = "t" + str(work({times * turns})))\n'
+    yield "work.bzl", work
 
 
 def file(turns=200000):

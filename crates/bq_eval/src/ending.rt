@@ -54,7 +54,8 @@ pub(crate) fn module_of(
     ensures { IfOk result (λ o. ended_of o ≡ evaluated (frozen machine.store «module».now.file.now.globals (frozen_values «module».now.file.now «module».now.imports.now (slots_of globals.now))) machine.prints) }
 {
     let (store, prints) = machine.into_parts();
-    let names = module.file.globals.as_slice();
+    let file = module.file;
+    let names = file.globals.as_slice();
     let mut values = Vec::new(alloc);
     push_globals(&mut values, names, globals)?;
     push_shares(&mut values, module.imports)?;

@@ -1,6 +1,6 @@
 //! A file that is evaluated.
 
-use bq_resolve_scope::Resolved;
+use bq_resolve_scope::ResolvedFile;
 use bq_value::{Frozen, Value};
 use std::sync::Arc;
 
@@ -8,11 +8,11 @@ use std::sync::Arc;
 #[derive(Clone, Copy)]
 pub struct ResolvedModule<'a> {
     pub number: u32,
-    pub file: &'a Resolved,
+    pub file: &'a ResolvedFile,
     /// The frozen modules that it loads.
     pub loaded: &'a [Arc<Frozen>],
     /// A value for each clause of its loads, in the order in which they are written.
     pub imports: &'a [Value],
     /// The files of the modules that these reach, by number.
-    pub code: &'a [Option<&'a Resolved>],
+    pub code: &'a [Option<&'a ResolvedFile>],
 }

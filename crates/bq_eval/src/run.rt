@@ -10,7 +10,7 @@ use crate::module::ResolvedModule;
 use bq_builtin_machine::MAX_ACTIVE;
 use bq_eval_frame::Frame;
 use bq_eval_rules::{Context, Globals, Program, Runtime, run_file};
-use bq_resolve_scope::{CodeTopLevel, LoadStmt};
+use bq_resolve_scope::{FileLine, LoadStmt};
 use bq_value::EvalErr;
 use std::alloc::Global;
 
@@ -20,7 +20,7 @@ fn run_program<'f, R: Runtime>(
     alloc: Global,
     program: &Program<'_>,
     loads: &[LoadStmt],
-    stmts: &[CodeTopLevel],
+    stmts: &[FileLine],
     runtime: &mut R,
 ) -> Result<Frame<'f>, EvalErr>
     ensures { Acts R.means slots_of result (R.seen runtime.new) (program_run R.means program.now loads.now stmts.now (R.seen runtime.old)) }
@@ -49,14 +49,15 @@ pub(crate) fn run_module<'f, R: Runtime>(
 ) -> Result<Frame<'f>, EvalErr>
     ensures { Acts R.means slots_of result (R.seen runtime.new) (file_run R.means «module».now (R.seen runtime.old)) }
 {
+    let file = module.file;
     let program = Program {
         number: module.number,
-        functions: module.file.functions.as_slice(),
+        functions: file.functions.as_slice(),
         loaded: module.imports,
         code: module.code,
         frozen: module.loaded,
     };
-    let loads = module.file.loads.as_slice();
-    let stmts = module.file.statements.as_slice();
+    let loads = file.loads.as_slice();
+    let stmts = file.statements.as_slice();
     run_program(alloc, &program, loads, stmts, runtime)
 }

@@ -8,9 +8,9 @@ use Rattle.bq_value.specs.Datum.{Datum, none, or_none}
 use Rattle.bq_builtin_machine.specs.Action.{Run, done, stopped}
 use Rattle.bq_builtin_machine.specs.State.{State, started}
 use Rattle.bq_eval_meaning_spec.specs.Module.{globals_among}
-use Rattle.bq_eval_by_name_spec.specs.Calls.{TreeUnit, Units}
+use Rattle.bq_eval_language_spec.specs.Calls.{TreeUnit, Units}
 use Rattle.bq_eval_by_name_spec.specs.Module as meaning
-use Rattle.bq_eval_by_name_spec.specs.Names.{Env}
+use Rattle.bq_eval_by_name_spec.specs.Names.{Env, Round}
 use Rattle.bq_eval.specs.Calling.{HostCalls}
 use Rattle.bq_eval.specs.Runtime.{primitives}
 use Rattle.bq_eval.specs.Module.{Ended, evaluated, failed, first_store, fault_of}
@@ -24,17 +24,17 @@ values_named (n ∷ ns) [] name = if bytes_eq name n then Some None else values_
 values_named (n ∷ ns) (v ∷ vs) name = if bytes_eq name n then Some (Some v) else values_named ns vs name
 
 -- A frozen module: its globals have the values that it ended with. After these come those of what its loads bind.
-abbrev pub frozen_by : ParsedFile → List Datum → TreeUnit
+abbrev pub frozen_by : ParsedFile → List Datum → TreeUnit Round
 frozen_by file values =
     meaning.frozen_unit file.universe file.statements (drop (length (global_names file.statements)) values) (values_named (global_names file.statements) values)
 
 -- a loaded file with its globals, for the calls of its functions
-abbrev pub frozen_unit : Option (Option ParsedFile) → Option (List Datum) → Option TreeUnit
+abbrev pub frozen_unit : Option (Option ParsedFile) → Option (List Datum) → Option (TreeUnit Round)
 frozen_unit (Some (Some file)) (Some values) = Some (frozen_by file values)
 frozen_unit _ _ = None
 
 -- the modules that these frozen ones reach, by their files
-unfoldable pub frozen_units : List (Option ParsedFile) → List FrozenView → Units
+unfoldable pub frozen_units : List (Option ParsedFile) → List FrozenView → Units Round
 frozen_units files loaded = λ n. frozen_unit (slice_get files n) (globals_among n loaded)
 
 -- ---- after

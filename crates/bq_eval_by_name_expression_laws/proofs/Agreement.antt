@@ -14,8 +14,8 @@ use Rattle.bq_eval_meaning_spec.specs.Frame.{Frame, Surroundings, empty}
 use Rattle.bq_eval_meaning_spec.specs.Primitives.{Primitives}
 use Rattle.bq_eval_meaning_spec.specs.Trees.{Calls}
 use Rattle.bq_eval_meaning_laws.proofs.Depths.{expression_depth}
-use Rattle.bq_eval_by_name_spec.specs.Expressions as names
-use Rattle.bq_eval_by_name_spec.specs.Names.{Round, outside}
+use Rattle.bq_eval_language_spec.specs.Expressions as names
+use Rattle.bq_eval_by_name_spec.specs.Names.{Round, outside, by_names}
 use Rattle.bq_eval_by_name_expression_laws.specs.Agreement.{CallsAgree, LayersAgree, ExpressionsAgree, OutsideAgree}
 use Rattle.bq_eval_by_name_expression_laws.specs.Shows.{Nested, Around}
 use Rattle.bq_eval_by_name_expression_laws.proofs.Runs.{plain}
@@ -36,20 +36,20 @@ module _ {S : Type 0} (m : Primitives S) (file : FileParts) (round : Round) (sur
   step_means l x frame s = refl
 
   pub expr_walks : (n k l : ℕ) → n ≤ k → n + n ≤ l → (blocks : List BlockParts) → Nested blocks → (x : Expr)
-      → Walks {A = Code} blocks (λ z. Agree m (names.expr_to k m call round) (slots.expr_to l m other surroundings) blocks x z) (scope.expr_to n file blocks x)
+      → Walks {A = Code} blocks (λ z. Agree m (names.expr_to k m by_names call round) (slots.expr_to l m other surroundings) blocks x z) (scope.expr_to n file blocks x)
   unfolding scope.expr_to names.expr_to slots.expr_to
   expr_walks zero k l few enough blocks nested x = λ u below. tt
   expr_walks (suc n) zero l few enough blocks nested x = absurd (omega arith)
   expr_walks (suc n) (suc k) zero few enough blocks nested x = absurd (omega arith)
   expr_walks (suc n) (suc k) (suc zero) few enough blocks nested x = absurd (omega arith)
   expr_walks (suc n) (suc k) (suc (suc l)) few enough blocks nested x =
-      expr_by_walks m file (scope.expr_to n file) (names.expr_to k m call round) call other called round surroundings around (slots.expr_to (suc l) m other surroundings) (slots.expr_to l m other surroundings)
+      expr_by_walks m file (scope.expr_to n file) (names.expr_to k m by_names call round) call other called round surroundings around (slots.expr_to (suc l) m other surroundings) (slots.expr_to l m other surroundings)
       (step_means l) (member_means l) (expr_walks n k (suc l) (omega arith) (omega arith)) (expr_walks n k l (omega arith) (omega arith)) blocks nested (out-Expr x)
 
   pub layers_agree : LayersAgree m file round surroundings call other
   layers_agree n k l blocks x z p q few enough nested below e env frame s shows =
-      plain (names.expr_to k m call round x env s) (slots.expr_to l m other surroundings z frame s)
-      ((subst (λ r. Walked {A = Code} (λ y. Agree m (names.expr_to k m call round) (slots.expr_to l m other surroundings) blocks x y) p.slots r) e (expr_walks n k l few enough blocks nested x p below)).1
+      plain (names.expr_to k m by_names call round x env s) (slots.expr_to l m other surroundings z frame s)
+      ((subst (λ r. Walked {A = Code} (λ y. Agree m (names.expr_to k m by_names call round) (slots.expr_to l m other surroundings) blocks x y) p.slots r) e (expr_walks n k l few enough blocks nested x p below)).1
       env frame shows s)
 
   pub expressions_agree : ExpressionsAgree m file round surroundings call other

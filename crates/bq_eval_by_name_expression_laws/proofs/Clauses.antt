@@ -2,6 +2,7 @@
 use Rattle.std.proofs.Common.{◌≡◌, ℕ, List, [], ◌∷◌}
 use Rattle.bq_parse_grammar.specs.declared.tree.Argument.TheOpen.{Clause-F}
 use Rattle.bq_parse_grammar.specs.declared.tree.Clause.{Clause}
+use Rattle.bq_parse_grammar.specs.declared.tree.ComprehensionFrame.{ComprehensionFrame}
 use Rattle.bq_parse_grammar.specs.declared.tree.Expr.{Expr}
 use Rattle.bq_parse_grammar.specs.declared.tree.TargetExpr.{TargetExpr}
 use Rattle.bq_resolve_scope.specs.declared.code.Code.{Code}
@@ -15,9 +16,9 @@ use Rattle.bq_eval_meaning_spec.specs.Comprehensions as slots
 use Rattle.bq_eval_meaning_spec.specs.Frame.{Frame}
 use Rattle.bq_eval_meaning_spec.specs.Primitives.{Primitives}
 use Rattle.bq_eval_meaning_spec.specs.Trees as trees
-use Rattle.bq_eval_by_name_spec.specs.Comprehensions as names
-use Rattle.bq_eval_by_name_spec.specs.Names.{Env, declare}
-use Rattle.bq_eval_by_name_spec.specs.Trees.{Eval}
+use Rattle.bq_eval_language_spec.specs.Comprehensions as names
+use Rattle.bq_eval_language_spec.specs.Trees.{Eval}
+use Rattle.bq_eval_by_name_spec.specs.Names.{Env, declare, by_names}
 use Rattle.bq_eval_by_name_expression_laws.specs.Alike.{Alike, Same}
 use Rattle.bq_eval_by_name_expression_laws.specs.Shows.{Nested, Shows}
 use Rattle.bq_eval_by_name_expression_laws.proofs.Runs.{itself, then_alike, then_both}
@@ -26,7 +27,7 @@ use Rattle.bq_eval_by_name_expression_laws.proofs.Envs.{shows_declare}
 use Rattle.bq_eval_by_name_expression_laws.proofs.Parts.{Agree}
 use Rattle.bq_eval_by_name_expression_laws.proofs.Turns.{TargetAgree, Turned, TurnAlike, ClauseAgree, ClauseLayerAgree, made_clause, for_alike, if_alike}
 
-module _ {S : Type 0} (m : Primitives S) (E : Eval S) (F : trees.Eval S) where
+module _ {S : Type 0} (m : Primitives S) (E : Eval S Env) (F : trees.Eval S) where
   module _ (blocks : List BlockParts) (nested : Nested blocks) where
     pub for_agrees : (round : List BlockParts) (t : TargetExpr) (u : CodeTarget) (x : Expr) (y : Code) (d : CodeClause) → roll-CodeClause (CodeClause-F.For u y) ≡ d
         → TargetAgree m blocks nested max_layers t u → Agree m E F round x y → ClauseLayerAgree m blocks nested E F round (Clause-F.For t x) d
@@ -38,12 +39,12 @@ module _ {S : Type 0} (m : Primitives S) (E : Eval S) (F : trees.Eval S) where
         made_clause m blocks nested E F round (Clause-F.If x) d (CodeClause-F.If y) e
         (λ inner within k there env frame made shown shows s. if_alike m blocks nested E F x y h there inner within k env frame made shows s)
 
-    clauses_alike : (cs : List Clause) (ds : List CodeClause) → Pairwise (ClauseAgree m blocks nested E F blocks) cs ds → (inner : names.Turn S) (within : slots.Turn S)
-        → TurnAlike m blocks nested inner within → TurnAlike m blocks nested (names.clauses m E cs inner) (slots.clauses m F ds within)
+    clauses_alike : (cs : List Clause) (ds : List CodeClause) → Pairwise (ClauseAgree m blocks nested E F blocks) cs ds → (inner : names.Turn S Env) (within : slots.Turn S)
+        → TurnAlike m blocks nested inner within → TurnAlike m blocks nested (names.clauses m by_names E cs inner) (slots.clauses m F ds within)
     unfolding names.clauses slots.clauses
     clauses_alike [] [] h inner within k = k
     clauses_alike (c ∷ cs) (d ∷ ds) h inner within k = λ env frame made shows s.
-        h.0 (names.clauses m E cs inner) (slots.clauses m F ds within) (clauses_alike cs ds h.1 inner within k) env env frame made shows shows s
+        h.0 (names.clauses m by_names E cs inner) (slots.clauses m F ds within) (clauses_alike cs ds h.1 inner within k) env env frame made shows shows s
     clauses_alike [] (d ∷ ds) h inner within k = absurd h
     clauses_alike (c ∷ cs) [] h inner within k = absurd h
 
@@ -53,22 +54,22 @@ module _ {S : Type 0} (m : Primitives S) (E : Eval S) (F : trees.Eval S) where
     ClausesAgree round (c ∷ cs) (d ∷ ds) = ClauseAgree m blocks nested E F round c d × Pairwise (ClauseAgree m blocks nested E F blocks) cs ds
     ClausesAgree round _ _ = ⊥
 
-    first_alike : (round : List BlockParts) (cs : List Clause) (ds : List CodeClause) → ClausesAgree round cs ds → (inner : names.Turn S) (within : slots.Turn S) → TurnAlike m blocks nested inner within
+    first_alike : (round : List BlockParts) (cs : List Clause) (ds : List CodeClause) → ClausesAgree round cs ds → (inner : names.Turn S Env) (within : slots.Turn S) → TurnAlike m blocks nested inner within
         → (there env : Env) (frame : Frame) (made : Contents) → Shows round there frame → Shows blocks env frame → (s : S)
-        → Alike (Turned m blocks nested) (names.first_clauses m E cs there inner env made s) (slots.clauses m F ds within frame made s)
+        → Alike (Turned m blocks nested) (names.first_clauses m by_names E cs there inner env made s) (slots.clauses m F ds within frame made s)
     unfolding names.first_clauses slots.clauses
     first_alike round [] [] h inner within k there env frame made shown shows s = k env frame made shows s
     first_alike round (c ∷ cs) (d ∷ ds) h inner within k there env frame made shown shows s =
-        h.0 (names.clauses m E cs inner) (slots.clauses m F ds within) (clauses_alike cs ds h.1 inner within k) there env frame made shown shows s
+        h.0 (names.clauses m by_names E cs inner) (slots.clauses m F ds within) (clauses_alike cs ds h.1 inner within k) there env frame made shown shows s
     first_alike round [] (d ∷ ds) h inner within k there env frame made shown shows s = absurd h
     first_alike round (c ∷ cs) [] h inner within k there env frame made shown shows s = absurd h
 
   pub comprehension_alike : (base : ℕ) (round : List BlockParts) (cs : List Clause) (nested : Nested (record { base = base; names = comprehension_names cs } ∷ round)) (ds : List CodeClause)
-      → ClausesAgree (record { base = base; names = comprehension_names cs } ∷ round) nested round cs ds → (none : Contents) (inner : names.Turn S) (c : Code)
+      → ClausesAgree (record { base = base; names = comprehension_names cs } ∷ round) nested round cs ds → (own : ComprehensionFrame) (none : Contents) (inner : names.Turn S Env) (c : Code)
       → TurnAlike m (record { base = base; names = comprehension_names cs } ∷ round) nested inner (slots.body m F c) → (env : Env) (frame : Frame) → Shows round env frame → (s : S)
-      → Alike Same (names.comprehension m E none inner cs env s) (slots.comprehension m F none c ds frame s)
+      → Alike Same (names.comprehension m by_names E none inner cs own env s) (slots.comprehension m F none c ds frame s)
   unfolding names.comprehension slots.comprehension
-  comprehension_alike base round cs nested ds h none inner c k env frame shows s =
+  comprehension_alike base round cs nested ds h own none inner c k env frame shows s =
       let block : BlockParts = record { base = base; names = comprehension_names cs } in
       then_both Same _ _ _
       (λ _ t. then_alike (Turned m (block ∷ round) nested) Same _ _ _ _

@@ -20,8 +20,6 @@ use Rattle.bq_resolve_scope.specs.declared.code.CodePair.{roll-CodePair, out-rol
 use Rattle.bq_resolve_scope.specs.declared.code.CodeSuffix.{CodeSuffix, out-CodeSuffix, roll-CodeSuffix, out-roll-CodeSuffix}
 use Rattle.bq_resolve_scope.specs.declared.code.CodeSuffix.TheVariants as suffix
 use Rattle.bq_resolve_scope.specs.Scope.{BlockParts}
-use Rattle.bq_resolve_scope.specs.Universe.{member_named}
-use Rattle.bq_resolve_scope.specs.declared.universe.Namespace.{Namespace}
 use Rattle.bq_value.specs.Datum.{Datum}
 use Rattle.bq_builtin_machine.specs.Action.{Action, done, following, ◌>>=◌}
 use Rattle.bq_builtin_machine.specs.Args.{Passed}
@@ -30,17 +28,17 @@ use Rattle.bq_eval_meaning_spec.specs.Frame.{Frame, Surroundings}
 use Rattle.bq_eval_meaning_spec.specs.Primitives.{Primitives}
 use Rattle.bq_eval_meaning_spec.specs.Trees as trees
 use Rattle.bq_eval_meaning_spec.specs.Trees.{Calls}
-use Rattle.bq_eval_by_name_spec.specs.Expressions as names
-use Rattle.bq_eval_by_name_spec.specs.Names.{Env, Round}
-use Rattle.bq_eval_by_name_spec.specs.Trees.{Eval, ArgumentLayer}
-use Rattle.bq_eval_by_name_spec.proofs.Forms as forms
+use Rattle.bq_eval_language_spec.specs.Expressions as names
+use Rattle.bq_eval_language_spec.specs.Trees.{Eval, ArgumentLayer}
+use Rattle.bq_eval_language_spec.proofs.Forms as forms
+use Rattle.bq_eval_by_name_spec.specs.Names.{Env}
 use Rattle.bq_eval_by_name_expression_laws.specs.Alike.{Alike, Same}
 use Rattle.bq_eval_by_name_expression_laws.specs.Shows.{Shows}
 use Rattle.bq_eval_by_name_expression_laws.proofs.Runs.{itself, then_same, then_both}
 use Rattle.bq_eval_by_name_expression_laws.proofs.Walks.{Pairwise, Optional, same_length}
 use Rattle.bq_eval_by_name_expression_laws.proofs.Parts.{Agree, PairAgree, OperationAgree, ChoiceAgree, ArgumentAgree, SuffixAgree, call_alike, method_alike, index_alike, slice_alike, suffixes_alike}
 
-module _ {S : Type 0} (m : Primitives S) (E : Eval S) (F : trees.Eval S) (blocks : List BlockParts) where
+module _ {S : Type 0} (m : Primitives S) (E : Eval S Env) (F : trees.Eval S) (blocks : List BlockParts) where
   pub made_pair : (p : Pair) (k v : Code) → Agree m E F blocks (out-Pair p).key k → Agree m E F blocks (out-Pair p).value v → PairAgree m E F blocks p (roll-CodePair (record { key = k; value = v }))
   made_pair p k v h l =
       subst (λ z. Agree m E F blocks (out-Pair p).key z.key × Agree m E F blocks (out-Pair p).value z.value) (sym (out-roll-CodePair (record { key = k; value = v }))) (h, l)
@@ -114,7 +112,7 @@ module _ {S : Type 0} (m : Primitives S) (E : Eval S) (F : trees.Eval S) (blocks
 
     -- ---- expressions
 
-    module _ (round : Round) (surroundings : Surroundings) where
+    module _ (surroundings : Surroundings) where
       -- what an action in an environment does, the tree means
       abbrev pub Means : (Env → Action S Datum) → Code → Type 0
       Means f c = (env : Env) (frame : Frame) → Shows blocks env frame → (s : S) → Alike Same (f env s) (slots.expr m F other surroundings c frame s)
@@ -139,11 +137,11 @@ module _ {S : Type 0} (m : Primitives S) (E : Eval S) (F : trees.Eval S) (blocks
             (call_agrees xs ys (suffix.Call ys) (suffix.rolls-Call ys) h env frame shows (m.predeclared p) s)
             (λ v u. suffixes_alike m E F blocks call other called ss ts k env frame shows v u))
 
-        pub member_alike : (space : Namespace) (n : Identifier) (p : Predeclared) → member_named space round.universe.rules n.name ≡ Some p → (xs : List Argument) (ys : List CodeArgument) (ss : List Suffix) (ts : List CodeSuffix)
+        pub member_alike : (found : Option Predeclared) (p : Predeclared) → found ≡ Some p → (xs : List Argument) (ys : List CodeArgument) (ss : List Suffix) (ts : List CodeSuffix)
             → Pairwise (ArgumentAgree m E F blocks) xs ys → Pairwise (SuffixAgree m E F blocks call other called) ss ts → (env : Env) (frame : Frame) → Shows blocks env frame → (s : S)
-            → Alike Same (forms.call_member m E call round space n xs ss env s) (slots.primary m F other (c.Member p) (suffix.Call ys ∷ ts) frame s)
+            → Alike Same (forms.call_member m E call found xs ss env s) (slots.primary m F other (c.Member p) (suffix.Call ys ∷ ts) frame s)
         unfolding slots.primary
-        member_alike space n p known xs ys ss ts h k env frame shows s =
+        member_alike found p known xs ys ss ts h k env frame shows s =
             rw (same_length (SuffixAgree m E F blocks call other called) ss ts k, known)
             (then_both Same (m.step (suc (length ts)) s) (λ _ t. following (done (m.predeclared p) t) (λ v. names.call_of m E call xs env v >>= λ u. names.suffixes m E call ss env u))
             (λ _ t. following (F (c.Member p) frame t) (λ v. slots.suffixes m F other (suffix.Call ys ∷ ts) frame v)) (λ _ t. called_alike p xs ys ss ts h k env frame shows t))

@@ -27,10 +27,10 @@ use Rattle.bq_eval_meaning_spec.specs.Frame.{Frame}
 use Rattle.bq_eval_meaning_spec.specs.Primitives.{Primitives}
 use Rattle.bq_eval_meaning_spec.specs.Trees as trees
 use Rattle.bq_eval_meaning_spec.specs.Trees.{Calls}
-use Rattle.bq_eval_by_name_spec.specs.Expressions as names
+use Rattle.bq_eval_language_spec.specs.Expressions as names
+use Rattle.bq_eval_language_spec.specs.Trees.{Eval}
+use Rattle.bq_eval_language_spec.proofs.Forms as forms
 use Rattle.bq_eval_by_name_spec.specs.Names.{Env}
-use Rattle.bq_eval_by_name_spec.specs.Trees.{Eval}
-use Rattle.bq_eval_by_name_spec.proofs.Forms as forms
 use Rattle.bq_eval_by_name_expression_laws.specs.Alike.{Alike, Same}
 use Rattle.bq_eval_by_name_expression_laws.specs.Shows.{Shows}
 use Rattle.bq_eval_by_name_expression_laws.proofs.Runs.{itself, then_same, then_both, choice, after_three}
@@ -40,7 +40,7 @@ use Rattle.bq_eval_by_name_expression_laws.proofs.Walks.{Pairwise, Optional, sam
 abbrev pub Agrees : {S A : Type 0} → List BlockParts → (Env → Action S A) → (Frame → Action S A) → Type 0
 Agrees {S} blocks f g = (env : Env) (frame : Frame) → Shows blocks env frame → (s : S) → Alike Same (f env s) (g frame s)
 
-module _ {S : Type 0} (m : Primitives S) (E : Eval S) (F : trees.Eval S) (blocks : List BlockParts) where
+module _ {S : Type 0} (m : Primitives S) (E : Eval S Env) (F : trees.Eval S) (blocks : List BlockParts) where
   abbrev pub Agree : Expr → Code → Type 0
   Agree x c = (env : Env) (frame : Frame) → Shows blocks env frame → (s : S) → Alike Same (E x env s) (F c frame s)
 

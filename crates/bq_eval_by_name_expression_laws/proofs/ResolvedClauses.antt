@@ -3,6 +3,7 @@ use Rattle.std.proofs.Common.{◌≡◌, ◌≤◌, ◌+◌, ℕ, zero, suc, tru
 use Rattle.bq_base.specs.declared.fault.FaultKind.TheVariants as f
 use Rattle.bq_parse_grammar.specs.declared.tree.Argument.TheOpen.{Clause-F, TargetExpr-F}
 use Rattle.bq_parse_grammar.specs.declared.tree.Clause.{Clause, out-Clause}
+use Rattle.bq_parse_grammar.specs.declared.tree.ComprehensionFrame.{ComprehensionFrame}
 use Rattle.bq_parse_grammar.specs.declared.tree.Expr.{Expr}
 use Rattle.bq_parse_grammar.specs.declared.tree.Identifier.{Identifier}
 use Rattle.bq_parse_grammar.specs.declared.tree.TargetExpr.{TargetExpr, out-TargetExpr}
@@ -21,9 +22,9 @@ use Rattle.bq_eval_meaning_spec.specs.Comprehensions as slots
 use Rattle.bq_eval_meaning_spec.specs.Frame.{Frame}
 use Rattle.bq_eval_meaning_spec.specs.Primitives.{Primitives}
 use Rattle.bq_eval_meaning_spec.specs.Trees as trees
-use Rattle.bq_eval_by_name_spec.specs.Comprehensions as names
-use Rattle.bq_eval_by_name_spec.specs.Names.{Env}
-use Rattle.bq_eval_by_name_spec.specs.Trees.{Eval}
+use Rattle.bq_eval_language_spec.specs.Comprehensions as names
+use Rattle.bq_eval_language_spec.specs.Trees.{Eval}
+use Rattle.bq_eval_by_name_spec.specs.Names.{Env, by_names}
 use Rattle.bq_eval_by_name_expression_laws.specs.Alike.{Alike, Same}
 use Rattle.bq_eval_by_name_expression_laws.specs.Shows.{Nested, Shows}
 use Rattle.bq_eval_by_name_expression_laws.proofs.Slots.{held}
@@ -51,7 +52,7 @@ use_is file blocks name slot at = rw at refl
 pub walks_inside : {A : Type 0} (block : BlockParts) (rest : List BlockParts) (P : A → Type 0) (v : Visit A) → Walks {A = A} rest P v → Walks {A = A} (block ∷ rest) P v
 walks_inside block rest P v h u below = h u below.1
 
-module _ {S : Type 0} (m : Primitives S) (file : FileParts) (visit : List BlockParts → Expr → Visit Code) (E : Eval S) (F : trees.Eval S)
+module _ {S : Type 0} (m : Primitives S) (file : FileParts) (visit : List BlockParts → Expr → Visit Code) (E : Eval S Env) (F : trees.Eval S)
     (visits : (blocks : List BlockParts) → Nested blocks → (x : Expr) → Walks {A = Code} blocks (λ z. Agree m E F blocks x z) (visit blocks x)) where
   module _ (block : BlockParts) (rest : List BlockParts) (nested : Nested (block ∷ rest)) where
     -- ---- targets
@@ -128,26 +129,26 @@ module _ {S : Type 0} (m : Primitives S) (file : FileParts) (visit : List BlockP
 
   -- ---- comprehensions: what is before the clauses resolves to something of which `P` holds
 
-  module _ {A : Type 0} (element : List BlockParts → Visit A) (make : A → List CodeClause → Code) (none : Contents) (inner : names.Turn S) (P : List BlockParts → A → Type 0)
+  module _ {A : Type 0} (element : List BlockParts → Visit A) (make : A → List CodeClause → Code) (none : Contents) (inner : names.Turn S Env) (P : List BlockParts → A → Type 0)
       (elements : (blocks : List BlockParts) → Nested blocks → Walks {A = A} blocks (λ y. P blocks y) (element blocks))
       (makes : (blocks : List BlockParts) (nested : Nested blocks) (y : A) (ds : List CodeClause) → P blocks y → TurnAlike m blocks nested inner (slots.body m F (make y ds))) where
     -- the tree is a comprehension that means the same
-    abbrev pub Comprehends : List BlockParts → List Clause → Code → Type 0
-    Comprehends rest cs z =
+    abbrev pub Comprehends : List BlockParts → List Clause → ComprehensionFrame → Code → Type 0
+    Comprehends rest cs own z =
         (y : A) × (ds : List CodeClause) × (z ≡ make y ds) × ((env : Env) (frame : Frame) → Shows rest env frame → (s : S)
-        → Alike Same (names.comprehension m E none inner cs env s) (slots.comprehension m F none (make y ds) ds frame s))
+        → Alike Same (names.comprehension m by_names E none inner cs own env s) (slots.comprehension m F none (make y ds) ds frame s))
 
-    pub block_walks : (rest : List BlockParts) → Nested rest → (cs : List Clause) → Walks {A = Code} rest (λ z. Comprehends rest cs z) (scope.in_block file visit element make rest cs)
+    pub block_walks : (rest : List BlockParts) → Nested rest → (cs : List Clause) (own : ComprehensionFrame) → Walks {A = Code} rest (λ z. Comprehends rest cs own z) (scope.in_block file visit element make rest cs)
     unfolding scope.in_block
-    block_walks rest nested cs u below =
+    block_walks rest nested cs own u below =
         let block : BlockParts = record { base = u.slots; names = comprehension_names cs } in
         let next : Passed = record u { slots = u.slots + length (comprehension_names cs) } in
         let around : Nested (block ∷ rest) = (below, nested) in
         let more : u.slots ≤ u.slots + length (comprehension_names cs) = omega arith in
         let same : u.slots + length (comprehension_names cs) ≤ u.slots + length (comprehension_names cs) = omega arith in
-        from (λ z. Comprehends rest cs z) u.slots next.slots
+        from (λ z. Comprehends rest cs own z) u.slots next.slots
         ((element (block ∷ rest) >>= λ x. scope.clauses file visit rest (block ∷ rest) cs >>= λ ys. pure (make x ys)) next) more
-        (walks_two (block ∷ rest) (λ y. P (block ∷ rest) y) (λ ds. ClausesAgree m E F (block ∷ rest) around rest cs ds) (λ z. Comprehends rest cs z) (element (block ∷ rest))
+        (walks_two (block ∷ rest) (λ y. P (block ∷ rest) y) (λ ds. ClausesAgree m E F (block ∷ rest) around rest cs ds) (λ z. Comprehends rest cs own z) (element (block ∷ rest))
         (scope.clauses file visit rest (block ∷ rest) cs) make
-        (λ y ds h k. (y, ds, refl, comprehension_alike m E F u.slots rest cs around ds k none inner (make y ds) (makes (block ∷ rest) around y ds h)))
+        (λ y ds h k. (y, ds, refl, comprehension_alike m E F u.slots rest cs around ds k own none inner (make y ds) (makes (block ∷ rest) around y ds h)))
         (elements (block ∷ rest) around) (clauses_walk block rest around cs (variables_are_in cs)) next (same, below_more rest u.slots next.slots more below))

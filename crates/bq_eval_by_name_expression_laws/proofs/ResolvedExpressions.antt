@@ -4,6 +4,7 @@ use Rattle.bq_base.specs.declared.fault.Fault.{Fault}
 use Rattle.bq_base.specs.declared.fault.FaultKind.TheVariants as f
 use Rattle.bq_parse_grammar.specs.declared.tree.Argument.TheOpen.{Expr-F}
 use Rattle.bq_parse_grammar.specs.declared.tree.Clause.{Clause}
+use Rattle.bq_parse_grammar.specs.declared.tree.ComprehensionFrame.{ComprehensionFrame}
 use Rattle.bq_parse_grammar.specs.declared.tree.Expr.{Expr}
 use Rattle.bq_parse_grammar.specs.declared.tree.Pair.{Pair}
 use Rattle.bq_parse_grammar.specs.Targets.{ExprLayer}
@@ -26,10 +27,10 @@ use Rattle.bq_eval_meaning_spec.specs.Frame.{Frame, Surroundings, empty}
 use Rattle.bq_eval_meaning_spec.specs.Primitives.{Primitives}
 use Rattle.bq_eval_meaning_spec.specs.Trees as trees
 use Rattle.bq_eval_meaning_spec.specs.Trees.{Calls}
-use Rattle.bq_eval_by_name_spec.specs.Comprehensions as named
-use Rattle.bq_eval_by_name_spec.specs.Expressions as names
-use Rattle.bq_eval_by_name_spec.specs.Names.{Env, Round}
-use Rattle.bq_eval_by_name_spec.specs.Trees.{Eval}
+use Rattle.bq_eval_language_spec.specs.Comprehensions as named
+use Rattle.bq_eval_language_spec.specs.Expressions as names
+use Rattle.bq_eval_language_spec.specs.Trees.{Eval}
+use Rattle.bq_eval_by_name_spec.specs.Names.{Env, Round, by_names}
 use Rattle.bq_eval_by_name_expression_laws.specs.Alike.{Alike, Same}
 use Rattle.bq_eval_by_name_expression_laws.specs.Shows.{Nested, Shows, Around}
 use Rattle.bq_eval_by_name_expression_laws.proofs.Runs.{itself}
@@ -42,42 +43,42 @@ use Rattle.bq_eval_by_name_expression_laws.proofs.Making.{Means, made_expr}
 use Rattle.bq_eval_by_name_expression_laws.proofs.ResolvedParts.{pair_walks, operation_walks, choice_walks, primary_walks}
 use Rattle.bq_eval_by_name_expression_laws.proofs.ResolvedClauses.{Comprehends, block_walks}
 
-module _ {S : Type 0} (m : Primitives S) (file : FileParts) (visit : List BlockParts → Expr → Visit Code) (E : Eval S) (call other : Calls S)
+module _ {S : Type 0} (m : Primitives S) (file : FileParts) (visit : List BlockParts → Expr → Visit Code) (E : Eval S Env) (call other : Calls S)
     (called : (v : Datum) (p : args.Passed) (s : S) → call v p s ≡ other v p s) (round : Round) (surroundings : Surroundings) (around : Around file round surroundings) where
   -- what an expression means, looked at for a layer more, where those in it mean the same
   abbrev Good : trees.Eval S → List BlockParts → (Env → Action S Datum) → Code → Type 0
-  Good F blocks g z = Means m E F blocks call other called round surroundings g z
+  Good F blocks g z = Means m E F blocks call other called surroundings g z
 
   -- ---- comprehensions among blocks
 
   module _ (F : trees.Eval S) (visits : (blocks : List BlockParts) → Nested blocks → (x : Expr) → Walks {A = Code} blocks (λ z. Agree m E F blocks x z) (visit blocks x)) where
-    list_walks : (blocks : List BlockParts) → Nested blocks → (x : Expr) (cs : List Clause)
-        → Walks {A = Code} blocks (λ z. Good F blocks (named.comprehension m E (items []) (named.element m E x) cs) z) (scope.in_block file visit (λ bs. visit bs x) c.ListComprehension blocks cs)
-    list_walks blocks nested x cs =
+    list_walks : (blocks : List BlockParts) → Nested blocks → (x : Expr) (cs : List Clause) (own : ComprehensionFrame)
+        → Walks {A = Code} blocks (λ z. Good F blocks (named.comprehension m by_names E (items []) (named.element m E x) cs own) z) (scope.in_block file visit (λ bs. visit bs x) c.ListComprehension blocks cs)
+    list_walks blocks nested x cs own =
         walks_weaker blocks
-        (λ z. Comprehends m file visit E F visits (λ bs. visit bs x) (λ y ds. c.ListComprehension y ds) (items []) (named.element m E x) (λ bs y. Agree m E F bs x y) (λ bs ns. visits bs ns x) (list_makes x) blocks cs z)
-        (λ z. Good F blocks (named.comprehension m E (items []) (named.element m E x) cs) z) (scope.in_block file visit (λ bs. visit bs x) c.ListComprehension blocks cs)
-        (λ z h. subst (λ w. Good F blocks (named.comprehension m E (items []) (named.element m E x) cs) w) (sym h.2)
-        (made_expr m E F blocks call other called round surroundings (named.comprehension m E (items []) (named.element m E x) cs) (c.ListComprehension h.0 h.1) (Code-F.ListComprehension h.0 h.1)
+        (λ z. Comprehends m file visit E F visits (λ bs. visit bs x) (λ y ds. c.ListComprehension y ds) (items []) (named.element m E x) (λ bs y. Agree m E F bs x y) (λ bs ns. visits bs ns x) (list_makes x) blocks cs own z)
+        (λ z. Good F blocks (named.comprehension m by_names E (items []) (named.element m E x) cs own) z) (scope.in_block file visit (λ bs. visit bs x) c.ListComprehension blocks cs)
+        (λ z h. subst (λ w. Good F blocks (named.comprehension m by_names E (items []) (named.element m E x) cs own) w) (sym h.2)
+        (made_expr m E F blocks call other called surroundings (named.comprehension m by_names E (items []) (named.element m E x) cs own) (c.ListComprehension h.0 h.1) (Code-F.ListComprehension h.0 h.1)
         (c.rolls-ListComprehension h.0 h.1) h.3))
-        (block_walks m file visit E F visits (λ bs. visit bs x) (λ y ds. c.ListComprehension y ds) (items []) (named.element m E x) (λ bs y. Agree m E F bs x y) (λ bs ns. visits bs ns x) (list_makes x) blocks nested cs)
+        (block_walks m file visit E F visits (λ bs. visit bs x) (λ y ds. c.ListComprehension y ds) (items []) (named.element m E x) (λ bs y. Agree m E F bs x y) (λ bs ns. visits bs ns x) (list_makes x) blocks nested cs own)
       where
         list_makes : (x : Expr) (bs : List BlockParts) (ns : Nested bs) (y : Code) (ds : List CodeClause) → Agree m E F bs x y → TurnAlike m bs ns (named.element m E x) (turns.body m F (c.ListComprehension y ds))
         list_makes x bs ns y ds h =
             body_alike m bs ns E F (named.element m E x) (c.ListComprehension y ds) (Code-F.ListComprehension y ds) (c.rolls-ListComprehension y ds) (element_alike m bs ns E F x y h)
 
-    dict_walks : (blocks : List BlockParts) → Nested blocks → (x : Pair) (cs : List Clause)
-        → Walks {A = Code} blocks (λ z. Good F blocks (named.comprehension m E (pairs []) (named.pair_element m E x) cs) z) (scope.in_block file visit (λ bs. scope.pair file visit bs x) c.DictComprehension blocks cs)
-    dict_walks blocks nested x cs =
+    dict_walks : (blocks : List BlockParts) → Nested blocks → (x : Pair) (cs : List Clause) (own : ComprehensionFrame)
+        → Walks {A = Code} blocks (λ z. Good F blocks (named.comprehension m by_names E (pairs []) (named.pair_element m E x) cs own) z) (scope.in_block file visit (λ bs. scope.pair file visit bs x) c.DictComprehension blocks cs)
+    dict_walks blocks nested x cs own =
         walks_weaker blocks
         (λ z. Comprehends m file visit E F visits (λ bs. scope.pair file visit bs x) (λ y ds. c.DictComprehension y ds) (pairs []) (named.pair_element m E x) (λ bs y. PairAgree m E F bs x y)
-        (λ bs ns. pair_walks m file visit E F bs (visits bs ns) x) (dict_makes x) blocks cs z)
-        (λ z. Good F blocks (named.comprehension m E (pairs []) (named.pair_element m E x) cs) z) (scope.in_block file visit (λ bs. scope.pair file visit bs x) c.DictComprehension blocks cs)
-        (λ z h. subst (λ w. Good F blocks (named.comprehension m E (pairs []) (named.pair_element m E x) cs) w) (sym h.2)
-        (made_expr m E F blocks call other called round surroundings (named.comprehension m E (pairs []) (named.pair_element m E x) cs) (c.DictComprehension h.0 h.1) (Code-F.DictComprehension h.0 h.1)
+        (λ bs ns. pair_walks m file visit E F bs (visits bs ns) x) (dict_makes x) blocks cs own z)
+        (λ z. Good F blocks (named.comprehension m by_names E (pairs []) (named.pair_element m E x) cs own) z) (scope.in_block file visit (λ bs. scope.pair file visit bs x) c.DictComprehension blocks cs)
+        (λ z h. subst (λ w. Good F blocks (named.comprehension m by_names E (pairs []) (named.pair_element m E x) cs own) w) (sym h.2)
+        (made_expr m E F blocks call other called surroundings (named.comprehension m by_names E (pairs []) (named.pair_element m E x) cs own) (c.DictComprehension h.0 h.1) (Code-F.DictComprehension h.0 h.1)
         (c.rolls-DictComprehension h.0 h.1) h.3))
         (block_walks m file visit E F visits (λ bs. scope.pair file visit bs x) (λ y ds. c.DictComprehension y ds) (pairs []) (named.pair_element m E x) (λ bs y. PairAgree m E F bs x y)
-        (λ bs ns. pair_walks m file visit E F bs (visits bs ns) x) (dict_makes x) blocks nested cs)
+        (λ bs ns. pair_walks m file visit E F bs (visits bs ns) x) (dict_makes x) blocks nested cs own)
       where
         dict_makes : (x : Pair) (bs : List BlockParts) (ns : Nested bs) (y : CodePair) (ds : List CodeClause) → PairAgree m E F bs x y → TurnAlike m bs ns (named.pair_element m E x) (turns.body m F (c.DictComprehension y ds))
         dict_makes x bs ns y ds h =
@@ -92,7 +93,7 @@ module _ {S : Type 0} (m : Primitives S) (file : FileParts) (visit : List BlockP
     -- outside functions a comprehension has a layer that gives it a frame
     framed_good : (g : Env → Action S Datum) (slot : ℕ) (z : Code) → Good G [] g z → Good F [] g (c.Framed slot z)
     unfolding slots.framed
-    framed_good g slot z h = made_expr m E F [] call other called round surroundings g (c.Framed slot z) (Code-F.Framed slot z) (c.rolls-Framed slot z) (λ env frame shows s. framed_alike env frame shows s)
+    framed_good g slot z h = made_expr m E F [] call other called surroundings g (c.Framed slot z) (Code-F.Framed slot z) (c.rolls-Framed slot z) (λ env frame shows s. framed_alike env frame shows s)
       where
         framed_alike : (env : Env) (frame : Frame) → Shows [] env frame → (s : S) → Alike Same (g env s) (slots.framed m F z s)
         framed_alike env frame shows s = rw (step z empty s) (h env empty (shows_framed env frame shows) s)
@@ -101,35 +102,35 @@ module _ {S : Type 0} (m : Primitives S) (file : FileParts) (visit : List BlockP
     framed_walks g k (Err why) h = tt
     framed_walks g k (Ok p) h = (omega arith, framed_good g p.1.slots p.0 h.1)
 
-    list_comprehension : (blocks : List BlockParts) → Nested blocks → (x : Expr) (cs : List Clause)
-        → Walks {A = Code} blocks (λ z. Good F blocks (named.comprehension m E (items []) (named.element m E x) cs) z) (scope.comprehension file visit (λ bs. visit bs x) c.ListComprehension blocks cs)
+    list_comprehension : (blocks : List BlockParts) → Nested blocks → (x : Expr) (cs : List Clause) (own : ComprehensionFrame)
+        → Walks {A = Code} blocks (λ z. Good F blocks (named.comprehension m by_names E (items []) (named.element m E x) cs own) z) (scope.comprehension file visit (λ bs. visit bs x) c.ListComprehension blocks cs)
     unfolding scope.comprehension
-    list_comprehension [] nested x cs = λ u below.
-        framed_walks (named.comprehension m E (items []) (named.element m E x) cs) u.slots (scope.in_block file visit (λ bs. visit bs x) c.ListComprehension [] cs (record u { slots = 0 }))
-        (list_walks G within [] tt x cs (record u { slots = 0 }) tt)
-    list_comprehension (b ∷ bs) nested x cs = list_walks F visits (b ∷ bs) nested x cs
+    list_comprehension [] nested x cs own = λ u below.
+        framed_walks (named.comprehension m by_names E (items []) (named.element m E x) cs own) u.slots (scope.in_block file visit (λ bs. visit bs x) c.ListComprehension [] cs (record u { slots = 0 }))
+        (list_walks G within [] tt x cs own (record u { slots = 0 }) tt)
+    list_comprehension (b ∷ bs) nested x cs own = list_walks F visits (b ∷ bs) nested x cs own
 
-    dict_comprehension : (blocks : List BlockParts) → Nested blocks → (x : Pair) (cs : List Clause)
-        → Walks {A = Code} blocks (λ z. Good F blocks (named.comprehension m E (pairs []) (named.pair_element m E x) cs) z) (scope.comprehension file visit (λ bs. scope.pair file visit bs x) c.DictComprehension blocks cs)
+    dict_comprehension : (blocks : List BlockParts) → Nested blocks → (x : Pair) (cs : List Clause) (own : ComprehensionFrame)
+        → Walks {A = Code} blocks (λ z. Good F blocks (named.comprehension m by_names E (pairs []) (named.pair_element m E x) cs own) z) (scope.comprehension file visit (λ bs. scope.pair file visit bs x) c.DictComprehension blocks cs)
     unfolding scope.comprehension
-    dict_comprehension [] nested x cs = λ u below.
-        framed_walks (named.comprehension m E (pairs []) (named.pair_element m E x) cs) u.slots (scope.in_block file visit (λ bs. scope.pair file visit bs x) c.DictComprehension [] cs (record u { slots = 0 }))
-        (dict_walks G within [] tt x cs (record u { slots = 0 }) tt)
-    dict_comprehension (b ∷ bs) nested x cs = dict_walks F visits (b ∷ bs) nested x cs
+    dict_comprehension [] nested x cs own = λ u below.
+        framed_walks (named.comprehension m by_names E (pairs []) (named.pair_element m E x) cs own) u.slots (scope.in_block file visit (λ bs. scope.pair file visit bs x) c.DictComprehension [] cs (record u { slots = 0 }))
+        (dict_walks G within [] tt x cs own (record u { slots = 0 }) tt)
+    dict_comprehension (b ∷ bs) nested x cs own = dict_walks F visits (b ∷ bs) nested x cs own
 
     module _ (blocks : List BlockParts) (nested : Nested blocks) where
       abbrev Here : ExprLayer → Code → Type 0
-      Here o z = Good F blocks (names.expr_by m E call round o) z
+      Here o z = Good F blocks (names.expr_by m by_names E call round o) z
 
       made : (o : ExprLayer) (z : Code) (p : trees.CodeLayer) → roll-Code p ≡ z
-          → ((env : Env) (frame : Frame) → Shows blocks env frame → (s : S) → Alike Same (names.expr_by m E call round o env s) (slots.expr_by m F other surroundings z p frame s)) → Here o z
-      made o z p e h = made_expr m E F blocks call other called round surroundings (names.expr_by m E call round o) z p e h
+          → ((env : Env) (frame : Frame) → Shows blocks env frame → (s : S) → Alike Same (names.expr_by m by_names E call round o env s) (slots.expr_by m F other surroundings z p frame s)) → Here o z
+      made o z p e h = made_expr m E F blocks call other called surroundings (names.expr_by m by_names E call round o) z p e h
 
       pub expr_by_walks : (o : ExprLayer) → Walks {A = Code} blocks (λ z. Here o z) (scope.expr_by file visit blocks o)
       unfolding scope.use_at
       expr_by_walks (Expr-F.Expr::Name n) =
           walks_map blocks (λ x. use_of file blocks n.name ≡ Some x) (λ z. Here (Expr-F.Expr::Name n) z) (scope.use_at file blocks n) (λ x. c.Use x)
-          (λ x e. made (Expr-F.Expr::Name n) (c.Use x) (Code-F.Use x) (c.rolls-Use x) (λ env frame shows s. use_alike m round surroundings frame file around blocks env shows n.name x e s))
+          (λ x e. made (Expr-F.Expr::Name n) (c.Use x) (Code-F.Use x) (c.rolls-Use x) (λ env frame shows s. use_alike m round surroundings frame file around blocks env shows n x e s))
           (walks_given blocks (fault_of f.UnknownName n) (use_of file blocks n.name))
       expr_by_walks (Expr-F.Int i) = walks_pure blocks (λ z. Here (Expr-F.Int i) z) (c.Int i) (made (Expr-F.Int i) (c.Int i) (Code-F.Int i) (c.rolls-Int i) (λ env frame shows s. itself _))
       expr_by_walks (Expr-F.String t) = walks_pure blocks (λ z. Here (Expr-F.String t) z) (c.String t) (made (Expr-F.String t) (c.String t) (Code-F.String t) (c.rolls-String t) (λ env frame shows s. itself _))
@@ -143,8 +144,8 @@ module _ {S : Type 0} (m : Primitives S) (file : FileParts) (visit : List BlockP
           walks_map blocks (λ qs. Pairwise (PairAgree m E F blocks) ps qs) (λ z. Here (Expr-F.Dict ps) z) (each (scope.pair file visit blocks) [] ps) (λ qs. c.Dict qs)
           (λ qs h. made (Expr-F.Dict ps) (c.Dict qs) (Code-F.Dict qs) (c.rolls-Dict qs) (dict_alike m E F blocks ps qs h))
           (walks_all blocks (PairAgree m E F blocks) (scope.pair file visit blocks) (pair_walks m file visit E F blocks (visits blocks nested)) ps)
-      expr_by_walks (Expr-F.ListComprehension x cs) = list_comprehension blocks nested x cs
-      expr_by_walks (Expr-F.DictComprehension p cs) = dict_comprehension blocks nested p cs
+      expr_by_walks (Expr-F.ListComprehension x cs own) = list_comprehension blocks nested x cs own
+      expr_by_walks (Expr-F.DictComprehension p cs own) = dict_comprehension blocks nested p cs own
       expr_by_walks (Expr-F.Primary x ss) = primary_walks m file visit E F blocks (visits blocks nested) call other called round surroundings around member x ss
       expr_by_walks (Expr-F.Unary os x) =
           walks_map blocks (λ y. Agree m E F blocks x y) (λ z. Here (Expr-F.Unary os x) z) (visit blocks x) (λ y. c.Unary os y)

@@ -35,10 +35,10 @@ use Rattle.bq_eval_meaning_spec.specs.Frame.{Frame, Surroundings}
 use Rattle.bq_eval_meaning_spec.specs.Primitives.{Primitives}
 use Rattle.bq_eval_meaning_spec.specs.Trees as trees
 use Rattle.bq_eval_meaning_spec.specs.Trees.{Calls}
-use Rattle.bq_eval_by_name_spec.specs.Expressions as names
-use Rattle.bq_eval_by_name_spec.specs.Names.{Env, Round}
-use Rattle.bq_eval_by_name_spec.specs.Trees.{Eval, ArgumentLayer}
-use Rattle.bq_eval_by_name_spec.proofs.Forms as forms
+use Rattle.bq_eval_language_spec.specs.Expressions as names
+use Rattle.bq_eval_language_spec.specs.Trees.{Eval, ArgumentLayer}
+use Rattle.bq_eval_language_spec.proofs.Forms as forms
+use Rattle.bq_eval_by_name_spec.specs.Names.{Env, Round, member_of, by_names}
 use Rattle.bq_eval_by_name_expression_laws.specs.Alike.{Alike, Same}
 use Rattle.bq_eval_by_name_expression_laws.specs.Shows.{Around}
 use Rattle.bq_eval_by_name_expression_laws.proofs.Walks.{Pairwise, Optional, After, any, Walks, walks_bind, walks_weaker, walks_pure, walks_given, walks_map, walks_two, walks_three, walks_each, walks_all, walks_optional}
@@ -47,7 +47,7 @@ use Rattle.bq_eval_by_name_expression_laws.proofs.Parts.{Agree, PairAgree, Opera
 use Rattle.bq_eval_by_name_expression_laws.proofs.Making as making
 use Rattle.bq_eval_by_name_expression_laws.proofs.Making.{Means, ArgumentLayerAgree, SuffixLayerAgree, made_pair, made_operation, made_choice, made_expr, member_alike}
 
-module _ {S : Type 0} (m : Primitives S) (file : FileParts) (visit : List BlockParts → Expr → Visit Code) (E : Eval S) (F : trees.Eval S) (blocks : List BlockParts)
+module _ {S : Type 0} (m : Primitives S) (file : FileParts) (visit : List BlockParts → Expr → Visit Code) (E : Eval S Env) (F : trees.Eval S) (blocks : List BlockParts)
     (visits : (x : Expr) → Walks {A = Code} blocks (λ z. Agree m E F blocks x z) (visit blocks x)) where
   pub pair_walks : (p : Pair) → Walks {A = CodePair} blocks (λ z. PairAgree m E F blocks p z) (scope.pair file visit blocks p)
   unfolding scope.pair
@@ -125,43 +125,43 @@ module _ {S : Type 0} (m : Primitives S) (file : FileParts) (visit : List BlockP
 
     module _ (round : Round) (surroundings : Surroundings) where
       abbrev Good : (Env → Action S Datum) → Code → Type 0
-      Good g z = Means m E F blocks call other called round surroundings g z
+      Good g z = Means m E F blocks call other called surroundings g z
 
       operand_walks : (x : Expr) (ss : List Suffix) → Walks {A = Code} blocks (λ z. Good (forms.operand m E call x ss) z) (scope.operand file visit blocks x ss)
       unfolding scope.operand
       operand_walks x ss =
           walks_two blocks (λ z. Agree m E F blocks x z) (λ zs. SuffixesAfter [] ss zs) (λ z. Good (forms.operand m E call x ss) z) (visit blocks x) (scope.suffixes file visit blocks [] ss) (λ y ts. c.Primary y ts)
-          (λ y ts h a. made_expr m E F blocks call other called round surroundings (forms.operand m E call x ss) (c.Primary y ts) (Code-F.Primary y ts) (c.rolls-Primary y ts)
+          (λ y ts h a. made_expr m E F blocks call other called surroundings (forms.operand m E call x ss) (c.Primary y ts) (Code-F.Primary y ts) (c.rolls-Primary y ts)
           (λ env frame shows s. subst (λ z. Alike Same (forms.operand m E call x ss env s) (slots.primary m F other y z frame s)) (sym a.2) (operand_alike m E F blocks call other called x y ss a.0 h a.1 env frame shows s)))
           (visits x) (suffixes_walk [] ss)
 
       module _ (around : Around file round surroundings) (member : (p : Predeclared) (frame : Frame) (s : S) → F (c.Member p) frame s ≡ done (m.predeclared p) s) where
-        member_walks : (space : Namespace) (n : Identifier) (xs : List Argument) (ss : List Suffix) → Walks {A = Code} blocks (λ z. Good (forms.call_member m E call round space n xs ss) z) (scope.call_member file visit blocks space n xs ss)
+        member_walks : (space : Namespace) (n : Identifier) (xs : List Argument) (ss : List Suffix) → Walks {A = Code} blocks (λ z. Good (forms.call_member m E call (member_named space round.universe.rules n.name) xs ss) z) (scope.call_member file visit blocks space n xs ss)
         unfolding scope.call_member
         member_walks space n xs ss =
-            walks_bind blocks (λ p. member_named space file.universe.rules n.name ≡ Some p) (λ z. Good (forms.call_member m E call round space n xs ss) z) (given (fault_of f.UnknownName n) (member_named space file.universe.rules n.name))
+            walks_bind blocks (λ p. member_named space file.universe.rules n.name ≡ Some p) (λ z. Good (forms.call_member m E call (member_named space round.universe.rules n.name) xs ss) z) (given (fault_of f.UnknownName n) (member_named space file.universe.rules n.name))
             (λ p. scope.arguments file visit blocks xs >>= λ ys. scope.suffixes file visit blocks (suffix.Call ys ∷ []) ss >>= λ ts. pure (c.Primary (c.Member p) ts))
             (walks_given blocks (fault_of f.UnknownName n) (member_named space file.universe.rules n.name))
-            (λ p known. walks_bind blocks (λ ys. Pairwise (ArgumentAgree m E F blocks) xs ys) (λ z. Good (forms.call_member m E call round space n xs ss) z) (scope.arguments file visit blocks xs)
+            (λ p known. walks_bind blocks (λ ys. Pairwise (ArgumentAgree m E F blocks) xs ys) (λ z. Good (forms.call_member m E call (member_named space round.universe.rules n.name) xs ss) z) (scope.arguments file visit blocks xs)
             (λ ys. scope.suffixes file visit blocks (suffix.Call ys ∷ []) ss >>= λ ts. pure (c.Primary (c.Member p) ts)) (arguments_walk xs)
-            (λ ys h. walks_map blocks (λ zs. SuffixesAfter (suffix.Call ys ∷ []) ss zs) (λ z. Good (forms.call_member m E call round space n xs ss) z) (scope.suffixes file visit blocks (suffix.Call ys ∷ []) ss)
+            (λ ys h. walks_map blocks (λ zs. SuffixesAfter (suffix.Call ys ∷ []) ss zs) (λ z. Good (forms.call_member m E call (member_named space round.universe.rules n.name) xs ss) z) (scope.suffixes file visit blocks (suffix.Call ys ∷ []) ss)
             (λ ts. c.Primary (c.Member p) ts)
-            (λ ts a. made_expr m E F blocks call other called round surroundings (forms.call_member m E call round space n xs ss) (c.Primary (c.Member p) ts) (Code-F.Primary (c.Member p) ts)
+            (λ ts a. made_expr m E F blocks call other called surroundings (forms.call_member m E call (member_named space round.universe.rules n.name) xs ss) (c.Primary (c.Member p) ts) (Code-F.Primary (c.Member p) ts)
             (c.rolls-Primary (c.Member p) ts)
-            (λ env frame shows s. subst (λ z. Alike Same (forms.call_member m E call round space n xs ss env s) (slots.primary m F other (c.Member p) z frame s)) (sym a.2)
-            (member_alike m E F blocks call other called round surroundings member space n p (rw around.universe known) xs ys ss a.0 h a.1 env frame shows s)))
+            (λ env frame shows s. subst (λ z. Alike Same (forms.call_member m E call (member_named space round.universe.rules n.name) xs ss env s) (slots.primary m F other (c.Member p) z frame s)) (sym a.2)
+            (member_alike m E F blocks call other called surroundings member (member_named space round.universe.rules n.name) p (rw around.universe known) xs ys ss a.0 h a.1 env frame shows s)))
             (suffixes_walk (suffix.Call ys ∷ []) ss)))
 
         primary_by_walks : (x : Expr) (ss : List Suffix) (o : Option MemberCall)
-            → Walks {A = Code} blocks (λ z. Good (names.primary_by m E call round x ss o) z) (scope.primary_by file visit blocks x ss o)
+            → Walks {A = Code} blocks (λ z. Good (names.primary_by m by_names E call round x ss (member_of round o)) z) (scope.primary_by file visit blocks x ss o)
         primary_by_walks x ss None = operand_walks x ss
         primary_by_walks x ss (Some (space, n, xs, rest)) = member_walks space n xs rest
 
-        pub primary_walks : (x : Expr) (ss : List Suffix) → Walks {A = Code} blocks (λ z. Good (forms.primary m E call round x ss) z) (scope.primary file visit blocks x ss)
+        pub primary_walks : (x : Expr) (ss : List Suffix) → Walks {A = Code} blocks (λ z. Good (forms.primary m by_names E call round x ss) z) (scope.primary file visit blocks x ss)
         unfolding scope.primary
         primary_walks x ss =
-            walks_weaker blocks (λ z. Good (names.primary_by m E call round x ss (scope.member_call (scope.namespace_at file blocks (out-Expr x)) ss)) z) (λ z. Good (forms.primary m E call round x ss) z)
+            walks_weaker blocks (λ z. Good (names.primary_by m by_names E call round x ss (member_of round (scope.member_call (scope.namespace_at file blocks (out-Expr x)) ss))) z) (λ z. Good (forms.primary m by_names E call round x ss) z)
             (scope.primary file visit blocks x ss)
-            (λ z h env frame shows s. subst (λ t. Alike Same (names.primary_by m E call round x ss (scope.member_call t ss) env s) (slots.expr m F other surroundings z frame s))
+            (λ z h env frame shows s. subst (λ t. Alike Same (names.primary_by m by_names E call round x ss (member_of round (scope.member_call t ss)) env s) (slots.expr m F other surroundings z frame s))
             (sym (namespace_is m round surroundings frame file around blocks env shows (out-Expr x))) (h env frame shows s))
             (primary_by_walks x ss (scope.member_call (scope.namespace_at file blocks (out-Expr x)) ss))

@@ -3,6 +3,7 @@ use Rattle.std.proofs.Common.{◌≡◌, ℕ, List, Option, Some, None, refl}
 use Rattle.std.specs.Option.{option_map}
 use Rattle.bq_resolve_predeclared.specs.declared.predeclared.Predeclared.{Predeclared}
 use Rattle.bq_parse_grammar.specs.declared.tree.Argument.TheOpen.{Expr-F}
+use Rattle.bq_parse_grammar.specs.declared.tree.Identifier.{Identifier}
 use Rattle.bq_parse_grammar.specs.Targets.{ExprLayer}
 use Rattle.bq_resolve_scope.specs.declared.code.Binding.{Binding}
 use Rattle.bq_resolve_scope.specs.declared.code.Binding.TheVariants as b
@@ -10,27 +11,28 @@ use Rattle.bq_resolve_scope.specs.Names.{Name, place_among}
 use Rattle.bq_resolve_scope.specs.Scope.{BlockParts, FileParts, or_else, slot_of, file_has, use_of}
 use Rattle.bq_resolve_scope.specs.Universe.{universe_has}
 use Rattle.bq_resolve_scope.specs.Expressions as scope
-use Rattle.bq_value.specs.Datum.{Datum}
 use Rattle.bq_eval_meaning_spec.specs.Expressions as slots
 use Rattle.bq_eval_meaning_spec.specs.Frame.{Frame, Surroundings}
 use Rattle.bq_eval_meaning_spec.specs.Primitives.{Primitives}
 use Rattle.bq_eval_meaning_spec.specs.Targets.{bound}
+use Rattle.bq_eval_language_spec.specs.Environment.{NameValue, variable, predeclared}
+use Rattle.bq_eval_language_spec.specs.Expressions.{value_by}
+use Rattle.bq_eval_language_spec.proofs.Forms as forms
 use Rattle.bq_eval_by_name_spec.specs.Names as names
-use Rattle.bq_eval_by_name_spec.specs.Names.{Env, Round, held}
-use Rattle.bq_eval_by_name_spec.proofs.Forms as forms
+use Rattle.bq_eval_by_name_spec.specs.Names.{Env, Round, held, by_names}
 use Rattle.bq_eval_by_name_expression_laws.specs.Alike.{Alike, Same}
 use Rattle.bq_eval_by_name_expression_laws.specs.Shows.{through, Shows, Around}
 use Rattle.bq_eval_by_name_expression_laws.proofs.Runs.{itself, then_both}
 
 module _ {S : Type 0} (m : Primitives S) (round : Round) (surroundings : Surroundings) (frame : Frame) where
   -- what a name is, by the places where it stands, and what it is by slots
-  abbrev named : Option ℕ → Option ℕ → Option ℕ → Option Predeclared → Option (Option Datum)
-  named o g l u = or_else (through frame o) (or_else (through surroundings.globals g) (or_else (through surroundings.loaded l) (option_map (λ p. Some (m.predeclared p)) u)))
+  abbrev named : Option ℕ → Option ℕ → Option ℕ → Option Predeclared → Option NameValue
+  named o g l u = or_else (option_map variable (or_else (through frame o) (or_else (through surroundings.globals g) (through surroundings.loaded l)))) (option_map predeclared u)
 
   abbrev binding : Option ℕ → Option ℕ → Option ℕ → Option Predeclared → Option Binding
   binding o g l u = or_else (option_map b.Local o) (or_else (option_map b.Global g) (or_else (option_map b.Loaded l) (option_map b.Predeclared u)))
 
-  value_of : (o g l : Option ℕ) (u : Option Predeclared) (x : Binding) → binding o g l u ≡ Some x → (s : S) → names.value_by m round (named o g l u) s ≡ slots.use_by m surroundings x frame s
+  value_of : (o g l : Option ℕ) (u : Option Predeclared) (x : Binding) → binding o g l u ≡ Some x → (s : S) → value_by m (named o g l u) s ≡ slots.use_by m surroundings x frame s
   unfolding bound
   value_of (Some n) g l u x e s = let f : x ≡ b.Local n = cc in rw f refl
   value_of None (Some n) l u x e s = let f : x ≡ b.Global n = cc in rw f refl
@@ -38,7 +40,7 @@ module _ {S : Type 0} (m : Primitives S) (round : Round) (surroundings : Surroun
   value_of None None None (Some p) x e s = let f : x ≡ b.Predeclared p = cc in rw f refl
   value_of None None None None x e s = absurd (let no : ⊥ = cc in no)
 
-  unknown_of : (o g l : Option ℕ) (u : Option Predeclared) → names.is_unknown m round (named o g l u) ≡ scope.is_unbound (binding o g l u)
+  unknown_of : (o g l : Option ℕ) (u : Option Predeclared) → names.is_unknown (named o g l u) ≡ scope.is_unbound (binding o g l u)
   unknown_of (Some n) g l u = refl
   unknown_of None (Some n) l u = refl
   unknown_of None None (Some n) u = refl
@@ -47,29 +49,29 @@ module _ {S : Type 0} (m : Primitives S) (round : Round) (surroundings : Surroun
 
   module _ (file : FileParts) (around : Around file round surroundings) (blocks : List BlockParts) (env : Env) (shows : Shows blocks env frame) where
     -- by the places of a name
-    held_is : (n : Name) → held m round env n ≡ named (slot_of blocks n) (place_among n file.globals) (place_among n file.loaded) (universe_has file.universe n)
+    held_is : (n : Name) → held round env n ≡ named (slot_of blocks n) (place_among n file.globals) (place_among n file.loaded) (universe_has file.universe n)
     unfolding held
     held_is n = rw (shows.reads n, around.globals n, around.loaded n, around.universe) refl
 
-    pub use_alike : (n : Name) (x : Binding) → use_of file blocks n ≡ Some x → (s : S) → Alike Same (forms.use_of m round n env s) (slots.use_of m surroundings x frame s)
+    pub use_alike : (n : Identifier) (x : Binding) → use_of file blocks n.name ≡ Some x → (s : S) → Alike Same (forms.use_of m by_names round n env s) (slots.use_of m surroundings x frame s)
     unfolding use_of file_has slots.use_of
     use_alike n x e s =
-        then_both Same (m.step 1 s) (λ _. names.value_by m round (held m round env n)) (λ _. slots.use_by m surroundings x frame)
-        (λ _ t. rw (held_is n, value_of (slot_of blocks n) (place_among n file.globals) (place_among n file.loaded) (universe_has file.universe n) x e t) (itself (slots.use_by m surroundings x frame t)))
+        then_both Same (m.step 1 s) (λ _. value_by m (held round env n.name)) (λ _. slots.use_by m surroundings x frame)
+        (λ _ t. rw (held_is n.name, value_of (slot_of blocks n.name) (place_among n.name file.globals) (place_among n.name file.loaded) (universe_has file.universe n.name) x e t) (itself (slots.use_by m surroundings x frame t)))
 
-    unknown_is : (n : Name) → names.is_unknown m round (held m round env n) ≡ scope.is_unbound (use_of file blocks n)
+    unknown_is : (n : Name) → names.is_unknown (held round env n) ≡ scope.is_unbound (use_of file blocks n)
     unfolding use_of file_has
     unknown_is n = rw (held_is n) (unknown_of (slot_of blocks n) (place_among n file.globals) (place_among n file.loaded) (universe_has file.universe n))
 
-    pub namespace_is : (o : ExprLayer) → names.namespace_at m round o env ≡ scope.namespace_at file blocks o
+    pub namespace_is : (o : ExprLayer) → names.namespace_at round o env ≡ scope.namespace_at file blocks o
     namespace_is (Expr-F.Expr::Name n) = rw (unknown_is n.name, around.universe) refl
     namespace_is (Expr-F.Int i) = refl
     namespace_is (Expr-F.String s) = refl
     namespace_is (Expr-F.Expr::List xs) = refl
     namespace_is (Expr-F.Expr::Tuple xs) = refl
     namespace_is (Expr-F.Dict ps) = refl
-    namespace_is (Expr-F.ListComprehension x xs) = refl
-    namespace_is (Expr-F.DictComprehension p xs) = refl
+    namespace_is (Expr-F.ListComprehension x xs own) = refl
+    namespace_is (Expr-F.DictComprehension p xs own) = refl
     namespace_is (Expr-F.Primary x ss) = refl
     namespace_is (Expr-F.Unary os x) = refl
     namespace_is (Expr-F.Binary x os) = refl

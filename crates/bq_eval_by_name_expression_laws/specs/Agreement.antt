@@ -13,8 +13,8 @@ use Rattle.bq_eval_meaning_spec.specs.Frame.{Frame, Surroundings, empty}
 use Rattle.bq_eval_meaning_spec.specs.Primitives.{Primitives}
 use Rattle.bq_eval_meaning_spec.specs.Trees.{Calls}
 use Rattle.bq_eval_meaning_laws.specs.Layers.{IsWithin}
-use Rattle.bq_eval_by_name_spec.specs.Expressions as names
-use Rattle.bq_eval_by_name_spec.specs.Names.{Env, Round, outside}
+use Rattle.bq_eval_language_spec.specs.Expressions as names
+use Rattle.bq_eval_by_name_spec.specs.Names.{Env, Round, outside, by_names}
 use Rattle.bq_eval_by_name_expression_laws.specs.Shows.{Below, Nested, Shows, Around}
 
 -- calling a value with arguments means the same
@@ -38,17 +38,17 @@ module _ {S : Type 0} (m : Primitives S) (file : FileParts) (round : Round) (sur
   abbrev pub LayersAgree : Type 0
   LayersAgree =
       (n k l : ℕ) (blocks : List BlockParts) (x : Expr) (c : Code) (p q : Passed) → n ≤ k → n + n ≤ l → Nested blocks → Below blocks p.slots → scope.expr_to n file blocks x p ≡ Ok (c, q)
-      → (env : Env) (frame : Frame) (s : S) → Shows blocks env frame → names.expr_to k m call round x env s ≡ slots.expr_to l m other surroundings c frame s
+      → (env : Env) (frame : Frame) (s : S) → Shows blocks env frame → names.expr_to k m by_names call round x env s ≡ slots.expr_to l m other surroundings c frame s
 
   -- The same of both meanings as programs have them. The resolved tree is no deeper than the layers that its meaning looks at, as are all
   -- trees of a file (bq_eval_depth_laws).
   abbrev pub ExpressionsAgree : Type 0
   ExpressionsAgree =
       (blocks : List BlockParts) (x : Expr) (c : Code) (p q : Passed) → Nested blocks → Below blocks p.slots → scope.expr_to max_layers file blocks x p ≡ Ok (c, q) → IsWithin max_layers c
-      → (env : Env) (frame : Frame) (s : S) → Shows blocks env frame → names.eval_in m call round x env s ≡ slots.eval_in m other surroundings c frame s
+      → (env : Env) (frame : Frame) (s : S) → Shows blocks env frame → names.eval_in m by_names call round x env s ≡ slots.eval_in m other surroundings c frame s
 
   -- outside all blocks
   abbrev pub OutsideAgree : Type 0
   OutsideAgree =
       (x : Expr) (c : Code) (p q : Passed) → scope.expr_to max_layers file [] x p ≡ Ok (c, q) → IsWithin max_layers c
-      → (s : S) → names.eval_in m call round x outside s ≡ slots.eval_in m other surroundings c empty s
+      → (s : S) → names.eval_in m by_names call round x outside s ≡ slots.eval_in m other surroundings c empty s

@@ -25,11 +25,12 @@ use Rattle.bq_eval_meaning_spec.specs.Module as slots
 use Rattle.bq_eval_meaning_spec.specs.Primitives.{Primitives}
 use Rattle.bq_eval_meaning_spec.specs.Trees as trees
 use Rattle.bq_eval_meaning_spec.specs.Trees.{Calls}
-use Rattle.bq_eval_by_name_spec.specs.Calls as functions
+use Rattle.bq_eval_language_spec.specs.Calls as functions
+use Rattle.bq_eval_language_spec.specs.Module as language
+use Rattle.bq_eval_language_spec.specs.Module.{defs, load_clauses}
+use Rattle.bq_eval_language_spec.specs.Trees.{Eval}
 use Rattle.bq_eval_by_name_spec.specs.Module as names
-use Rattle.bq_eval_by_name_spec.specs.Module.{defs, load_clauses}
-use Rattle.bq_eval_by_name_spec.specs.Names.{Env, declare, outside}
-use Rattle.bq_eval_by_name_spec.specs.Trees.{Eval}
+use Rattle.bq_eval_by_name_spec.specs.Names.{Env, Round, declare, outside, by_names}
 use Rattle.bq_eval_by_name_expression_laws.specs.Alike.{Alike}
 use Rattle.bq_eval_by_name_expression_laws.specs.Shows.{through, Reads}
 use Rattle.bq_eval_by_name_expression_laws.proofs.Agreement.{outside_agree}
@@ -128,33 +129,33 @@ module _ (universe : UniverseParts) (ts : List TopLevel) where
           unit_is (drop (length r.globals) values) globals (λ k. slice_get (take (length r.globals) values) k) (λ k. slice_get (drop (length r.globals) values) k)
           (λ name. reads name ∙ frozen_reads values frame same name (place_among name (global_names ts)) refl) (loaded_reads (drop (length r.globals) values))
 
-      module _ {S : Type 0} (m : Primitives S) (named : functions.Units) (units : calls.Units) (agree : UnitsAgree named units) (number : ℕ) (vs : List Datum) where
-        abbrev own : names.Own
+      module _ {S : Type 0} (m : Primitives S) (named : functions.Units Round) (units : calls.Units) (agree : UnitsAgree named units) (number : ℕ) (vs : List Datum) where
+        abbrev own : language.Own Round Env
         own = names.own_of number universe ts vs
 
         abbrev other : slots.Own
         other = record { number = number; functions = r.functions; loaded = vs }
 
         own_by : (env : Env) (frame : Frame) → GlobalsShow names_in env frame → (t : Bool) (n : ℕ)
-            → Maybe UnitIs (if t then Some (record { functions = own.functions; round = names.own_round own env }) else named n)
+            → Maybe UnitIs (if t then Some (record { functions = own.functions; round = own.round env }) else named n)
             (if t then Some (record { functions = other.functions; round = slots.own_round other frame }) else units n)
         own_by env frame reads true n = unit_is vs env frame (λ k. slice_get vs k) reads (loaded_reads vs)
         own_by env frame reads false n = agree n
 
-        own_agrees : (env : Env) (frame : Frame) → GlobalsShow names_in env frame → UnitsAgree (names.with_own named own env) (slots.with_own units other frame)
+        own_agrees : (env : Env) (frame : Frame) → GlobalsShow names_in env frame → UnitsAgree (language.with_own named own env) (slots.with_own units other frame)
         own_agrees env frame reads n = own_by env frame reads (n == number) n
 
-        evals_agree : EvalsAgree names_in [] (GlobalsShow names_in) (names.eval_top m named own) (slots.eval_top m units other)
-        unfolding scope.expr names.eval_top slots.eval_top
+        evals_agree : EvalsAgree names_in [] (GlobalsShow names_in) (language.eval_top m by_names named own) (slots.eval_top m units other)
+        unfolding scope.expr language.eval_top slots.eval_top
         evals_agree x c p q below made fit env frame s reads =
-            outside_agree m names_in (names.own_round own env) (slots.own_round other frame) (functions.calls calls.max_active m (names.with_own named own env))
+            outside_agree m names_in (own.round env) (slots.own_round other frame) (functions.calls calls.max_active m by_names (language.with_own named own env))
             (calls.calls calls.max_active m (slots.with_own units other frame)) (record { globals = reads; loaded = loaded_reads vs; universe = refl })
-            (calls_agree m (names.with_own named own env) (slots.with_own units other frame) (own_agrees env frame reads) calls.max_active) x c p q made (code_within max_layers c fit) s
+            (calls_agree m (language.with_own named own env) (slots.with_own units other frame) (own_agrees env frame reads) calls.max_active) x c p q made (code_within max_layers c fit) s
 
         pub module_alike : (s : S) → Alike (Reads (λ name. place_among name (global_names ts))) (names.module_meaning m named number universe ts vs s) (slots.module_meaning m units number r vs s)
-        unfolding names.module_meaning slots.module_meaning
+        unfolding names.module_meaning language.module_meaning slots.module_meaning
         module_alike s =
-            let eval : Eval S = names.eval_top m named own in
+            let eval : Eval S Env = language.eval_top m by_names named own in
             let slotted : trees.Eval S = slots.eval_top m units other in
             then_alike (Ended (GlobalsShow names_in)) (GlobalsShow names_in) _ _ _ _
             (tops_alike m names_in own other eval slotted refl evals_agree (lines_agree m names_in eval slotted evals_agree) ts r.statements nothing_passed walk.0 walk.1 fits.0 walk.2

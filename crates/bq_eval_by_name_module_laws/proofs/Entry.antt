@@ -1,6 +1,7 @@
 -- What a call begins with: the environment and the frame say the same, where the parameters have the first slots.
 use Rattle.std.proofs.Common.{◌≡◌, ℕ, ◌+◌, List, [], ◌∷◌, Option, Some, None, refl, sym, ap, ◌∙◌, subst, zero-add}
 use Rattle.std.specs.Option.{option_map}
+use Rattle.bq_parse_grammar.specs.declared.tree.Identifier.{Identifier}
 use Rattle.bq_parse_grammar.specs.declared.tree.Parameter.{Parameter}
 use Rattle.bq_parse_grammar.specs.declared.tree.Parameter.TheVariants as parameter
 use Rattle.bq_resolve_scope.specs.declared.code.CodeFunction.{CodeFunction}
@@ -15,10 +16,10 @@ use Rattle.bq_builtin_machine.specs.Binding.{bind}
 use Rattle.bq_eval_meaning_spec.specs.Calls as slots
 use Rattle.bq_eval_meaning_spec.specs.Frame.{Frame, empty, fill}
 use Rattle.bq_eval_meaning_spec.specs.Primitives.{Primitives, given_by}
-use Rattle.bq_eval_by_name_spec.specs.Calls as names
-use Rattle.bq_eval_by_name_spec.specs.Calls.{Def}
+use Rattle.bq_eval_language_spec.specs.Calls as names
+use Rattle.bq_eval_language_spec.specs.Calls.{Def}
 use Rattle.bq_eval_by_name_spec.specs.Names as env
-use Rattle.bq_eval_by_name_spec.specs.Names.{Env, declare, outside}
+use Rattle.bq_eval_by_name_spec.specs.Names.{Env, declare, outside, by_names}
 use Rattle.bq_eval_by_name_expression_laws.specs.Alike.{Alike}
 use Rattle.bq_eval_by_name_expression_laws.specs.Shows.{Nested, Shows}
 use Rattle.bq_eval_by_name_expression_laws.proofs.Envs.{shows_bind, shows_declare, shows_outside}
@@ -89,7 +90,7 @@ module _ (ns : List Name) where
 
   -- ---- parameters are bound
 
-  abbrev Filled : names.Filling → slots.Filling → Type 0
+  abbrev Filled : names.Filling Env → slots.Filling → Type 0
   Filled x y = (x.values ≡ y.values) × (x.defaults ≡ y.defaults) × (x.rest ≡ y.rest) × (x.keywords ≡ y.keywords) × Shows (block_of ns ∷ []) x.env y.frame
 
   nested : Nested (block_of ns ∷ [])
@@ -101,34 +102,34 @@ module _ (ns : List Name) where
       subst (λ z. Shows (block_of ns ∷ []) (env.bind e name v) (fill frame k z)) same (shows_bind (block_of ns ∷ []) nested e frame name k v (alone ns name k at) shows)
 
   module _ {S : Type 0} (m : Primitives S) where
-    value_alike : (name : Name) (k : ℕ) → place_among name ns ≡ Some k → (vs : List (Option Datum)) (x : names.Filling) (y : slots.Filling) → Filled x y → (s : S)
-        → Alike Filled (names.with_value m name vs x s) (slots.with_value m k vs y s)
-    value_alike name k at [] x y h s = refl
-    value_alike name k at (None ∷ vs) x y h s = refl
-    value_alike name k at (Some v ∷ vs) x y h s = (refl, (refl, h.1, h.2, h.3, binds x.env y.frame name k v v at refl h.4))
+    value_alike : (n : Identifier) (k : ℕ) → place_among n.name ns ≡ Some k → (vs : List (Option Datum)) (x : names.Filling Env) (y : slots.Filling) → Filled x y → (s : S)
+        → Alike Filled (names.with_value m by_names n vs x s) (slots.with_value m k vs y s)
+    value_alike n k at [] x y h s = refl
+    value_alike n k at (None ∷ vs) x y h s = refl
+    value_alike n k at (Some v ∷ vs) x y h s = (refl, (refl, h.1, h.2, h.3, binds x.env y.frame n.name k v v at refl h.4))
 
-    default_alike : (name : Name) (k : ℕ) → place_among name ns ≡ Some k → (vs : List (Option Datum)) (ds : List Datum) (x : names.Filling) (y : slots.Filling) → Filled x y → (s : S)
-        → Alike Filled (names.with_default m name vs ds x s) (slots.with_default m k vs ds y s)
-    default_alike name k at [] ds x y h s = refl
-    default_alike name k at (None ∷ vs) [] x y h s = refl
-    default_alike name k at (Some v ∷ vs) [] x y h s = refl
-    default_alike name k at (None ∷ vs) (d ∷ ds) x y h s = (refl, (refl, refl, h.2, h.3, binds x.env y.frame name k d d at refl h.4))
-    default_alike name k at (Some v ∷ vs) (d ∷ ds) x y h s = (refl, (refl, refl, h.2, h.3, binds x.env y.frame name k v v at refl h.4))
+    default_alike : (n : Identifier) (k : ℕ) → place_among n.name ns ≡ Some k → (vs : List (Option Datum)) (ds : List Datum) (x : names.Filling Env) (y : slots.Filling) → Filled x y → (s : S)
+        → Alike Filled (names.with_default m by_names n vs ds x s) (slots.with_default m k vs ds y s)
+    default_alike n k at [] ds x y h s = refl
+    default_alike n k at (None ∷ vs) [] x y h s = refl
+    default_alike n k at (Some v ∷ vs) [] x y h s = refl
+    default_alike n k at (None ∷ vs) (d ∷ ds) x y h s = (refl, (refl, refl, h.2, h.3, binds x.env y.frame n.name k d d at refl h.4))
+    default_alike n k at (Some v ∷ vs) (d ∷ ds) x y h s = (refl, (refl, refl, h.2, h.3, binds x.env y.frame n.name k v v at refl h.4))
 
-    by_alike : (p : Parameter) (z : CodeParameter) → RowIs ns p z → (x : names.Filling) (y : slots.Filling) → Filled x y → (s : S) → Alike Filled (names.fill_parameter m p x s) (slots.fill_by m z y s)
+    by_alike : (p : Parameter) (z : CodeParameter) → RowIs ns p z → (x : names.Filling Env) (y : slots.Filling) → Filled x y → (s : S) → Alike Filled (names.fill_parameter m by_names p x s) (slots.fill_by m z y s)
     unfolding names.fill_parameter
     by_alike (parameter.Plain n) z r x y h s =
-        rw r.2 (subst (λ vs. Alike Filled (names.with_value m n.name x.values x s) (slots.with_value m r.0 vs y s)) h.0 (value_alike n.name r.0 r.1 x.values x y h s))
+        rw r.2 (subst (λ vs. Alike Filled (names.with_value m by_names n x.values x s) (slots.with_value m r.0 vs y s)) h.0 (value_alike n r.0 r.1 x.values x y h s))
     by_alike (parameter.Default n e) z r x y h s =
         rw r.2
-        (subst (λ vs. Alike Filled (names.with_default m n.name x.values x.defaults x s) (slots.with_default m r.0 vs y.defaults y s)) h.0
-        (subst (λ ds. Alike Filled (names.with_default m n.name x.values x.defaults x s) (slots.with_default m r.0 x.values ds y s)) h.1 (default_alike n.name r.0 r.1 x.values x.defaults x y h s)))
+        (subst (λ vs. Alike Filled (names.with_default m by_names n x.values x.defaults x s) (slots.with_default m r.0 vs y.defaults y s)) h.0
+        (subst (λ ds. Alike Filled (names.with_default m by_names n x.values x.defaults x s) (slots.with_default m r.0 x.values ds y s)) h.1 (default_alike n r.0 r.1 x.values x.defaults x y h s)))
     by_alike parameter.BareStar z r x y h s = rw r (refl, h)
     by_alike (parameter.Star n) z r x y h s = rw r.2 (refl, (h.0, h.1, h.2, h.3, binds x.env y.frame n.name r.0 x.rest y.rest r.1 h.2 h.4))
     by_alike (parameter.StarStar n) z r x y h s = rw r.2 (refl, (h.0, h.1, h.2, h.3, binds x.env y.frame n.name r.0 x.keywords y.keywords r.1 h.3 h.4))
 
-    fill_alike : (ps : List Parameter) (zs : List CodeParameter) → InOrder (RowIs ns) ps zs → (x : names.Filling) (y : slots.Filling) → Filled x y → (s : S)
-        → Alike Filled (names.fill_parameters m ps x s) (slots.fill_parameters m zs y s)
+    fill_alike : (ps : List Parameter) (zs : List CodeParameter) → InOrder (RowIs ns) ps zs → (x : names.Filling Env) (y : slots.Filling) → Filled x y → (s : S)
+        → Alike Filled (names.fill_parameters m by_names ps x s) (slots.fill_parameters m zs y s)
     unfolding names.fill_parameters slots.fill_parameters slots.fill_parameter
     fill_alike [] [] r x y h s = (refl, h)
     fill_alike (p ∷ ps) (z ∷ zs) r x y h s = then_alike Filled Filled _ _ _ _ (by_alike p z r.0 x y h s) (λ a b t k. fill_alike ps zs r.1 a b k t)
@@ -154,7 +155,7 @@ module _ (file : FileParts) (d : Def) (f : CodeFunction) (is : FunctionIs file d
   first_shows : Shows (block_of names_of ∷ []) (declare outside names_of) empty
   first_shows = shows_declare (block_of names_of) [] outside empty tt shows_outside
 
-  pub entry_alike : {S : Type 0} (m : Primitives S) (ds : List Datum) (p : Passed) (s : S) → Alike (Shows (block_of names_of ∷ [])) (names.entry m d ds p s) (slots.entry m f ds p s)
+  pub entry_alike : {S : Type 0} (m : Primitives S) (ds : List Datum) (p : Passed) (s : S) → Alike (Shows (block_of names_of ∷ [])) (names.entry m by_names d ds p s) (slots.entry m f ds p s)
   unfolding names.entry slots.entry
   entry_alike m ds p s =
       rw (signatures_are, star_star_is names_of d.parameters f.parameters rows_are)

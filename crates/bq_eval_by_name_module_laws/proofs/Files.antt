@@ -34,8 +34,8 @@ use Rattle.bq_resolve_by_name.specs.Resolution.{InOrder, ExprIs, kind_is, StmtTo
 use Rattle.bq_resolve_by_name.proofs.Makes.{append_none, append_one, append_all, makes_all}
 use Rattle.bq_resolve_by_name.proofs.ResolvedExpressions.{name_makes}
 use Rattle.bq_resolve_by_name.proofs.ResolvedStatements.{an_expr_makes, assign_makes, augment_makes, returned_makes, in_loop_makes, stmt_makes}
-use Rattle.bq_eval_by_name_spec.specs.Calls.{Def}
-use Rattle.bq_eval_by_name_spec.specs.Module.{defs_by, defs, defaults_of}
+use Rattle.bq_eval_language_spec.specs.Calls.{Def}
+use Rattle.bq_eval_language_spec.specs.Module.{defs_by, defs, defaults_of}
 use Rattle.bq_eval_by_name_module_laws.specs.Units.{FunctionIs}
 use Rattle.bq_eval_by_name_module_laws.proofs.Keeps.{Made, Kept, Keeps, Anything, kept, keeps_bind, makes_keep, keeps_makes, keeps_each, middle, same_end, both}
 use Rattle.bq_eval_by_name_module_laws.proofs.Parameters.{Outer, Rows, parameters_keep}

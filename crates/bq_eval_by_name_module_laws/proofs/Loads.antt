@@ -12,7 +12,6 @@ use Rattle.bq_eval_meaning_spec.specs.Frame.{Frame, empty, fill}
 use Rattle.bq_eval_meaning_spec.specs.Module as slots
 use Rattle.bq_eval_by_name_spec.specs.Module as named
 use Rattle.bq_eval_by_name_spec.specs.Names.{Env, bind, declare, outside}
-use Rattle.bq_eval_by_name_spec.proofs.Forms as forms
 use Rattle.bq_eval_by_name_expression_laws.specs.Shows.{through, Reads}
 use Rattle.bq_eval_by_name_expression_laws.proofs.Envs.{reads_bind}
 use Rattle.bq_eval_by_name_expression_laws.proofs.Slots.{one_place}
@@ -60,7 +59,7 @@ module _ (names : List Name) where
   first_by env frame name v None e reads = reads
   first_by env frame name v (Some k) e reads = reads_bind place env frame name k v (λ a b slot g h. one_place names a b slot g h) e reads
 
-  first_reads : (env : Env) (frame : Frame) (name : Name) (v : Datum) (o : Option ℕ) → o ≡ place name → Reads place env frame → Reads place (forms.with_first names name v env) (slots.with_first o v frame)
+  first_reads : (env : Env) (frame : Frame) (name : Name) (v : Datum) (o : Option ℕ) → o ≡ place name → Reads place env frame → Reads place (named.with_first names name v env) (slots.with_first o v frame)
   first_reads env frame name v o e reads = rw (sym (has_place name names), e) (first_by env frame name v (place name) refl reads)
 
   pub clauses_read : (cs : List LoadClause) (os : List (Option ℕ)) → Sent cs os → (vs : List Datum) (env : Env) (frame : Frame) → Reads place env frame
@@ -69,7 +68,7 @@ module _ (names : List Name) where
   clauses_read [] [] h vs env frame reads = reads
   clauses_read (c ∷ cs) (o ∷ os) h [] env frame reads = reads
   clauses_read (c ∷ cs) (o ∷ os) h (v ∷ vs) env frame reads =
-      clauses_read cs os h.1 vs (forms.with_first names c.local.name v env) (slots.with_first o v frame) (first_reads env frame c.local.name v o h.0 reads)
+      clauses_read cs os h.1 vs (named.with_first names c.local.name v env) (slots.with_first o v frame) (first_reads env frame c.local.name v o h.0 reads)
   clauses_read [] (o ∷ os) h vs env frame reads = absurd h
   clauses_read (c ∷ cs) [] h vs env frame reads = absurd h
 

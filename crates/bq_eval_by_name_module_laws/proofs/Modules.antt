@@ -36,12 +36,12 @@ use Rattle.bq_eval_meaning_spec.specs.Statements as slotted
 use Rattle.bq_eval_meaning_spec.specs.Statements.{Flow, next, leave, again, answer}
 use Rattle.bq_eval_meaning_spec.specs.Targets as targets
 use Rattle.bq_eval_meaning_spec.specs.Trees as trees
-use Rattle.bq_eval_by_name_spec.specs.Expressions as exprs
-use Rattle.bq_eval_by_name_spec.specs.Module as names
-use Rattle.bq_eval_by_name_spec.specs.Module.{defs_by, defaults_of}
-use Rattle.bq_eval_by_name_spec.specs.Names.{Env, bind}
-use Rattle.bq_eval_by_name_spec.specs.Statements as named
-use Rattle.bq_eval_by_name_spec.specs.Trees.{Eval}
+use Rattle.bq_eval_language_spec.specs.Expressions as exprs
+use Rattle.bq_eval_language_spec.specs.Module as names
+use Rattle.bq_eval_language_spec.specs.Module.{defs_by, defaults_of}
+use Rattle.bq_eval_language_spec.specs.Statements as named
+use Rattle.bq_eval_language_spec.specs.Trees.{Eval}
+use Rattle.bq_eval_by_name_spec.specs.Names.{Env, Round, bind, by_names}
 use Rattle.bq_eval_by_name_expression_laws.specs.Alike.{Alike, Same}
 use Rattle.bq_eval_by_name_expression_laws.proofs.Envs.{reads_bind}
 use Rattle.bq_eval_by_name_expression_laws.proofs.Runs.{itself, then_alike, then_same, then_both}
@@ -100,7 +100,7 @@ same_length R (x ∷ xs) [] h = absurd h
 
 -- ---- statements outside functions
 
-module _ {S : Type 0} (m : Primitives S) (file : FileParts) (own : names.Own) (other : slots.Own) (E : Eval S) (F : trees.Eval S) (numbers : own.number ≡ other.number)
+module _ {S : Type 0} (m : Primitives S) (file : FileParts) (own : names.Own Round Env) (other : slots.Own) (E : Eval S Env) (F : trees.Eval S) (numbers : own.number ≡ other.number)
     (agree : EvalsAgree file [] (GlobalsShow file) E F) (lines : LinesAgree m file E F) where
   values_alike : (xs : List Expr) (ys : List Code) → InOrder (Outer file) xs ys → AllByRecursion ExprFits ys → (env : Env) (frame : Frame) → GlobalsShow file env frame → (vs : List Datum) (s : S)
       → Alike Same (exprs.values m E xs env vs s) (codes.values m F ys frame vs s)
@@ -125,7 +125,7 @@ module _ {S : Type 0} (m : Primitives S) (file : FileParts) (own : names.Own) (o
 
   def_alike : (n : Identifier) (ps : List Parameter) (body : List Stmt) (u w : Passed) (x : FileStmt) (is : DefIs file n ps body u w x) → AllByRecursion ExprFits is.defaults
       → (rest : List CodeFunction) → other.functions ≡ w.functions ++ rest → (env : Env) (frame : Frame) → GlobalsShow file env frame → (s : S)
-      → Alike (Ended (GlobalsShow file)) (names.file_stmt_by m own E (length u.functions) (Stmt-F.Def n ps body) env s)
+      → Alike (Ended (GlobalsShow file)) (names.file_stmt_by m by_names own E (length u.functions) (Stmt-F.Def n ps body) env s)
       (slots.def_stmt m other F (record { target = is.target; function = length u.functions; defaults = is.defaults }) frame s)
   unfolding slots.def_stmt
   def_alike n ps body u w x is fits rest e env frame reads s =
@@ -134,21 +134,21 @@ module _ {S : Type 0} (m : Primitives S) (file : FileParts) (own : names.Own) (o
       (λ vs z. bound_alike n ps body u w x is rest e env frame reads vs z))
 
   stmt_alike : (o : Stmt-F Stmt Branch) (u w : Passed) (x : FileStmt) → stmt_is file o u w x → FileStmtFits x → (rest : List CodeFunction) → other.functions ≡ w.functions ++ rest
-      → (env : Env) (frame : Frame) → GlobalsShow file env frame → (s : S) → Alike (Ended (GlobalsShow file)) (names.file_stmt_by m own E (length u.functions) o env s) (slots.file_stmt_by m other F x frame s)
+      → (env : Env) (frame : Frame) → GlobalsShow file env frame → (s : S) → Alike (Ended (GlobalsShow file)) (names.file_stmt_by m by_names own E (length u.functions) o env s) (slots.file_stmt_by m other F x frame s)
   stmt_alike (Stmt-F.Simple xs) u w x h fits rest e env frame reads s =
-      subst (λ z. Alike (Ended (GlobalsShow file)) (names.file_stmt_by m own E (length u.functions) (Stmt-F.Simple xs) env s) (slots.file_stmt_by m other F z frame s)) (sym h.2)
+      subst (λ z. Alike (Ended (GlobalsShow file)) (names.file_stmt_by m by_names own E (length u.functions) (Stmt-F.Simple xs) env s) (slots.file_stmt_by m other F z frame s)) (sym h.2)
       (lines xs h.0 h.1.0 h.1.1 h.1.2 (subst (λ z. FileStmtFits z) h.2 fits) env frame s reads)
   stmt_alike (Stmt-F.If bs zs) u w x h fits rest e env frame reads s = absurd h
   stmt_alike (Stmt-F.For t y body) u w x h fits rest e env frame reads s = absurd h
   stmt_alike (Stmt-F.Def n ps body) u w x h fits rest e env frame reads s =
-      subst (λ z. Alike (Ended (GlobalsShow file)) (names.file_stmt_by m own E (length u.functions) (Stmt-F.Def n ps body) env s) (slots.file_stmt_by m other F z frame s)) (sym h.is)
+      subst (λ z. Alike (Ended (GlobalsShow file)) (names.file_stmt_by m by_names own E (length u.functions) (Stmt-F.Def n ps body) env s) (slots.file_stmt_by m other F z frame s)) (sym h.is)
       (def_alike n ps body u w x h (let fit : FileStmtFits (file_stmt.Def (record { target = h.target; function = length u.functions; defaults = h.defaults })) = subst (λ z. FileStmtFits z) h.is fits in fit.1) rest e env frame reads s)
 
   top_alike : (i : TopLevel) (u w : Passed) (y : CodeTopLevel) → TopIs file i u w y → TopLevelFits y → (rest : List CodeFunction) → other.functions ≡ w.functions ++ rest
-      → (env : Env) (frame : Frame) → GlobalsShow file env frame → (s : S) → Alike (Ended (GlobalsShow file)) (names.top_level m own E (length u.functions) i env s) (slots.top_level m other F y frame s)
+      → (env : Env) (frame : Frame) → GlobalsShow file env frame → (s : S) → Alike (Ended (GlobalsShow file)) (names.top_level m by_names own E (length u.functions) i env s) (slots.top_level m other F y frame s)
   unfolding names.top_level slots.top_level slots.file_stmt
   top_alike i u w y h fits rest e env frame reads s =
-      subst (λ z. Alike (Ended (GlobalsShow file)) (names.top_level m own E (length u.functions) i env s) (slots.top_level m other F z frame s)) (sym h.2)
+      subst (λ z. Alike (Ended (GlobalsShow file)) (names.top_level m by_names own E (length u.functions) i env s) (slots.top_level m other F z frame s)) (sym h.2)
       (stmt_alike (out-Stmt i.statement) u w h.0 h.1 (let fit : TopLevelFits (record { line = i.line; statement = h.0 }) = subst (λ z. TopLevelFits z) h.2 fits in fit) rest e env frame reads (m.at_line i.line s))
 
   -- what comes after, where nothing ends
@@ -161,7 +161,7 @@ module _ {S : Type 0} (m : Primitives S) (file : FileParts) (own : names.Own) (o
 
   pub tops_alike : (ts : List TopLevel) (ys : List CodeTopLevel) (u v : Passed) → TopsAre file u ts ys v → AllByRecursion TopLevelFits ys → other.functions ≡ v.functions
       → (env : Env) (frame : Frame) → GlobalsShow file env frame → (s : S)
-      → Alike (Ended (GlobalsShow file)) (names.top_levels m own E (length u.functions) ts env s) (slots.top_levels m other F ys frame s)
+      → Alike (Ended (GlobalsShow file)) (names.top_levels m by_names own E (length u.functions) ts env s) (slots.top_levels m other F ys frame s)
   unfolding names.top_levels slots.top_levels
   tops_alike [] [] u v h fits e env frame reads s = (refl, (refl, reads))
   tops_alike (t ∷ ts) (y ∷ ys) u v h fits e env frame reads s =
@@ -172,9 +172,9 @@ module _ {S : Type 0} (m : Primitives S) (file : FileParts) (own : names.Own) (o
       let count : length w.functions ≡ length u.functions + length (defs_by (out-Stmt t.statement)) =
       all ∙ ap (λ k. length u.functions + k) (sym (same_length (FunctionIs file) (defs_by (out-Stmt t.statement)) one.0 one.2)) in
       then_alike (Ended (GlobalsShow file)) (Ended (GlobalsShow file)) _ _ _ _ (top_alike t u w y h.1 fits.0 rest.0 (e ∙ rest.1) env frame reads s)
-      (λ a b z k. subst (λ f. Alike (Ended (GlobalsShow file)) (named.go_on (names.top_levels m own E (length u.functions + length (defs_by (out-Stmt t.statement))) ts) a z)
+      (λ a b z k. subst (λ f. Alike (Ended (GlobalsShow file)) (named.go_on (names.top_levels m by_names own E (length u.functions + length (defs_by (out-Stmt t.statement))) ts) a z)
       (slotted.go_on (slots.top_levels m other F ys) (f, b.1) z)) k.0
-      (on_alike a.0 a.1 b.1 (names.top_levels m own E (length u.functions + length (defs_by (out-Stmt t.statement))) ts) (slots.top_levels m other F ys) k.1 z
-      (subst (λ n. Alike (Ended (GlobalsShow file)) (names.top_levels m own E n ts a.1 z) (slots.top_levels m other F ys b.1 z)) count (tops_alike ts ys w v h.2 fits.1 e a.1 b.1 k.1 z))))
+      (on_alike a.0 a.1 b.1 (names.top_levels m by_names own E (length u.functions + length (defs_by (out-Stmt t.statement))) ts) (slots.top_levels m other F ys) k.1 z
+      (subst (λ n. Alike (Ended (GlobalsShow file)) (names.top_levels m by_names own E n ts a.1 z) (slots.top_levels m other F ys b.1 z)) count (tops_alike ts ys w v h.2 fits.1 e a.1 b.1 k.1 z))))
   tops_alike [] (y ∷ ys) u v h fits e env frame reads s = absurd h
   tops_alike (t ∷ ts) [] u v h fits e env frame reads s = absurd h

@@ -18,7 +18,7 @@ use Rattle.bq_resolve_scope.specs.Statements.{ParameterParts, expr, named_parame
 use Rattle.bq_resolve_by_name.specs.Resolution.{InOrder, ExprIs}
 use Rattle.bq_resolve_by_name.proofs.Makes.{append_none, append_one, append_all}
 use Rattle.bq_resolve_by_name.proofs.ResolvedStatements.{an_expr_makes}
-use Rattle.bq_eval_by_name_spec.specs.Module.{defaults_of}
+use Rattle.bq_eval_language_spec.specs.Module.{defaults_of}
 use Rattle.bq_eval_by_name_module_laws.proofs.Keeps.{Made, Kept, Keeps, Anything, keeps_bind, keeps_made, keeps_weaker, keeps_makes, both}
 use Rattle.bq_eval_by_name_module_laws.proofs.Places.{Stays, new_place, each_stays, parameter_stays}
 

@@ -18,7 +18,7 @@ use Rattle.bq_resolve_scope.specs.declared.code.LoadedSymbol.{LoadedSymbol}
 use Rattle.bq_resolve_scope.specs.Scope.{FileParts}
 use Rattle.bq_resolve_by_name.specs.Resolution.{InOrder, InTurn, SymbolIs, LoadIs, loads_are, OuterIs, file_stmt_is, TopLevelIs}
 use Rattle.bq_resolve_by_name.proofs.Makes.{append_none, append_all}
-use Rattle.bq_eval_by_name_spec.specs.Module.{clauses_by, line_clauses, clauses_of, load_clauses}
+use Rattle.bq_eval_language_spec.specs.Module.{clauses_by, line_clauses, clauses_of, load_clauses}
 use Rattle.bq_eval_by_name_module_laws.proofs.Loads.{Sent, global_places, all_places}
 
 module _ (file : FileParts) where

@@ -18,10 +18,10 @@ use Rattle.bq_eval_meaning_spec.specs.Calls as slots
 use Rattle.bq_eval_meaning_spec.specs.Frame.{Frame}
 use Rattle.bq_eval_meaning_spec.specs.Module as modules
 use Rattle.bq_eval_meaning_spec.specs.Primitives.{Primitives}
-use Rattle.bq_eval_by_name_spec.specs.Calls as names
-use Rattle.bq_eval_by_name_spec.specs.Calls.{Def}
+use Rattle.bq_eval_language_spec.specs.Calls as names
+use Rattle.bq_eval_language_spec.specs.Calls.{Def}
 use Rattle.bq_eval_by_name_spec.specs.Module as files
-use Rattle.bq_eval_by_name_spec.specs.Names.{Env}
+use Rattle.bq_eval_by_name_spec.specs.Names.{Env, Round, by_names}
 use Rattle.bq_eval_by_name_expression_laws.specs.Agreement.{CallsAgree}
 use Rattle.bq_eval_by_name_expression_laws.specs.Alike.{Alike}
 use Rattle.bq_eval_by_name_expression_laws.specs.Shows.{Reads, Shows}
@@ -36,24 +36,24 @@ module _ {S : Type 0} (m : Primitives S) where
   abbrev pub EntriesAgree : Type 0
   EntriesAgree =
       (file : FileParts) (d : Def) (f : CodeFunction) → FunctionIs file d f → (defaults : List Datum) (p : Passed) (s : S)
-      → Alike (Shows (record { base = 0; names = function_names d.parameters d.body } ∷ [])) (names.entry m d defaults p s) (slots.entry m f defaults p s)
+      → Alike (Shows (record { base = 0; names = function_names d.parameters d.body } ∷ [])) (names.entry m by_names d defaults p s) (slots.entry m f defaults p s)
 
   -- Where the modules are the same ones, calls mean the same, however many functions may still become active.
   abbrev pub CallsOfUnitsAgree : Type 0
-  CallsOfUnitsAgree = (n : ℕ) (named : names.Units) (units : slots.Units) → UnitsAgree named units → CallsAgree (names.calls n m named) (slots.calls n m units)
+  CallsOfUnitsAgree = (n : ℕ) (named : names.Units Round) (units : slots.Units) → UnitsAgree named units → CallsAgree (names.calls n m by_names named) (slots.calls n m units)
 
   -- A file that resolves ends with the same values of its globals and in the same state, or with the same fault and prints. Its trees are
   -- no deeper than the layers that are looked at, as are those of all files that are parsed (bq_eval_depth_laws).
   abbrev pub ModulesAgree : Type 0
   ModulesAgree =
-      (named : names.Units) (units : slots.Units) → UnitsAgree named units → (number : ℕ) (universe : UniverseParts) (ts : List TopLevel) (r : Resolved) → resolved universe ts ≡ Ok r → FileFits r
+      (named : names.Units Round) (units : slots.Units) → UnitsAgree named units → (number : ℕ) (universe : UniverseParts) (ts : List TopLevel) (r : Resolved) → resolved universe ts ≡ Ok r → FileFits r
       → (loaded : List Datum) (s : S)
       → Alike (Reads (λ name. place_among name (global_names ts))) (files.module_meaning m named number universe ts loaded s) (modules.module_meaning m units number r loaded s)
 
   -- the same of a file that is parsed and resolved
   abbrev pub FilesAgree : Type 0
   FilesAgree =
-      (named : names.Units) (units : slots.Units) → UnitsAgree named units → (kind : FileKind) (lexemes : List Lexeme) (number : ℕ) (universe : UniverseParts) (ts : List TopLevel) (r : Resolved)
+      (named : names.Units Round) (units : slots.Units) → UnitsAgree named units → (kind : FileKind) (lexemes : List Lexeme) (number : ℕ) (universe : UniverseParts) (ts : List TopLevel) (r : Resolved)
       → Parses kind lexemes (Ok ts) → resolved universe ts ≡ Ok r → (loaded : List Datum) (s : S)
       → Alike (Reads (λ name. place_among name (global_names ts))) (files.module_meaning m named number universe ts loaded s) (modules.module_meaning m units number r loaded s)
 

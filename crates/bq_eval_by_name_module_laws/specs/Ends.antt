@@ -8,9 +8,9 @@ use Rattle.bq_resolve_scope.specs.Universe.{UniverseParts}
 use Rattle.bq_value.specs.Datum.{Datum}
 use Rattle.bq_builtin_machine.specs.Action.{Run, done, stopped}
 use Rattle.bq_eval_meaning_spec.specs.Primitives.{Primitives}
-use Rattle.bq_eval_by_name_spec.specs.Calls.{Units}
+use Rattle.bq_eval_language_spec.specs.Calls.{Units}
 use Rattle.bq_eval_by_name_spec.specs.Module.{module_meaning}
-use Rattle.bq_eval_by_name_spec.specs.Names.{Env}
+use Rattle.bq_eval_by_name_spec.specs.Names.{Env, Round}
 
 -- of the value that a run gives, if it gives one
 abbrev pub Gives : {S A : Type 0} → (A → Type 0) → Run S A → Type 0
@@ -28,5 +28,5 @@ module _ {S : Type 0} (m : Primitives S) where
 
   abbrev pub GlobalsAreBound : Type 0
   GlobalsAreBound =
-      PartsAreCounted → (units : Units) (number : ℕ) (universe : UniverseParts) (ts : List TopLevel) (r : Resolved) → resolved universe ts ≡ Ok r → (loaded : List Datum) (s : S)
+      PartsAreCounted → (units : Units Round) (number : ℕ) (universe : UniverseParts) (ts : List TopLevel) (r : Resolved) → resolved universe ts ≡ Ok r → (loaded : List Datum) (s : S)
       → Gives (AllBound (global_names ts)) (module_meaning m units number universe ts loaded s)

@@ -10,8 +10,9 @@ use Rattle.bq_resolve_by_name.specs.Resolution.{InOrder, Maybe}
 use Rattle.bq_eval_depth_laws.specs.Fits.{FunctionFits}
 use Rattle.bq_eval_meaning_spec.specs.Calls as slots
 use Rattle.bq_eval_meaning_spec.specs.Calls.{CodeUnit}
-use Rattle.bq_eval_by_name_spec.specs.Calls as names
-use Rattle.bq_eval_by_name_spec.specs.Calls.{Def, TreeUnit}
+use Rattle.bq_eval_language_spec.specs.Calls as names
+use Rattle.bq_eval_language_spec.specs.Calls.{Def, TreeUnit}
+use Rattle.bq_eval_by_name_spec.specs.Names.{Round}
 use Rattle.bq_eval_by_name_expression_laws.specs.Shows.{Around}
 
 -- What a function resolves to among the names of its file: its parameters and its body are resolved, wherever in the
@@ -30,12 +31,12 @@ pub record FunctionIs (file : FileParts) (d : Def) (f : CodeFunction) : Type 0 w
 
 -- The functions of a module are those of the other, in their order, and what is around them says the same. Their bodies
 -- are no deeper than the layers that are looked at, as are all bodies (bq_eval_depth_laws).
-pub record UnitIs (t : TreeUnit) (c : CodeUnit) : Type 0 where
+pub record UnitIs (t : TreeUnit Round) (c : CodeUnit) : Type 0 where
   pub file : FileParts
   pub functions : InOrder (FunctionIs file) t.functions c.functions
   pub fits : AllByRecursion FunctionFits c.functions
   pub round : Around file t.round c.round
 
 -- of each number both have a module, or neither has
-abbrev pub UnitsAgree : names.Units → slots.Units → Type 0
+abbrev pub UnitsAgree : names.Units Round → slots.Units → Type 0
 UnitsAgree named units = (n : ℕ) → Maybe UnitIs (named n) (units n)

@@ -1,3 +1,1 @@
 pub mod OneName
--- clauses of the definitions, by words of their own
-pub mod Forms

@@ -1,18 +1,16 @@
--- Environments: the values of names at a place of a program (Starlark specification, "Name binding and variables").
+-- Environments of names: the values of names at a place of a program (Starlark specification, "Name binding and variables").
 use Rattle.std.specs.Prelude.{List, Bool, true, false, ◌&&◌, Option, Some, None, bytes_eq, if◌then◌else◌}
 use Rattle.std.specs.Option.{option_map}
-use Rattle.bq_base.specs.declared.fault.FaultKind.TheVariants as f
 use Rattle.bq_parse_grammar.specs.declared.tree.Argument.TheOpen.{Expr-F}
+use Rattle.bq_parse_grammar.specs.declared.tree.Expr.{out-Expr}
 use Rattle.bq_parse_grammar.specs.Targets.{ExprLayer}
-use Rattle.bq_resolve_scope.specs.Names.{Name, has}
+use Rattle.bq_resolve_scope.specs.Names.{Name, has, comprehension_names, function_names}
 use Rattle.bq_resolve_scope.specs.Scope.{or_else}
-use Rattle.bq_resolve_scope.specs.Expressions.{is_bzl}
-use Rattle.bq_resolve_scope.specs.Universe.{UniverseParts, namespace_named, universe_has}
+use Rattle.bq_resolve_scope.specs.Expressions.{MemberCall, member_call, is_bzl}
+use Rattle.bq_resolve_scope.specs.Universe.{UniverseParts, member_named, namespace_named, universe_has}
 use Rattle.bq_resolve_scope.specs.declared.universe.Namespace.{Namespace}
 use Rattle.bq_value.specs.Datum.{Datum}
-use Rattle.bq_builtin_machine.specs.Action.{Action}
-use Rattle.bq_eval_meaning_spec.specs.Primitives.{Primitives, stop}
-use Rattle.bq_eval_meaning_spec.specs.Targets.{bound}
+use Rattle.bq_eval_language_spec.specs.Environment.{NameValue, variable, predeclared, NamespaceCall, Scoping}
 
 -- Of each name: whether a block here holds it, and if one does, the value of the innermost one, or none while the name is not bound.
 abbrev pub Env : Type 0
@@ -37,24 +35,40 @@ pub record Round : Type 0 where
   pub loaded : Env
   pub universe : UniverseParts
 
-module _ {S : Type 0} (m : Primitives S) (round : Round) where
+-- a name has no meaning here
+abbrev pub is_unknown : Option NameValue → Bool
+is_unknown None = true
+is_unknown (Some v) = false
+
+module _ (round : Round) where
   -- "a use belongs to the innermost block around it whose set holds the name": else to the file's, else to its loads,
   -- else to all files
-  unfoldable pub held : Env → Name → Option (Option Datum)
-  held env name =
-      or_else (env name) (or_else (round.globals name) (or_else (round.loaded name) (option_map (λ p. Some (m.predeclared p)) (universe_has round.universe name))))
-
-  -- a name that is known nowhere is F20, and one that is not bound yet F49: its block's, whatever else has the name
-  abbrev pub value_by : Option (Option Datum) → Action S Datum
-  value_by None = stop m f.UnknownName
-  value_by (Some v) = bound m v
-
-  -- a name is not that of a variable here
-  abbrev pub is_unknown : Option (Option Datum) → Bool
-  is_unknown None = true
-  is_unknown (Some v) = false
+  unfoldable pub held : Env → Name → Option NameValue
+  held env name = or_else (option_map variable (or_else (env name) (or_else (round.globals name) (round.loaded name)))) (option_map predeclared (universe_has round.universe name))
 
   -- a namespace of a .bzl file, where no such name is bound
   abbrev pub namespace_at : ExprLayer → Env → Option Namespace
   namespace_at (Expr-F.Expr::Name n) env = if is_bzl round.universe.kind && is_unknown (held env n.name) then namespace_named n.name else None
   namespace_at _ env = None
+
+  -- what a namespace has by the name that is called
+  abbrev pub member_of : Option MemberCall → Option NamespaceCall
+  member_of None = None
+  member_of (Some (space, n, xs, rest)) = Some (member_named space round.universe.rules n.name, xs, rest)
+
+-- the value of a name that is assigned: its own block holds it, so nothing around that block is read
+abbrev pub own_value : Option (Option Datum) → Option Datum
+own_value None = None
+own_value (Some v) = v
+
+-- what names mean
+abbrev pub by_names : Scoping Round Env
+by_names = record {
+  value = λ round env n. held round env n.name;
+  member = λ round env x ss. member_of round (member_call (namespace_at round (out-Expr x) env) ss);
+  own_value = λ env n. own_value (env n.name);
+  bind = λ env n v. bind env n.name v;
+  outside = outside;
+  in_function = λ ps body. declare outside (function_names ps body);
+  in_comprehension = λ env cs own. declare env (comprehension_names cs);
+}

@@ -1,4 +1,4 @@
-//! What an expression means by names.
+//! What a program means by names: the meaning of bq_eval_language_spec, for environments that go from names to values.
 #![tactic(auto)]
 
 mod laws;

@@ -35,10 +35,10 @@ use Rattle.bq_eval_meaning_spec.specs.Statements as slots
 use Rattle.bq_eval_meaning_spec.specs.Trees as trees
 use Rattle.bq_eval_meaning_laws.specs.Layers.{OptionalParts}
 use Rattle.bq_eval_depth_laws.specs.Fits.{ExprFits, PlaceFits, SmallFits, BranchFits, StmtLayerFits, StmtFits}
-use Rattle.bq_eval_by_name_spec.specs.Names.{Env}
-use Rattle.bq_eval_by_name_spec.specs.Statements as names
-use Rattle.bq_eval_by_name_spec.specs.Trees as parsed
-use Rattle.bq_eval_by_name_spec.specs.Trees.{Eval}
+use Rattle.bq_eval_language_spec.specs.Statements as names
+use Rattle.bq_eval_language_spec.specs.Trees as parsed
+use Rattle.bq_eval_language_spec.specs.Trees.{Eval}
+use Rattle.bq_eval_by_name_spec.specs.Names.{Env, by_names}
 use Rattle.bq_eval_by_name_expression_laws.proofs.Walks.{Pairwise, Optional, Walked, Walks, walks_bind, walks_weaker, walks_pure, walks_map, walks_two, walks_three, walks_all, walks_some, walks_optional}
 use Rattle.bq_eval_by_name_statement_laws.proofs.Kept.{IsKept}
 use Rattle.bq_eval_by_name_statement_laws.proofs.Visits.{ExprAgree}
@@ -84,7 +84,7 @@ unfolding scope.in_loop
 in_loop_walks file blocks P x h true line = walks_pure blocks P x h
 in_loop_walks file blocks P x h false line = λ u below. tt
 
-module _ {S : Type 0} (m : Primitives S) (file : FileParts) (R : Env → Frame → Type 0) (E : Eval S) (F : trees.Eval S) where
+module _ {S : Type 0} (m : Primitives S) (file : FileParts) (R : Env → Frame → Type 0) (E : Eval S Env) (F : trees.Eval S) where
   -- ---- small statements
 
   abbrev KindGood : SmallKind → CodeSmall → Type 0
@@ -141,14 +141,14 @@ module _ {S : Type 0} (m : Primitives S) (file : FileParts) (R : Env → Frame �
     -- ---- statements
 
     abbrev pub StmtGood : ℕ → Stmt → CodeStmt → Type 0
-    StmtGood n x z = StmtFits n z → RunsAlike m R (names.run_to n m E x) (slots.run_to n m F z)
+    StmtGood n x z = StmtFits n z → RunsAlike m R (names.run_to n m by_names E x) (slots.run_to n m F z)
 
     abbrev pub KeptIn : ℕ → Stmt → Type 0
     KeptIn n x = (name : Name) → StmtBindsTo n name x → Kept name
 
     -- a statement's outermost layer
     abbrev LayerGood : ℕ → parsed.StmtLayer → trees.StmtLayer → Type 0
-    LayerGood n o p = StmtLayerFits (StmtFits n) p → LayerAlike m R E F (names.run_to n m E) (slots.run_to n m F) o p
+    LayerGood n o p = StmtLayerFits (StmtFits n) p → LayerAlike m R E F (names.run_to n m by_names E) (slots.run_to n m F) o p
 
     stmt_good : (n : ℕ) (x : Stmt) (z : CodeStmt) → LayerGood n (out-Stmt x) (out-CodeStmt z) → StmtGood (suc n) x z
     unfolding StmtFits names.run_to slots.run_to slots.stmt
@@ -160,10 +160,10 @@ module _ {S : Type 0} (m : Primitives S) (file : FileParts) (R : Env → Frame �
     -- those of a block
     module _ (n : ℕ) (inner : Bool → Stmt → Visit CodeStmt) (inners : (looping : Bool) (x : Stmt) → KeptIn n x → Walks {A = CodeStmt} blocks (λ z. StmtGood n x z) (inner looping x)) where
       abbrev Same : Stmt → CodeStmt → Type 0
-      Same x z = StmtAlike m R E F (names.run_to n m E) (slots.run_to n m F) x z
+      Same x z = StmtAlike m R E F (names.run_to n m by_names E) (slots.run_to n m F) x z
 
       abbrev BranchSame : Branch → CodeBranch → Type 0
-      BranchSame b d = BranchAgree m R E F (names.run_to n m E) (slots.run_to n m F) b d
+      BranchSame b d = BranchAgree m R E F (names.run_to n m by_names E) (slots.run_to n m F) b d
 
       pub block_walks : (looping : Bool) (xs : List Stmt) → ((name : Name) → AnyOf (StmtBindsTo n name) xs → Kept name)
           → Walks {A = List CodeStmt} blocks (λ zs. AllByRecursion (StmtFits n) zs → Pairwise Same xs zs) (each (inner looping) [] xs)
@@ -200,19 +200,19 @@ module _ {S : Type 0} (m : Primitives S) (file : FileParts) (R : Env → Frame �
       stmt_by_walks looping (Stmt-F.Simple xs) kept =
           walks_map blocks (λ ys. AllByRecursion SmallFits ys → Pairwise (SmallAgree m R E F) xs ys) (λ z. LayerGood n (Stmt-F.Simple xs) (out-CodeStmt z)) (each (scope.small_stmt file blocks looping) [] xs)
           (λ ys. s.Simple ys)
-          (λ ys h. made n (Stmt-F.Simple xs) (s.Simple ys) (CodeStmt-F.Simple ys) (s.rolls-Simple ys) (λ fits. simple_layer m R E F (names.run_to n m E) (slots.run_to n m F) xs ys (h fits)))
+          (λ ys h. made n (Stmt-F.Simple xs) (s.Simple ys) (CodeStmt-F.Simple ys) (s.rolls-Simple ys) (λ fits. simple_layer m R E F (names.run_to n m by_names E) (slots.run_to n m F) xs ys (h fits)))
           (line_walks looping xs kept)
       stmt_by_walks looping (Stmt-F.If bs xs) kept =
           walks_two blocks (λ ds. Pairwise BranchGood bs ds) (λ zs. AllByRecursion (StmtFits n) zs → Pairwise Same xs zs) (λ z. LayerGood n (Stmt-F.If bs xs) (out-CodeStmt z))
           (each (scope.branch file (inner looping) blocks) [] bs) (each (inner looping) [] xs) (λ ds zs. s.If ds zs)
           (λ ds zs h k. made n (Stmt-F.If bs xs) (s.If ds zs) (CodeStmt-F.If ds zs) (s.rolls-If ds zs)
-          (λ fits. if_layer m R E F (names.run_to n m E) (slots.run_to n m F) bs ds (fitting (BranchFits (StmtFits n)) BranchSame bs ds h fits.0) xs zs (k fits.1)))
+          (λ fits. if_layer m R E F (names.run_to n m by_names E) (slots.run_to n m F) bs ds (fitting (BranchFits (StmtFits n)) BranchSame bs ds h fits.0) xs zs (k fits.1)))
           (branches_walk looping bs (λ name at. kept name (inl at))) (block_walks looping xs (λ name at. kept name (inr at)))
       stmt_by_walks looping (Stmt-F.For t x xs) kept =
           walks_three blocks (λ u. PlaceFits u → TargetAgree m R E F max_layers t u) (λ z. ExprFits z → ExprAgree R E F x z) (λ zs. AllByRecursion (StmtFits n) zs → Pairwise Same xs zs)
           (λ z. LayerGood n (Stmt-F.For t x xs) (out-CodeStmt z)) (scope.target file blocks t) (scope.expr file blocks x) (each (inner true) [] xs) (λ u y zs. s.For u y zs)
           (λ u y zs h k l. made n (Stmt-F.For t x xs) (s.For u y zs) (CodeStmt-F.For u y zs) (s.rolls-For u y zs)
-          (λ fits. for_layer m R E F (names.run_to n m E) (slots.run_to n m F) t u x y xs zs (h fits.0) (k fits.1) (l fits.2)))
+          (λ fits. for_layer m R E F (names.run_to n m by_names E) (slots.run_to n m F) t u x y xs zs (h fits.0) (k fits.1) (l fits.2)))
           (place_walks t (λ name at. kept name (inl at))) (visits x) (block_walks true xs (λ name at. kept name (inr at)))
       stmt_by_walks looping (Stmt-F.Def i ps xs) kept = λ u below. tt
 

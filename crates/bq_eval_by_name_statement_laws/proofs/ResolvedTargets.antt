@@ -25,8 +25,8 @@ use Rattle.bq_eval_meaning_spec.specs.Primitives.{Primitives}
 use Rattle.bq_eval_meaning_spec.specs.Trees as trees
 use Rattle.bq_eval_meaning_laws.specs.Layers.{TargetParts}
 use Rattle.bq_eval_depth_laws.specs.Fits.{ExprFits, IndexParts, TargetFits}
+use Rattle.bq_eval_language_spec.specs.Trees.{Eval}
 use Rattle.bq_eval_by_name_spec.specs.Names.{Env}
-use Rattle.bq_eval_by_name_spec.specs.Trees.{Eval}
 use Rattle.bq_eval_by_name_expression_laws.proofs.Walks.{Pairwise, Every, Walked, Walks, walks_bind, walks_weaker, walks_given, walks_map, walks_two, walks_some}
 use Rattle.bq_eval_by_name_statement_laws.proofs.Kept.{slot_bound, IsKept}
 use Rattle.bq_eval_by_name_statement_laws.proofs.Visits.{ExprAgree}
@@ -57,7 +57,7 @@ unfolding scope.bind_global
 bind_walks kind [] i = λ u below. bound_by (scope.is_bzl kind && (has u.bound i.name || has u.loaded i.name)) (fault_of f.Rebound i) u (record u { bound = with_name u.bound i.name }) refl
 bind_walks kind (block ∷ blocks) i = λ u below. (omega arith, tt)
 
-module _ {S : Type 0} (m : Primitives S) (file : FileParts) (blocks : List BlockParts) (R : Env → Frame → Type 0) (E : Eval S) (F : trees.Eval S) where
+module _ {S : Type 0} (m : Primitives S) (file : FileParts) (blocks : List BlockParts) (R : Env → Frame → Type 0) (E : Eval S Env) (F : trees.Eval S) where
   abbrev pub TargetGood : ℕ → TargetExpr → CodeTarget → Type 0
   TargetGood n t u = TargetFits ExprFits n u → TargetAgree m R E F n t u
 

@@ -15,30 +15,30 @@ use Rattle.bq_eval_meaning_spec.specs.Primitives.{Primitives}
 use Rattle.bq_eval_meaning_spec.specs.Targets as slots
 use Rattle.bq_eval_meaning_spec.specs.Targets.{Places}
 use Rattle.bq_eval_meaning_spec.specs.Trees as trees
-use Rattle.bq_eval_by_name_spec.specs.Names.{Env, bind}
-use Rattle.bq_eval_by_name_spec.specs.Targets as names
-use Rattle.bq_eval_by_name_spec.specs.Trees.{Eval}
+use Rattle.bq_eval_language_spec.specs.Targets as names
+use Rattle.bq_eval_language_spec.specs.Trees.{Eval}
+use Rattle.bq_eval_by_name_spec.specs.Names.{Env, bind, by_names}
 use Rattle.bq_eval_by_name_expression_laws.specs.Alike.{Alike, Same}
 use Rattle.bq_eval_by_name_expression_laws.proofs.Runs.{then_alike, then_same, then_both, then_pure}
 use Rattle.bq_eval_by_name_expression_laws.proofs.Walks.{Pairwise, same_length}
 use Rattle.bq_eval_by_name_statement_laws.proofs.Kept.{Keeps}
 use Rattle.bq_eval_by_name_statement_laws.proofs.Visits.{ExprAgree}
 
-module _ {S : Type 0} (m : Primitives S) (R : Env → Frame → Type 0) (E : Eval S) (F : trees.Eval S) where
+module _ {S : Type 0} (m : Primitives S) (R : Env → Frame → Type 0) (E : Eval S Env) (F : trees.Eval S) where
   abbrev pub Bound : Env × Places → Frame × Places → Type 0
   Bound r q = R r.0 q.0 × (r.1 ≡ q.1)
 
   -- ---- a target, and what it resolves to
 
   abbrev pub BindAgree : ℕ → TargetExpr → CodeTarget → Type 0
-  BindAgree n t u = (v : Datum) (env : Env) (frame : Frame) (ps : Places) → R env frame → (s : S) → Alike Bound (names.bind_to m n t v env ps s) (slots.bind_to m n u v frame ps s)
+  BindAgree n t u = (v : Datum) (env : Env) (frame : Frame) (ps : Places) → R env frame → (s : S) → Alike Bound (names.bind_to m by_names n t v env ps s) (slots.bind_to m n u v frame ps s)
 
   abbrev pub PlacesAgree : ℕ → TargetExpr → CodeTarget → Type 0
   PlacesAgree n t u = (env : Env) (frame : Frame) (ps : Places) → R env frame → (s : S) → Alike Same (names.places_to m E n t env ps s) (slots.places_to m F n u frame ps s)
 
   abbrev pub AugmentAgree : TargetExpr → CodeTarget → Type 0
   AugmentAgree t u =
-      (o : Operator) (x : Expr) (y : Code) → ExprAgree R E F x y → (env : Env) (frame : Frame) → R env frame → (s : S) → Alike R (names.augment_by m E (out-TargetExpr t) o x env s) (slots.augment m F u o y frame s)
+      (o : Operator) (x : Expr) (y : Code) → ExprAgree R E F x y → (env : Env) (frame : Frame) → R env frame → (s : S) → Alike R (names.augment_by m by_names E (out-TargetExpr t) o x env s) (slots.augment m F u o y frame s)
 
   pub record TargetAgree (n : ℕ) (t : TargetExpr) (u : CodeTarget) : Type 0 where
     pub binding : BindAgree n t u
@@ -49,7 +49,7 @@ module _ {S : Type 0} (m : Primitives S) (R : Env → Frame → Type 0) (E : Eva
 
   abbrev pub BindLayer : ℕ → TargetLayer → trees.TargetLayer → Type 0
   BindLayer n o p =
-      (v : Datum) (env : Env) (frame : Frame) (ps : Places) → R env frame → (s : S) → Alike Bound (names.bind_by m (names.bind_to m n) o v env ps s) (slots.bind_by m (slots.bind_to m n) p v frame ps s)
+      (v : Datum) (env : Env) (frame : Frame) (ps : Places) → R env frame → (s : S) → Alike Bound (names.bind_by m by_names (names.bind_to m by_names n) o v env ps s) (slots.bind_by m (slots.bind_to m n) p v frame ps s)
 
   abbrev pub PlacesLayer : ℕ → TargetLayer → trees.TargetLayer → Type 0
   PlacesLayer n o p =
@@ -57,7 +57,7 @@ module _ {S : Type 0} (m : Primitives S) (R : Env → Frame → Type 0) (E : Eva
 
   abbrev pub AugmentLayer : TargetLayer → trees.TargetLayer → Type 0
   AugmentLayer o p =
-      (a : Operator) (x : Expr) (y : Code) → ExprAgree R E F x y → (env : Env) (frame : Frame) → R env frame → (s : S) → Alike R (names.augment_by m E o a x env s) (slots.augment_by m F p a y frame s)
+      (a : Operator) (x : Expr) (y : Code) → ExprAgree R E F x y → (env : Env) (frame : Frame) → R env frame → (s : S) → Alike R (names.augment_by m by_names E o a x env s) (slots.augment_by m F p a y frame s)
 
   pub record LayerAgree (n : ℕ) (o : TargetLayer) (p : trees.TargetLayer) : Type 0 where
     pub binding : BindLayer n o p
@@ -71,7 +71,7 @@ module _ {S : Type 0} (m : Primitives S) (R : Env → Frame → Type 0) (E : Eva
   -- ---- `name`
 
   name_augment : (i : Identifier) (slot : ℕ) → Keeps R i.name slot → (a : Operator) (x : Expr) (y : Code) → ExprAgree R E F x y → (env : Env) (frame : Frame) → R env frame → (s : S)
-      → Alike R (names.augment_by m E (TargetExpr-F.TargetExpr::Name i) a x env s) (slots.augment_name m F slot a y frame s)
+      → Alike R (names.augment_by m by_names E (TargetExpr-F.TargetExpr::Name i) a x env s) (slots.augment_name m F slot a y frame s)
   unfolding slots.augment_name
   name_augment i slot keeps a x y agree env frame h s =
       rw (keeps env frame h).0
@@ -89,7 +89,7 @@ module _ {S : Type 0} (m : Primitives S) (R : Env → Frame → Type 0) (E : Eva
   -- ---- `x[i]`
 
   place_bind : (n : ℕ) (x i : Expr) (v : Datum) (env : Env) (frame : Frame) (ps : Places) → R env frame → (s : S)
-      → Alike Bound (names.bind_by m (names.bind_to m n) (TargetExpr-F.TargetExpr::Index x i) v env ps s) (slots.bind_place m v frame ps s)
+      → Alike Bound (names.bind_by m by_names (names.bind_to m by_names n) (TargetExpr-F.TargetExpr::Index x i) v env ps s) (slots.bind_place m v frame ps s)
   unfolding slots.bind_place
   place_bind n x i v env frame [] h s = refl
   place_bind n x i v env frame (p ∷ ps) h s = then_pure Bound (m.set_index p.0 p.1 v s) (λ _. (env, ps)) (λ _. (frame, ps)) (λ _. (h, refl))
@@ -101,7 +101,7 @@ module _ {S : Type 0} (m : Primitives S) (R : Env → Frame → Type 0) (E : Eva
     place_alike n env frame ps h s = then_same Same _ _ _ _ (operand env frame h s) (λ v t. then_same Same _ _ _ _ (index env frame h t) (λ w u. (refl, refl)))
 
     index_augment : (a : Operator) (z : Expr) (w : Code) → ExprAgree R E F z w → (env : Env) (frame : Frame) → R env frame → (s : S)
-        → Alike R (names.augment_by m E (TargetExpr-F.TargetExpr::Index x i) a z env s) (slots.augment_index m F y j a w frame s)
+        → Alike R (names.augment_by m by_names E (TargetExpr-F.TargetExpr::Index x i) a z env s) (slots.augment_index m F y j a w frame s)
     unfolding slots.augment_index
     index_augment a z w agree env frame h s =
         then_same R _ _ _ _ (operand env frame h s) (λ u t. then_same R _ _ _ _ (index env frame h t)
@@ -114,18 +114,18 @@ module _ {S : Type 0} (m : Primitives S) (R : Env → Frame → Type 0) (E : Eva
   -- ---- `(t, ..)` and `[t, ..]`
 
   each_bind : (n : ℕ) (ts : List TargetExpr) (us : List CodeTarget) → Pairwise (TargetAgree n) ts us → (vs : List Datum) (env : Env) (frame : Frame) (ps : Places) → R env frame → (s : S)
-      → Alike Bound (names.bind_each m (names.bind_to m n) ts vs env ps s) (slots.bind_each m (slots.bind_to m n) us vs frame ps s)
+      → Alike Bound (names.bind_each m (names.bind_to m by_names n) ts vs env ps s) (slots.bind_each m (slots.bind_to m n) us vs frame ps s)
   unfolding names.bind_each slots.bind_each
   each_bind n [] [] h vs env frame ps r s = (refl, (r, refl))
   each_bind n (t ∷ ts) (u ∷ us) h [] env frame ps r s = (refl, (r, refl))
   each_bind n (t ∷ ts) (u ∷ us) h (v ∷ vs) env frame ps r s =
       then_alike Bound Bound _ _ _ _ (h.0.binding v env frame ps r s)
-      (λ a b w k. subst (λ z. Alike Bound (names.bind_each m (names.bind_to m n) ts vs a.0 a.1 w) (slots.bind_each m (slots.bind_to m n) us vs b.0 z w)) k.1 (each_bind n ts us h.1 vs a.0 b.0 a.1 k.0 w))
+      (λ a b w k. subst (λ z. Alike Bound (names.bind_each m (names.bind_to m by_names n) ts vs a.0 a.1 w) (slots.bind_each m (slots.bind_to m n) us vs b.0 z w)) k.1 (each_bind n ts us h.1 vs a.0 b.0 a.1 k.0 w))
   each_bind n [] (u ∷ us) h vs env frame ps r s = absurd h
   each_bind n (t ∷ ts) [] h vs env frame ps r s = absurd h
 
   unpack_bind : (n : ℕ) (ts : List TargetExpr) (us : List CodeTarget) → Pairwise (TargetAgree n) ts us → (v : Datum) (env : Env) (frame : Frame) (ps : Places) → R env frame → (s : S)
-      → Alike Bound (names.unpack m (names.bind_to m n) ts v env ps s) (slots.unpack m (slots.bind_to m n) us v frame ps s)
+      → Alike Bound (names.unpack m (names.bind_to m by_names n) ts v env ps s) (slots.unpack m (slots.bind_to m n) us v frame ps s)
   unfolding names.unpack slots.unpack
   unpack_bind n ts us h v env frame ps r s = rw (same_length (TargetAgree n) ts us h) (then_both Bound _ _ _ (λ vs t. each_bind n ts us h vs env frame ps r t))
 
@@ -145,12 +145,12 @@ module _ {S : Type 0} (m : Primitives S) (R : Env → Frame → Type 0) (E : Eva
 
   -- ---- assignments
 
-  pub assign_alike : (t : TargetExpr) (u : CodeTarget) → TargetAgree max_layers t u → (v : Datum) (env : Env) (frame : Frame) → R env frame → (s : S) → Alike R (names.assign m E t v env s) (slots.assign m F u v frame s)
+  pub assign_alike : (t : TargetExpr) (u : CodeTarget) → TargetAgree max_layers t u → (v : Datum) (env : Env) (frame : Frame) → R env frame → (s : S) → Alike R (names.assign m by_names E t v env s) (slots.assign m F u v frame s)
   unfolding names.assign slots.assign
   assign_alike t u h v env frame r s =
       then_same R _ _ _ _ (h.places env frame [] r s) (λ ps w. then_alike Bound R _ _ _ _ (h.binding v env frame ps r w) (λ a b q k. (refl, k.0)))
 
   pub variables_alike : (t : TargetExpr) (u : CodeTarget) → TargetAgree max_layers t u → (v : Datum) (env : Env) (frame : Frame) → R env frame → (s : S)
-      → Alike R (names.bind_variables m t v env s) (slots.bind_variables m u v frame s)
+      → Alike R (names.bind_variables m by_names t v env s) (slots.bind_variables m u v frame s)
   unfolding names.bind_variables slots.bind_variables
   variables_alike t u h v env frame r s = then_alike Bound R _ _ _ _ (h.binding v env frame [] r s) (λ a b w k. (refl, k.0))

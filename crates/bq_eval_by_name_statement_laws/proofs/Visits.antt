@@ -14,9 +14,9 @@ use Rattle.bq_eval_meaning_spec.specs.Primitives.{Primitives, stop}
 use Rattle.bq_eval_meaning_spec.specs.Trees as trees
 use Rattle.bq_eval_meaning_spec.specs.Trees.{Calls}
 use Rattle.bq_eval_depth_laws.specs.Fits.{ExprFits}
-use Rattle.bq_eval_by_name_spec.specs.Expressions as exprs
-use Rattle.bq_eval_by_name_spec.specs.Names.{Env, Round}
-use Rattle.bq_eval_by_name_spec.specs.Trees.{Eval}
+use Rattle.bq_eval_language_spec.specs.Expressions as exprs
+use Rattle.bq_eval_language_spec.specs.Trees.{Eval}
+use Rattle.bq_eval_by_name_spec.specs.Names.{Env, Round, by_names}
 use Rattle.bq_eval_by_name_expression_laws.specs.Alike.{Alike, Same}
 use Rattle.bq_eval_by_name_expression_laws.specs.Shows.{Below, Nested, through}
 use Rattle.bq_eval_by_name_expression_laws.proofs.Runs.{itself}
@@ -26,7 +26,7 @@ use Rattle.bq_eval_by_name_expression_laws.proofs.Agreement.{expr_walks}
 use Rattle.bq_eval_by_name_statement_laws.specs.Agreement.{EvalsAgree}
 
 -- an expression and what it resolves to mean the same
-abbrev pub ExprAgree : {S : Type 0} → (Env → Frame → Type 0) → Eval S → trees.Eval S → Expr → Code → Type 0
+abbrev pub ExprAgree : {S : Type 0} → (Env → Frame → Type 0) → Eval S Env → trees.Eval S → Expr → Code → Type 0
 ExprAgree {S} R E F x c = (env : Env) (frame : Frame) → R env frame → (s : S) → Alike Same (E x env s) (F c frame s)
 
 -- no slot is given back, whatever expressions mean
@@ -37,10 +37,10 @@ module _ {S : Type 0} (m : Primitives S) (file : FileParts) (blocks : List Block
       let surroundings : Surroundings = record { globals = empty; loaded = empty } in
       let round : Round = record { globals = λ n. through empty (place_among n file.globals); loaded = λ n. through empty (place_among n file.loaded); universe = file.universe } in
       let call : Calls S = λ v p. stop m f.LeftOut in
-      walks_weaker blocks (λ z. Agree m (exprs.expr_to max_layers m call round) (codes.expr_to (max_layers + max_layers) m call surroundings) blocks x z) (λ _. Unit {0}) (scope.expr file blocks x) (λ z _. tt)
+      walks_weaker blocks (λ z. Agree m (exprs.expr_to max_layers m by_names call round) (codes.expr_to (max_layers + max_layers) m call surroundings) blocks x z) (λ _. Unit {0}) (scope.expr file blocks x) (λ z _. tt)
       (expr_walks m file round surroundings call call (record { globals = λ n. refl; loaded = λ n. refl; universe = refl }) (λ v p s. refl) max_layers max_layers (max_layers + max_layers) (omega arith) (omega arith) blocks nested x)
 
-  module _ (R : Env → Frame → Type 0) (E : Eval S) (F : trees.Eval S) (evals : EvalsAgree file blocks R E F) where
+  module _ (R : Env → Frame → Type 0) (E : Eval S Env) (F : trees.Eval S) (evals : EvalsAgree file blocks R E F) where
     visited : (x : Expr) (p : Passed) → Below blocks p.slots → (r : Result (Code × Passed) Fault) → scope.expr file blocks x p ≡ r → Walked {A = Code} (λ _. Unit {0}) p.slots r
         → Walked {A = Code} (λ z. ExprFits z → ExprAgree R E F x z) p.slots r
     visited x p below (Err why) e w = tt

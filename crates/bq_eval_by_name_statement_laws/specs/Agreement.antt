@@ -21,10 +21,10 @@ use Rattle.bq_eval_meaning_spec.specs.Statements.{Flow}
 use Rattle.bq_eval_meaning_spec.specs.Trees as trees
 use Rattle.bq_eval_meaning_spec.specs.Trees.{Calls}
 use Rattle.bq_eval_depth_laws.specs.Fits.{ExprFits, SmallFits, StmtFits}
-use Rattle.bq_eval_by_name_spec.specs.Expressions as exprs
-use Rattle.bq_eval_by_name_spec.specs.Names.{Env, Round}
-use Rattle.bq_eval_by_name_spec.specs.Statements as names
-use Rattle.bq_eval_by_name_spec.specs.Trees.{Eval}
+use Rattle.bq_eval_language_spec.specs.Expressions as exprs
+use Rattle.bq_eval_language_spec.specs.Statements as names
+use Rattle.bq_eval_language_spec.specs.Trees.{Eval}
+use Rattle.bq_eval_by_name_spec.specs.Names.{Env, Round, by_names}
 use Rattle.bq_eval_by_name_expression_laws.specs.Alike.{Alike}
 use Rattle.bq_eval_by_name_expression_laws.specs.Shows.{Below, Nested, Reads, Shows}
 
@@ -34,7 +34,7 @@ Ended R r q = (r.0 ≡ q.0) × R r.1 q.1
 
 -- What expressions mean by names and by slots is the same, in environments and frames of which `R` holds. The trees that they resolve to
 -- are no deeper than the layers that are looked at, as all trees of a file (bq_eval_depth_laws).
-abbrev pub EvalsAgree : {S : Type 0} → FileParts → List BlockParts → (Env → Frame → Type 0) → Eval S → trees.Eval S → Type 0
+abbrev pub EvalsAgree : {S : Type 0} → FileParts → List BlockParts → (Env → Frame → Type 0) → Eval S Env → trees.Eval S → Type 0
 EvalsAgree {S} file blocks R eval other =
     (x : Expr) (c : Code) (p q : Passed) → Below blocks p.slots → scope.expr file blocks x p ≡ Ok (c, q) → ExprFits c
     → (env : Env) (frame : Frame) (s : S) → R env frame → eval x env s ≡ other c frame s
@@ -44,17 +44,17 @@ pub record InFunction (S : Type 0) (file : FileParts) : Type 0 where
   pub block : BlockParts
   pub rest : List BlockParts
   pub nested : Nested (block ∷ rest)
-  pub eval : Eval S
+  pub eval : Eval S Env
   pub other : trees.Eval S
   pub evals : EvalsAgree file (block ∷ rest) (Shows (block ∷ rest)) eval other
 
 -- A statement of a function that resolves, where the innermost block holds the names that the statement binds.
-module _ {S : Type 0} (m : Primitives S) (file : FileParts) (block : BlockParts) (rest : List BlockParts) (eval : Eval S) (other : trees.Eval S) where
+module _ {S : Type 0} (m : Primitives S) (file : FileParts) (block : BlockParts) (rest : List BlockParts) (eval : Eval S Env) (other : trees.Eval S) where
   abbrev pub StatementsAgree : Type 0
   StatementsAgree =
       (n : ℕ) (looping : Bool) (x : Stmt) (c : CodeStmt) (p q : Passed) → Below (block ∷ rest) p.slots → scope.stmt_to file n (block ∷ rest) looping x p ≡ Ok (c, q) → StmtFits n c
       → ((name : Name) → StmtBindsTo n name x → has block.names name ≡ true)
-      → (env : Env) (frame : Frame) (s : S) → Shows (block ∷ rest) env frame → Alike (Ended (Shows (block ∷ rest))) (names.run_to n m eval x env s) (slots.run_to n m other c frame s)
+      → (env : Env) (frame : Frame) (s : S) → Shows (block ∷ rest) env frame → Alike (Ended (Shows (block ∷ rest))) (names.run_to n m by_names eval x env s) (slots.run_to n m other c frame s)
 
 -- the body of a function
 module _ {S : Type 0} (m : Primitives S) (file : FileParts) (round : Round) (surroundings : Surroundings) (call other : Calls S) where
@@ -64,15 +64,15 @@ module _ {S : Type 0} (m : Primitives S) (file : FileParts) (round : Round) (sur
       → scope.statements_in file (function_names ps body) body p ≡ Ok (code, q) → AllByRecursion (StmtFits max_layers) code
       → (env : Env) (frame : Frame) (s : S) → Shows (record { base = 0; names = function_names ps body } ∷ []) env frame
       → Alike (Ended (Shows (record { base = 0; names = function_names ps body } ∷ [])))
-      (names.block m (exprs.eval_in m call round) (names.run_in m (exprs.eval_in m call round)) body env s)
+      (names.block m by_names (exprs.eval_in m by_names call round) (names.run_in m by_names (exprs.eval_in m by_names call round)) body env s)
       (slots.block m (codes.eval_in m other surroundings) (slots.run_in m (codes.eval_in m other surroundings)) code frame s)
 
 -- the small statements of a line outside functions, where names are the file's globals
 abbrev pub GlobalsShow : FileParts → Env → Frame → Type 0
 GlobalsShow file env frame = Reads (λ name. place_among name file.globals) env frame
 
-module _ {S : Type 0} (m : Primitives S) (file : FileParts) (eval : Eval S) (other : trees.Eval S) where
+module _ {S : Type 0} (m : Primitives S) (file : FileParts) (eval : Eval S Env) (other : trees.Eval S) where
   abbrev pub LinesAgree : Type 0
   LinesAgree =
       (xs : List SmallStmt) (ys : List CodeSmall) (p q : Passed) → each (scope.small_stmt file [] false) [] xs p ≡ Ok (ys, q) → AllByRecursion SmallFits ys
-      → (env : Env) (frame : Frame) (s : S) → GlobalsShow file env frame → Alike (Ended (GlobalsShow file)) (names.line m eval xs env s) (slots.line m other ys frame s)
+      → (env : Env) (frame : Frame) (s : S) → GlobalsShow file env frame → Alike (Ended (GlobalsShow file)) (names.line m by_names eval xs env s) (slots.line m other ys frame s)

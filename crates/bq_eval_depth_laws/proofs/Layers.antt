@@ -23,8 +23,8 @@ use Rattle.bq_parse_grammar.specs.declared.tree.Stmt.TheOpen.{Branch-F, Stmt-F}
 use Rattle.bq_parse_tree_laws.specs.Depth.{deepest, argument_step, clause_step, choice_step, operation_step, pair_step, suffix_step, target_step, expr_step}
 
 abbrev pub layers_step : Expr-F ℕ ℕ ℕ ℕ ℕ ℕ ℕ ℕ → ℕ
-layers_step (Expr-F.ListComprehension m ns) = max m (deepest ns) + 2
-layers_step (Expr-F.DictComprehension m ns) = max m (deepest ns) + 2
+layers_step (Expr-F.ListComprehension m ns own) = max m (deepest ns) + 2
+layers_step (Expr-F.DictComprehension m ns own) = max m (deepest ns) + 2
 layers_step x = expr_step x
 
 abbrev pub expr_layers : Expr → ℕ

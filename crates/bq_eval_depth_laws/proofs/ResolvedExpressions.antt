@@ -303,8 +303,8 @@ module _ (file : FileParts) (visit : List BlockParts → Expr → Visit Code)
     expr_by_gives blocks (Expr-F.Dict ps) h =
         gives_map (λ zs. AllByRecursion (PairParts (CodeFits n)) zs) (λ z. CodeFits (suc n) z) (each (pair file visit blocks) [] ps) (λ qs. c.Dict qs)
         (gives_each (PairParts (CodeFits n)) pair_layers n (pair file visit blocks) (pair_gives n small blocks) [] ps tt (omega arith)) (λ qs k. made_code n (c.Dict qs) (Code-F.Dict qs) (c.rolls-Dict qs) k tt)
-    expr_by_gives blocks (Expr-F.ListComprehension x xs) h = framed_list n small x blocks xs (omega arith)
-    expr_by_gives blocks (Expr-F.DictComprehension x xs) h = framed_dict n small x blocks xs (omega arith)
+    expr_by_gives blocks (Expr-F.ListComprehension x xs own) h = framed_list n small x blocks xs (omega arith)
+    expr_by_gives blocks (Expr-F.DictComprehension x xs own) h = framed_dict n small x blocks xs (omega arith)
     expr_by_gives blocks (Expr-F.Primary x ss) h = primary_gives n small blocks x ss (omega arith) (omega arith)
     expr_by_gives blocks (Expr-F.Unary os x) h =
         gives_map (CodeFits n) (λ z. CodeFits (suc n) z) (visit blocks x) (λ y. c.Unary os y) (visits n small blocks x (omega arith)) (λ y k. made_code n (c.Unary os y) (Code-F.Unary os y) (c.rolls-Unary os y) k tt)

@@ -7,6 +7,7 @@ use Rattle.bq_parse_grammar.specs.declared.tree.Comparison.{Comparison}
 use Rattle.bq_parse_grammar.specs.declared.tree.Argument.{Argument}
 use Rattle.bq_parse_grammar.specs.declared.tree.Argument.TheVariants as a
 use Rattle.bq_parse_grammar.specs.declared.tree.Choice.{Choice, roll-Choice}
+use Rattle.bq_parse_grammar.specs.declared.tree.ComprehensionFrame.{ComprehensionFrame}
 use Rattle.bq_parse_grammar.specs.declared.tree.Clause.{Clause}
 use Rattle.bq_parse_grammar.specs.declared.tree.Clause.TheVariants as cl
 use Rattle.bq_parse_grammar.specs.declared.tree.Expr.{Expr, the_lemmas}
@@ -44,11 +45,11 @@ layers-Tuple xs = search (rules, the_lemmas)
 pub layers-Dict : (xs : List Pair) → expr_layers (e.Dict xs) ≡ deepest (map pair_layers xs) + 1
 layers-Dict xs = search (rules, the_lemmas)
 
-pub layers-ListComprehension : (x : Expr) (cs : List Clause) → expr_layers (e.ListComprehension x cs) ≡ max (expr_layers x) (deepest (map clause_layers cs)) + 2
-layers-ListComprehension x cs = search (rules, the_lemmas)
+pub layers-ListComprehension : (x : Expr) (cs : List Clause) (own : ComprehensionFrame) → expr_layers (e.ListComprehension x cs own) ≡ max (expr_layers x) (deepest (map clause_layers cs)) + 2
+layers-ListComprehension x cs own = search (rules, the_lemmas)
 
-pub layers-DictComprehension : (x : Pair) (cs : List Clause) → expr_layers (e.DictComprehension x cs) ≡ max (pair_layers x) (deepest (map clause_layers cs)) + 2
-layers-DictComprehension x cs = search (rules, the_lemmas)
+pub layers-DictComprehension : (x : Pair) (cs : List Clause) (own : ComprehensionFrame) → expr_layers (e.DictComprehension x cs own) ≡ max (pair_layers x) (deepest (map clause_layers cs)) + 2
+layers-DictComprehension x cs own = search (rules, the_lemmas)
 
 pub layers-Primary : (x : Expr) (xs : List Suffix) → expr_layers (e.Primary x xs) ≡ max (expr_layers x) (deepest (map suffix_layers xs)) + 1
 layers-Primary x xs = search (rules, the_lemmas)

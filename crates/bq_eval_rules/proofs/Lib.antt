@@ -1,9 +1,14 @@
 pub mod Depth
+pub mod Codes
 pub mod Layers
+pub mod Nesting
+pub mod Mapped
 pub mod Reversed
 pub mod Following
 pub mod Deciding
 pub mod Assigning
+-- statements, by their layer
+pub mod Running
 pub mod Clauses
 pub mod Loops
 pub mod ParameterLists

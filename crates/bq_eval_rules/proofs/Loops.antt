@@ -2,6 +2,7 @@
 use Rattle.std.proofs.Common.{◌≡◌, ◌∙◌, ℕ, suc, ◌+◌, ◌<◌, List, [], ◌∷◌, ◌++◌, length, map, Option, Some, None, refl, sym, ap, arith}
 use Rattle.std.specs.Prelude.{reverse}
 use Rattle.std.proofs.lemmas.List.{map_push}
+use Rattle.bq_resolve_scope.specs.Codes.{clause_code, target_code}
 use Rattle.bq_value.specs.Contents.{Contents}
 use Rattle.bq_value.specs.Datum.{Datum}
 use Rattle.bq_builtin_machine.specs.State.{Stop}
@@ -141,19 +142,19 @@ module _ {S : Type 0} (m : Primitives S) (eval : Eval S) (body : Turn S) (env : 
 
   -- a turn, of which it is known what its clauses leave, and how much that counts
   module _ (l : OpenLoop) (ls : List OpenLoop) (s : S) (v : Datum) (vs : List Datum) (is : l.elements ≡ v ∷ vs) (reached : Option ForClause) (new : Frame) (made : Contents) (after : S)
-      (e : turn m eval l.target.now (clauses m eval l.after.now body) v env c s ≡ reached_left m eval body reached new made after) where
+      (e : turn m eval (target_code l.target.now) (clauses m eval (map clause_code l.after.now) body) v env c s ≡ reached_left m eval body reached new made after) where
     pub none_opens : reached ≡ None → loops_left m eval body (loop_of l ∷ loops_of ls) env c s ≡ loops_left m eval body (loop_of (record l { elements = vs }) ∷ loops_of ls) new made after
     none_opens none = turn_ends m eval body (loop_of l) (loops_of ls) env c s v vs is new made after (e ∙ ap (λ o. reached_left m eval body o new made after) none)
 
     module _ (f : ForClause) (one : reached ≡ Some f) where
-      goes_on : turn m eval l.target.now (clauses m eval l.after.now body) v env c s ≡ following (opening m eval f new after) (λ k. loop_left m eval body k new made)
+      goes_on : turn m eval (target_code l.target.now) (clauses m eval (map clause_code l.after.now) body) v env c s ≡ following (opening m eval f new after) (λ k. loop_left m eval body k new made)
       goes_on = e ∙ ap (λ o. reached_left m eval body o new made after) one
 
       pub opening_stops : (why : Stop) → opening m eval f new after ≡ stopped why → loops_left m eval body (loop_of l ∷ loops_of ls) env c s ≡ stopped why
       opening_stops why o = turn_stops m eval body (loop_of l) (loops_of ls) env c s v vs is why (goes_on ∙ ap (λ r. following r (λ k. loop_left m eval body k new made)) o)
 
       module _ (i : OpenLoop) (begun : S) (o : opening m eval f new after ≡ done (loop_of i) begun) (more : List OpenLoop) (pushed : more ≡ ls ++ record l { elements = vs } ∷ []) where
-        begins : turn m eval l.target.now (clauses m eval l.after.now body) v env c s ≡ loop_left m eval body (loop_of i) new made begun
+        begins : turn m eval (target_code l.target.now) (clauses m eval (map clause_code l.after.now) body) v env c s ≡ loop_left m eval body (loop_of i) new made begun
         begins = goes_on ∙ ap (λ r. following r (λ k. loop_left m eval body k new made)) o
 
         more_loops : loop_of (record l { elements = vs }) ∷ loops_of ls ≡ loops_of more
@@ -164,14 +165,14 @@ module _ {S : Type 0} (m : Primitives S) (eval : Eval S) (body : Turn S) (env : 
             turn_begins m eval body (loop_of l) (loops_of ls) env c s v vs is (loop_of i) new made begun begins
             ∙ ap (λ ks. loops_left m eval body (loop_of i ∷ ks) new made begun) more_loops
 
-        pub one_counts : turn_count m eval body l.target.now (clauses_count m eval body l.after.now) v env c s ≡ reached_count m eval body reached new made after
+        pub one_counts : turn_count m eval body (target_code l.target.now) (clauses_count m eval body (map clause_code l.after.now)) v env c s ≡ reached_count m eval body reached new made after
             → loops_count m eval body (loop_of l ∷ loops_of ls) env c s ≡ suc (loops_count m eval body (loop_of i ∷ loops_of more) new made begun)
         one_counts counts =
             turn_begins_count m eval body (loop_of l) (loops_of ls) env c s v vs is (loop_of i) new made begun begins
             (counts ∙ (ap (λ k. reached_count m eval body k new made after) one ∙ ap (λ r. counted r (λ k. loop_count m eval body k new made)) o))
             ∙ ap (λ ks. suc (loops_count m eval body (loop_of i ∷ ks) new made begun)) more_loops
 
-    pub none_counts : turn_count m eval body l.target.now (clauses_count m eval body l.after.now) v env c s ≡ reached_count m eval body reached new made after → reached ≡ None
+    pub none_counts : turn_count m eval body (target_code l.target.now) (clauses_count m eval body (map clause_code l.after.now)) v env c s ≡ reached_count m eval body reached new made after → reached ≡ None
         → loops_count m eval body (loop_of l ∷ loops_of ls) env c s ≡ suc (loops_count m eval body (loop_of (record l { elements = vs }) ∷ loops_of ls) new made after)
     none_counts counts none =
         turn_ends_count m eval body (loop_of l) (loops_of ls) env c s v vs is new made after (e ∙ ap (λ o. reached_left m eval body o new made after) none)

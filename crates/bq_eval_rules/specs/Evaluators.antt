@@ -2,7 +2,8 @@
 -- expressions inside.
 use Rattle.std.specs.Prelude.{ℕ, Result}
 use denote.Ref.{Bor, MutBor}
-use Rattle.bq_resolve_scope.specs.declared.code.Code.{Code}
+use Rattle.bq_parse_grammar.specs.declared.tree.Expr.{Expr}
+use Rattle.bq_resolve_scope.specs.Codes.{expr_code}
 use Rattle.bq_value.specs.declared.error.EvalErr.{EvalErr}
 use Rattle.bq_value.specs.Datum.{Datum}
 use Rattle.bq_builtin_machine.specs.Action.{Action}
@@ -33,11 +34,11 @@ module _ {R C F : Type 0} where
   frame_of e = slots_of e.frame.now
 
   -- the evaluation of an expression inside
-  abbrev pub value_inside : {S : Type 0} → Primitives S → Evaluator R C F → Code → Action S Datum
-  value_inside m e x = evals_in m e x (frame_of e)
+  abbrev pub value_inside : {S : Type 0} → Primitives S → Evaluator R C F → Expr → Action S Datum
+  value_inside m e x = evals_in m e (expr_code x) (frame_of e)
 
   -- its function value evaluates expressions inside
   abbrev pub EvaluatesInside : {S : Type 0} → Primitives S → (R → S) → Evaluator R C F
-      → (F → Bor Context → ℕ → C → Bor Slots → MutBor R → Bor Code → Type 0)
-      → (F → Bor Context → ℕ → C → Bor Slots → MutBor R → Bor Code → Result Datum EvalErr → MutBor R → Type 0) → Type 0
+      → (F → Bor Context → ℕ → C → Bor Slots → MutBor R → Bor Expr → Type 0)
+      → (F → Bor Context → ℕ → C → Bor Slots → MutBor R → Bor Expr → Result Datum EvalErr → MutBor R → Type 0) → Type 0
   EvaluatesInside m seen e pre post = Nests m seen e.context.now.left e.depth e.call (pre e.eval) (post e.eval)

@@ -1,4 +1,5 @@
 pub mod Acts
+pub mod Variables
 pub mod Round
 pub mod Operands
 pub mod Nests

@@ -1,6 +1,7 @@
 -- The open loops of a comprehension: what they still do, by the definition (`Comprehensions` of
 -- `bq_eval_meaning_spec`), and how many turns and ends of loops that takes. `body` is what is before the clauses.
 use Rattle.std.specs.Prelude.{ℕ, suc, ◌+◌, List, [], ◌∷◌, Option, Some, None, map, reverse, if◌then◌else◌}
+use Rattle.bq_resolve_scope.specs.Codes.{clause_code, expr_code, target_code}
 use Rattle.bq_resolve_scope.specs.declared.code.Code.{Code}
 use Rattle.bq_resolve_scope.specs.declared.code.Code.TheOpen.{CodeClause-F}
 use Rattle.bq_resolve_scope.specs.declared.code.CodeClause.{CodeClause, out-CodeClause}
@@ -24,7 +25,7 @@ pub record Loop : Type 0 where
   pub elements : List Datum
 
 abbrev pub loop_of : OpenLoop → Loop
-loop_of l = record { target = l.target.now; after = l.after.now; walked = l.walked; elements = l.elements }
+loop_of l = record { target = target_code l.target.now; after = map clause_code l.after.now; walked = l.walked; elements = l.elements }
 
 -- the code has the innermost loop last
 unfoldable pub loops_of : List OpenLoop → List Loop
@@ -42,7 +43,7 @@ Count S = Frame → Contents → S → ℕ
 module _ {S : Type 0} (m : Primitives S) (eval : Eval S) where
   -- a `for` clause opens its loop
   unfoldable pub opening : ForClause → Frame → Action S Loop
-  opening f env = eval f.iterable.now env >>= λ v. m.begin_walk v >>= λ vs. pure (record { target = f.target.now; after = f.after.now; walked = v; elements = vs })
+  opening f env = eval (expr_code f.iterable.now) env >>= λ v. m.begin_walk v >>= λ vs. pure (record { target = target_code f.target.now; after = map clause_code f.after.now; walked = v; elements = vs })
 
   module _ (body : Turn S) where
     -- the turns that are left, and the end of the walk

@@ -1,6 +1,7 @@
 -- What a runner has: the meaning of the statements inside, and a function value that runs them.
 use Rattle.std.specs.Prelude.{ℕ, List, Result}
 use denote.Ref.{Bor, MutBor}
+use Rattle.bq_parse_grammar.specs.declared.tree.Stmt.{Stmt}
 use Rattle.bq_resolve_scope.specs.declared.code.CodeStmt.{CodeStmt}
 use Rattle.bq_resolve_scope.specs.declared.code.CodeTarget.{CodeTarget}
 use Rattle.bq_value.specs.Datum.{Datum}
@@ -32,7 +33,7 @@ module _ {R C G : Type 0} where
 
   -- its function value runs statements inside
   abbrev pub RunsInside : {S : Type 0} → Primitives S → (R → S) → Runner R C G
-      → (G → Bor Context → ℕ → C → MutBor Slots → MutBor R → Bor CodeStmt → Type 0)
-      → (G → Bor Context → ℕ → C → MutBor Slots → MutBor R → Bor CodeStmt → Result flows.Flow EvalErr → MutBor Slots → MutBor R → Type 0)
+      → (G → Bor Context → ℕ → C → MutBor Slots → MutBor R → Bor Stmt → Type 0)
+      → (G → Bor Context → ℕ → C → MutBor Slots → MutBor R → Bor Stmt → Result flows.Flow EvalErr → MutBor Slots → MutBor R → Type 0)
       → Type 0
   RunsInside m seen r pre post = Runs m seen r.reader.context.now.left r.depth r.reader.call (pre r.run) (post r.run)

@@ -1,7 +1,8 @@
 -- Function values that run the statements inside.
 use Rattle.std.specs.Prelude.{ℕ, ◌≤◌, Result}
 use denote.Ref.{Bor, MutBor}
-use Rattle.bq_resolve_scope.specs.declared.code.CodeStmt.{CodeStmt}
+use Rattle.bq_parse_grammar.specs.declared.tree.Stmt.{Stmt}
+use Rattle.bq_resolve_scope.specs.Codes.{stmt_code}
 use Rattle.bq_value.specs.declared.error.EvalErr.{EvalErr}
 use Rattle.bq_eval_meaning_spec.specs.Primitives.{Primitives}
 use Rattle.bq_eval_meaning_spec.specs.Statements.{run_to}
@@ -13,8 +14,8 @@ use Rattle.bq_eval_rules.specs.Flows.{flow_of}
 use Rattle.bq_eval_rules.specs.Round.{evals}
 
 pub record Runs {R S C : Type 0} (m : Primitives S) (seen : R → S) (bound depth : ℕ) (call : C)
-    (pre : Bor Context → ℕ → C → MutBor Slots → MutBor R → Bor CodeStmt → Type 0)
-    (post : Bor Context → ℕ → C → MutBor Slots → MutBor R → Bor CodeStmt → Result flows.Flow EvalErr → MutBor Slots → MutBor R → Type 0) : Type 0 where
-  pub callable : (c : Bor Context) (f : MutBor Slots) (r : MutBor R) (x : Bor CodeStmt) → c.now.left ≤ bound → pre c depth call f r x
-  pub says : (c : Bor Context) (f g : MutBor Slots) (old new : MutBor R) (x : Bor CodeStmt) (result : Result flows.Flow EvalErr) → post c depth call f old x result g new
-      → Acts m (λ r. (flow_of r, slots_of g.now)) result (seen new.now) (run_to depth m (evals m c.now) x.now (slots_of f.now) (seen old.now))
+    (pre : Bor Context → ℕ → C → MutBor Slots → MutBor R → Bor Stmt → Type 0)
+    (post : Bor Context → ℕ → C → MutBor Slots → MutBor R → Bor Stmt → Result flows.Flow EvalErr → MutBor Slots → MutBor R → Type 0) : Type 0 where
+  pub callable : (c : Bor Context) (f : MutBor Slots) (r : MutBor R) (x : Bor Stmt) → c.now.left ≤ bound → pre c depth call f r x
+  pub says : (c : Bor Context) (f g : MutBor Slots) (old new : MutBor R) (x : Bor Stmt) (result : Result flows.Flow EvalErr) → post c depth call f old x result g new
+      → Acts m (λ r. (flow_of r, slots_of g.now)) result (seen new.now) (run_to depth m (evals m c.now) (stmt_code x.now) (slots_of f.now) (seen old.now))

@@ -21,7 +21,7 @@ use bq_base::FaultKind;
 use bq_builtin_machine::{Args, Bound};
 use bq_eval_frame::Frame;
 use bq_resolve_predeclared::{HostFunction, Predeclared};
-use bq_resolve_scope::CodeFunction;
+use bq_resolve_scope::Function as FileFunction;
 use bq_value::{EvalErr, Function, Node, Value};
 use std::alloc::Global;
 
@@ -30,7 +30,7 @@ use std::alloc::Global;
 pub fn entry<'f, R: Runtime>(
     alloc: Global,
     runtime: &mut R,
-    function: &CodeFunction,
+    function: &FileFunction,
     defaults: &[Value],
     args: Args,
 ) -> Result<Frame<'f>, EvalErr>
@@ -50,7 +50,7 @@ pub fn entry<'f, R: Runtime>(
 fn bound_entry<'f, R: Runtime>(
     alloc: Global,
     runtime: &mut R,
-    function: &CodeFunction,
+    function: &FileFunction,
     defaults: &[Value],
     args: Args,
 ) -> Result<Frame<'f>, EvalErr>
@@ -82,7 +82,7 @@ pub fn run_body<R: Runtime>(
     context: &Context<'_>,
     runtime: &mut R,
     unit: &CodeUnit<'_>,
-    function: &CodeFunction,
+    function: &FileFunction,
     frame: &mut Frame<'_>,
 ) -> Result<Value, EvalErr>
     ensures { Returns R.means R.seen (body_here R.means context.now (unit_of unit.now) function.now (slots_of frame.old)) runtime.old result runtime.new }
@@ -111,7 +111,7 @@ pub fn call_function<R: Runtime>(
     runtime: &mut R,
     called: &Function,
     unit: &CodeUnit<'_>,
-    function: &CodeFunction,
+    function: &FileFunction,
     args: Args,
 ) -> Result<Value, EvalErr>
     ensures { Returns R.means R.seen (call_here R.means context.now called.now.«module» called.now.place (unit_of unit.now) function.now called.now.defaults.items args) runtime.old result runtime.new }

@@ -1,15 +1,16 @@
 //! Comprehensions.
 
-ghost use Rattle.std.specs.Prelude.{◌≡◌, []};
+ghost use Rattle.std.specs.Prelude.{◌≡◌, [], map};
 ghost use Rattle.bq_value.specs.Contents.{items, pairs};
 ghost use Rattle.bq_builtin_machine.specs.Action.{pure, ◌>>=◌ as and_then};
+ghost use Rattle.bq_resolve_scope.specs.Codes.{clause_code, expr_code, pair_code};
 ghost use Rattle.bq_eval_meaning_spec.specs.Comprehensions as meaning;
 ghost use Rattle.bq_eval_frame.specs.Slots.{slots_of};
 ghost use Rattle.bq_eval_rules.specs.Acts.{Acts};
 ghost use Rattle.bq_eval_rules.specs.OpenLoops.{loop_of, opening};
 ghost use Rattle.bq_eval_rules.specs.Effects.{Returns, Produces, Collects};
 ghost use Rattle.bq_eval_rules.specs.Evaluators.{EvaluatesInside, evals_in, frame_of};
-ghost use Rattle.bq_eval_rules.specs.ComprehensionClauses.{element_in, clauses_in, turns_left, ClausesReach, ClausesCount, TurnReaches, TurnCounts};
+ghost use Rattle.bq_eval_rules.specs.ComprehensionClauses.{comprehension_code, element_in, clauses_in, turns_left, ClausesReach, ClausesCount, TurnReaches, TurnCounts};
 
 use crate::context::Context;
 use crate::evaluator::Evaluator;
@@ -17,7 +18,7 @@ use crate::open_loop::{ForClause, OpenLoop};
 use crate::runtime::Runtime;
 use crate::targets::begin_turn;
 use bq_eval_frame::Frame;
-use bq_resolve_scope::{Code, CodeClause, CodePair, CodeTarget};
+use bq_parse_grammar::{Clause, Expr, Pair};
 use bq_value::{Content, Dict, EvalErr, Value};
 use std::marker::PhantomData;
 
@@ -25,28 +26,28 @@ impl<
     'a,
     R: Runtime,
     C: Copy,
-    F: Copy + Fn(&Context<'_>, usize, C, &Frame<'_>, &mut R, &Code) -> Result<Value, EvalErr>,
+    F: Copy + Fn(&Context<'_>, usize, C, &Frame<'_>, &mut R, &Expr) -> Result<Value, EvalErr>,
 > Evaluator<'a, R, C, F> {
     /// Appends an element.
     #[tactic(auto, unfolding(bq_eval_meaning_spec::specs::Comprehensions::element))]
-    fn element(&self, runtime: &mut R, content: &mut Content, code: &Code) -> Result<(), EvalErr>
+    fn element(&self, runtime: &mut R, content: &mut Content, code: &Expr) -> Result<(), EvalErr>
         requires { EvaluatesInside R.means R.seen self.now F.pre F.post }
-        ensures { Collects R.means R.seen (meaning.element R.means (evals_in R.means self.now) code.now) (frame_of self.now) content.old runtime.old result (frame_of self.now) content.new runtime.new }
+        ensures { Collects R.means R.seen (meaning.element R.means (evals_in R.means self.now) (expr_code code.now)) (frame_of self.now) content.old runtime.old result (frame_of self.now) content.new runtime.new }
     {
         let value = self.value(runtime, code)?;
         runtime.add(content, value)
     }
 
     /// Adds a pair, or sets the value of a key that is there.
-    #[tactic(auto, unfolding(bq_eval_meaning_spec::specs::Comprehensions::pair_element))]
+    #[tactic(auto, unfolding(bq_eval_meaning_spec::specs::Comprehensions::pair_element), using(bq_resolve_scope::proofs::Codes::pair_out))]
     fn pair_element(
         &self,
         runtime: &mut R,
         content: &mut Content,
-        pair: &CodePair,
+        pair: &Pair,
     ) -> Result<(), EvalErr>
         requires { EvaluatesInside R.means R.seen self.now F.pre F.post }
-        ensures { Collects R.means R.seen (meaning.pair_element R.means (evals_in R.means self.now) pair.now) (frame_of self.now) content.old runtime.old result (frame_of self.now) content.new runtime.new }
+        ensures { Collects R.means R.seen (meaning.pair_element R.means (evals_in R.means self.now) (pair_code pair.now)) (frame_of self.now) content.old runtime.old result (frame_of self.now) content.new runtime.new }
     {
         let key = self.value(runtime, &pair.key)?;
         let value = self.value(runtime, &pair.value)?;
@@ -54,19 +55,19 @@ impl<
     }
 
     /// Evaluates what is before the clauses of a comprehension, and adds it.
-    #[tactic(auto, unfolding(bq_eval_meaning_spec::specs::Comprehensions::body))]
+    #[tactic(auto, unfolding(bq_eval_meaning_spec::specs::Comprehensions::body), using(crate::proofs::Codes::comprehension_out))]
     fn body(
         &self,
         runtime: &mut R,
         content: &mut Content,
-        comprehension: &Code,
+        comprehension: &Expr,
     ) -> Result<(), EvalErr>
         requires { EvaluatesInside R.means R.seen self.now F.pre F.post }
         ensures { Collects R.means R.seen (element_in R.means self.now comprehension.now) (frame_of self.now) content.old runtime.old result (frame_of self.now) content.new runtime.new }
     {
         match comprehension {
-            Code::ListComprehension(code, _) => self.element(runtime, content, code.get()),
-            Code::DictComprehension(pair, _) => self.pair_element(runtime, content, pair.get()),
+            Expr::ListComprehension(code, _, _) => self.element(runtime, content, code.get()),
+            Expr::DictComprehension(pair, _, _) => self.pair_element(runtime, content, pair.get()),
             _ => Ok(()),
         }
     }
@@ -76,8 +77,8 @@ impl<
         &self,
         runtime: &mut R,
         content: &mut Content,
-        clauses: &'c [CodeClause],
-        comprehension: &Code,
+        clauses: &'c [Clause],
+        comprehension: &Expr,
     ) -> Result<Option<ForClause<'c>>, EvalErr>
         requires { EvaluatesInside R.means R.seen self.now F.pre F.post }
         ensures leaves { ClausesReach R.means R.seen self.now comprehension.now clauses.now (frame_of self.now) content.old runtime.old result content.new runtime.new }
@@ -86,14 +87,14 @@ impl<
         let mut rest = clauses;
         while let [clause, after @ ..] = rest {
             match clause {
-                CodeClause::For(target, iterable) => {
+                Clause::For(target, iterable) => {
                     return Ok(Some(ForClause {
                         target,
                         iterable,
                         after,
                     }));
                 }
-                CodeClause::If(condition) => {
+                Clause::If(condition) => {
                     if !self.holds(runtime, condition)? {
                         return Ok(None);
                     }
@@ -110,14 +111,14 @@ impl<
 #[derive(Drop)]
 struct Comprehension<'a, R, C, F> {
     rules: &'a Evaluator<'a, R, C, F>,
-    code: &'a Code,
+    code: &'a Expr,
 }
 
 impl<
     'a,
     R: Runtime,
     C: Copy,
-    F: Copy + Fn(&Context<'_>, usize, C, &Frame<'_>, &mut R, &Code) -> Result<Value, EvalErr>,
+    F: Copy + Fn(&Context<'_>, usize, C, &Frame<'_>, &mut R, &Expr) -> Result<Value, EvalErr>,
 > Comprehension<'a, R, C, F> {
     /// Runs clauses in a frame, up to the first loop, which it returns.
     fn inward<'c>(
@@ -125,7 +126,7 @@ impl<
         frame: &Frame<'_>,
         runtime: &mut R,
         content: &mut Content,
-        clauses: &'c [CodeClause],
+        clauses: &'c [Clause],
     ) -> Result<Option<ForClause<'c>>, EvalErr>
         requires { EvaluatesInside R.means R.seen self.now.rules.now F.pre F.post }
         ensures leaves { ClausesReach R.means R.seen self.now.rules.now self.now.code.now clauses.now (slots_of frame.now) content.old runtime.old result content.new runtime.new }
@@ -232,7 +233,7 @@ impl<
         frame: &mut Frame<'_>,
         runtime: &mut R,
         content: &mut Content,
-        clauses: &[CodeClause],
+        clauses: &[Clause],
     ) -> Result<(), EvalErr>
         requires { EvaluatesInside R.means R.seen self.now.rules.now F.pre F.post }
         ensures { Collects R.means R.seen (clauses_in R.means self.now.rules.now self.now.code.now clauses.now) (slots_of frame.old) content.old runtime.old result (slots_of frame.new) content.new runtime.new }
@@ -251,15 +252,15 @@ impl<
     'a,
     R: Runtime,
     C: Copy,
-    F: Copy + Fn(&Context<'_>, usize, C, &Frame<'_>, &mut R, &Code) -> Result<Value, EvalErr>,
+    F: Copy + Fn(&Context<'_>, usize, C, &Frame<'_>, &mut R, &Expr) -> Result<Value, EvalErr>,
 > Evaluator<'a, R, C, F> {
     /// Adds all elements of a comprehension, whose clauses bind their variables in a frame of their own.
     fn run_clauses(
         &self,
         runtime: &mut R,
         content: &mut Content,
-        comprehension: &Code,
-        clauses: &[CodeClause],
+        comprehension: &Expr,
+        clauses: &[Clause],
     ) -> Result<(), EvalErr>
         requires { EvaluatesInside R.means R.seen self.now F.pre F.post }
         ensures { Produces R.means R.seen content.new (and_then (clauses_in R.means self.now comprehension.now clauses.now (frame_of self.now) content.old) (λ made. pure made.0)) runtime.old result runtime.new }
@@ -278,11 +279,11 @@ impl<
         &self,
         runtime: &mut R,
         empty: Content,
-        comprehension: &Code,
-        clauses: &[CodeClause],
+        comprehension: &Expr,
+        clauses: &[Clause],
     ) -> Result<Value, EvalErr>
         requires { EvaluatesInside R.means R.seen self.now F.pre F.post }
-        ensures { Returns R.means R.seen (meaning.comprehension R.means (evals_in R.means self.now) empty comprehension.now clauses.now (frame_of self.now)) runtime.old result runtime.new }
+        ensures { Returns R.means R.seen (meaning.comprehension R.means (evals_in R.means self.now) empty (comprehension_code comprehension.now) (map clause_code clauses.now) (frame_of self.now)) runtime.old result runtime.new }
     {
         runtime.step(1)?;
         let mut content = empty;
@@ -295,11 +296,11 @@ impl<
     pub fn list_comprehension(
         &self,
         runtime: &mut R,
-        comprehension: &Code,
-        clauses: &[CodeClause],
+        comprehension: &Expr,
+        clauses: &[Clause],
     ) -> Result<Value, EvalErr>
         requires { EvaluatesInside R.means R.seen self.now F.pre F.post }
-        ensures { Returns R.means R.seen (meaning.comprehension R.means (evals_in R.means self.now) (items []) comprehension.now clauses.now (frame_of self.now)) runtime.old result runtime.new }
+        ensures { Returns R.means R.seen (meaning.comprehension R.means (evals_in R.means self.now) (items []) (comprehension_code comprehension.now) (map clause_code clauses.now) (frame_of self.now)) runtime.old result runtime.new }
     {
         let empty = Content::list(Vec::new(self.context.alloc));
         self.comprehension(runtime, empty, comprehension, clauses)
@@ -310,11 +311,11 @@ impl<
     pub fn dict_comprehension(
         &self,
         runtime: &mut R,
-        comprehension: &Code,
-        clauses: &[CodeClause],
+        comprehension: &Expr,
+        clauses: &[Clause],
     ) -> Result<Value, EvalErr>
         requires { EvaluatesInside R.means R.seen self.now F.pre F.post }
-        ensures { Returns R.means R.seen (meaning.comprehension R.means (evals_in R.means self.now) (pairs []) comprehension.now clauses.now (frame_of self.now)) runtime.old result runtime.new }
+        ensures { Returns R.means R.seen (meaning.comprehension R.means (evals_in R.means self.now) (pairs []) (comprehension_code comprehension.now) (map clause_code clauses.now) (frame_of self.now)) runtime.old result runtime.new }
     {
         let empty = Content::dict(Dict::new(self.context.alloc, runtime.seed()));
         self.comprehension(runtime, empty, comprehension, clauses)

@@ -4,7 +4,7 @@ ghost use Rattle.std.specs.Prelude.{◌≡◌, option_copied};
 ghost use Rattle.bq_eval_rules.specs.Round.{globals_of};
 
 use bq_eval_frame::Frame;
-use bq_resolve_scope::{CodeFunction, Resolved};
+use bq_resolve_scope::{Function, ResolvedFile};
 use bq_value::{Frozen, Value};
 use std::alloc::Global;
 use std::sync::Arc;
@@ -38,11 +38,11 @@ impl<'a> Globals<'a> {
 #[derive(Clone, Copy)]
 pub struct Program<'a> {
     pub number: u32,
-    pub functions: &'a [CodeFunction],
+    pub functions: &'a [Function],
     /// The values that its loads bind.
     pub loaded: &'a [Value],
     /// The resolved files, by the numbers of their modules.
-    pub code: &'a [Option<&'a Resolved>],
+    pub code: &'a [Option<&'a ResolvedFile>],
     /// The modules that it loads.
     pub frozen: &'a [Arc<Frozen>],
 }

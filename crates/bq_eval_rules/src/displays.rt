@@ -1,6 +1,7 @@
 //! Displays of lists, tuples and dicts.
 
-ghost use Rattle.std.specs.Prelude.{◌≡◌, []};
+ghost use Rattle.std.specs.Prelude.{◌≡◌, [], map};
+ghost use Rattle.bq_resolve_scope.specs.Codes.{expr_code, pair_code};
 ghost use Rattle.bq_eval_meaning_spec.specs.Expressions as meaning;
 ghost use Rattle.bq_eval_rules.specs.Acts.{Acts};
 ghost use Rattle.bq_eval_rules.specs.Effects.{Returns, Produces};
@@ -10,20 +11,20 @@ use crate::context::Context;
 use crate::evaluator::Evaluator;
 use crate::runtime::Runtime;
 use bq_eval_frame::Frame;
-use bq_resolve_scope::{Code, CodePair};
+use bq_parse_grammar::{Expr, Pair};
 use bq_value::{Content, Dict, EvalErr, Value};
 
 impl<
     'a,
     R: Runtime,
     C: Copy,
-    F: Copy + Fn(&Context<'_>, usize, C, &Frame<'_>, &mut R, &Code) -> Result<Value, EvalErr>,
+    F: Copy + Fn(&Context<'_>, usize, C, &Frame<'_>, &mut R, &Expr) -> Result<Value, EvalErr>,
 > Evaluator<'a, R, C, F> {
     /// Evaluates expressions, one after another.
     #[tactic(auto, unfolding(bq_eval_meaning_spec::specs::Expressions::values))]
-    pub fn values(&self, runtime: &mut R, codes: &[Code]) -> Result<Vec<Value>, EvalErr>
+    pub fn values(&self, runtime: &mut R, codes: &[Expr]) -> Result<Vec<Value>, EvalErr>
         requires { EvaluatesInside R.means R.seen self.now F.pre F.post }
-        ensures { Acts R.means (λ vs. vs.items) result (R.seen runtime.new) (meaning.values R.means (evals_in R.means self.now) codes.now (frame_of self.now) [] (R.seen runtime.old)) }
+        ensures { Acts R.means (λ vs. vs.items) result (R.seen runtime.new) (meaning.values R.means (evals_in R.means self.now) (map expr_code codes.now) (frame_of self.now) [] (R.seen runtime.old)) }
     {
         let mut all = Vec::with_capacity(self.context.alloc, codes.len())?;
         for code in codes {
@@ -35,9 +36,9 @@ impl<
     /// Evaluates `[x, ..]`.
     #[inline(never)]
     #[tactic(auto, unfolding(bq_eval_meaning_spec::specs::Expressions::list_display))]
-    pub fn list_display(&self, runtime: &mut R, codes: &[Code]) -> Result<Value, EvalErr>
+    pub fn list_display(&self, runtime: &mut R, codes: &[Expr]) -> Result<Value, EvalErr>
         requires { EvaluatesInside R.means R.seen self.now F.pre F.post }
-        ensures { Returns R.means R.seen (meaning.list_display R.means (evals_in R.means self.now) codes.now (frame_of self.now)) runtime.old result runtime.new }
+        ensures { Returns R.means R.seen (meaning.list_display R.means (evals_in R.means self.now) (map expr_code codes.now) (frame_of self.now)) runtime.old result runtime.new }
     {
         runtime.step(1)?;
         let values = self.values(runtime, codes)?;
@@ -47,9 +48,9 @@ impl<
     /// Evaluates `(x, ..)`.
     #[inline(never)]
     #[tactic(auto, unfolding(bq_eval_meaning_spec::specs::Expressions::tuple_display))]
-    pub fn tuple_display(&self, runtime: &mut R, codes: &[Code]) -> Result<Value, EvalErr>
+    pub fn tuple_display(&self, runtime: &mut R, codes: &[Expr]) -> Result<Value, EvalErr>
         requires { EvaluatesInside R.means R.seen self.now F.pre F.post }
-        ensures { Returns R.means R.seen (meaning.tuple_display R.means (evals_in R.means self.now) codes.now (frame_of self.now)) runtime.old result runtime.new }
+        ensures { Returns R.means R.seen (meaning.tuple_display R.means (evals_in R.means self.now) (map expr_code codes.now) (frame_of self.now)) runtime.old result runtime.new }
     {
         runtime.step(1)?;
         let values = self.values(runtime, codes)?;
@@ -57,10 +58,10 @@ impl<
     }
 
     /// Evaluates `key: value` of a display, and adds it.
-    #[tactic(auto, unfolding(bq_eval_meaning_spec::specs::Expressions::pair))]
-    fn pair(&self, runtime: &mut R, content: &mut Content, pair: &CodePair) -> Result<(), EvalErr>
+    #[tactic(auto, unfolding(bq_eval_meaning_spec::specs::Expressions::pair), using(bq_resolve_scope::proofs::Codes::pair_out))]
+    fn pair(&self, runtime: &mut R, content: &mut Content, pair: &Pair) -> Result<(), EvalErr>
         requires { EvaluatesInside R.means R.seen self.now F.pre F.post }
-        ensures { Produces R.means R.seen content.new (meaning.pair R.means (evals_in R.means self.now) pair.now (frame_of self.now) content.old) runtime.old result runtime.new }
+        ensures { Produces R.means R.seen content.new (meaning.pair R.means (evals_in R.means self.now) (pair_code pair.now) (frame_of self.now) content.old) runtime.old result runtime.new }
     {
         let key = self.value(runtime, &pair.key)?;
         let value = self.value(runtime, &pair.value)?;
@@ -72,10 +73,10 @@ impl<
         &self,
         runtime: &mut R,
         content: &mut Content,
-        pairs: &[CodePair],
+        pairs: &[Pair],
     ) -> Result<(), EvalErr>
         requires { EvaluatesInside R.means R.seen self.now F.pre F.post }
-        ensures { Produces R.means R.seen content.new (meaning.pairs_each R.means (evals_in R.means self.now) pairs.now (frame_of self.now) content.old) runtime.old result runtime.new }
+        ensures { Produces R.means R.seen content.new (meaning.pairs_each R.means (evals_in R.means self.now) (map pair_code pairs.now) (frame_of self.now) content.old) runtime.old result runtime.new }
     {
         for pair in pairs {
             self.pair(runtime, content, pair)?;
@@ -86,9 +87,9 @@ impl<
     /// Evaluates `{key: value, ..}`.
     #[inline(never)]
     #[tactic(auto, unfolding(bq_eval_meaning_spec::specs::Expressions::dict_display))]
-    pub fn dict_display(&self, runtime: &mut R, pairs: &[CodePair]) -> Result<Value, EvalErr>
+    pub fn dict_display(&self, runtime: &mut R, pairs: &[Pair]) -> Result<Value, EvalErr>
         requires { EvaluatesInside R.means R.seen self.now F.pre F.post }
-        ensures { Returns R.means R.seen (meaning.dict_display R.means (evals_in R.means self.now) pairs.now (frame_of self.now)) runtime.old result runtime.new }
+        ensures { Returns R.means R.seen (meaning.dict_display R.means (evals_in R.means self.now) (map pair_code pairs.now) (frame_of self.now)) runtime.old result runtime.new }
     {
         runtime.step(1)?;
         let mut content = Content::dict(Dict::new(self.context.alloc, runtime.seed()));

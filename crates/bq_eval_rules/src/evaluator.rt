@@ -11,7 +11,7 @@ use crate::context::Context;
 use crate::operand::{Operand, int_operand, use_of};
 use crate::runtime::Runtime;
 use bq_eval_frame::Frame;
-use bq_resolve_scope::Code;
+use bq_parse_grammar::Expr;
 use bq_value::{EvalErr, Value};
 use std::marker::PhantomData;
 
@@ -31,11 +31,11 @@ impl<
     'a,
     R: Runtime,
     C: Copy,
-    F: Copy + Fn(&Context<'_>, usize, C, &Frame<'_>, &mut R, &Code) -> Result<Value, EvalErr>,
+    F: Copy + Fn(&Context<'_>, usize, C, &Frame<'_>, &mut R, &Expr) -> Result<Value, EvalErr>,
 > Evaluator<'a, R, C, F> {
     /// Evaluates an expression inside.
     #[inline(always)]
-    pub fn value(&self, runtime: &mut R, code: &Code) -> Result<Value, EvalErr>
+    pub fn value(&self, runtime: &mut R, code: &Expr) -> Result<Value, EvalErr>
         requires { EvaluatesInside R.means R.seen self.now F.pre F.post }
         ensures { Returns R.means R.seen (value_inside R.means self.now code.now) runtime.old result runtime.new }
     {
@@ -52,15 +52,15 @@ impl<
     /// Evaluates an expression inside whose value is only read: its frame lends the value of a name, and an integer is
     /// made here.
     #[inline(always)]
-    pub fn operand(&self, runtime: &mut R, code: &Code) -> Result<Operand<'a>, EvalErr>
+    pub fn operand(&self, runtime: &mut R, code: &Expr) -> Result<Operand<'a>, EvalErr>
         requires { EvaluatesInside R.means R.seen self.now F.pre F.post }
         ensures { Acts R.means read_of result (R.seen runtime.new) (value_inside R.means self.now code.now (R.seen runtime.old)) }
     {
         if self.depth > 0 {
-            if let Code::Use(binding) = code {
-                return use_of(self.context, self.frame, runtime, *binding);
+            if let Expr::Name(name) = code {
+                return use_of(self.context, self.frame, runtime, name.referent);
             }
-            if let Code::Int(n) = code {
+            if let Expr::Int(n) = code {
                 return int_operand(runtime, *n);
             }
         }
@@ -69,7 +69,7 @@ impl<
 
     /// Evaluates a condition.
     #[inline(always)]
-    pub fn holds(&self, runtime: &mut R, condition: &Code) -> Result<bool, EvalErr>
+    pub fn holds(&self, runtime: &mut R, condition: &Expr) -> Result<bool, EvalErr>
         requires { EvaluatesInside R.means R.seen self.now F.pre F.post }
         ensures { Returns R.means R.seen (and_then (value_inside R.means self.now condition.now) (λ v s. done (R.means.truth v s) s)) runtime.old result runtime.new }
     {

@@ -1,6 +1,7 @@
 //! The statements of a file.
 
-ghost use Rattle.std.specs.Prelude.{◌≡◌, []};
+ghost use Rattle.std.specs.Prelude.{◌≡◌, [], map};
+ghost use Rattle.bq_resolve_scope.specs.Codes.{def_code, expr_code};
 ghost use Rattle.bq_eval_meaning_spec.specs.Expressions as expressions;
 ghost use Rattle.bq_eval_meaning_spec.specs.Module as meaning;
 ghost use Rattle.bq_eval_frame.specs.Slots.{slots_of};
@@ -18,7 +19,8 @@ use crate::runtime::Runtime;
 use bq_base::Bytes;
 use bq_builtin_machine::Args;
 use bq_eval_frame::Frame;
-use bq_resolve_scope::{Code, CodeDef, CodeTopLevel, FileStmt};
+use bq_parse_grammar::Expr;
+use bq_resolve_scope::{Def, FileLine, Outside};
 use bq_value::{EvalErr, Function, Value};
 use std::marker::PhantomData;
 
@@ -33,10 +35,10 @@ impl<
         &self,
         frame: &Frame<'_>,
         runtime: &mut R,
-        codes: &[Code],
+        codes: &[Expr],
     ) -> Result<Vec<Value>, EvalErr>
         requires { AnswersCalls R.means R.seen self.now.context.now self.now.call C.pre C.post }
-        ensures { Acts R.means (λ vs. vs.items) result (R.seen runtime.new) (expressions.values R.means (evals_of R.means self.now) codes.now (slots_of frame.now) [] (R.seen runtime.old)) }
+        ensures { Acts R.means (λ vs. vs.items) result (R.seen runtime.new) (expressions.values R.means (evals_of R.means self.now) (map expr_code codes.now) (slots_of frame.now) [] (R.seen runtime.old)) }
     {
         let mut all = Vec::with_capacity(self.context.alloc, codes.len())?;
         for code in codes {
@@ -47,14 +49,9 @@ impl<
 
     /// Carries out a `def`.
     #[tactic(auto, unfolding(bq_eval_meaning_spec::specs::Module::def_stmt))]
-    fn def_stmt(
-        &self,
-        frame: &mut Frame<'_>,
-        runtime: &mut R,
-        def: &CodeDef,
-    ) -> Result<Flow, EvalErr>
+    fn def_stmt(&self, frame: &mut Frame<'_>, runtime: &mut R, def: &Def) -> Result<Flow, EvalErr>
         requires { AnswersCalls R.means R.seen self.now.context.now self.now.call C.pre C.post }
-        ensures { Executes R.means R.seen (meaning.def_stmt R.means (own_of self.now.context.now.program.now) (evals_of R.means self.now) def.now) frame.old runtime.old result frame.new runtime.new }
+        ensures { Executes R.means R.seen (meaning.def_stmt R.means (own_of self.now.context.now.program.now) (evals_of R.means self.now) (def_code def.now)) frame.old runtime.old result frame.new runtime.new }
     {
         runtime.step(1)?;
         let defaults = self.values(frame, runtime, def.defaults.as_slice())?;
@@ -74,7 +71,7 @@ impl<
             defaults,
         };
         let value = Value::function(self.context.alloc, function)?;
-        self.assign(frame, runtime, &def.target, value)?;
+        self.assign_name(frame, &*runtime, &def.name, value)?;
         Ok(Flow::Next)
     }
 
@@ -84,15 +81,15 @@ impl<
         &self,
         frame: &mut Frame<'_>,
         runtime: &mut R,
-        stmt: &CodeTopLevel,
+        stmt: &FileLine,
     ) -> Result<Flow, EvalErr>
         requires { AnswersCalls R.means R.seen self.now.context.now self.now.call C.pre C.post }
         ensures { Executes R.means R.seen (meaning.top_level R.means (own_of self.now.context.now.program.now) (evals_of R.means self.now) stmt.now) frame.old runtime.old result frame.new runtime.new }
     {
         runtime.at_line(stmt.line);
         match &stmt.statement {
-            FileStmt::Simple(stmts) => self.line(frame, runtime, stmts.as_slice()),
-            FileStmt::Def(def) => self.def_stmt(frame, runtime, def),
+            Outside::Simple(stmts) => self.line(frame, runtime, stmts.as_slice()),
+            Outside::Def(def) => self.def_stmt(frame, runtime, def.get()),
         }
     }
 
@@ -102,7 +99,7 @@ impl<
         &self,
         frame: &mut Frame<'_>,
         runtime: &mut R,
-        stmts: &[CodeTopLevel],
+        stmts: &[FileLine],
     ) -> Result<Flow, EvalErr>
         requires { AnswersCalls R.means R.seen self.now.context.now self.now.call C.pre C.post }
         ensures { Executes R.means R.seen (meaning.top_levels R.means (own_of self.now.context.now.program.now) (evals_of R.means self.now) stmts.now) frame.old runtime.old result frame.new runtime.new }
@@ -124,7 +121,7 @@ pub fn run_file<R: Runtime>(
     context: &Context<'_>,
     frame: &mut Frame<'_>,
     runtime: &mut R,
-    stmts: &[CodeTopLevel],
+    stmts: &[FileLine],
 ) -> Result<Flow, EvalErr>
     ensures { Executes R.means R.seen (meaning.top_levels R.means (own_of context.now.program.now) (evals R.means context.now) stmts.now) frame.old runtime.old result frame.new runtime.new }
 {

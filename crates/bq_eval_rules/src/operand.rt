@@ -7,13 +7,13 @@ ghost use Rattle.bq_eval_frame.specs.Slots.{slots_of};
 ghost use Rattle.bq_eval_rules.specs.Acts.{Acts};
 ghost use Rattle.bq_eval_rules.specs.Effects.{Returns};
 ghost use Rattle.bq_eval_rules.specs.Round.{round_of};
-ghost use Rattle.bq_eval_rules.specs.Operands.{read_of};
+ghost use Rattle.bq_eval_rules.specs.Operands.{name_use, read_of};
 
 use crate::context::Context;
 use crate::runtime::Runtime;
 use bq_base::FaultKind;
 use bq_eval_frame::Frame;
-use bq_resolve_scope::Binding;
+use bq_parse_grammar::Referent;
 use bq_value::{EvalErr, Value};
 use std::alloc::AllocError;
 
@@ -46,23 +46,40 @@ impl<'f> Operand<'f> {
     }
 }
 
-/// Evaluates the use of a name: lends its value, or fails with F49.
-#[tactic(auto, unfolding(bq_eval_meaning_spec::specs::Expressions::use_of, bq_eval_meaning_spec::specs::Targets::bound, crate::specs::Round::round_of))]
+/// Evaluates the use of a name: lends its value, or fails with F49. What a namespace holds takes no step.
+#[tactic(auto, unfolding(crate::specs::Operands::name_use, bq_eval_meaning_spec::specs::Expressions::use_of, bq_eval_meaning_spec::specs::Targets::bound, crate::specs::Round::round_of))]
 #[inline(always)]
 pub fn use_of<'f, R: Runtime>(
     context: &'f Context<'_>,
     frame: &'f Frame<'_>,
     runtime: &mut R,
-    binding: Binding,
+    referent: Referent,
 ) -> Result<Operand<'f>, EvalErr>
-    ensures { Acts R.means read_of result (R.seen runtime.new) (meaning.use_of R.means (round_of context.now) binding (slots_of frame.now) (R.seen runtime.old)) }
+    ensures { Acts R.means read_of result (R.seen runtime.new) (name_use R.means (round_of context.now) referent (slots_of frame.now) (R.seen runtime.old)) }
 {
-    runtime.step(1)?;
-    let value = match binding {
-        Binding::Local(slot) => frame.get(slot),
-        Binding::Global(k) => context.globals.get(k),
-        Binding::Loaded(k) => context.loaded.get(k),
-        Binding::Predeclared(name) => return Ok(Operand::Own(runtime.predeclared(name)?)),
+    let value = match referent {
+        // of no tree that is evaluated; its code is the first slot
+        Referent::Unresolved(_) => {
+            runtime.step(1)?;
+            frame.get(0)
+        }
+        Referent::Local(slot) => {
+            runtime.step(1)?;
+            frame.get(slot)
+        }
+        Referent::Global(k) => {
+            runtime.step(1)?;
+            context.globals.get(k)
+        }
+        Referent::Loaded(k) => {
+            runtime.step(1)?;
+            context.loaded.get(k)
+        }
+        Referent::Predeclared(name) => {
+            runtime.step(1)?;
+            return Ok(Operand::Own(runtime.predeclared(name)?));
+        }
+        Referent::Member(name) => return Ok(Operand::Own(runtime.predeclared(name)?)),
     };
     match value {
         None => Err(EvalErr::Bad(FaultKind::Unbound)),

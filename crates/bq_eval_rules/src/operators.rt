@@ -1,8 +1,9 @@
 //! Operators, comparisons and conditionals.
 
-ghost use Rattle.std.specs.Prelude.{◌≡◌, reverse};
+ghost use Rattle.std.specs.Prelude.{◌≡◌, map, reverse};
 ghost use Rattle.bq_value.specs.Datum.{int};
 ghost use Rattle.bq_builtin_machine.specs.Action.{◌>>=◌ as and_then};
+ghost use Rattle.bq_resolve_scope.specs.Codes.{choice_code, expr_code, operation_code};
 ghost use Rattle.bq_eval_meaning_spec.specs.Expressions as meaning;
 ghost use Rattle.bq_eval_rules.specs.Effects.{Returns};
 ghost use Rattle.bq_eval_rules.specs.Evaluators.{EvaluatesInside, evals_in, frame_of, value_inside};
@@ -13,8 +14,7 @@ use crate::names::local_use;
 use crate::operand::literal;
 use crate::runtime::Runtime;
 use bq_eval_frame::Frame;
-use bq_parse_grammar::{Comparison, Operator, UnaryOperator};
-use bq_resolve_scope::{Binding, Code, CodeChoice, CodeOperation};
+use bq_parse_grammar::{Choice, Comparison, Expr, Operation, Operator, Referent, UnaryOperator};
 use bq_value::{EvalErr, Value};
 
 /// Applies these operators to a value, the last one first.
@@ -53,7 +53,7 @@ impl<
     'a,
     R: Runtime,
     C: Copy,
-    F: Copy + Fn(&Context<'_>, usize, C, &Frame<'_>, &mut R, &Code) -> Result<Value, EvalErr>,
+    F: Copy + Fn(&Context<'_>, usize, C, &Frame<'_>, &mut R, &Expr) -> Result<Value, EvalErr>,
 > Evaluator<'a, R, C, F> {
     /// Evaluates operators before an operand.
     #[inline(never)]
@@ -62,10 +62,10 @@ impl<
         &self,
         runtime: &mut R,
         operators: &[UnaryOperator],
-        code: &Code,
+        code: &Expr,
     ) -> Result<Value, EvalErr>
         requires { EvaluatesInside R.means R.seen self.now F.pre F.post }
-        ensures { Returns R.means R.seen (meaning.unary R.means (evals_in R.means self.now) operators.now code.now (frame_of self.now)) runtime.old result runtime.new }
+        ensures { Returns R.means R.seen (meaning.unary R.means (evals_in R.means self.now) operators.now (expr_code code.now) (frame_of self.now)) runtime.old result runtime.new }
     {
         runtime.step(operators.len() as u64)?;
         let value = self.value(runtime, code)?;
@@ -74,15 +74,15 @@ impl<
 
     /// Applies one operation to the value so far.
     #[inline(always)]
-    #[tactic(auto, unfolding(bq_eval_meaning_spec::specs::Expressions::operation))]
+    #[tactic(auto, unfolding(bq_eval_meaning_spec::specs::Expressions::operation), using(bq_resolve_scope::proofs::Codes::operation_out))]
     fn operation(
         &self,
         runtime: &mut R,
-        operation: &CodeOperation,
+        operation: &Operation,
         left: &Value,
     ) -> Result<Value, EvalErr>
         requires { EvaluatesInside R.means R.seen self.now F.pre F.post }
-        ensures { Returns R.means R.seen (meaning.operation R.means (evals_in R.means self.now) operation.now (frame_of self.now) left.now) runtime.old result runtime.new }
+        ensures { Returns R.means R.seen (meaning.operation R.means (evals_in R.means self.now) (operation_code operation.now) (frame_of self.now) left.now) runtime.old result runtime.new }
     {
         match operation.operator {
             Operator::And => {
@@ -108,19 +108,19 @@ impl<
         runtime: &mut R,
         operator: Operator,
         left: &Value,
-        operand: &Code,
+        operand: &Expr,
     ) -> Result<Value, EvalErr>
         requires { EvaluatesInside R.means R.seen self.now F.pre F.post }
         ensures { Returns R.means R.seen (and_then (value_inside R.means self.now operand.now) (R.means.binary operator left.now)) runtime.old result runtime.new }
     {
         if self.depth > 0 {
-            if let Code::Use(binding) = operand {
-                if let Binding::Local(slot) = binding {
-                    let right = local_use(self.frame, runtime, *slot)?;
+            if let Expr::Name(name) = operand {
+                if let Referent::Local(slot) = name.referent {
+                    let right = local_use(self.frame, runtime, slot)?;
                     return runtime.binary(operator, left, right);
                 }
             }
-            if let Code::Int(n) = operand {
+            if let Expr::Int(n) = operand {
                 return apply_int(runtime, operator, left, *n);
             }
         }
@@ -132,11 +132,11 @@ impl<
     fn operations(
         &self,
         runtime: &mut R,
-        operations: &[CodeOperation],
+        operations: &[Operation],
         first: Value,
     ) -> Result<Value, EvalErr>
         requires { EvaluatesInside R.means R.seen self.now F.pre F.post }
-        ensures { Returns R.means R.seen (meaning.operations R.means (evals_in R.means self.now) operations.now (frame_of self.now) first) runtime.old result runtime.new }
+        ensures { Returns R.means R.seen (meaning.operations R.means (evals_in R.means self.now) (map operation_code operations.now) (frame_of self.now) first) runtime.old result runtime.new }
     {
         let mut value = first;
         for operation in operations {
@@ -146,16 +146,16 @@ impl<
     }
 
     /// Applies the operations of a chain to its first operand. Most often it is one.
-    #[tactic(auto, unfolding(bq_eval_meaning_spec::specs::Expressions::operations))]
+    #[tactic(auto, unfolding(bq_eval_meaning_spec::specs::Expressions::operations), using(crate::proofs::Mapped::map_only))]
     #[inline(always)]
     fn chain(
         &self,
         runtime: &mut R,
-        operations: &[CodeOperation],
+        operations: &[Operation],
         first: &Value,
     ) -> Result<Value, EvalErr>
         requires { EvaluatesInside R.means R.seen self.now F.pre F.post }
-        ensures { Returns R.means R.seen (meaning.operations R.means (evals_in R.means self.now) operations.now (frame_of self.now) first.now) runtime.old result runtime.new }
+        ensures { Returns R.means R.seen (meaning.operations R.means (evals_in R.means self.now) (map operation_code operations.now) (frame_of self.now) first.now) runtime.old result runtime.new }
     {
         match operations {
             [operation] => self.operation(runtime, operation, first),
@@ -164,16 +164,16 @@ impl<
     }
 
     /// Applies any number of operations.
-    #[tactic(auto, unfolding(bq_eval_meaning_spec::specs::Expressions::operations))]
+    #[tactic(auto, unfolding(bq_eval_meaning_spec::specs::Expressions::operations), using(crate::proofs::Mapped::map_none, crate::proofs::Mapped::map_first))]
     #[inline(never)]
     fn long_chain(
         &self,
         runtime: &mut R,
-        operations: &[CodeOperation],
+        operations: &[Operation],
         first: &Value,
     ) -> Result<Value, EvalErr>
         requires { EvaluatesInside R.means R.seen self.now F.pre F.post }
-        ensures { Returns R.means R.seen (meaning.operations R.means (evals_in R.means self.now) operations.now (frame_of self.now) first.now) runtime.old result runtime.new }
+        ensures { Returns R.means R.seen (meaning.operations R.means (evals_in R.means self.now) (map operation_code operations.now) (frame_of self.now) first.now) runtime.old result runtime.new }
     {
         match operations {
             [] => Ok(first.share()?),
@@ -189,16 +189,16 @@ impl<
     fn chain_of(
         &self,
         runtime: &mut R,
-        code: &Code,
-        operations: &[CodeOperation],
+        code: &Expr,
+        operations: &[Operation],
     ) -> Result<Value, EvalErr>
         requires { EvaluatesInside R.means R.seen self.now F.pre F.post }
-        ensures { Returns R.means R.seen (and_then (value_inside R.means self.now code.now) (meaning.operations R.means (evals_in R.means self.now) operations.now (frame_of self.now))) runtime.old result runtime.new }
+        ensures { Returns R.means R.seen (and_then (value_inside R.means self.now code.now) (meaning.operations R.means (evals_in R.means self.now) (map operation_code operations.now) (frame_of self.now))) runtime.old result runtime.new }
     {
         if self.depth > 0 {
-            if let Code::Use(binding) = code {
-                if let Binding::Local(slot) = binding {
-                    let first = local_use(self.frame, runtime, *slot)?;
+            if let Expr::Name(name) = code {
+                if let Referent::Local(slot) = name.referent {
+                    let first = local_use(self.frame, runtime, slot)?;
                     return self.chain(runtime, operations, first);
                 }
             }
@@ -212,11 +212,11 @@ impl<
     pub fn binary(
         &self,
         runtime: &mut R,
-        code: &Code,
-        operations: &[CodeOperation],
+        code: &Expr,
+        operations: &[Operation],
     ) -> Result<Value, EvalErr>
         requires { EvaluatesInside R.means R.seen self.now F.pre F.post }
-        ensures { Returns R.means R.seen (meaning.binary R.means (evals_in R.means self.now) code.now operations.now (frame_of self.now)) runtime.old result runtime.new }
+        ensures { Returns R.means R.seen (meaning.binary R.means (evals_in R.means self.now) (expr_code code.now) (map operation_code operations.now) (frame_of self.now)) runtime.old result runtime.new }
     {
         runtime.step(operations.len() as u64)?;
         self.chain_of(runtime, code, operations)
@@ -226,12 +226,12 @@ impl<
     pub fn compare(
         &self,
         runtime: &mut R,
-        left: &Code,
+        left: &Expr,
         operator: Comparison,
-        right: &Code,
+        right: &Expr,
     ) -> Result<Value, EvalErr>
         requires { EvaluatesInside R.means R.seen self.now F.pre F.post }
-        ensures { Returns R.means R.seen (meaning.compare R.means (evals_in R.means self.now) left.now operator right.now (frame_of self.now)) runtime.old result runtime.new }
+        ensures { Returns R.means R.seen (meaning.compare R.means (evals_in R.means self.now) (expr_code left.now) operator (expr_code right.now) (frame_of self.now)) runtime.old result runtime.new }
     {
         runtime.step(1)?;
         let left = self.operand(runtime, left)?;
@@ -240,10 +240,10 @@ impl<
     }
 
     /// Returns the value of a choice, if its condition holds.
-    #[tactic(auto, unfolding(bq_eval_meaning_spec::specs::Expressions::choice))]
-    fn choice(&self, runtime: &mut R, choice: &CodeChoice) -> Result<Option<Value>, EvalErr>
+    #[tactic(auto, unfolding(bq_eval_meaning_spec::specs::Expressions::choice), using(bq_resolve_scope::proofs::Codes::choice_out))]
+    fn choice(&self, runtime: &mut R, choice: &Choice) -> Result<Option<Value>, EvalErr>
         requires { EvaluatesInside R.means R.seen self.now F.pre F.post }
-        ensures { Returns R.means R.seen (meaning.choice R.means (evals_in R.means self.now) choice.now (frame_of self.now)) runtime.old result runtime.new }
+        ensures { Returns R.means R.seen (meaning.choice R.means (evals_in R.means self.now) (choice_code choice.now) (frame_of self.now)) runtime.old result runtime.new }
     {
         runtime.step(1)?;
         if self.holds(runtime, &choice.condition)? {
@@ -259,11 +259,11 @@ impl<
     pub fn conditional(
         &self,
         runtime: &mut R,
-        choices: &[CodeChoice],
-        otherwise: &Code,
+        choices: &[Choice],
+        otherwise: &Expr,
     ) -> Result<Value, EvalErr>
         requires { EvaluatesInside R.means R.seen self.now F.pre F.post }
-        ensures { Returns R.means R.seen (meaning.conditional R.means (evals_in R.means self.now) choices.now otherwise.now (frame_of self.now)) runtime.old result runtime.new }
+        ensures { Returns R.means R.seen (meaning.conditional R.means (evals_in R.means self.now) (map choice_code choices.now) (expr_code otherwise.now) (frame_of self.now)) runtime.old result runtime.new }
     {
         for choice in choices {
             if let Some(value) = self.choice(runtime, choice)? {

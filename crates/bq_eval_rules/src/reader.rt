@@ -1,7 +1,8 @@
 //! The expressions of statements, and assignments.
 
-ghost use Rattle.std.specs.Prelude.{◌≡◌};
+ghost use Rattle.std.specs.Prelude.{◌≡◌, map};
 ghost use Rattle.bq_builtin_machine.specs.Action.{done, ◌>>=◌ as and_then};
+ghost use Rattle.bq_resolve_scope.specs.Codes.{expr_code, target_code, variable_code};
 ghost use Rattle.bq_eval_meaning_spec.specs.Targets as meaning;
 ghost use Rattle.bq_eval_frame.specs.Slots.{slots_of};
 ghost use Rattle.bq_eval_rules.specs.Nests.{AnswersCalls};
@@ -14,12 +15,11 @@ use crate::expressions::expr_to;
 use crate::names::bound;
 use crate::places::IndexedOperands;
 use crate::runtime::Runtime;
-use crate::targets::{MAX_LAYERS, bind_to};
+use crate::targets::{MAX_LAYERS, bind_to, slot_of};
 use bq_base::FaultKind;
 use bq_builtin_machine::Args;
 use bq_eval_frame::Frame;
-use bq_parse_grammar::Operator;
-use bq_resolve_scope::{Code, CodeTarget};
+use bq_parse_grammar::{Expr, Identifier, Operator, TargetExpr};
 use bq_value::{EvalErr, Value};
 use std::marker::PhantomData;
 
@@ -27,7 +27,7 @@ use std::marker::PhantomData;
 #[derive(Clone, Copy)]
 struct Augmentation<'c> {
     operator: Operator,
-    code: &'c Code,
+    code: &'c Expr,
 }
 
 /// Evaluates the expressions of statements.
@@ -45,9 +45,9 @@ impl<
 > Reader<'a, R, C> {
     /// Evaluates an expression. At top level, the frame has the globals.
     #[tactic(auto, unfolding(crate::specs::Round::evals, crate::specs::Round::in_function, bq_resolve_scope::specs::Names::max_layers))]
-    pub fn value(&self, frame: &Frame<'_>, runtime: &mut R, code: &Code) -> Result<Value, EvalErr>
+    pub fn value(&self, frame: &Frame<'_>, runtime: &mut R, code: &Expr) -> Result<Value, EvalErr>
         requires { AnswersCalls R.means R.seen self.now.context.now self.now.call C.pre C.post }
-        ensures { Returns R.means R.seen (evals_of R.means self.now code.now (slots_of frame.now)) runtime.old result runtime.new }
+        ensures { Returns R.means R.seen (evals_of R.means self.now (expr_code code.now) (slots_of frame.now)) runtime.old result runtime.new }
     {
         if self.context.outside {
             return self.outside(frame, runtime, code);
@@ -58,9 +58,9 @@ impl<
     /// Evaluates an expression outside functions.
     #[inline(never)]
     #[tactic(auto, using(bq_eval_frame::proofs::Slots::none_filled), unfolding(crate::specs::Round::outside_functions, crate::specs::Round::inside, crate::specs::Round::round_of, crate::specs::Round::globals_of, bq_resolve_scope::specs::Names::max_layers))]
-    fn outside(&self, frame: &Frame<'_>, runtime: &mut R, code: &Code) -> Result<Value, EvalErr>
+    fn outside(&self, frame: &Frame<'_>, runtime: &mut R, code: &Expr) -> Result<Value, EvalErr>
         requires { AnswersCalls R.means R.seen self.now.context.now self.now.call C.pre C.post }
-        ensures { Returns R.means R.seen (outside_functions R.means self.now.context.now code.now (slots_of frame.now)) runtime.old result runtime.new }
+        ensures { Returns R.means R.seen (outside_functions R.means self.now.context.now (expr_code code.now) (slots_of frame.now)) runtime.old result runtime.new }
     {
         let inner = Context {
             alloc: self.context.alloc,
@@ -81,10 +81,10 @@ impl<
         &self,
         frame: &Frame<'_>,
         runtime: &mut R,
-        condition: &Code,
+        condition: &Expr,
     ) -> Result<bool, EvalErr>
         requires { AnswersCalls R.means R.seen self.now.context.now self.now.call C.pre C.post }
-        ensures { Returns R.means R.seen (and_then (evals_of R.means self.now condition.now (slots_of frame.now)) (λ v s. done (R.means.truth v s) s)) runtime.old result runtime.new }
+        ensures { Returns R.means R.seen (and_then (evals_of R.means self.now (expr_code condition.now) (slots_of frame.now)) (λ v s. done (R.means.truth v s) s)) runtime.old result runtime.new }
     {
         let condition = self.value(frame, runtime, condition)?;
         Ok(runtime.truth(&condition))
@@ -99,11 +99,11 @@ impl<
         frame: &Frame<'_>,
         runtime: &mut R,
         places: &mut Vec<(Value, Value)>,
-        operand: &Code,
-        index: &Code,
+        operand: &Expr,
+        index: &Expr,
     ) -> Result<(), EvalErr>
         requires { AnswersCalls R.means R.seen self.now.context.now self.now.call C.pre C.post }
-        ensures { Produces R.means R.seen places.new.items (meaning.place R.means (evals_of R.means self.now) operand.now index.now (slots_of frame.now) places.old.items) runtime.old result runtime.new }
+        ensures { Produces R.means R.seen places.new.items (meaning.place R.means (evals_of R.means self.now) (expr_code operand.now) (expr_code index.now) (slots_of frame.now) places.old.items) runtime.old result runtime.new }
     {
         let operand = self.value(frame, runtime, operand)?;
         let index = self.value(frame, runtime, index)?;
@@ -119,10 +119,10 @@ impl<
         runtime: &mut R,
         places: &mut Vec<(Value, Value)>,
         depth: usize,
-        targets: &[CodeTarget],
+        targets: &[TargetExpr],
     ) -> Result<(), EvalErr>
         requires { AnswersCalls R.means R.seen self.now.context.now self.now.call C.pre C.post }
-        ensures { Produces R.means R.seen places.new.items (places_in_each R.means self.now depth targets.now (slots_of frame.now) places.old.items) runtime.old result runtime.new }
+        ensures { Produces R.means R.seen places.new.items (places_in_each R.means self.now depth (map target_code targets.now) (slots_of frame.now) places.old.items) runtime.old result runtime.new }
     {
         for target in targets {
             self.places_to(frame, runtime, places, depth, target)?;
@@ -138,21 +138,20 @@ impl<
         runtime: &mut R,
         places: &mut Vec<(Value, Value)>,
         depth: usize,
-        target: &CodeTarget,
+        target: &TargetExpr,
     ) -> Result<(), EvalErr>
         requires { AnswersCalls R.means R.seen self.now.context.now self.now.call C.pre C.post }
-        ensures { Produces R.means R.seen places.new.items (places_in_target R.means self.now depth target.now (slots_of frame.now) places.old.items) runtime.old result runtime.new }
+        ensures { Produces R.means R.seen places.new.items (places_in_target R.means self.now depth (target_code target.now) (slots_of frame.now) places.old.items) runtime.old result runtime.new }
     {
         match target {
-            CodeTarget::Local(_) => Ok(()),
-            CodeTarget::Global(_) => Ok(()),
-            CodeTarget::Index(operand, index) => {
+            TargetExpr::Name(_) => Ok(()),
+            TargetExpr::Index(operand, index) => {
                 self.place(frame, runtime, places, operand.get(), index.get())
             }
-            CodeTarget::Tuple(targets) => {
+            TargetExpr::Tuple(targets) => {
                 self.places_each(frame, runtime, places, depth, targets.as_slice())
             }
-            CodeTarget::List(targets) => {
+            TargetExpr::List(targets) => {
                 self.places_each(frame, runtime, places, depth, targets.as_slice())
             }
         }
@@ -167,10 +166,10 @@ impl<
         runtime: &mut R,
         places: &mut Vec<(Value, Value)>,
         depth: usize,
-        target: &CodeTarget,
+        target: &TargetExpr,
     ) -> Result<(), EvalErr>
         requires { AnswersCalls R.means R.seen self.now.context.now self.now.call C.pre C.post }
-        ensures { Produces R.means R.seen places.new.items (meaning.places_to R.means (evals_of R.means self.now) depth target.now (slots_of frame.now) places.old.items) runtime.old result runtime.new }
+        ensures { Produces R.means R.seen places.new.items (meaning.places_to R.means (evals_of R.means self.now) depth (target_code target.now) (slots_of frame.now) places.old.items) runtime.old result runtime.new }
     {
         if depth == 0 {
             return Err(EvalErr::Bad(FaultKind::Nesting));
@@ -180,21 +179,35 @@ impl<
 
     // ---- assignments
 
+    /// Carries out `name = value`.
+    #[inline(always)]
+    pub fn assign_name(
+        &self,
+        frame: &mut Frame<'_>,
+        runtime: &R,
+        name: &Identifier,
+        value: Value,
+    ) -> Result<(), EvalErr>
+        ensures { Rebinds R.means R.seen (meaning.assign R.means (evals_of R.means self.now) (variable_code name.now.referent) value) frame.old runtime.now result frame.new runtime.now }
+    {
+        let _ = runtime; // contracts alone speak of it
+        Ok(frame.fill(slot_of(name), value)?)
+    }
+
     /// Carries out `target = value`. A name has no operands, and is bound at once.
     #[inline(always)]
     pub fn assign(
         &self,
         frame: &mut Frame<'_>,
         runtime: &mut R,
-        target: &CodeTarget,
+        target: &TargetExpr,
         value: Value,
     ) -> Result<(), EvalErr>
         requires { AnswersCalls R.means R.seen self.now.context.now self.now.call C.pre C.post }
-        ensures { Rebinds R.means R.seen (meaning.assign R.means (evals_of R.means self.now) target.now value) frame.old runtime.old result frame.new runtime.new }
+        ensures { Rebinds R.means R.seen (meaning.assign R.means (evals_of R.means self.now) (target_code target.now) value) frame.old runtime.old result frame.new runtime.new }
     {
         match target {
-            CodeTarget::Local(slot) => Ok(frame.fill(*slot, value)?),
-            CodeTarget::Global(slot) => Ok(frame.fill(*slot, value)?),
+            TargetExpr::Name(name) => self.assign_name(frame, &*runtime, name, value),
             _ => self.assign_parts(frame, runtime, target, value),
         }
     }
@@ -206,11 +219,11 @@ impl<
         &self,
         frame: &mut Frame<'_>,
         runtime: &mut R,
-        target: &CodeTarget,
+        target: &TargetExpr,
         value: Value,
     ) -> Result<(), EvalErr>
         requires { AnswersCalls R.means R.seen self.now.context.now self.now.call C.pre C.post }
-        ensures { Rebinds R.means R.seen (meaning.assign R.means (evals_of R.means self.now) target.now value) frame.old runtime.old result frame.new runtime.new }
+        ensures { Rebinds R.means R.seen (meaning.assign R.means (evals_of R.means self.now) (target_code target.now) value) frame.old runtime.old result frame.new runtime.new }
     {
         let mut places = Vec::new(self.context.alloc);
         self.places_to(frame, runtime, &mut places, MAX_LAYERS, target)?;
@@ -228,7 +241,7 @@ impl<
         op: Augmentation<'_>,
     ) -> Result<Value, EvalErr>
         requires { AnswersCalls R.means R.seen self.now.context.now self.now.call C.pre C.post }
-        ensures { Returns R.means R.seen (augmented R.means self.now op.entry.operator op.entry.code.now (slots_of frame.now) old.now) runtime.old result runtime.new }
+        ensures { Returns R.means R.seen (augmented R.means self.now op.entry.operator (expr_code op.entry.code.now) (slots_of frame.now) old.now) runtime.old result runtime.new }
     {
         let value = self.value(frame, runtime, op.code)?;
         runtime.augment(op.operator, old, &value)
@@ -244,7 +257,7 @@ impl<
         op: Augmentation<'_>,
     ) -> Result<(), EvalErr>
         requires { AnswersCalls R.means R.seen self.now.context.now self.now.call C.pre C.post }
-        ensures { Rebinds R.means R.seen (meaning.augment_name R.means (evals_of R.means self.now) slot op.entry.operator op.entry.code.now) frame.old runtime.old result frame.new runtime.new }
+        ensures { Rebinds R.means R.seen (meaning.augment_name R.means (evals_of R.means self.now) slot op.entry.operator (expr_code op.entry.code.now)) frame.old runtime.old result frame.new runtime.new }
     {
         let old = bound(frame, &*runtime, slot)?;
         let new = self.augmented(frame, runtime, old, op)?;
@@ -262,7 +275,7 @@ impl<
         op: Augmentation<'_>,
     ) -> Result<(), EvalErr>
         requires { AnswersCalls R.means R.seen self.now.context.now self.now.call C.pre C.post }
-        ensures { Produces R.means R.seen tt (augment_at R.means self.now operand.now index.now op.entry.operator op.entry.code.now (slots_of frame.now)) runtime.old result runtime.new }
+        ensures { Produces R.means R.seen tt (augment_at R.means self.now operand.now index.now op.entry.operator (expr_code op.entry.code.now) (slots_of frame.now)) runtime.old result runtime.new }
     {
         let old = runtime.index(operand, index)?;
         let new = self.augmented(frame, runtime, &old, op)?;
@@ -276,12 +289,12 @@ impl<
         &self,
         frame: &mut Frame<'_>,
         runtime: &mut R,
-        operand: &Code,
-        index: &Code,
+        operand: &Expr,
+        index: &Expr,
         op: Augmentation<'_>,
     ) -> Result<(), EvalErr>
         requires { AnswersCalls R.means R.seen self.now.context.now self.now.call C.pre C.post }
-        ensures { Rebinds R.means R.seen (meaning.augment_index R.means (evals_of R.means self.now) operand.now index.now op.entry.operator op.entry.code.now) frame.old runtime.old result frame.new runtime.new }
+        ensures { Rebinds R.means R.seen (meaning.augment_index R.means (evals_of R.means self.now) (expr_code operand.now) (expr_code index.now) op.entry.operator (expr_code op.entry.code.now)) frame.old runtime.old result frame.new runtime.new }
     {
         let operand = self.value(frame, runtime, operand)?;
         let index = self.value(frame, runtime, index)?;
@@ -289,27 +302,25 @@ impl<
     }
 
     /// Carries out `target op= x`.
-    #[tactic(auto, unfolding(bq_eval_meaning_spec::specs::Targets::augment))]
     pub fn augment(
         &self,
         frame: &mut Frame<'_>,
         runtime: &mut R,
-        target: &CodeTarget,
+        target: &TargetExpr,
         operator: Operator,
-        code: &Code,
+        code: &Expr,
     ) -> Result<(), EvalErr>
         requires { AnswersCalls R.means R.seen self.now.context.now self.now.call C.pre C.post }
-        ensures { Rebinds R.means R.seen (meaning.augment R.means (evals_of R.means self.now) target.now operator code.now) frame.old runtime.old result frame.new runtime.new }
+        ensures { Rebinds R.means R.seen (meaning.augment R.means (evals_of R.means self.now) (target_code target.now) operator (expr_code code.now)) frame.old runtime.old result frame.new runtime.new }
     {
         let op = Augmentation { operator, code };
         match target {
-            CodeTarget::Local(slot) => self.augment_name(frame, runtime, *slot, op),
-            CodeTarget::Global(slot) => self.augment_name(frame, runtime, *slot, op),
-            CodeTarget::Index(operand, index) => {
+            TargetExpr::Name(name) => self.augment_name(frame, runtime, slot_of(name), op),
+            TargetExpr::Index(operand, index) => {
                 self.augment_index(frame, runtime, operand.get(), index.get(), op)
             }
-            CodeTarget::Tuple(_) => Err(EvalErr::Bad(FaultKind::Syntax)),
-            CodeTarget::List(_) => Err(EvalErr::Bad(FaultKind::Syntax)),
+            TargetExpr::Tuple(_) => Err(EvalErr::Bad(FaultKind::Syntax)),
+            TargetExpr::List(_) => Err(EvalErr::Bad(FaultKind::Syntax)),
         }
     }
 }

@@ -1,6 +1,7 @@
 //! Small statements.
 
-ghost use Rattle.std.specs.Prelude.{◌≡◌};
+ghost use Rattle.std.specs.Prelude.{◌≡◌, map};
+ghost use Rattle.bq_resolve_scope.specs.Codes.{expr_code, optional_code, target_code, small_code};
 ghost use Rattle.bq_eval_meaning_spec.specs.Statements as meaning;
 ghost use Rattle.bq_eval_rules.specs.Nests.{AnswersCalls};
 ghost use Rattle.bq_eval_rules.specs.Effects.{Executes};
@@ -12,23 +13,23 @@ use crate::reader::Reader;
 use crate::runtime::Runtime;
 use bq_builtin_machine::Args;
 use bq_eval_frame::Frame;
-use bq_resolve_scope::{Code, CodeSmall, CodeTarget};
+use bq_parse_grammar::{Expr, SmallKind, SmallStmt, TargetExpr};
 use bq_value::{EvalErr, Value};
 
 /// Returns how many steps a small statement takes itself.
 #[tactic(auto, unfolding(bq_eval_meaning_spec::specs::Statements::steps_of))]
-fn steps_of(stmt: &CodeSmall) -> u64
-    ensures { result ≡ meaning.steps_of stmt.now }
+fn steps_of(stmt: &SmallStmt) -> u64
+    ensures { result ≡ meaning.steps_of (small_code stmt.now) }
 {
-    match stmt {
-        CodeSmall::Load => 0,
-        CodeSmall::Expr(_) => 1,
-        CodeSmall::Assign(_, _) => 1,
-        CodeSmall::Augment(_, _, _) => 1,
-        CodeSmall::Return(_) => 1,
-        CodeSmall::Break => 1,
-        CodeSmall::Continue => 1,
-        CodeSmall::Pass => 1,
+    match &stmt.kind {
+        SmallKind::Load(_) => 0,
+        SmallKind::Expr(_) => 1,
+        SmallKind::Assign(_, _) => 1,
+        SmallKind::Augment(_, _, _) => 1,
+        SmallKind::Return(_) => 1,
+        SmallKind::Break => 1,
+        SmallKind::Continue => 1,
+        SmallKind::Pass => 1,
     }
 }
 
@@ -43,11 +44,11 @@ impl<
         &self,
         frame: &mut Frame<'_>,
         runtime: &mut R,
-        target: &CodeTarget,
-        code: &Code,
+        target: &TargetExpr,
+        code: &Expr,
     ) -> Result<Flow, EvalErr>
         requires { AnswersCalls R.means R.seen self.now.context.now self.now.call C.pre C.post }
-        ensures { Executes R.means R.seen (meaning.assign_stmt R.means (evals_of R.means self.now) target.now code.now) frame.old runtime.old result frame.new runtime.new }
+        ensures { Executes R.means R.seen (meaning.assign_stmt R.means (evals_of R.means self.now) (target_code target.now) (expr_code code.now)) frame.old runtime.old result frame.new runtime.new }
     {
         let value = self.value(frame, runtime, code)?;
         self.assign(frame, runtime, target, value)?;
@@ -60,10 +61,10 @@ impl<
         &self,
         frame: &Frame<'_>,
         runtime: &mut R,
-        code: &Option<Code>,
+        code: &Option<Expr>,
     ) -> Result<Flow, EvalErr>
         requires { AnswersCalls R.means R.seen self.now.context.now self.now.call C.pre C.post }
-        ensures { Executes R.means R.seen (meaning.return_stmt R.means (evals_of R.means self.now) code.now) frame.now runtime.old result frame.now runtime.new }
+        ensures { Executes R.means R.seen (meaning.return_stmt R.means (evals_of R.means self.now) (optional_code code.now)) frame.now runtime.old result frame.now runtime.new }
     {
         match code {
             None => Ok(Flow::Answer(Value::none())),
@@ -80,27 +81,29 @@ impl<
         &self,
         frame: &mut Frame<'_>,
         runtime: &mut R,
-        stmt: &CodeSmall,
+        stmt: &SmallStmt,
     ) -> Result<Flow, EvalErr>
         requires { AnswersCalls R.means R.seen self.now.context.now self.now.call C.pre C.post }
-        ensures { Executes R.means R.seen (meaning.small_stmt R.means (evals_of R.means self.now) stmt.now) frame.old runtime.old result frame.new runtime.new }
+        ensures { Executes R.means R.seen (meaning.small_stmt R.means (evals_of R.means self.now) (small_code stmt.now)) frame.old runtime.old result frame.new runtime.new }
     {
         runtime.step(steps_of(stmt))?;
-        match stmt {
-            CodeSmall::Expr(code) => {
+        match &stmt.kind {
+            SmallKind::Expr(code) => {
                 let _value = self.value(frame, runtime, code)?;
                 Ok(Flow::Next)
             }
-            CodeSmall::Assign(target, code) => self.assign_stmt(frame, runtime, target, code),
-            CodeSmall::Augment(target, operator, code) => {
-                self.augment(frame, runtime, target, *operator, code)?;
+            SmallKind::Assign(target, code) => {
+                self.assign_stmt(frame, runtime, target.get(), code)
+            }
+            SmallKind::Augment(target, operator, code) => {
+                self.augment(frame, runtime, target.get(), *operator, code)?;
                 Ok(Flow::Next)
             }
-            CodeSmall::Return(code) => self.return_stmt(frame, runtime, code),
-            CodeSmall::Break => Ok(Flow::Leave),
-            CodeSmall::Continue => Ok(Flow::Again),
-            CodeSmall::Pass => Ok(Flow::Next),
-            CodeSmall::Load => Ok(Flow::Next),
+            SmallKind::Return(code) => self.return_stmt(frame, runtime, code),
+            SmallKind::Break => Ok(Flow::Leave),
+            SmallKind::Continue => Ok(Flow::Again),
+            SmallKind::Pass => Ok(Flow::Next),
+            SmallKind::Load(_) => Ok(Flow::Next),
         }
     }
 
@@ -110,10 +113,10 @@ impl<
         &self,
         frame: &mut Frame<'_>,
         runtime: &mut R,
-        stmts: &[CodeSmall],
+        stmts: &[SmallStmt],
     ) -> Result<Flow, EvalErr>
         requires { AnswersCalls R.means R.seen self.now.context.now self.now.call C.pre C.post }
-        ensures { Executes R.means R.seen (meaning.line R.means (evals_of R.means self.now) stmts.now) frame.old runtime.old result frame.new runtime.new }
+        ensures { Executes R.means R.seen (meaning.line R.means (evals_of R.means self.now) (map small_code stmts.now)) frame.old runtime.old result frame.new runtime.new }
     {
         for stmt in stmts {
             match self.small_stmt(frame, runtime, stmt)? {

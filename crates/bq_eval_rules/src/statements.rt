@@ -1,6 +1,7 @@
 //! Statements of functions. Each rule takes what runs the statements inside, so that it is proved by itself.
 
-ghost use Rattle.std.specs.Prelude.{◌≡◌};
+ghost use Rattle.std.specs.Prelude.{◌≡◌, map};
+ghost use Rattle.bq_resolve_scope.specs.Codes.{branch_code, expr_code, stmt_code, target_code};
 ghost use Rattle.bq_eval_meaning_spec.specs.Statements as meaning;
 ghost use Rattle.bq_eval_rules.specs.Nests.{AnswersCalls};
 ghost use Rattle.bq_eval_rules.specs.Round.{evals, execs};
@@ -15,7 +16,7 @@ use crate::targets::{MAX_LAYERS, begin_turn};
 use bq_base::FaultKind;
 use bq_builtin_machine::{Args, Walk};
 use bq_eval_frame::Frame;
-use bq_resolve_scope::{Code, CodeBranch, CodeStmt, CodeTarget};
+use bq_parse_grammar::{Branch, Expr, Stmt, TargetExpr};
 use bq_value::{EvalErr, Value};
 use std::marker::PhantomData;
 
@@ -35,10 +36,10 @@ fn run_to<R: Runtime, C: Copy + Fn(&Context<'_>, &mut R, &Value, Args) -> Result
     call: C,
     frame: &mut Frame<'_>,
     runtime: &mut R,
-    stmt: &CodeStmt,
+    stmt: &Stmt,
 ) -> Result<Flow, EvalErr>
     requires { AnswersCalls R.means R.seen context.now call C.pre C.post }
-    ensures { Executes R.means R.seen (meaning.run_to depth R.means (evals R.means context.now) stmt.now) frame.old runtime.old result frame.new runtime.new }
+    ensures { Executes R.means R.seen (meaning.run_to depth R.means (evals R.means context.now) (stmt_code stmt.now)) frame.old runtime.old result frame.new runtime.new }
 {
     if depth == 0 {
         return Err(EvalErr::Bad(FaultKind::Nesting));
@@ -66,10 +67,10 @@ pub fn run_block<
     call: C,
     frame: &mut Frame<'_>,
     runtime: &mut R,
-    stmts: &[CodeStmt],
+    stmts: &[Stmt],
 ) -> Result<Flow, EvalErr>
     requires { AnswersCalls R.means R.seen context.now call C.pre C.post }
-    ensures { Executes R.means R.seen (meaning.block R.means (evals R.means context.now) (execs R.means context.now) stmts.now) frame.old runtime.old result frame.new runtime.new }
+    ensures { Executes R.means R.seen (meaning.block R.means (evals R.means context.now) (execs R.means context.now) (map stmt_code stmts.now)) frame.old runtime.old result frame.new runtime.new }
 {
     Runner {
         depth: MAX_LAYERS,
@@ -87,18 +88,13 @@ impl<
     'a,
     R: Runtime,
     C: Copy + Fn(&Context<'_>, &mut R, &Value, Args) -> Result<Value, EvalErr>,
-    G: Fn(&Context<'_>, usize, C, &mut Frame<'_>, &mut R, &CodeStmt) -> Result<Flow, EvalErr>,
+    G: Fn(&Context<'_>, usize, C, &mut Frame<'_>, &mut R, &Stmt) -> Result<Flow, EvalErr>,
 > Runner<'a, R, C, G> {
     /// Runs statements in order.
     #[tactic(auto, unfolding(bq_eval_meaning_spec::specs::Statements::block))]
-    fn block(
-        &self,
-        frame: &mut Frame<'_>,
-        runtime: &mut R,
-        stmts: &[CodeStmt],
-    ) -> Result<Flow, EvalErr>
+    fn block(&self, frame: &mut Frame<'_>, runtime: &mut R, stmts: &[Stmt]) -> Result<Flow, EvalErr>
         requires { RunsInside R.means R.seen self.now G.pre G.post }
-        ensures { Executes R.means R.seen (rule_in R.means self.now meaning.block stmts.now) frame.old runtime.old result frame.new runtime.new }
+        ensures { Executes R.means R.seen (rule_in R.means self.now meaning.block (map stmt_code stmts.now)) frame.old runtime.old result frame.new runtime.new }
     {
         for stmt in stmts {
             let Reader { context, call, .. } = self.reader;
@@ -113,17 +109,17 @@ impl<
     }
 
     /// Runs the block of the first branch whose condition holds.
-    #[tactic(auto, unfolding(bq_eval_meaning_spec::specs::Statements::branches))]
+    #[tactic(auto, using(bq_resolve_scope::proofs::Codes::branch_out), unfolding(bq_eval_meaning_spec::specs::Statements::branches))]
     fn branches(
         &self,
         frame: &mut Frame<'_>,
         runtime: &mut R,
-        branches: &[CodeBranch],
-        otherwise: &[CodeStmt],
+        branches: &[Branch],
+        otherwise: &[Stmt],
     ) -> Result<Flow, EvalErr>
         requires runs { RunsInside R.means R.seen self.now G.pre G.post }
         requires answers { AnswersCalls R.means R.seen self.now.reader.context.now self.now.reader.call C.pre C.post }
-        ensures { Executes R.means R.seen (rule_in R.means self.now meaning.branches branches.now otherwise.now) frame.old runtime.old result frame.new runtime.new }
+        ensures { Executes R.means R.seen (rule_in R.means self.now meaning.branches (map branch_code branches.now) (map stmt_code otherwise.now)) frame.old runtime.old result frame.new runtime.new }
     {
         for branch in branches {
             if self.reader.holds(frame, runtime, &branch.condition)? {
@@ -138,12 +134,12 @@ impl<
         &self,
         frame: &mut Frame<'_>,
         runtime: &mut R,
-        target: &CodeTarget,
-        body: &[CodeStmt],
+        target: &TargetExpr,
+        body: &[Stmt],
         value: Value,
     ) -> Result<Flow, EvalErr>
         requires { RunsInside R.means R.seen self.now G.pre G.post }
-        ensures { Executes R.means R.seen (rule_in R.means self.now meaning.turn target.now body.now value) frame.old runtime.old result frame.new runtime.new }
+        ensures { Executes R.means R.seen (rule_in R.means self.now meaning.turn (target_code target.now) (map stmt_code body.now) value) frame.old runtime.old result frame.new runtime.new }
     {
         begin_turn(self.reader.context.alloc, runtime, frame, target, value)?;
         self.block(frame, runtime, body)
@@ -154,12 +150,12 @@ impl<
         &self,
         frame: &mut Frame<'_>,
         runtime: &mut R,
-        target: &CodeTarget,
-        body: &[CodeStmt],
+        target: &TargetExpr,
+        body: &[Stmt],
         elements: &mut Walk,
     ) -> Result<Flow, EvalErr>
         requires { RunsInside R.means R.seen self.now G.pre G.post }
-        ensures { Executes R.means R.seen (rule_in R.means self.now meaning.turns target.now body.now elements.old) frame.old runtime.old result frame.new runtime.new }
+        ensures { Executes R.means R.seen (rule_in R.means self.now meaning.turns (target_code target.now) (map stmt_code body.now) elements.old) frame.old runtime.old result frame.new runtime.new }
     {
         while let Some(value) = elements.next()? {
             match self.turn(frame, runtime, target, body, value)? {
@@ -177,12 +173,12 @@ impl<
         &self,
         frame: &mut Frame<'_>,
         runtime: &mut R,
-        target: &CodeTarget,
+        target: &TargetExpr,
         iterable: &Value,
-        body: &[CodeStmt],
+        body: &[Stmt],
     ) -> Result<Flow, EvalErr>
         requires { RunsInside R.means R.seen self.now G.pre G.post }
-        ensures { Executes R.means R.seen (walk R.means self.now target.now iterable.now body.now) frame.old runtime.old result frame.new runtime.new }
+        ensures { Executes R.means R.seen (walk R.means self.now (target_code target.now) iterable.now (map stmt_code body.now)) frame.old runtime.old result frame.new runtime.new }
     {
         let mut elements = runtime.begin_walk(self.reader.context.alloc, iterable)?;
         let flow = self.turns(frame, runtime, target, body, &mut elements)?;
@@ -197,35 +193,36 @@ impl<
         &self,
         frame: &mut Frame<'_>,
         runtime: &mut R,
-        target: &CodeTarget,
-        iterable: &Code,
-        body: &[CodeStmt],
+        target: &TargetExpr,
+        iterable: &Expr,
+        body: &[Stmt],
     ) -> Result<Flow, EvalErr>
         requires runs { RunsInside R.means R.seen self.now G.pre G.post }
         requires answers { AnswersCalls R.means R.seen self.now.reader.context.now self.now.reader.call C.pre C.post }
-        ensures { Executes R.means R.seen (rule_in R.means self.now meaning.for_loop target.now iterable.now body.now) frame.old runtime.old result frame.new runtime.new }
+        ensures { Executes R.means R.seen (rule_in R.means self.now meaning.for_loop (target_code target.now) (expr_code iterable.now) (map stmt_code body.now)) frame.old runtime.old result frame.new runtime.new }
     {
         let iterable = self.reader.value(frame, runtime, iterable)?;
         self.walk(frame, runtime, target, &iterable, body)
     }
 
     /// Carries out a statement.
-    #[tactic(auto, unfolding(bq_eval_meaning_spec::specs::Statements::stmt))]
-    fn stmt(&self, frame: &mut Frame<'_>, runtime: &mut R, stmt: &CodeStmt) -> Result<Flow, EvalErr>
+    fn stmt(&self, frame: &mut Frame<'_>, runtime: &mut R, stmt: &Stmt) -> Result<Flow, EvalErr>
         requires runs { RunsInside R.means R.seen self.now G.pre G.post }
         requires answers { AnswersCalls R.means R.seen self.now.reader.context.now self.now.reader.call C.pre C.post }
-        ensures { Executes R.means R.seen (rule_in R.means self.now meaning.stmt stmt.now) frame.old runtime.old result frame.new runtime.new }
+        ensures { Executes R.means R.seen (rule_in R.means self.now meaning.stmt (stmt_code stmt.now)) frame.old runtime.old result frame.new runtime.new }
     {
         match stmt {
-            CodeStmt::Simple(stmts) => self.reader.line(frame, runtime, stmts.as_slice()),
-            CodeStmt::If(branches, otherwise) => {
+            Stmt::Simple(stmts) => self.reader.line(frame, runtime, stmts.as_slice()),
+            Stmt::If(branches, otherwise) => {
                 runtime.step(1)?;
                 self.branches(frame, runtime, branches.as_slice(), otherwise.as_slice())
             }
-            CodeStmt::For(target, iterable, body) => {
+            Stmt::For(target, iterable, body) => {
                 runtime.step(1)?;
                 self.for_loop(frame, runtime, target, iterable, body.as_slice())
             }
+            // No function holds a `def`.
+            Stmt::Def(_, _, _) => Ok(Flow::Next),
         }
     }
 }

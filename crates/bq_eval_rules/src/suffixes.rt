@@ -1,7 +1,9 @@
 //! Suffixes of operands: indices, slices and calls.
 
-ghost use Rattle.std.specs.Prelude.{◌≡◌};
+ghost use Rattle.std.specs.Prelude.{◌≡◌, map};
+ghost use Rattle.bq_resolve_scope.specs.Codes.{argument_code, expr_code, optional_code, suffix_code};
 ghost use Rattle.bq_eval_meaning_spec.specs.Expressions as meaning;
+ghost use Rattle.bq_eval_rules.specs.Operands.{is_member};
 ghost use Rattle.bq_eval_rules.specs.Nests.{AnswersCalls};
 ghost use Rattle.bq_eval_rules.specs.Effects.{Returns, Produces};
 ghost use Rattle.bq_eval_rules.specs.Evaluators.{EvaluatesInside, evals_in, calls_in, frame_of};
@@ -12,21 +14,36 @@ use crate::runtime::Runtime;
 use bq_base::{Bytes, FaultKind};
 use bq_builtin_machine::Args;
 use bq_eval_frame::Frame;
-use bq_resolve_scope::{Code, CodeArgument, CodeSuffix};
+use bq_parse_grammar::{Argument, Expr, Referent, Suffix};
+use bq_tree_items::Boxed;
 use bq_value::{EvalErr, Value};
-use sqlite_items::Boxed;
+
+/// Returns whether a name refers to what a namespace holds.
+#[inline(always)]
+fn is_member(referent: Referent) -> bool
+    ensures { result ≡ is_member referent }
+{
+    match referent {
+        Referent::Unresolved(_) => false,
+        Referent::Local(_) => false,
+        Referent::Global(_) => false,
+        Referent::Loaded(_) => false,
+        Referent::Predeclared(_) => false,
+        Referent::Member(_) => true,
+    }
+}
 
 impl<
     'a,
     R: Runtime,
     C: Copy,
-    F: Copy + Fn(&Context<'_>, usize, C, &Frame<'_>, &mut R, &Code) -> Result<Value, EvalErr>,
+    F: Copy + Fn(&Context<'_>, usize, C, &Frame<'_>, &mut R, &Expr) -> Result<Value, EvalErr>,
 > Evaluator<'a, R, C, F> {
     /// Applies `value[index]`.
     #[tactic(auto, unfolding(bq_eval_meaning_spec::specs::Expressions::index))]
-    pub fn index(&self, runtime: &mut R, index: &Code, value: &Value) -> Result<Value, EvalErr>
+    pub fn index(&self, runtime: &mut R, index: &Expr, value: &Value) -> Result<Value, EvalErr>
         requires { EvaluatesInside R.means R.seen self.now F.pre F.post }
-        ensures { Returns R.means R.seen (meaning.index R.means (evals_in R.means self.now) index.now (frame_of self.now) value.now) runtime.old result runtime.new }
+        ensures { Returns R.means R.seen (meaning.index R.means (evals_in R.means self.now) (expr_code index.now) (frame_of self.now) value.now) runtime.old result runtime.new }
     {
         let index = self.operand(runtime, index)?;
         runtime.index(value, index.get())
@@ -34,9 +51,9 @@ impl<
 
     /// Evaluates a part of a slice.
     #[tactic(auto, unfolding(bq_eval_meaning_spec::specs::Expressions::part))]
-    fn part(&self, runtime: &mut R, part: &Option<Boxed<Code>>) -> Result<Value, EvalErr>
+    fn part(&self, runtime: &mut R, part: &Option<Boxed<Expr>>) -> Result<Value, EvalErr>
         requires { EvaluatesInside R.means R.seen self.now F.pre F.post }
-        ensures { Returns R.means R.seen (meaning.part R.means (evals_in R.means self.now) part.now (frame_of self.now)) runtime.old result runtime.new }
+        ensures { Returns R.means R.seen (meaning.part R.means (evals_in R.means self.now) (optional_code part.now) (frame_of self.now)) runtime.old result runtime.new }
     {
         match part {
             None => Ok(Value::none()),
@@ -50,13 +67,13 @@ impl<
     pub fn slice(
         &self,
         runtime: &mut R,
-        start: &Option<Boxed<Code>>,
-        stop: &Option<Boxed<Code>>,
-        step: &Option<Boxed<Code>>,
+        start: &Option<Boxed<Expr>>,
+        stop: &Option<Boxed<Expr>>,
+        step: &Option<Boxed<Expr>>,
         value: &Value,
     ) -> Result<Value, EvalErr>
         requires { EvaluatesInside R.means R.seen self.now F.pre F.post }
-        ensures { Returns R.means R.seen (meaning.slice R.means (evals_in R.means self.now) start.now stop.now step.now (frame_of self.now) value.now) runtime.old result runtime.new }
+        ensures { Returns R.means R.seen (meaning.slice R.means (evals_in R.means self.now) (optional_code start.now) (optional_code stop.now) (optional_code step.now) (frame_of self.now) value.now) runtime.old result runtime.new }
     {
         let start = self.part(runtime, start)?;
         let stop = self.part(runtime, stop)?;
@@ -65,30 +82,25 @@ impl<
     }
 
     /// Evaluates and passes an argument.
-    #[tactic(auto, unfolding(bq_eval_meaning_spec::specs::Expressions::argument))]
-    fn argument(
-        &self,
-        runtime: &mut R,
-        args: &mut Args,
-        argument: &CodeArgument,
-    ) -> Result<(), EvalErr>
+    #[tactic(auto, unfolding(bq_eval_meaning_spec::specs::Expressions::argument), using(bq_resolve_scope::proofs::Codes::argument_out))]
+    fn argument(&self, runtime: &mut R, args: &mut Args, argument: &Argument) -> Result<(), EvalErr>
         requires { EvaluatesInside R.means R.seen self.now F.pre F.post }
-        ensures { Produces R.means R.seen args.new (meaning.argument R.means (evals_in R.means self.now) argument.now (frame_of self.now) args.old) runtime.old result runtime.new }
+        ensures { Produces R.means R.seen args.new (meaning.argument R.means (evals_in R.means self.now) (argument_code argument.now) (frame_of self.now) args.old) runtime.old result runtime.new }
     {
         match argument {
-            CodeArgument::Positional(code) => {
+            Argument::Positional(code) => {
                 let value = self.value(runtime, code)?;
                 runtime.pass(args, value)
             }
-            CodeArgument::Named(name, code) => {
+            Argument::Named(name, code) => {
                 let value = self.value(runtime, code)?;
                 runtime.pass_named(args, name, value)
             }
-            CodeArgument::Star(code) => {
+            Argument::Star(code) => {
                 let value = self.value(runtime, code)?;
                 runtime.pass_all(args, &value)
             }
-            CodeArgument::StarStar(code) => {
+            Argument::StarStar(code) => {
                 let value = self.value(runtime, code)?;
                 runtime.pass_all_named(args, &value)
             }
@@ -101,10 +113,10 @@ impl<
         &self,
         runtime: &mut R,
         args: &mut Args,
-        arguments: &[CodeArgument],
+        arguments: &[Argument],
     ) -> Result<(), EvalErr>
         requires { EvaluatesInside R.means R.seen self.now F.pre F.post }
-        ensures { Produces R.means R.seen args.new (meaning.arguments R.means (evals_in R.means self.now) arguments.now (frame_of self.now) args.old) runtime.old result runtime.new }
+        ensures { Produces R.means R.seen args.new (meaning.arguments R.means (evals_in R.means self.now) (map argument_code arguments.now) (frame_of self.now) args.old) runtime.old result runtime.new }
     {
         for argument in arguments {
             self.argument(runtime, args, argument)?;
@@ -119,11 +131,11 @@ impl<
         &self,
         runtime: &mut R,
         name: &Bytes,
-        arguments: &[CodeArgument],
+        arguments: &[Argument],
         value: &Value,
     ) -> Result<Value, EvalErr>
         requires { EvaluatesInside R.means R.seen self.now F.pre F.post }
-        ensures { Returns R.means R.seen (meaning.method R.means (evals_in R.means self.now) name.now arguments.now (frame_of self.now) value.now) runtime.old result runtime.new }
+        ensures { Returns R.means R.seen (meaning.method R.means (evals_in R.means self.now) name.now (map argument_code arguments.now) (frame_of self.now) value.now) runtime.old result runtime.new }
     {
         let mut args = Args::new(self.context.alloc);
         self.arguments(runtime, &mut args, arguments)?;
@@ -135,7 +147,7 @@ impl<
     'a,
     R: Runtime,
     C: Copy + Fn(&Context<'_>, &mut R, &Value, Args) -> Result<Value, EvalErr>,
-    F: Copy + Fn(&Context<'_>, usize, C, &Frame<'_>, &mut R, &Code) -> Result<Value, EvalErr>,
+    F: Copy + Fn(&Context<'_>, usize, C, &Frame<'_>, &mut R, &Expr) -> Result<Value, EvalErr>,
 > Evaluator<'a, R, C, F> {
     /// Applies `value(..)`.
     #[inline(never)]
@@ -143,12 +155,12 @@ impl<
     fn call_of(
         &self,
         runtime: &mut R,
-        arguments: &[CodeArgument],
+        arguments: &[Argument],
         value: &Value,
     ) -> Result<Value, EvalErr>
         requires nests { EvaluatesInside R.means R.seen self.now F.pre F.post }
         requires answers { AnswersCalls R.means R.seen self.now.context.now self.now.call C.pre C.post }
-        ensures { Returns R.means R.seen (meaning.call_of R.means (evals_in R.means self.now) (calls_in R.means self.now) arguments.now (frame_of self.now) value.now) runtime.old result runtime.new }
+        ensures { Returns R.means R.seen (meaning.call_of R.means (evals_in R.means self.now) (calls_in R.means self.now) (map argument_code arguments.now) (frame_of self.now) value.now) runtime.old result runtime.new }
     {
         let mut args = Args::new(self.context.alloc);
         self.arguments(runtime, &mut args, arguments)?;
@@ -156,35 +168,31 @@ impl<
     }
 
     /// Applies a suffix to a value.
-    #[tactic(auto, unfolding(bq_eval_meaning_spec::specs::Expressions::suffix))]
-    fn suffix(&self, runtime: &mut R, suffix: &CodeSuffix, value: &Value) -> Result<Value, EvalErr>
+    #[tactic(auto, unfolding(bq_eval_meaning_spec::specs::Expressions::suffix), using(bq_resolve_scope::proofs::Codes::suffix_out, crate::proofs::Codes::called, crate::proofs::Codes::not_called))]
+    fn suffix(&self, runtime: &mut R, suffix: &Suffix, value: &Value) -> Result<Value, EvalErr>
         requires nests { EvaluatesInside R.means R.seen self.now F.pre F.post }
         requires answers { AnswersCalls R.means R.seen self.now.context.now self.now.call C.pre C.post }
-        ensures { Returns R.means R.seen (meaning.suffix R.means (evals_in R.means self.now) (calls_in R.means self.now) suffix.now (frame_of self.now) value.now) runtime.old result runtime.new }
+        ensures { Returns R.means R.seen (meaning.suffix R.means (evals_in R.means self.now) (calls_in R.means self.now) (suffix_code suffix.now) (frame_of self.now) value.now) runtime.old result runtime.new }
     {
         match suffix {
-            CodeSuffix::Call(arguments) => self.call_of(runtime, arguments.as_slice(), value),
-            CodeSuffix::Method(name, arguments) => {
-                self.method(runtime, name, arguments.as_slice(), value)
+            Suffix::Call(arguments) => self.call_of(runtime, arguments.as_slice(), value),
+            Suffix::Method(name, arguments) => {
+                if is_member(name.referent) {
+                    return self.call_of(runtime, arguments.as_slice(), value);
+                }
+                self.method(runtime, &name.name, arguments.as_slice(), value)
             }
-            CodeSuffix::Attribute(_) => Err(EvalErr::Bad(FaultKind::LeftOut)),
-            CodeSuffix::Index(index) => self.index(runtime, index.get(), value),
-            CodeSuffix::Slice(start, stop, step) => {
-                self.slice(runtime, start, stop, step, value)
-            }
+            Suffix::Attribute(_) => Err(EvalErr::Bad(FaultKind::LeftOut)),
+            Suffix::Index(index) => self.index(runtime, index.get(), value),
+            Suffix::Slice(start, stop, step) => { self.slice(runtime, start, stop, step, value) }
         }
     }
 
     #[tactic(auto, unfolding(bq_eval_meaning_spec::specs::Expressions::suffixes))]
-    fn suffixes(
-        &self,
-        runtime: &mut R,
-        suffixes: &[CodeSuffix],
-        first: Value,
-    ) -> Result<Value, EvalErr>
+    fn suffixes(&self, runtime: &mut R, suffixes: &[Suffix], first: Value) -> Result<Value, EvalErr>
         requires nests { EvaluatesInside R.means R.seen self.now F.pre F.post }
         requires answers { AnswersCalls R.means R.seen self.now.context.now self.now.call C.pre C.post }
-        ensures { Returns R.means R.seen (meaning.suffixes R.means (evals_in R.means self.now) (calls_in R.means self.now) suffixes.now (frame_of self.now) first) runtime.old result runtime.new }
+        ensures { Returns R.means R.seen (meaning.suffixes R.means (evals_in R.means self.now) (calls_in R.means self.now) (map suffix_code suffixes.now) (frame_of self.now) first) runtime.old result runtime.new }
     {
         let mut value = first;
         for suffix in suffixes {
@@ -195,16 +203,16 @@ impl<
 
     /// Applies any number of suffixes to an operand.
     #[inline(never)]
-    #[tactic(auto, unfolding(bq_eval_meaning_spec::specs::Expressions::suffixes))]
+    #[tactic(auto, unfolding(bq_eval_meaning_spec::specs::Expressions::suffixes), using(crate::proofs::Mapped::map_none, crate::proofs::Mapped::map_first))]
     fn long_suffixed(
         &self,
         runtime: &mut R,
-        suffixes: &[CodeSuffix],
+        suffixes: &[Suffix],
         operand: &Value,
     ) -> Result<Value, EvalErr>
         requires nests { EvaluatesInside R.means R.seen self.now F.pre F.post }
         requires answers { AnswersCalls R.means R.seen self.now.context.now self.now.call C.pre C.post }
-        ensures { Returns R.means R.seen (meaning.suffixes R.means (evals_in R.means self.now) (calls_in R.means self.now) suffixes.now (frame_of self.now) operand.now) runtime.old result runtime.new }
+        ensures { Returns R.means R.seen (meaning.suffixes R.means (evals_in R.means self.now) (calls_in R.means self.now) (map suffix_code suffixes.now) (frame_of self.now) operand.now) runtime.old result runtime.new }
     {
         match suffixes {
             [] => Ok(operand.share()?),
@@ -216,16 +224,16 @@ impl<
     }
 
     /// Evaluates an operand, which is only read, and its suffixes. Most often it is one.
-    #[tactic(auto, unfolding(bq_eval_meaning_spec::specs::Expressions::primary, bq_eval_meaning_spec::specs::Expressions::suffixes))]
+    #[tactic(auto, unfolding(bq_eval_meaning_spec::specs::Expressions::primary, bq_eval_meaning_spec::specs::Expressions::suffixes), using(crate::proofs::Mapped::map_only))]
     pub fn primary(
         &self,
         runtime: &mut R,
-        code: &Code,
-        suffixes: &[CodeSuffix],
+        code: &Expr,
+        suffixes: &[Suffix],
     ) -> Result<Value, EvalErr>
         requires nests { EvaluatesInside R.means R.seen self.now F.pre F.post }
         requires answers { AnswersCalls R.means R.seen self.now.context.now self.now.call C.pre C.post }
-        ensures { Returns R.means R.seen (meaning.primary R.means (evals_in R.means self.now) (calls_in R.means self.now) code.now suffixes.now (frame_of self.now)) runtime.old result runtime.new }
+        ensures { Returns R.means R.seen (meaning.primary R.means (evals_in R.means self.now) (calls_in R.means self.now) (expr_code code.now) (map suffix_code suffixes.now) (frame_of self.now)) runtime.old result runtime.new }
     {
         runtime.step(suffixes.len() as u64)?;
         let operand = self.operand(runtime, code)?;

@@ -1,22 +1,39 @@
 //! Binding the parts of targets.
 
-ghost use Rattle.std.specs.Prelude.{◌≡◌};
+ghost use Rattle.std.specs.Prelude.{◌≡◌, map};
 ghost use Rattle.bq_builtin_machine.specs.Action.{◌>>=◌ as and_then};
+ghost use Rattle.bq_resolve_scope.specs.Codes.{target_code};
 ghost use Rattle.bq_eval_meaning_spec.specs.Targets as meaning;
 ghost use Rattle.bq_eval_frame.specs.Slots.{slots_of};
 ghost use Rattle.bq_eval_rules.specs.Effects.{Produces, Rebinds, BindsParts};
+ghost use Rattle.bq_eval_rules.specs.Variables.{slot_of};
 
 use crate::places::IndexedOperands;
 use crate::runtime::Runtime;
 use bq_base::FaultKind;
 use bq_builtin_machine::Elements;
 use bq_eval_frame::Frame;
-use bq_resolve_scope::CodeTarget;
+use bq_parse_grammar::{Identifier, Referent, TargetExpr};
 use bq_value::{EvalErr, Value};
 use std::alloc::Global;
 
 /// How many layers of a tree are looked at.
 pub const MAX_LAYERS: usize = 1024;
+
+/// Returns the slot of a variable, in the frame of its function or among the globals of the file.
+#[inline(always)]
+pub fn slot_of(name: &Identifier) -> usize
+    ensures { result ≡ slot_of name.now.referent }
+{
+    match name.referent {
+        Referent::Unresolved(_) => 0,
+        Referent::Local(slot) => slot,
+        Referent::Global(slot) => slot,
+        Referent::Loaded(_) => 0,
+        Referent::Predeclared(_) => 0,
+        Referent::Member(_) => 0,
+    }
+}
 
 /// Carries out `x[i] = value`.
 #[tactic(auto, unfolding(bq_eval_meaning_spec::specs::Targets::bind_place))]
@@ -42,10 +59,10 @@ fn bind_each<R: Runtime>(
     frame: &mut Frame<'_>,
     places: &mut IndexedOperands,
     depth: usize,
-    targets: &[CodeTarget],
+    targets: &[TargetExpr],
     elements: &mut Elements,
 ) -> Result<(), EvalErr>
-    ensures { BindsParts R.means R.seen (meaning.bind_each R.means (meaning.bind_to R.means depth) targets.now elements.old) frame.old places.old runtime.old result frame.new places.new runtime.new }
+    ensures { BindsParts R.means R.seen (meaning.bind_each R.means (meaning.bind_to R.means depth) (map target_code targets.now) elements.old) frame.old places.old runtime.old result frame.new places.new runtime.new }
 {
     for target in targets {
         match elements.next() {
@@ -65,35 +82,33 @@ fn unpack<R: Runtime>(
     frame: &mut Frame<'_>,
     places: &mut IndexedOperands,
     depth: usize,
-    targets: &[CodeTarget],
+    targets: &[TargetExpr],
     value: Value,
 ) -> Result<(), EvalErr>
-    ensures { BindsParts R.means R.seen (meaning.unpack R.means (meaning.bind_to R.means depth) targets.now value) frame.old places.old runtime.old result frame.new places.new runtime.new }
+    ensures { BindsParts R.means R.seen (meaning.unpack R.means (meaning.bind_to R.means depth) (map target_code targets.now) value) frame.old places.old runtime.old result frame.new places.new runtime.new }
 {
     let mut elements = runtime.parts(places.alloc(), targets.len(), &value)?;
     bind_each(runtime, frame, places, depth, targets, &mut elements)
 }
 
 #[cycle(targets)]
-#[tactic(auto, unfolding(bq_eval_meaning_spec::specs::Targets::bind_target))]
 fn bind_target<R: Runtime>(
     runtime: &mut R,
     frame: &mut Frame<'_>,
     places: &mut IndexedOperands,
     depth: usize,
-    target: &CodeTarget,
+    target: &TargetExpr,
     value: Value,
 ) -> Result<(), EvalErr>
-    ensures { BindsParts R.means R.seen (meaning.bind_target R.means (meaning.bind_to R.means depth) target.now value) frame.old places.old runtime.old result frame.new places.new runtime.new }
+    ensures { BindsParts R.means R.seen (meaning.bind_target R.means (meaning.bind_to R.means depth) (target_code target.now) value) frame.old places.old runtime.old result frame.new places.new runtime.new }
 {
     match target {
-        CodeTarget::Local(slot) => Ok(frame.fill(*slot, value)?),
-        CodeTarget::Global(slot) => Ok(frame.fill(*slot, value)?),
-        CodeTarget::Index(_, _) => bind_place(runtime, frame, places, value),
-        CodeTarget::Tuple(targets) => {
+        TargetExpr::Name(name) => Ok(frame.fill(slot_of(name), value)?),
+        TargetExpr::Index(_, _) => bind_place(runtime, frame, places, value),
+        TargetExpr::Tuple(targets) => {
             unpack(runtime, frame, places, depth, targets.as_slice(), value)
         }
-        CodeTarget::List(targets) => {
+        TargetExpr::List(targets) => {
             unpack(runtime, frame, places, depth, targets.as_slice(), value)
         }
     }
@@ -107,10 +122,10 @@ pub fn bind_to<R: Runtime>(
     frame: &mut Frame<'_>,
     places: &mut IndexedOperands,
     depth: usize,
-    target: &CodeTarget,
+    target: &TargetExpr,
     value: Value,
 ) -> Result<(), EvalErr>
-    ensures { BindsParts R.means R.seen (meaning.bind_to R.means depth target.now value) frame.old places.old runtime.old result frame.new places.new runtime.new }
+    ensures { BindsParts R.means R.seen (meaning.bind_to R.means depth (target_code target.now) value) frame.old places.old runtime.old result frame.new places.new runtime.new }
 {
     if depth == 0 {
         return Err(EvalErr::Bad(FaultKind::Nesting));
@@ -120,19 +135,17 @@ pub fn bind_to<R: Runtime>(
 
 /// Binds the variables of a `for`, most often one name.
 #[inline(always)]
-#[tactic(auto, unfolding(bq_eval_meaning_spec::specs::Targets::bind_variables, bq_eval_meaning_spec::specs::Targets::bind_to, bq_eval_meaning_spec::specs::Targets::bind_target, bq_resolve_scope::specs::Names::max_layers))]
 pub fn bind_variables<R: Runtime>(
     alloc: Global,
     runtime: &mut R,
     frame: &mut Frame<'_>,
-    target: &CodeTarget,
+    target: &TargetExpr,
     value: Value,
 ) -> Result<(), EvalErr>
-    ensures { Rebinds R.means R.seen (meaning.bind_variables R.means target.now value) frame.old runtime.old result frame.new runtime.new }
+    ensures { Rebinds R.means R.seen (meaning.bind_variables R.means (target_code target.now) value) frame.old runtime.old result frame.new runtime.new }
 {
     match target {
-        CodeTarget::Local(slot) => Ok(frame.fill(*slot, value)?),
-        CodeTarget::Global(slot) => Ok(frame.fill(*slot, value)?),
+        TargetExpr::Name(name) => Ok(frame.fill(slot_of(name), value)?),
         _ => bind_parts(alloc, runtime, frame, target, value),
     }
 }
@@ -144,10 +157,10 @@ fn bind_parts<R: Runtime>(
     alloc: Global,
     runtime: &mut R,
     frame: &mut Frame<'_>,
-    target: &CodeTarget,
+    target: &TargetExpr,
     value: Value,
 ) -> Result<(), EvalErr>
-    ensures { Rebinds R.means R.seen (meaning.bind_variables R.means target.now value) frame.old runtime.old result frame.new runtime.new }
+    ensures { Rebinds R.means R.seen (meaning.bind_variables R.means (target_code target.now) value) frame.old runtime.old result frame.new runtime.new }
 {
     let mut places = IndexedOperands::new(alloc);
     bind_to(runtime, frame, &mut places, MAX_LAYERS, target, value)
@@ -159,10 +172,10 @@ pub fn begin_turn<R: Runtime>(
     alloc: Global,
     runtime: &mut R,
     frame: &mut Frame<'_>,
-    target: &CodeTarget,
+    target: &TargetExpr,
     value: Value,
 ) -> Result<(), EvalErr>
-    ensures { Produces R.means R.seen (slots_of frame.new) (and_then (R.means.step 1) (λ _. meaning.bind_variables R.means target.now value (slots_of frame.old))) runtime.old result runtime.new }
+    ensures { Produces R.means R.seen (slots_of frame.new) (and_then (R.means.step 1) (λ _. meaning.bind_variables R.means (target_code target.now) value (slots_of frame.old))) runtime.old result runtime.new }
 {
     runtime.step(1)?;
     bind_variables(alloc, runtime, frame, target, value)

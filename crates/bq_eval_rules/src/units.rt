@@ -6,14 +6,14 @@ ghost use Rattle.bq_eval_rules.specs.CodeUnits.{unit_of};
 ghost use Rattle.bq_eval_rules.specs.Round.{units_at, globals_of, views_of};
 
 use crate::context::{Globals, Program};
-use bq_resolve_scope::{CodeFunction, Resolved};
+use bq_resolve_scope::{Function, ResolvedFile};
 use bq_value::{Frozen, Value};
 use std::sync::Arc;
 
 /// A module: its functions in the order of their `def`s, its globals, and what its loads bound.
 #[derive(Clone, Copy)]
 pub struct CodeUnit<'a> {
-    pub functions: &'a [CodeFunction],
+    pub functions: &'a [Function],
     pub globals: Globals<'a>,
     pub loaded: &'a [Value],
 }
@@ -56,7 +56,7 @@ fn globals_among<'a>(mut frozen: &'a [Arc<Frozen>], home: u32) -> Option<&'a [Va
 
 /// Returns a frozen module, from its file, and the values of its globals and of what its loads bind.
 #[tactic(auto, using(std::proofs::lemmas::List::take_min, std::proofs::lemmas::List::drop_min), unfolding(crate::specs::Round::globals_of))]
-fn frozen_unit<'a>(file: &'a Resolved, values: &'a [Value]) -> CodeUnit<'a>
+fn frozen_unit<'a>(file: &'a ResolvedFile, values: &'a [Value]) -> CodeUnit<'a>
     ensures { Some (unit_of result) ≡ frozen_unit (Some (Some file.now)) (Some values.now) }
 {
     let count = file.globals.len().min(values.len());

@@ -7,6 +7,7 @@ use Rattle.bq_parse_grammar.specs.declared.tree.Comparison.{Comparison}
 use Rattle.bq_parse_grammar.specs.declared.tree.Argument.{Argument}
 use Rattle.bq_parse_grammar.specs.declared.tree.Argument.TheVariants as a
 use Rattle.bq_parse_grammar.specs.declared.tree.Choice.{Choice, roll-Choice}
+use Rattle.bq_parse_grammar.specs.declared.tree.ComprehensionFrame.{ComprehensionFrame}
 use Rattle.bq_parse_grammar.specs.declared.tree.Clause.{Clause}
 use Rattle.bq_parse_grammar.specs.declared.tree.Clause.TheVariants as cl
 use Rattle.bq_parse_grammar.specs.declared.tree.Expr.{Expr, the_lemmas}
@@ -44,11 +45,11 @@ module _ (build : Bool) where
   pub count-Dict : (xs : List Pair) → expr_count build (e.Dict xs) ≡ sum_of (map (pair_count build) xs)
   count-Dict xs = search (rules, the_lemmas)
 
-  pub count-ListComprehension : (x : Expr) (cs : List Clause) → expr_count build (e.ListComprehension x cs) ≡ expr_count build x + sum_of (map (clause_count build) cs)
-  count-ListComprehension x cs = search (rules, the_lemmas)
+  pub count-ListComprehension : (x : Expr) (cs : List Clause) (own : ComprehensionFrame) → expr_count build (e.ListComprehension x cs own) ≡ expr_count build x + sum_of (map (clause_count build) cs)
+  count-ListComprehension x cs own = search (rules, the_lemmas)
 
-  pub count-DictComprehension : (x : Pair) (cs : List Clause) → expr_count build (e.DictComprehension x cs) ≡ pair_count build x + sum_of (map (clause_count build) cs)
-  count-DictComprehension x cs = search (rules, the_lemmas)
+  pub count-DictComprehension : (x : Pair) (cs : List Clause) (own : ComprehensionFrame) → expr_count build (e.DictComprehension x cs own) ≡ pair_count build x + sum_of (map (clause_count build) cs)
+  count-DictComprehension x cs own = search (rules, the_lemmas)
 
   pub count-Primary : (x : Expr) (xs : List Suffix) → expr_count build (e.Primary x xs) ≡ expr_count build x + sum_of (map (suffix_count build) xs)
   count-Primary x xs = search (rules, the_lemmas)

@@ -3,6 +3,7 @@
 use Rattle.std.proofs.Common.{◌≡◌, ℕ, zero, suc, Bool, true, false, ◌+◌, ◌*◌, ◌≤◌, max, pos, List, [], ◌∷◌, map, Option, None, ap, ◌∙◌, arith}
 use Rattle.bq_source.specs.declared.token.TokenKind.{TokenKind}
 use Rattle.bq_source.specs.declared.token.TokenKind.TheVariants as k
+use Rattle.bq_parse_grammar.specs.declared.tree.ComprehensionFrame.TheVariants as frame
 use Rattle.bq_parse_grammar.specs.Lexeme.{Lexeme}
 use Rattle.bq_parse_grammar.specs.Literals.{identifier}
 use Rattle.bq_parse_grammar.specs.declared.tree.Expr.{Expr}
@@ -130,8 +131,8 @@ module _ (build : Bool) where
         let b : deepest (map expr_weight xs) ≤ n + 2000 * sum_of (map (expr_count build) xs) = listed_below expr_weight (expr_count build) n T tests _ us rest xs q in
         omega arith
     operand_below ts rest y (G.a_list_comprehension {c = c} {ts = us} {mid = mid} {x = x} {cs = cs} f p q g h) =
-        let e : expr_weight y ≡ max (expr_weight x) (deepest (map clause_weight cs)) + 2 = ap expr_weight h ∙ D.weight-ListComprehension x cs in
-        let c_h = ap (expr_count build) h ∙ C.count-ListComprehension build x cs in
+        let e : expr_weight y ≡ max (expr_weight x) (deepest (map clause_weight cs)) + 2 = ap expr_weight h ∙ D.weight-ListComprehension x cs frame.Shared in
+        let c_h = ap (expr_count build) h ∙ C.count-ListComprehension build x cs frame.Shared in
         let a : expr_weight x ≤ n + 2000 * expr_count build x = tests us mid x p in
         let b : deepest (map clause_weight cs) ≤ n + 2000 * sum_of (map (clause_count build) cs) = clauses_below mid (c ∷ rest) cs q in
         omega arith
@@ -141,8 +142,8 @@ module _ (build : Bool) where
         let b : deepest (map pair_weight xs) ≤ n + 2000 * sum_of (map (pair_count build) xs) = listed_below pair_weight (pair_count build) n (IsPair O T V) pair_below _ us rest xs q in
         omega arith
     operand_below ts rest y (G.a_dict_comprehension {c = c} {ts = us} {mid = mid} {p = x} {cs = cs} f p q g h) =
-        let e : expr_weight y ≡ max (pair_weight x) (deepest (map clause_weight cs)) + 2 = ap expr_weight h ∙ D.weight-DictComprehension x cs in
-        let c_h = ap (expr_count build) h ∙ C.count-DictComprehension build x cs in
+        let e : expr_weight y ≡ max (pair_weight x) (deepest (map clause_weight cs)) + 2 = ap expr_weight h ∙ D.weight-DictComprehension x cs frame.Shared in
+        let c_h = ap (expr_count build) h ∙ C.count-DictComprehension build x cs frame.Shared in
         let a : pair_weight x ≤ n + 2000 * pair_count build x = pair_below us mid x p in
         let b : deepest (map clause_weight cs) ≤ n + 2000 * sum_of (map (clause_count build) cs) = clauses_below mid (c ∷ rest) cs q in
         omega arith

@@ -7,6 +7,7 @@ use Rattle.bq_parse_grammar.specs.declared.tree.Comparison.{Comparison}
 use Rattle.bq_parse_grammar.specs.declared.tree.Argument.{Argument}
 use Rattle.bq_parse_grammar.specs.declared.tree.Argument.TheVariants as a
 use Rattle.bq_parse_grammar.specs.declared.tree.Choice.{Choice, roll-Choice}
+use Rattle.bq_parse_grammar.specs.declared.tree.ComprehensionFrame.{ComprehensionFrame}
 use Rattle.bq_parse_grammar.specs.declared.tree.Clause.{Clause}
 use Rattle.bq_parse_grammar.specs.declared.tree.Clause.TheVariants as cl
 use Rattle.bq_parse_grammar.specs.declared.tree.Expr.{Expr, the_lemmas}
@@ -44,11 +45,11 @@ weight-Tuple xs = search (rules, the_lemmas)
 pub weight-Dict : (xs : List Pair) → expr_weight (e.Dict xs) ≡ deepest (map pair_weight xs) + 1
 weight-Dict xs = search (rules, the_lemmas)
 
-pub weight-ListComprehension : (x : Expr) (cs : List Clause) → expr_weight (e.ListComprehension x cs) ≡ max (expr_weight x) (deepest (map clause_weight cs)) + 2
-weight-ListComprehension x cs = search (rules, the_lemmas)
+pub weight-ListComprehension : (x : Expr) (cs : List Clause) (own : ComprehensionFrame) → expr_weight (e.ListComprehension x cs own) ≡ max (expr_weight x) (deepest (map clause_weight cs)) + 2
+weight-ListComprehension x cs own = search (rules, the_lemmas)
 
-pub weight-DictComprehension : (x : Pair) (cs : List Clause) → expr_weight (e.DictComprehension x cs) ≡ max (pair_weight x) (deepest (map clause_weight cs)) + 2
-weight-DictComprehension x cs = search (rules, the_lemmas)
+pub weight-DictComprehension : (x : Pair) (cs : List Clause) (own : ComprehensionFrame) → expr_weight (e.DictComprehension x cs own) ≡ max (pair_weight x) (deepest (map clause_weight cs)) + 2
+weight-DictComprehension x cs own = search (rules, the_lemmas)
 
 pub weight-Primary : (x : Expr) (xs : List Suffix) → expr_weight (e.Primary x xs) ≡ max (expr_weight x) (deepest (map suffix_weight xs)) + 1
 weight-Primary x xs = search (rules, the_lemmas)

@@ -2,8 +2,6 @@
 pub mod Classes
 -- values, and modules whose evaluation has ended
 pub mod Values
--- the trees of resolved files
-pub mod Trees
 -- files, packages and schemas
 pub mod Workspaces
 -- the targets of packages

@@ -119,6 +119,7 @@ impl<'a> Loading<'a> {
             modules,
             code: self.code.as_slice(),
         };
-        loaded.imports(alloc, module.front.code.loads.as_slice())
+        let code = &module.front.code;
+        loaded.imports(alloc, code.loads.as_slice())
     }
 }

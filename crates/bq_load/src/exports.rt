@@ -13,7 +13,7 @@ ghost use Rattle.bq_load.specs.Imports.{value_named, globals_by, names_by, globa
 use crate::places::{NamePlaces, place_of};
 use bq_base::{Bytes, Fault, FaultKind, SourceErr};
 use bq_load_module::LoadedModule;
-use bq_resolve_scope::{LoadedSymbol, Resolved};
+use bq_resolve_scope::{LoadedSymbol, ResolvedFile};
 use bq_value::{EvalErr, Value};
 
 /// Returns the value at the place of its name.
@@ -61,7 +61,7 @@ fn value_by<'v>(
 }
 
 /// Returns the names of the globals that the file of a module binds.
-pub(crate) fn globals_of<'a>(code: &'a [Option<&'a Resolved>], number: u32) -> &'a [Bytes]
+pub(crate) fn globals_of<'a>(code: &'a [Option<&'a ResolvedFile>], number: u32) -> &'a [Bytes]
     ensures { result.now ≡ globals_by (slice_get (lent_files code.now) number) }
 {
     match code.get(number as usize) {
@@ -74,7 +74,7 @@ pub(crate) fn globals_of<'a>(code: &'a [Option<&'a Resolved>], number: u32) -> &
 /// A module that a load names, and the code of all modules.
 #[derive(Clone, Copy)]
 pub(crate) struct Exports<'t, 'a> {
-    pub code: &'a [Option<&'a Resolved>],
+    pub code: &'a [Option<&'a ResolvedFile>],
     /// `None` if no such file is loaded.
     pub module: Option<&'a LoadedModule>,
     /// The places of its globals' names, if many clauses look for them.

@@ -15,7 +15,7 @@ use crate::places::{NamePlaces, places_at, places_by_name};
 use bq_base::SourceErr;
 use bq_load_front::NamedFiles;
 use bq_load_module::LoadedModule;
-use bq_resolve_scope::{LoadStmt, Resolved};
+use bq_resolve_scope::{LoadStmt, ResolvedFile};
 use bq_value::Value;
 use std::alloc::{AllocError, Global};
 use std::sync::Arc;
@@ -29,7 +29,7 @@ const FEW: usize = 100;
 pub struct LoadedFiles<'a> {
     pub named: &'a NamedFiles,
     pub modules: &'a [Arc<LoadedModule, Global>],
-    pub code: &'a [Option<&'a Resolved>],
+    pub code: &'a [Option<&'a ResolvedFile>],
 }
 
 impl<'a> LoadedFiles<'a> {

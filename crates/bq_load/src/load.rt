@@ -90,7 +90,7 @@ fn modules_with<R: Threads + Wait + Sync, G: Gate>(
 
 /// Loads the modules of a workspace's load graph by several workers, each in a thread of its own with the stack that
 /// evaluation may take, and notifies a gate of each evaluation. It returns the same whatever the order of the workers'
-/// steps. Drops the modules' code before the rest is made, to lower the peak of memory.
+/// steps. Drops the modules' code before the rest is made, by as many threads, to lower the peak of memory.
 #[tactic(auto, using(crate::proofs::Joined::gathered_is))]
 pub fn load_graph_with<R: Threads + Wait + Sync, G: Gate>(
     rt: &R,
@@ -110,7 +110,7 @@ pub fn load_graph_with<R: Threads + Wait + Sync, G: Gate>(
     let modules = modules_with(
         rt, alloc, workspace, schema, limit, seed, &graph, workers, gate,
     )?;
-    let packages = graph.into_packages();
+    let packages = graph.into_packages_by(rt, workers);
     // PROOF: they give this
     Ok(Loaded::gathered(alloc, &packages, modules)?)
 }

@@ -11,7 +11,7 @@ use bq_load_discover::{LoadGraph, Module};
 use bq_load_front::Front;
 use bq_package_host::BuiltIns;
 use bq_package_schema::Schema;
-use bq_resolve_scope::Resolved;
+use bq_resolve_scope::ResolvedFile;
 use bq_value_seed::Seed;
 use std::alloc::{AllocError, Global};
 
@@ -24,7 +24,7 @@ pub struct Loading<'a> {
     pub built_ins: BuiltIns,
     pub modules: &'a [Module],
     /// The code of each module that has no fault of its own, as evaluations borrow it.
-    pub code: Vec<Option<&'a Resolved>>,
+    pub code: Vec<Option<&'a ResolvedFile>>,
     /// How many steps the evaluation of each module may take.
     pub limit: u64,
     /// What dicts hash their keys by.
@@ -66,7 +66,7 @@ impl<'a> Loading<'a> {
 }
 
 /// Returns the code of a module, unless its file has a fault of its own.
-fn code_by(front: &Result<Front, Fault>) -> Option<&Resolved>
+fn code_by(front: &Result<Front, Fault>) -> Option<&ResolvedFile>
     ensures { option_copied result ≡ code_by front.now }
 {
     match front {
@@ -76,7 +76,7 @@ fn code_by(front: &Result<Front, Fault>) -> Option<&Resolved>
 }
 
 /// Returns the code of modules.
-fn codes_of(alloc: Global, modules: &[Module]) -> Result<Vec<Option<&Resolved>>, AllocError>
+fn codes_of(alloc: Global, modules: &[Module]) -> Result<Vec<Option<&ResolvedFile>>, AllocError>
     ensures { IfOk result (λ code. lent_files code.items ≡ codes_of modules.now) }
 {
     let mut code = Vec::with_capacity(alloc, modules.len())?;

@@ -45,7 +45,10 @@ fn line_by(label: &Label, front: &Result<Front, Fault>) -> u32
     ensures { result ≡ line_by label.now front.now }
 {
     match front {
-        Ok(front) => line_of_load(label, front.code.loads.as_slice(), &front.loads),
+        Ok(front) => {
+            let code = &front.code;
+            line_of_load(label, code.loads.as_slice(), &front.loads)
+        }
         Err(_) => 0,
     }
 }

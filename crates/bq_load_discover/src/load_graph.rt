@@ -1,11 +1,13 @@
 //! Load graphs.
 
-ghost use Rattle.std.specs.Prelude.{◌≡◌};
+ghost use Rattle.std.specs.Prelude.{◌≡◌, ◌<◌};
 
 use crate::modules::Module;
 use bq_board_plan::Graph;
 use bq_label::{Label, Packages};
 use std::marker::Model;
+use std::thread;
+use std::thread::Threads;
 
 /// The modules of a workspace, and which loads which, with its packages. Contracts see the labels in order, the modules in the same
 /// order, for each module the numbers of those that it loads, and the packages.
@@ -112,6 +114,23 @@ impl LoadGraph {
             edges: _,
             packages,
         } = self;
+        packages
+    }
+
+    /// Returns the packages of the workspace, as [`LoadGraph::into_packages`] does. The modules are dropped by at most
+    /// `threads` threads.
+    pub fn into_packages_by<R: Threads + Sync>(self, rt: &R, threads: usize) -> Packages
+        requires { 0 < threads }
+        ensures { result ≡ self.packages }
+    {
+        let LoadGraph {
+            labels: _,
+            mut modules,
+            edges: _,
+            packages,
+        } = self;
+        let each = |_: usize, module: &mut Module| module.forget();
+        thread::for_each_mut(rt, modules.as_mut_slice(), threads, &each);
         packages
     }
 }

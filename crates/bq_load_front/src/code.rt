@@ -7,17 +7,17 @@ ghost use Rattle.bq_load_front.specs.Code.{code_of, itself};
 use bq_base::SourceErr;
 use bq_parse::parse;
 use bq_resolve::resolve;
-use bq_resolve_scope::{Resolved, Universe};
+use bq_resolve_scope::{ResolvedFile, Universe};
 use bq_source_lexer::lex;
 use std::alloc::Global;
 
 /// Returns what a text resolves to as a file of this kind, or its first fault: of its tokens (F1 to F8), then of its
 /// statements (F10 to F13), then of its names (F20 to F24). It takes time and memory in proportion to the text.
 #[tactic(auto, using(crate::proofs::Tokens::lexes), unfolding(crate::specs::Code::code_of))]
-pub fn code_of(alloc: Global, universe: &Universe, text: &[u8]) -> Result<Resolved, SourceErr>
+pub fn code_of(alloc: Global, universe: &Universe, text: &[u8]) -> Result<ResolvedFile, SourceErr>
     ensures { Gives itself Bad result (code_of universe.now text.now) }
 {
     let tokens = lex(alloc, text)?;
     let file = parse(alloc, &tokens, text, universe.kind())?;
-    resolve(alloc, &file, universe)
+    resolve(alloc, file, universe)
 }

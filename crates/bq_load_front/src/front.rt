@@ -14,14 +14,14 @@ use bq_base::{Fault, FaultKind, SourceErr};
 use bq_label::{Label, PackageId, label_file};
 use bq_load_label::load_label;
 use bq_parse_grammar::FileKind;
-use bq_resolve_scope::{LoadStmt, Resolved};
+use bq_resolve_scope::{LoadStmt, ResolvedFile};
 use sqlite_items::Items;
 use std::alloc::Global;
 
 /// The code of a file, and the files that its loads name.
 #[derive(Drop)]
 pub struct Front {
-    pub code: Resolved,
+    pub code: ResolvedFile,
     pub loads: NamedFiles,
 }
 

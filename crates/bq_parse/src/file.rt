@@ -15,7 +15,7 @@ use bq_base::SourceErr;
 use bq_parse_cursor::Tokens;
 use bq_parse_grammar::{FileKind, TopLevel};
 use bq_source::Token;
-use sqlite_items::Items;
+use bq_tree_items::Items;
 use std::alloc::Global;
 use std::marker::Model;
 
@@ -55,6 +55,14 @@ impl ParsedFile {
         ensures shallow { AreShallow self.now }
     {
         self.statements.as_slice()
+    }
+
+    /// Returns the statements, to be written to.
+    pub fn into_statements(self) -> Items<TopLevel>
+        ensures { result ≡ self }
+    {
+        let ParsedFile { statements } = self;
+        statements
     }
 }
 

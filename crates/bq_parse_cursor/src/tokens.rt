@@ -1,6 +1,6 @@
 //! A place in the tokens of a text, and the steps that every production is made of.
 
-ghost use Rattle.std.specs.Prelude.{◌≡◌, All, length, Some};
+ghost use Rattle.std.specs.Prelude.{◌≡◌, ◌≤◌, All, length, Some};
 ghost use Rattle.bq_source.specs.Spelling.{Lies};
 ghost use Rattle.bq_parse_grammar.specs.Lexeme.{lexemes};
 ghost use Rattle.bq_parse_grammar.specs.Turns.{Reads};
@@ -16,10 +16,23 @@ ghost use Rattle.bq_parse_cursor.specs.Tokens as ahead;
 
 use crate::operators::{augmented, binary_operator};
 use bq_base::Bytes;
-use bq_parse_grammar::{Comparison, Expr, Identifier, Operator, SyntaxErr, UnaryOperator};
+use bq_parse_grammar::{
+    Comparison, Expr, Identifier, Operator, Referent, SyntaxErr, UnaryOperator,
+};
 use bq_source::{Token, TokenKind, int_value, string_value};
 use std::alloc::Global;
 use std::marker::Model;
+
+/// How many tokens are looked at to see how many items a list has.
+const LOOKED_AT: usize = 256;
+
+/// Returns whether a list that ends with `close` is looked at up to here: it ends, or a bracket opens in it.
+fn ends_look(kind: TokenKind, close: TokenKind) -> bool {
+    match kind {
+        TokenKind::LeftParen | TokenKind::LeftBracket | TokenKind::LeftBrace => true,
+        _ => kind.is(close),
+    }
+}
 
 #[derive(Drop)]
 pub struct Tokens<'a> {
@@ -81,6 +94,27 @@ impl<'a> Tokens<'a> {
             Some(token) => token.line,
             None => 0,
         }
+    }
+
+    /// Returns how many items of a list that ends with `close` are in sight after a comma: for how many to ask memory at once. No
+    /// tree depends on it.
+    pub fn items_in_sight(&self, close: TokenKind) -> usize
+        ensures { result ≤ 256 }
+    {
+        let mut items = 0;
+        let mut is_after_comma = false;
+        for at in 0..LOOKED_AT {
+            match self.rest.get(at) {
+                Some(token) if !ends_look(token.kind, close) => {
+                    if is_after_comma {
+                        items += 1;
+                    }
+                    is_after_comma = token.kind.is(TokenKind::Comma);
+                }
+                _ => break,
+            }
+        }
+        items
     }
 
     /// Returns a copy of the place.
@@ -182,7 +216,10 @@ impl<'a> Tokens<'a> {
                 let line = token.line;
                 let name = Bytes::from_slice(alloc, self.spelling())?;
                 self.advance();
-                Ok(Identifier { name, line })
+                Ok(Identifier {
+                    name,
+                    referent: Referent::Unresolved(line),
+                })
             }
             _ => Err(SyntaxErr::Syntax),
         }

@@ -16,7 +16,7 @@ use bq_parse_grammar::{
     Choice, Comparison, Expr, Nested, Operation, Operator, SyntaxErr, UnaryOperator,
 };
 use bq_source::TokenKind;
-use sqlite_items::{Boxed, Items};
+use bq_tree_items::{Boxed, Items};
 use std::alloc::Global;
 
 /// Returns an operand and what is done to it; the operand alone where nothing is.

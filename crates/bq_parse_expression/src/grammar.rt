@@ -11,7 +11,7 @@ use crate::steps::closed;
 use bq_parse_cursor::Tokens;
 use bq_parse_grammar::{Expr, Nested, SyntaxErr};
 use bq_source::TokenKind;
-use sqlite_items::Items;
+use bq_tree_items::Items;
 use std::alloc::Global;
 
 #[derive(Drop)]

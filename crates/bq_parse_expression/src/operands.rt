@@ -10,12 +10,12 @@ ghost use Rattle.bq_source.specs.declared.token.TokenKind.TheVariants as kind;
 ghost use Rattle.bq_parse_expression.specs.Nested.{ReadsNested};
 
 use crate::grammar::Grammar;
-use crate::steps::{closed, only};
+use crate::steps::{begun, closed, only};
 use crate::variables::vars;
 use bq_parse_cursor::Tokens;
-use bq_parse_grammar::{Clause, Expr, Nested, Pair, SyntaxErr};
+use bq_parse_grammar::{Clause, ComprehensionFrame, Expr, Nested, Pair, SyntaxErr};
 use bq_source::TokenKind;
-use sqlite_items::{Boxed, Items};
+use bq_tree_items::{Boxed, Items};
 use std::alloc::{AllocError, Global};
 
 /// Returns whether a clause of a comprehension comes next.
@@ -157,9 +157,11 @@ impl<F: Fn(Global, &mut Tokens<'_>, usize, Nested) -> Result<Expr, SyntaxErr>> G
         if tokens.sees(TokenKind::For) {
             let element = Boxed::new(self.alloc, first)?;
             let clauses = self.comprehension(tokens, TokenKind::RightBracket)?;
-            return Ok(Expr::ListComprehension(element, clauses));
+            let clauses = Boxed::new(self.alloc, clauses)?;
+            return Ok(Expr::ListComprehension(element, clauses, ComprehensionFrame::Shared));
         }
-        let found = only(self.alloc, first)?;
+        let more = tokens.items_in_sight(TokenKind::RightBracket);
+        let found = begun(self.alloc, first, more)?;
         if tokens.eat(TokenKind::Comma) {
             return Ok(Expr::List(self.listed(tokens, TokenKind::RightBracket, found)?));
         }
@@ -194,7 +196,8 @@ impl<F: Fn(Global, &mut Tokens<'_>, usize, Nested) -> Result<Expr, SyntaxErr>> G
         requires { ReadsNested self.now.depth (F.pre self.now.phrase) (F.post self.now.phrase) }
         ensures { Reads (spec.items_after kind.RightBrace (spec.pair (spec.phrase self.now.depth) (spec.variables_to self.now.depth)) first tokens.old) result tokens.new }
     {
-        let found = only(self.alloc, first)?;
+        let more = tokens.items_in_sight(TokenKind::RightBrace);
+        let found = begun(self.alloc, first, more)?;
         if tokens.eat(TokenKind::Comma) {
             return self.listed_pairs(tokens, found);
         }
@@ -209,7 +212,8 @@ impl<F: Fn(Global, &mut Tokens<'_>, usize, Nested) -> Result<Expr, SyntaxErr>> G
         if tokens.sees(TokenKind::For) {
             let element = Boxed::new(self.alloc, first)?;
             let clauses = self.comprehension(tokens, TokenKind::RightBrace)?;
-            return Ok(Expr::DictComprehension(element, clauses));
+            let clauses = Boxed::new(self.alloc, clauses)?;
+            return Ok(Expr::DictComprehension(element, clauses, ComprehensionFrame::Shared));
         }
         Ok(Expr::Dict(self.pairs_after(tokens, first)?))
     }

@@ -7,14 +7,21 @@ ghost use Rattle.bq_parse_grammar.specs.Turns as turns;
 use bq_parse_cursor::Tokens;
 use bq_parse_grammar::SyntaxErr;
 use bq_source::TokenKind;
-use sqlite_items::Items;
+use bq_tree_items::Items;
 use std::alloc::{AllocError, Global};
 
-/// Returns the list of one item.
+/// Returns the list of one item, with no room for more.
 pub fn only<T: Drop>(alloc: Global, item: T) -> Result<Items<T>, AllocError>
     ensures { IfOk result (λ items. items ≡ item ∷ []) }
 {
-    let mut found = Items::new(alloc);
+    begun(alloc, item, 0)
+}
+
+/// Returns the list of one item, with room for so many more.
+pub fn begun<T: Drop>(alloc: Global, item: T, more: usize) -> Result<Items<T>, AllocError>
+    ensures { IfOk result (λ items. items ≡ item ∷ []) }
+{
+    let mut found = Items::with_capacity(alloc, more.saturating_add(1))?;
     found.push(item)?;
     Ok(found)
 }

@@ -18,7 +18,7 @@ use bq_parse_grammar::{
     Allowed, Argument, ArgumentKind, Expr, Identifier, Nested, Suffix, SyntaxErr,
 };
 use bq_source::TokenKind;
-use sqlite_items::{Boxed, Items};
+use bq_tree_items::{Boxed, Items};
 use std::alloc::Global;
 
 /// Returns what may come after an argument of this kind, or `None` where that argument is not allowed.
@@ -256,7 +256,7 @@ impl<F: Fn(Global, &mut Tokens<'_>, usize, Nested) -> Result<Expr, SyntaxErr>> G
             return Ok(operand);
         }
         let operand = Boxed::new(self.alloc, operand)?;
-        let mut suffixes = Items::new(self.alloc);
+        let mut suffixes = Items::with_capacity(self.alloc, 1)?;
         // Each turn takes a token.
         for _turn in 0..tokens.left() {
             if !sees_suffix(tokens) {

@@ -11,7 +11,7 @@ use crate::steps::{closed, only};
 use bq_parse_cursor::Tokens;
 use bq_parse_grammar::{SyntaxErr, TargetExpr};
 use bq_source::TokenKind;
-use sqlite_items::Items;
+use bq_tree_items::Items;
 use std::alloc::Global;
 
 /// The rules of variables take the reader of those in brackets as a parameter, so that each is proved by itself.

@@ -3,6 +3,7 @@
 use Rattle.std.proofs.Common.{◌≡◌, ℕ, zero, suc, Bool, true, false, ◌||◌, cond, List, [], ◌∷◌, ◌++◌, length, Option, Some, None, Ok, Err, refl, sym, ap, ◌∙◌}
 use Rattle.bq_source.specs.declared.token.TokenKind.{TokenKind}
 use Rattle.bq_source.specs.declared.token.TokenKind.TheVariants as k
+use Rattle.bq_parse_grammar.specs.declared.tree.ComprehensionFrame.TheVariants as frame
 use Rattle.bq_parse_grammar.specs.Lexeme.{Lexeme}
 use Rattle.bq_parse_grammar.specs.declared.refusal.SyntaxErr.TheVariants.{Memory, Syntax, Lambda}
 use Rattle.bq_parse_grammar.specs.declared.tree.Nested.{Nested}
@@ -206,16 +207,16 @@ module _ (P : List Lexeme → Type 0) (E : Type 0) (tail : (t : Lexeme) (ts : Li
     unfolding in_brackets
     brackets_kept ts h = if_kept (sees k.RightBracket ts) (Ok (e.List [], next ts)) (inner Test ts >>= λ x mid. brackets_after inner variables x mid) (next_kept ts h)
         (then_kept (inner Test ts) (λ x mid. brackets_after inner variables x mid) (safe Test ts h)
-        (λ x us g. if_kept (sees k.For us) (comprehension inner variables k.RightBracket us >>= λ ys rest. Ok (e.ListComprehension x ys, rest)) (items_after k.RightBracket (inner Test) x us >>= λ xs rest. Ok (e.List xs, rest))
-        (then_kept (comprehension inner variables k.RightBracket us) (λ ys rest. Ok (e.ListComprehension x ys, rest)) (comprehension_kept k.RightBracket us g) (λ ys vs f. f))
+        (λ x us g. if_kept (sees k.For us) (comprehension inner variables k.RightBracket us >>= λ ys rest. Ok (e.ListComprehension x ys frame.Shared, rest)) (items_after k.RightBracket (inner Test) x us >>= λ xs rest. Ok (e.List xs, rest))
+        (then_kept (comprehension inner variables k.RightBracket us) (λ ys rest. Ok (e.ListComprehension x ys frame.Shared, rest)) (comprehension_kept k.RightBracket us g) (λ ys vs f. f))
         (then_kept (items_after k.RightBracket (inner Test) x us) (λ xs rest. Ok (e.List xs, rest)) (items_kept k.RightBracket (inner Test) (safe Test) x us g) (λ xs vs f. f))))
 
     braces_kept : Keeps (in_braces inner variables)
     unfolding in_braces
     braces_kept ts h = if_kept (sees k.RightBrace ts) (Ok (e.Dict [], next ts)) (pair inner variables ts >>= λ x mid. braces_after inner variables x mid) (next_kept ts h)
         (then_kept (pair inner variables ts) (λ x mid. braces_after inner variables x mid) (pair_kept ts h)
-        (λ x us g. if_kept (sees k.For us) (comprehension inner variables k.RightBrace us >>= λ ys rest. Ok (e.DictComprehension x ys, rest)) (items_after k.RightBrace (pair inner variables) x us >>= λ xs rest. Ok (e.Dict xs, rest))
-        (then_kept (comprehension inner variables k.RightBrace us) (λ ys rest. Ok (e.DictComprehension x ys, rest)) (comprehension_kept k.RightBrace us g) (λ ys vs f. f))
+        (λ x us g. if_kept (sees k.For us) (comprehension inner variables k.RightBrace us >>= λ ys rest. Ok (e.DictComprehension x ys frame.Shared, rest)) (items_after k.RightBrace (pair inner variables) x us >>= λ xs rest. Ok (e.Dict xs, rest))
+        (then_kept (comprehension inner variables k.RightBrace us) (λ ys rest. Ok (e.DictComprehension x ys frame.Shared, rest)) (comprehension_kept k.RightBrace us g) (λ ys vs f. f))
         (then_kept (items_after k.RightBrace (pair inner variables) x us) (λ xs rest. Ok (e.Dict xs, rest)) (items_kept k.RightBrace (pair inner variables) pair_kept x us g) (λ xs vs f. f))))
 
     pub operand_kept : Keeps (operand inner variables)

@@ -3,6 +3,7 @@ use Rattle.std.proofs.Common.{◌≡◌, ℕ, Bool, true, false, not, ◌||◌, 
 use Rattle.bq_source.specs.declared.token.TokenKind.{TokenKind}
 use Rattle.bq_source.specs.declared.token.TokenKind.TheVariants as k
 use Rattle.bq_source.specs.Token.{same_kind}
+use Rattle.bq_parse_grammar.specs.declared.tree.ComprehensionFrame.TheVariants as frame
 use Rattle.bq_parse_grammar.specs.Lexeme.{Lexeme}
 use Rattle.bq_parse_grammar.specs.declared.tree.Nested.{Nested}
 use Rattle.bq_parse_grammar.specs.declared.tree.Nested.TheVariants.{Or, Test}
@@ -178,9 +179,9 @@ module _ (O T : Phrase Expr) (V : Phrase TargetExpr) (inner : Nested → Parse E
   brackets_sound o ts oe = opens_if (λ us. IsOperand O T V (o ∷ us)) k.RightBracket ts (λ us. Ok (e.List [], us)) (inner Test ts >>= λ x mid. brackets_after inner variables x mid)
       (λ c us f. G.a_list oe (none_listed f) refl)
       (λ h. seq (T ts) (IsOperand O T V (o ∷ ts)) (inner Test ts) (λ x mid. brackets_after inner variables x mid) (tests.sound ts)
-      (λ x mid p. either (Owes Expr (IsOperand O T V (o ∷ ts))) (sees k.For mid) (comprehension inner variables k.RightBracket mid >>= λ ys rest. Ok (e.ListComprehension x ys, rest))
+      (λ x mid p. either (Owes Expr (IsOperand O T V (o ∷ ts))) (sees k.For mid) (comprehension inner variables k.RightBracket mid >>= λ ys rest. Ok (e.ListComprehension x ys frame.Shared, rest))
       (items_after k.RightBracket (inner Test) x mid >>= λ xs rest. Ok (e.List xs, rest))
-      (λ h. then_is (Closed mid k.RightBracket) (IsOperand O T V (o ∷ ts)) (comprehension inner variables k.RightBracket mid) (e.ListComprehension x) (comprehension_sound k.RightBracket mid)
+      (λ h. then_is (Closed mid k.RightBracket) (IsOperand O T V (o ∷ ts)) (comprehension inner variables k.RightBracket mid) (λ ys. e.ListComprehension x ys frame.Shared) (comprehension_sound k.RightBracket mid)
       (λ ys rest w. G.a_list_comprehension oe p w.1 w.2 refl))
       (λ h. then_is (λ rest ys. (zs : List Expr) × (ys ≡ x ∷ zs) × Listed k.RightBracket T ts rest (x ∷ zs)) (IsOperand O T V (o ∷ ts))
       (items_after k.RightBracket (inner Test) x mid) e.List (items_sound T (inner Test) tests k.RightBracket x ts mid p)
@@ -192,9 +193,9 @@ module _ (O T : Phrase Expr) (V : Phrase TargetExpr) (inner : Nested → Parse E
   braces_sound o ts oe = opens_if (λ us. IsOperand O T V (o ∷ us)) k.RightBrace ts (λ us. Ok (e.Dict [], us)) (pair inner variables ts >>= λ x mid. braces_after inner variables x mid)
       (λ c us f. G.a_dict oe (none_listed f) refl)
       (λ h. seq (IsPair O T V ts) (IsOperand O T V (o ∷ ts)) (pair inner variables ts) (λ x mid. braces_after inner variables x mid) (pair_agrees.sound ts)
-      (λ x mid p. either (Owes Expr (IsOperand O T V (o ∷ ts))) (sees k.For mid) (comprehension inner variables k.RightBrace mid >>= λ ys rest. Ok (e.DictComprehension x ys, rest))
+      (λ x mid p. either (Owes Expr (IsOperand O T V (o ∷ ts))) (sees k.For mid) (comprehension inner variables k.RightBrace mid >>= λ ys rest. Ok (e.DictComprehension x ys frame.Shared, rest))
       (items_after k.RightBrace (pair inner variables) x mid >>= λ xs rest. Ok (e.Dict xs, rest))
-      (λ h. then_is (Closed mid k.RightBrace) (IsOperand O T V (o ∷ ts)) (comprehension inner variables k.RightBrace mid) (e.DictComprehension x) (comprehension_sound k.RightBrace mid)
+      (λ h. then_is (Closed mid k.RightBrace) (IsOperand O T V (o ∷ ts)) (comprehension inner variables k.RightBrace mid) (λ ys. e.DictComprehension x ys frame.Shared) (comprehension_sound k.RightBrace mid)
       (λ ys rest w. G.a_dict_comprehension oe p w.1 w.2 refl))
       (λ h. then_is (λ rest ys. (zs : List Pair) × (ys ≡ x ∷ zs) × Listed k.RightBrace (IsPair O T V) ts rest (x ∷ zs)) (IsOperand O T V (o ∷ ts))
       (items_after k.RightBrace (pair inner variables) x mid) e.Dict (items_sound (IsPair O T V) (pair inner variables) pair_agrees k.RightBrace x ts mid p)
@@ -273,9 +274,9 @@ module _ (O T : Phrase Expr) (V : Phrase TargetExpr) (inner : Nested → Parse E
           (met_no (sees k.RightBracket us) _ (inner Test us >>= λ x mid. brackets_after inner variables x mid) (begins_no first_test us k.RightBracket (tests.begins us mid x p) refl)
           (met_over o us (met_less (met_then (inner Test us) (λ x mid. brackets_after inner variables x mid)
           (tests.complete us mid x p (begins_stops is_for (ends 11) mid (implied is_for (ends 11) refl) (clauses_begin mid (c ∷ rest) cs ps)))
-          (met_yes (sees k.For mid) (comprehension inner variables k.RightBracket mid >>= λ ys rest. Ok (e.ListComprehension x ys, rest)) _ (for_seen mid (clauses_begin mid (c ∷ rest) cs ps))
-          (met_less (met_then (comprehension inner variables k.RightBracket mid) (λ ys rest. Ok (e.ListComprehension x ys, rest))
-          (comprehension_met k.RightBracket mid c rest cs refl bracket_for bracket_if ps h) (met_as (sym g) (met_done (e.ListComprehension x cs) rest)))))))))
+          (met_yes (sees k.For mid) (comprehension inner variables k.RightBracket mid >>= λ ys rest. Ok (e.ListComprehension x ys frame.Shared, rest)) _ (for_seen mid (clauses_begin mid (c ∷ rest) cs ps))
+          (met_less (met_then (comprehension inner variables k.RightBracket mid) (λ ys rest. Ok (e.ListComprehension x ys frame.Shared, rest))
+          (comprehension_met k.RightBracket mid c rest cs refl bracket_for bracket_if ps h) (met_as (sym g) (met_done (e.ListComprehension x cs frame.Shared) rest)))))))))
       complete ts rest y (G.a_dict {o = o} {ts = us} {ps = xs} f ps g) st = dict_met xs us f ps g
         where
           dict_met : (xs : List Pair) (us : List Lexeme) → o.kind ≡ k.LeftBrace → Listed k.RightBrace (IsPair O T V) us rest xs → y ≡ e.Dict xs → Met 1 (o ∷ us) (operand inner variables (o ∷ us)) y rest
@@ -291,6 +292,6 @@ module _ (O T : Phrase Expr) (V : Phrase TargetExpr) (inner : Nested → Parse E
           (met_no (sees k.RightBrace us) _ (pair inner variables us >>= λ x mid. braces_after inner variables x mid) (begins_no first_test us k.RightBrace (pair_agrees.begins us mid x p) refl)
           (met_over o us (met_less (met_then (pair inner variables us) (λ x mid. braces_after inner variables x mid)
           (pair_agrees.complete us mid x p (begins_stops is_for (ends 11) mid (implied is_for (ends 11) refl) (clauses_begin mid (c ∷ rest) cs ps)))
-          (met_yes (sees k.For mid) (comprehension inner variables k.RightBrace mid >>= λ ys rest. Ok (e.DictComprehension x ys, rest)) _ (for_seen mid (clauses_begin mid (c ∷ rest) cs ps))
-          (met_less (met_then (comprehension inner variables k.RightBrace mid) (λ ys rest. Ok (e.DictComprehension x ys, rest))
-          (comprehension_met k.RightBrace mid c rest cs refl brace_for brace_if ps h) (met_as (sym g) (met_done (e.DictComprehension x cs) rest)))))))))
+          (met_yes (sees k.For mid) (comprehension inner variables k.RightBrace mid >>= λ ys rest. Ok (e.DictComprehension x ys frame.Shared, rest)) _ (for_seen mid (clauses_begin mid (c ∷ rest) cs ps))
+          (met_less (met_then (comprehension inner variables k.RightBrace mid) (λ ys rest. Ok (e.DictComprehension x ys frame.Shared, rest))
+          (comprehension_met k.RightBrace mid c rest cs refl brace_for brace_if ps h) (met_as (sym g) (met_done (e.DictComprehension x cs frame.Shared) rest)))))))))

@@ -6,6 +6,7 @@ use Rattle.bq_source.specs.declared.token.TokenKind.{TokenKind}
 use Rattle.bq_source.specs.declared.token.TokenKind.TheVariants as k
 use Rattle.bq_parse_grammar.specs.Lexeme.{Lexeme}
 use Rattle.bq_parse_grammar.specs.declared.tree.Expr.{Expr}
+use Rattle.bq_parse_grammar.specs.declared.tree.ComprehensionFrame.TheVariants as frame
 use Rattle.bq_parse_grammar.specs.declared.tree.Expr.TheVariants as e
 use Rattle.bq_parse_grammar.specs.declared.tree.Operator.{Operator}
 use Rattle.bq_parse_grammar.specs.declared.tree.UnaryOperator.{UnaryOperator}
@@ -164,11 +165,11 @@ module _ (InnerOr InnerTest : Phrase Expr) (InnerVars : Phrase TargetExpr) where
     a_list : {o : Lexeme} {ts rest : List Lexeme} {y : Expr} {xs : List Expr} → o.kind ≡ k.LeftBracket → Listed k.RightBracket InnerTest ts rest xs
         → y ≡ e.List xs → IsOperand (o ∷ ts) rest y
     a_list_comprehension : {o c : Lexeme} {ts mid rest : List Lexeme} {x y : Expr} {cs : List Clause} → o.kind ≡ k.LeftBracket → InnerTest ts mid x
-        → AreClauses mid (c ∷ rest) cs → c.kind ≡ k.RightBracket → y ≡ e.ListComprehension x cs → IsOperand (o ∷ ts) rest y
+        → AreClauses mid (c ∷ rest) cs → c.kind ≡ k.RightBracket → y ≡ e.ListComprehension x cs frame.Shared → IsOperand (o ∷ ts) rest y
     a_dict : {o : Lexeme} {ts rest : List Lexeme} {y : Expr} {ps : List Pair} → o.kind ≡ k.LeftBrace → Listed k.RightBrace IsPair ts rest ps
         → y ≡ e.Dict ps → IsOperand (o ∷ ts) rest y
     a_dict_comprehension : {o c : Lexeme} {ts mid rest : List Lexeme} {p : Pair} {y : Expr} {cs : List Clause} → o.kind ≡ k.LeftBrace → IsPair ts mid p
-        → AreClauses mid (c ∷ rest) cs → c.kind ≡ k.RightBrace → y ≡ e.DictComprehension p cs → IsOperand (o ∷ ts) rest y
+        → AreClauses mid (c ∷ rest) cs → c.kind ≡ k.RightBrace → y ≡ e.DictComprehension p cs frame.Shared → IsOperand (o ∷ ts) rest y
 
   -- Argument = Test | identifier '=' Test | '*' Test | '**' Test
   pub data IsArgument : ArgumentKind → List Lexeme → List Lexeme → Argument → Type 0 where

@@ -5,11 +5,26 @@ use Rattle.bq_source.specs.declared.token.TokenKind.TheVariants as k
 use Rattle.bq_source.specs.Token.{same_kind}
 use Rattle.bq_source.specs.Lexis.{is_letter, is_word, word_kind}
 use Rattle.bq_parse_grammar.specs.declared.tree.Identifier.{Identifier}
+use Rattle.bq_parse_grammar.specs.declared.tree.Referent.{Referent}
+use Rattle.bq_parse_grammar.specs.declared.tree.Referent.TheVariants as referent
 use Rattle.bq_parse_grammar.specs.Lexeme.{Lexeme}
+
+-- a name that is read on a line: what it refers to isn't known yet
+abbrev pub named : List ℕ → ℕ → Identifier
+named name line = record { name = name; referent = referent.Unresolved line }
+
+-- on which line something stands that isn't resolved
+abbrev pub unresolved_line : Referent → ℕ
+unresolved_line (referent.Unresolved line) = line
+unresolved_line _ = 0
+
+-- on which line a name stands, until it is resolved
+abbrev pub name_line : Identifier → ℕ
+name_line n = unresolved_line n.referent
 
 -- a word names by its spelling
 abbrev pub identifier : Lexeme → Identifier
-identifier t = record { name = t.spelling; line = t.line }
+identifier t = named t.spelling t.line
 
 -- the bytes of a string are a word that may name something: no keyword, and none that is reserved
 unfoldable pub is_identifier : List ℕ → Bool

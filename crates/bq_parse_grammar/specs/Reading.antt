@@ -10,6 +10,7 @@ use Rattle.bq_parse_grammar.specs.declared.tree.Nested.{Nested}
 use Rattle.bq_parse_grammar.specs.declared.tree.Nested.TheVariants.{Or, Test}
 use Rattle.bq_parse_grammar.specs.declared.tree.Identifier.{Identifier}
 use Rattle.bq_parse_grammar.specs.declared.tree.Expr.{Expr}
+use Rattle.bq_parse_grammar.specs.declared.tree.ComprehensionFrame.TheVariants as frame
 use Rattle.bq_parse_grammar.specs.declared.tree.Expr.TheVariants as e
 use Rattle.bq_parse_grammar.specs.declared.tree.UnaryOperator.{UnaryOperator}
 use Rattle.bq_parse_grammar.specs.declared.tree.Comparison.{Comparison}
@@ -205,7 +206,7 @@ module _ (inner : Nested → Parse Expr) (variables : Parse TargetExpr) where
   -- what follows the first expression in brackets: a comprehension or a list
   abbrev pub brackets_after : Expr → Parse Expr
   brackets_after x ts =
-      if sees k.For ts then (comprehension k.RightBracket ts >>= λ ys rest. Ok (e.ListComprehension x ys, rest))
+      if sees k.For ts then (comprehension k.RightBracket ts >>= λ ys rest. Ok (e.ListComprehension x ys frame.Shared, rest))
       else (items_after k.RightBracket (inner Test) x ts >>= λ xs rest. Ok (e.List xs, rest))
 
   -- after '['
@@ -215,7 +216,7 @@ module _ (inner : Nested → Parse Expr) (variables : Parse TargetExpr) where
   -- what follows the first pair in braces: a comprehension or a dict
   abbrev pub braces_after : Pair → Parse Expr
   braces_after x ts =
-      if sees k.For ts then (comprehension k.RightBrace ts >>= λ ys rest. Ok (e.DictComprehension x ys, rest))
+      if sees k.For ts then (comprehension k.RightBrace ts >>= λ ys rest. Ok (e.DictComprehension x ys frame.Shared, rest))
       else (items_after k.RightBrace pair x ts >>= λ xs rest. Ok (e.Dict xs, rest))
 
   -- after '{'

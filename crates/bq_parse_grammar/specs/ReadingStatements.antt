@@ -24,7 +24,7 @@ use Rattle.bq_parse_grammar.specs.declared.tree.Branch.{Branch, roll-Branch}
 use Rattle.bq_parse_grammar.specs.declared.tree.Stmt.{Stmt}
 use Rattle.bq_parse_grammar.specs.declared.tree.Stmt.TheVariants as s
 use Rattle.bq_parse_grammar.specs.declared.tree.TopLevel.{TopLevel}
-use Rattle.bq_parse_grammar.specs.Literals.{is_identifier}
+use Rattle.bq_parse_grammar.specs.Literals.{is_identifier, named}
 use Rattle.bq_parse_grammar.specs.Operators.{augmented}
 use Rattle.bq_parse_grammar.specs.Turns.{Found, Parse, ◌>>=◌, sees, next, expect, Turn, ended, goes, failed, turns, cut_off, repeat, listed_from}
 use Rattle.bq_parse_grammar.specs.Reading.{word, has, looked_up, chained, variables_to, is_named, phrase}
@@ -109,7 +109,7 @@ symbol ts = text ts >>= λ b rest. if is_identifier b then Ok (b, rest) else Err
 -- what a load binds: `"symbol"`, or `name = "symbol"`
 unfoldable pub load_clause : Parse LoadClause
 load_clause ts =
-    if sees k.String ts then (symbol ts >>= λ b rest. Ok (record { local = record { name = b; line = line_of ts }; symbol = b }, rest))
+    if sees k.String ts then (symbol ts >>= λ b rest. Ok (record { local = named b (line_of ts); symbol = b }, rest))
     else (word ts >>= λ n mid. expect k.Assign mid >>= λ _ us. symbol us >>= λ b rest. Ok (record { local = n; symbol = b }, rest))
 
 -- what follows the label of a load

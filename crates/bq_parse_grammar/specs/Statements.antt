@@ -23,7 +23,7 @@ use Rattle.bq_parse_grammar.specs.declared.tree.Stmt.{Stmt}
 use Rattle.bq_parse_grammar.specs.declared.tree.Stmt.TheVariants as s
 use Rattle.bq_parse_grammar.specs.declared.tree.TopLevel.{TopLevel}
 use Rattle.bq_source.specs.StringLiteral.{string_value}
-use Rattle.bq_parse_grammar.specs.Literals.{identifier, is_identifier}
+use Rattle.bq_parse_grammar.specs.Literals.{identifier, is_identifier, named}
 use Rattle.bq_parse_grammar.specs.Operators.{augmented}
 use Rattle.bq_parse_grammar.specs.Phrases.{Phrase, none, Repeat, Listed, CommaThen}
 use Rattle.bq_parse_grammar.specs.Turns.{sees}
@@ -120,7 +120,7 @@ pub data AreParameters (Test : Phrase Expr) : AllowedParameters → List Lexeme 
 -- LoadClause = [ identifier '=' ] string, whose value is a name
 pub data IsLoadClause : List Lexeme → List Lexeme → LoadClause → Type 0 where
   same_name : {t : Lexeme} {rest : List Lexeme} {b : List ℕ} {y : LoadClause} → t.kind ≡ k.String → string_value t.spelling ≡ Some b
-      → is_identifier b ≡ true → y ≡ record { local = record { name = b; line = t.line }; symbol = b } → IsLoadClause (t ∷ rest) rest y
+      → is_identifier b ≡ true → y ≡ record { local = named b t.line; symbol = b } → IsLoadClause (t ∷ rest) rest y
   renamed : {n q t : Lexeme} {rest : List Lexeme} {b : List ℕ} {y : LoadClause} → n.kind ≡ k.Identifier → q.kind ≡ k.Assign → t.kind ≡ k.String
       → string_value t.spelling ≡ Some b → is_identifier b ≡ true → y ≡ record { local = identifier n; symbol = b }
       → IsLoadClause (n ∷ q ∷ t ∷ rest) rest y

@@ -36,7 +36,7 @@ pub use literals::is_identifier;
 pub use parameters::{AllowedParameters, ParameterKind};
 pub use refusal::SyntaxErr;
 pub use tree::{
-    Argument, Branch, Choice, Clause, Comparison, Expr, FileKind, Identifier, Load, LoadClause,
-    Nested, Operation, Operator, Pair, Parameter, SmallKind, SmallStmt, Stmt, Suffix, TargetExpr,
-    TopLevel, UnaryOperator,
+    Argument, Branch, Choice, Clause, Comparison, ComprehensionFrame, Expr, FileKind, Identifier,
+    Load, LoadClause, Nested, Operation, Operator, Pair, Parameter, Referent, SmallKind, SmallStmt,
+    Stmt, Suffix, TargetExpr, TopLevel, UnaryOperator,
 };

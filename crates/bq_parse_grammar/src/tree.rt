@@ -1,7 +1,8 @@
 //! The trees of statements.
 
 use bq_base::Bytes;
-use sqlite_items::{Boxed, Items};
+use bq_resolve_predeclared::Predeclared;
+use bq_tree_items::{Boxed, Items};
 
 /// Which file the statements stand in.
 #[derive(Clone, Copy, Debug, PartialEq, Eq)]
@@ -10,12 +11,51 @@ pub enum FileKind {
     Bzl,
 }
 
-/// A word that names something, where a fault may have to say on which line it stands.
+/// What a name refers to: where its value is. The parser writes on which line the name stands, and the resolver what it refers to.
+#[derive(Clone, Copy, Debug, PartialEq, Eq)]
+pub enum Referent {
+    /// Not known yet: a name on this line, from 1.
+    Unresolved(u32),
+    /// A slot of the frame.
+    Local(usize),
+    /// A global of the file, by its place among them.
+    Global(usize),
+    /// What a clause of a load binds, by its place among those of the file.
+    Loaded(usize),
+    Predeclared(Predeclared),
+    /// `native.NAME` or `attr.NAME`: what the namespace holds by that name. Both of its words refer to it.
+    Member(Predeclared),
+}
+
+/// A word that names something.
 #[derive(Drop)]
 pub struct Identifier {
     pub name: Bytes,
-    /// From 1.
-    pub line: u32,
+    pub referent: Referent,
+}
+
+impl Identifier {
+    ghost use Rattle.std.specs.Prelude.{◌≡◌};
+    ghost use Rattle.bq_parse_grammar.specs.Literals.{name_line};
+
+    /// Returns the line of a name that is not resolved, from 1: where a fault of it is. 0 for one that is.
+    pub fn line(&self) -> u32
+        ensures { result ≡ name_line self.now }
+    {
+        match self.referent {
+            Referent::Unresolved(line) => line,
+            _ => 0,
+        }
+    }
+}
+
+/// The slots of a comprehension. The parser writes `Shared`; the resolver writes the right one.
+#[derive(Clone, Copy, Debug, PartialEq, Eq)]
+pub enum ComprehensionFrame {
+    /// They are among those of the function or the comprehension around it.
+    Shared,
+    /// A comprehension outside functions has so many of its own.
+    Own(usize),
 }
 
 /// An operator between two operands, in the order of precedence, the tightest first. `and` and `or` stop early.
@@ -80,9 +120,9 @@ pub enum Expr {
     Tuple(Items<Expr>),
     Dict(Items<Pair>),
     /// `[element for .. in ..]`; the first clause is a `for`.
-    ListComprehension(Boxed<Expr>, Items<Clause>),
+    ListComprehension(Boxed<Expr>, Boxed<Items<Clause>>, ComprehensionFrame),
     /// `{key: value for .. in ..}`; the first clause is a `for`.
-    DictComprehension(Boxed<Pair>, Items<Clause>),
+    DictComprehension(Boxed<Pair>, Boxed<Items<Clause>>, ComprehensionFrame),
     /// An operand and what is done to it, from left to right. Nothing is done to an operand in parentheses before a dot: so `(x).f()`
     /// has another tree than `x.f()`, and else there is at least one suffix.
     Primary(Boxed<Expr>, Items<Suffix>),
@@ -221,9 +261,9 @@ pub struct SmallStmt {
 pub enum SmallKind {
     /// An expression, as a call that is made for what it declares.
     Expr(Expr),
-    Assign(TargetExpr, Expr),
+    Assign(Boxed<TargetExpr>, Expr),
     /// `target += value` and the like; the target is a name or an index.
-    Augment(TargetExpr, Operator, Expr),
+    Augment(Boxed<TargetExpr>, Operator, Expr),
     Return(Option<Expr>),
     Break,
     Continue,

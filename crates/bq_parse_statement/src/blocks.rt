@@ -13,7 +13,7 @@ use bq_parse_cursor::Tokens;
 use bq_parse_expression::{closed, expr_list, only, phrase, vars};
 use bq_parse_grammar::{Branch, Expr, Nested, Stmt, SyntaxErr};
 use bq_source::TokenKind;
-use sqlite_items::Items;
+use bq_tree_items::Items;
 use std::alloc::Global;
 
 /// The rules of blocks take the reader of the statements in them as a parameter, so that each rule is proved by itself.

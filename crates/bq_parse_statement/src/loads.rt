@@ -6,9 +6,11 @@ ghost use Rattle.bq_parse_grammar.specs.ReadingStatements as spec;
 use bq_base::Bytes;
 use bq_parse_cursor::Tokens;
 use bq_parse_expression::closed;
-use bq_parse_grammar::{Identifier, Load, LoadClause, SmallKind, SyntaxErr, is_identifier};
+use bq_parse_grammar::{
+    Identifier, Load, LoadClause, Referent, SmallKind, SyntaxErr, is_identifier,
+};
 use bq_source::TokenKind;
-use sqlite_items::Items;
+use bq_tree_items::Items;
 use std::alloc::Global;
 
 /// Reads a string, and returns what it stands for.
@@ -44,7 +46,8 @@ fn load_clause(alloc: Global, tokens: &mut Tokens<'_>) -> Result<LoadClause, Syn
         let line = tokens.line();
         let symbol = symbol(alloc, tokens)?;
         let name = symbol.share()?;
-        let local = Identifier { name, line };
+        let referent = Referent::Unresolved(line);
+        let local = Identifier { name, referent };
         return Ok(LoadClause { local, symbol });
     }
     let local = tokens.word(alloc)?;

@@ -10,7 +10,7 @@ use bq_parse_cursor::Tokens;
 use bq_parse_expression::{closed, phrase};
 use bq_parse_grammar::{AllowedParameters, Nested, Parameter, ParameterKind, SyntaxErr};
 use bq_source::TokenKind;
-use sqlite_items::Items;
+use bq_tree_items::Items;
 use std::alloc::Global;
 
 /// Returns what may come after a parameter of this kind, or `None` where that parameter is not allowed.

@@ -10,7 +10,7 @@ use bq_parse_cursor::Tokens;
 use bq_parse_expression::{closed, expr_list};
 use bq_parse_grammar::{Expr, SmallKind, SmallStmt, SyntaxErr};
 use bq_source::TokenKind;
-use sqlite_items::Items;
+use bq_tree_items::{Boxed, Items};
 use std::alloc::Global;
 
 /// 'return' [Expr], after 'return'
@@ -46,7 +46,7 @@ fn assigned(
 ) -> Result<SmallKind, SyntaxErr>
     ensures { Reads (spec.assigned depth left tokens.old) result tokens.new }
 {
-    let target = target(alloc, depth, left)?;
+    let target = Boxed::new(alloc, target(alloc, depth, left)?)?;
     let (target, value) = beside(alloc, tokens, depth, target)?;
     Ok(SmallKind::Assign(target, value))
 }
@@ -60,7 +60,7 @@ fn augmented(
 ) -> Result<SmallKind, SyntaxErr>
     ensures { Reads (spec.augmented_as depth false left tokens.old) result tokens.new }
 {
-    let target = augmented_target(alloc, left)?;
+    let target = Boxed::new(alloc, augmented_target(alloc, left)?)?;
     let operator = tokens.augmented()?;
     let (target, value) = beside(alloc, tokens, depth, target)?;
     Ok(SmallKind::Augment(target, operator, value))
@@ -126,7 +126,7 @@ pub fn simple(
 ) -> Result<Items<SmallStmt>, SyntaxErr>
     ensures { Reads (spec.simple depth tokens.old) result tokens.new }
 {
-    let mut found = Items::new(alloc);
+    let mut found = Items::with_capacity(alloc, 1)?;
     // Each turn takes a token.
     for _turn in 0..tokens.left() {
         let line = tokens.line();

@@ -9,7 +9,7 @@ ghost use Rattle.bq_parse_grammar.specs.declared.tree.Suffix.{out-Suffix};
 ghost use Rattle.bq_parse_statement.specs.Makes.{Makes, MakesTarget};
 
 use bq_parse_grammar::{Expr, Suffix, SyntaxErr, TargetExpr};
-use sqlite_items::{Boxed, Items};
+use bq_tree_items::{Boxed, Items};
 use std::alloc::{AllocError, Global};
 
 /// Returns the items from the last to the first.

@@ -4,8 +4,10 @@ use Rattle.std.proofs.Common.{◌≡◌, ℕ, zero, suc, ◌+◌, ◌-◌, true,
 use Rattle.bq_source.specs.declared.token.TokenKind.{TokenKind}
 use Rattle.bq_source.specs.declared.token.TokenKind.TheVariants as k
 use Rattle.bq_source.specs.Token.{same_kind}
+use Rattle.bq_parse_grammar.specs.declared.tree.ComprehensionFrame.TheVariants as frame
 use Rattle.bq_parse_grammar.specs.Lexeme.{Lexeme}
 use Rattle.bq_parse_grammar.specs.declared.refusal.SyntaxErr.TheVariants.{Syntax, Lambda}
+use Rattle.bq_parse_grammar.specs.declared.tree.ComprehensionFrame.{ComprehensionFrame}
 use Rattle.bq_parse_grammar.specs.declared.tree.Expr.{Expr, out-Expr, the_lemmas}
 use Rattle.bq_parse_grammar.specs.declared.tree.Expr.TheVariants as e
 use Rattle.bq_parse_grammar.specs.declared.tree.Argument.TheOpen.{Expr-F}
@@ -200,13 +202,13 @@ augmented-Dict : (ps : List Pair) → augmented_target (e.Dict ps) ≡ Err Synta
 unfolding augmented_target
 augmented-Dict ps = search (rules, the_lemmas)
 
-augmented-ListComprehension : (x : Expr) (cs : List Clause) → augmented_target (e.ListComprehension x cs) ≡ Err Syntax
+augmented-ListComprehension : (x : Expr) (cs : List Clause) (own : ComprehensionFrame) → augmented_target (e.ListComprehension x cs own) ≡ Err Syntax
 unfolding augmented_target
-augmented-ListComprehension x cs = search (rules, the_lemmas)
+augmented-ListComprehension x cs own = search (rules, the_lemmas)
 
-augmented-DictComprehension : (p : Pair) (cs : List Clause) → augmented_target (e.DictComprehension p cs) ≡ Err Syntax
+augmented-DictComprehension : (p : Pair) (cs : List Clause) (own : ComprehensionFrame) → augmented_target (e.DictComprehension p cs own) ≡ Err Syntax
 unfolding augmented_target
-augmented-DictComprehension p cs = search (rules, the_lemmas)
+augmented-DictComprehension p cs own = search (rules, the_lemmas)
 
 augmented_form : (x : Expr) (y : TargetExpr) → augmented_target x ≡ Ok y → has_form x ≡ true
 unfolding augmented_target
@@ -239,9 +241,9 @@ module _ (depth : ℕ) (ts : List Lexeme) (x : Expr) (q : Lexeme) (mid : List Le
   operand_open O T V us rest z a b h paren (G.parenthesized {o = o} {c = c} {ts = vs} {x = v} g p j i) = absurd (paren o c vs v (sym a) g (subst (λ m. T vs (c ∷ m) v) b p) j)
   operand_open O T V us rest z a b h paren (G.a_tuple {x = v} {xs = vs} g p j ps i) = absurd (no_target _ y (ap augmented_target i ∙ augmented-Tuple (v ∷ vs)) h)
   operand_open O T V us rest z a b h paren (G.a_list {xs = vs} g ps i) = absurd (no_target _ y (ap augmented_target i ∙ augmented-List vs) h)
-  operand_open O T V us rest z a b h paren (G.a_list_comprehension {x = v} {cs = cs} g p ps j i) = absurd (no_target _ y (ap augmented_target i ∙ augmented-ListComprehension v cs) h)
+  operand_open O T V us rest z a b h paren (G.a_list_comprehension {x = v} {cs = cs} g p ps j i) = absurd (no_target _ y (ap augmented_target i ∙ augmented-ListComprehension v cs frame.Shared) h)
   operand_open O T V us rest z a b h paren (G.a_dict {ps = ps} g p i) = absurd (no_target _ y (ap augmented_target i ∙ augmented-Dict ps) h)
-  operand_open O T V us rest z a b h paren (G.a_dict_comprehension {p = v} {cs = cs} g p ps j i) = absurd (no_target _ y (ap augmented_target i ∙ augmented-DictComprehension v cs) h)
+  operand_open O T V us rest z a b h paren (G.a_dict_comprehension {p = v} {cs = cs} g p ps j i) = absurd (no_target _ y (ap augmented_target i ∙ augmented-DictComprehension v cs frame.Shared) h)
 
 -- parentheses around it, at a depth
 in_parens : (depth : ℕ) (ts : List Lexeme) (x : Expr) (q : Lexeme) (mid : List Lexeme) (y : TargetExpr) → expr_to (suc (suc depth)) ts ≡ Ok (x, q ∷ mid) → augmented_target x ≡ Ok y

@@ -10,7 +10,7 @@ use Rattle.bq_parse_grammar.specs.declared.tree.Identifier.{Identifier}
 use Rattle.bq_parse_grammar.specs.declared.tree.LoadClause.{LoadClause}
 use Rattle.bq_parse_grammar.specs.declared.tree.SmallKind.{SmallKind}
 use Rattle.bq_parse_grammar.specs.declared.tree.SmallKind.TheVariants as small
-use Rattle.bq_parse_grammar.specs.Literals.{identifier, is_identifier}
+use Rattle.bq_parse_grammar.specs.Literals.{identifier, is_identifier, named}
 use Rattle.bq_parse_grammar.specs.Phrases.{Listed}
 use Rattle.bq_parse_grammar.specs.Statements as S
 use Rattle.bq_parse_grammar.specs.Statements.{line_of, IsLoadClause, IsSmallKind}
@@ -87,7 +87,7 @@ abbrev clause_of : Identifier → List ℕ → LoadClause
 clause_of n b = record { local = n; symbol = b }
 
 abbrev same_name_of : ℕ → List ℕ → LoadClause
-same_name_of line b = record { local = record { name = b; line = line }; symbol = b }
+same_name_of line b = record { local = named b line; symbol = b }
 
 abbrev first_load : TokenKind → Bool
 first_load k.String = true

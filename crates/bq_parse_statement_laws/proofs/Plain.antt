@@ -20,7 +20,7 @@ use Rattle.bq_parse_grammar.specs.declared.tree.SmallStmt.{SmallStmt}
 use Rattle.bq_parse_grammar.specs.declared.tree.Branch.{roll-Branch}
 use Rattle.bq_parse_grammar.specs.declared.tree.Stmt.{Stmt}
 use Rattle.bq_parse_grammar.specs.declared.tree.Stmt.TheVariants as s
-use Rattle.bq_parse_grammar.specs.Literals.{is_identifier}
+use Rattle.bq_parse_grammar.specs.Literals.{is_identifier, named}
 use Rattle.bq_parse_grammar.specs.Operators.{augmented}
 use Rattle.bq_parse_grammar.specs.Laws.{NoLambda}
 use Rattle.bq_parse_grammar.specs.Statements.{line_of, parameters_after, may_end}
@@ -124,9 +124,9 @@ symbol_plain ts h = seq (text ts) (λ b rest. cond (is_identifier b) (Ok (b, res
 
 clause_plain : Safe load_clause
 unfolding load_clause
-clause_plain ts h = either (sees k.String ts) (symbol ts >>= λ b rest. Ok (record { local = record { name = b; line = line_of ts }; symbol = b }, rest))
+clause_plain ts h = either (sees k.String ts) (symbol ts >>= λ b rest. Ok (record { local = named b (line_of ts); symbol = b }, rest))
     (word ts >>= λ n mid. expect k.Assign mid >>= λ _ us. symbol us >>= λ b rest. Ok (record { local = n; symbol = b }, rest))
-    (seq (symbol ts) (λ b rest. Ok (record { local = record { name = b; line = line_of ts }; symbol = b }, rest)) (symbol_plain ts h) (λ b us g. g))
+    (seq (symbol ts) (λ b rest. Ok (record { local = named b (line_of ts); symbol = b }, rest)) (symbol_plain ts h) (λ b us g. g))
     (seq (word ts) (λ n mid. expect k.Assign mid >>= λ _ us. symbol us >>= λ b rest. Ok (record { local = n; symbol = b }, rest)) (word_plain ts h)
     (λ n us g. seq (expect k.Assign us) (λ _ us. symbol us >>= λ b rest. Ok (record { local = n; symbol = b }, rest)) (expects k.Assign us g)
     (λ u vs f. seq (symbol vs) (λ b rest. Ok (record { local = n; symbol = b }, rest)) (symbol_plain vs f) (λ b ws i. i))))

@@ -2,11 +2,13 @@
 use Rattle.std.proofs.Common.{◌≡◌, ℕ, zero, suc, ◌≤◌, Bool, true, false, List, [], ◌∷◌, ◌++◌, Option, Result, Ok, Err, refl, sym, ap, ◌∙◌, subst, append_assoc, append-nil, arith, rules}
 use Rattle.bq_source.specs.declared.token.TokenKind.{TokenKind}
 use Rattle.bq_source.specs.declared.token.TokenKind.TheVariants as k
+use Rattle.bq_parse_grammar.specs.declared.tree.ComprehensionFrame.TheVariants as frame
 use Rattle.bq_parse_grammar.specs.Lexeme.{Lexeme}
 use Rattle.bq_parse_grammar.specs.declared.refusal.SyntaxErr.{SyntaxErr}
 use Rattle.bq_parse_grammar.specs.declared.refusal.SyntaxErr.TheVariants.{Syntax}
 use Rattle.bq_parse_grammar.specs.declared.tree.Argument.{Argument}
 use Rattle.bq_parse_grammar.specs.declared.tree.Argument.TheOpen.{Expr-F}
+use Rattle.bq_parse_grammar.specs.declared.tree.ComprehensionFrame.{ComprehensionFrame}
 use Rattle.bq_parse_grammar.specs.declared.tree.Clause.{Clause}
 use Rattle.bq_parse_grammar.specs.declared.tree.Expr.{Expr, out-Expr, the_lemmas}
 use Rattle.bq_parse_grammar.specs.declared.tree.Expr.TheVariants as e
@@ -52,17 +54,17 @@ target-List : (f : ℕ) (xs : List Expr) → target_to (suc f) (e.List xs) ≡ m
 unfolding target_to
 target-List f xs = search (rules, the_lemmas)
 
-target-ListComprehension : (f : ℕ) (x : Expr) (cs : List Clause) → target_to (suc f) (e.ListComprehension x cs) ≡ Err Syntax
+target-ListComprehension : (f : ℕ) (x : Expr) (cs : List Clause) (own : ComprehensionFrame) → target_to (suc f) (e.ListComprehension x cs own) ≡ Err Syntax
 unfolding target_to
-target-ListComprehension f x cs = search (rules, the_lemmas)
+target-ListComprehension f x cs own = search (rules, the_lemmas)
 
 target-Dict : (f : ℕ) (ps : List Pair) → target_to (suc f) (e.Dict ps) ≡ Err Syntax
 unfolding target_to
 target-Dict f ps = search (rules, the_lemmas)
 
-target-DictComprehension : (f : ℕ) (p : Pair) (cs : List Clause) → target_to (suc f) (e.DictComprehension p cs) ≡ Err Syntax
+target-DictComprehension : (f : ℕ) (p : Pair) (cs : List Clause) (own : ComprehensionFrame) → target_to (suc f) (e.DictComprehension p cs own) ≡ Err Syntax
 unfolding target_to
-target-DictComprehension f p cs = search (rules, the_lemmas)
+target-DictComprehension f p cs own = search (rules, the_lemmas)
 
 target_zero : (x : Expr) (y : TargetExpr) → target_to zero x ≡ Ok y → ⊥
 unfolding target_to
@@ -338,9 +340,9 @@ module _ (depth : ℕ) (O T : Phrase Expr) (V : Phrase TargetExpr) (Inner : Phra
       let m = many_given target.List (targets_from (target_to f) [] bs) x (sym (ap (target_to (suc f)) i ∙ target-List f bs) ∙ h) in
       let v = listed_back T Inner up k.RightBracket f us rest bs [] (m.0 ∷ m.1) ps m.2 in
       S.list g (subst (λ zs. Listed k.RightBracket Inner us rest zs) (sym v.1) v.2) m.3
-  operand_back f ts rest x y (G.a_list_comprehension {x = z} {cs = cs} g q ps j i) h = absurd (no_target _ x (ap (target_to (suc f)) i ∙ target-ListComprehension f z cs) h)
+  operand_back f ts rest x y (G.a_list_comprehension {x = z} {cs = cs} g q ps j i) h = absurd (no_target _ x (ap (target_to (suc f)) i ∙ target-ListComprehension f z cs frame.Shared) h)
   operand_back f ts rest x y (G.a_dict {ps = zs} g ps i) h = absurd (no_target _ x (ap (target_to (suc f)) i ∙ target-Dict f zs) h)
-  operand_back f ts rest x y (G.a_dict_comprehension {p = z} {cs = cs} g q ps j i) h = absurd (no_target _ x (ap (target_to (suc f)) i ∙ target-DictComprehension f z cs) h)
+  operand_back f ts rest x y (G.a_dict_comprehension {p = z} {cs = cs} g q ps j i) h = absurd (no_target _ x (ap (target_to (suc f)) i ∙ target-DictComprehension f z cs frame.Shared) h)
 
 indexed_item : (depth : ℕ) (ts rest : List Lexeme) (x : TargetExpr) → IsIndexed depth ts rest x → IsItem depth ts rest x
 indexed_item zero ts rest x p = S.index p

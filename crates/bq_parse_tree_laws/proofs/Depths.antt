@@ -2,6 +2,7 @@
 use Rattle.std.proofs.Common.{◌≡◌, ℕ, zero, suc, ◌+◌, ◌*◌, ◌≤◌, Bool, true, false, max, pos, List, [], ◌∷◌, map, Option, None, ap, ◌∙◌, arith}
 use Rattle.bq_source.specs.declared.token.TokenKind.{TokenKind}
 use Rattle.bq_source.specs.declared.token.TokenKind.TheVariants as k
+use Rattle.bq_parse_grammar.specs.declared.tree.ComprehensionFrame.TheVariants as frame
 use Rattle.bq_parse_grammar.specs.Lexeme.{Lexeme}
 use Rattle.bq_parse_grammar.specs.Literals.{identifier}
 use Rattle.bq_parse_grammar.specs.declared.tree.Expr.{Expr}
@@ -151,7 +152,7 @@ module _ (n : ℕ) (O T : Phrase Expr) (V : Phrase TargetExpr) (ors : Within exp
       let b : deepest (map expr_depth xs) ≤ n = listed_within expr_depth n T tests _ us rest xs q in
       omega arith
   operand_within ts rest y (G.a_list_comprehension {c = c} {ts = us} {mid = mid} {x = x} {cs = cs} f p q g h) =
-      let e : expr_depth y ≡ max (expr_depth x) (deepest (map clause_depth cs)) + 1 = ap expr_depth h ∙ D.depth-ListComprehension x cs in
+      let e : expr_depth y ≡ max (expr_depth x) (deepest (map clause_depth cs)) + 1 = ap expr_depth h ∙ D.depth-ListComprehension x cs frame.Shared in
       let a : expr_depth x ≤ n = tests us mid x p in
       let b : deepest (map clause_depth cs) ≤ n = clauses_within mid (c ∷ rest) cs q in
       omega arith
@@ -160,7 +161,7 @@ module _ (n : ℕ) (O T : Phrase Expr) (V : Phrase TargetExpr) (ors : Within exp
       let b : deepest (map pair_depth xs) ≤ n = listed_within pair_depth n (IsPair O T V) pair_within _ us rest xs q in
       omega arith
   operand_within ts rest y (G.a_dict_comprehension {c = c} {ts = us} {mid = mid} {p = x} {cs = cs} f p q g h) =
-      let e : expr_depth y ≡ max (pair_depth x) (deepest (map clause_depth cs)) + 1 = ap expr_depth h ∙ D.depth-DictComprehension x cs in
+      let e : expr_depth y ≡ max (pair_depth x) (deepest (map clause_depth cs)) + 1 = ap expr_depth h ∙ D.depth-DictComprehension x cs frame.Shared in
       let a : pair_depth x ≤ n = pair_within us mid x p in
       let b : deepest (map clause_depth cs) ≤ n = clauses_within mid (c ∷ rest) cs q in
       omega arith

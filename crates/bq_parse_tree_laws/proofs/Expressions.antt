@@ -2,6 +2,7 @@
 use Rattle.std.proofs.Common.{◌≡◌, ℕ, pos, zero, suc, Bool, true, false, List, [], ◌∷◌, Option, Some, None, refl, sym, ap, ◌∙◌, subst}
 use Rattle.bq_source.specs.declared.token.TokenKind.{TokenKind}
 use Rattle.bq_source.specs.declared.token.TokenKind.TheVariants as k
+use Rattle.bq_parse_grammar.specs.declared.tree.ComprehensionFrame.TheVariants as frame
 use Rattle.bq_parse_grammar.specs.Lexeme.{Lexeme}
 use Rattle.bq_parse_grammar.specs.Literals.{identifier}
 use Rattle.bq_parse_grammar.specs.declared.tree.Expr.{Expr, out-Expr}
@@ -145,11 +146,11 @@ module _ (O T : Phrase Expr) (V : Phrase TargetExpr) (ors : Tells parts.expr O) 
   operand_tells ts rest y (G.a_tuple {c = c} {ts = us} {mid = mid} {x = x} {xs = xs} f p g q h) ps w = made_expr (ap out-Expr h ∙ L.out-Tuple (x ∷ xs))
       (W.token f (tests us (c ∷ mid) x p (parts.token k.Comma ∷ listed k.Comma parts.expr xs (parts.token k.RightParen ∷ ps)) (W.token g (listed_tells parts.expr T tests k.RightParen mid rest xs q ps w))))
   operand_tells ts rest y (G.a_list {ts = us} {xs = xs} f q h) ps w = made_expr (ap out-Expr h ∙ L.out-List xs) (W.token f (listed_tells parts.expr T tests k.RightBracket us rest xs q ps w))
-  operand_tells ts rest y (G.a_list_comprehension {c = c} {ts = us} {mid = mid} {x = x} {cs = cs} f p q g h) ps w = made_expr (ap out-Expr h ∙ L.out-ListComprehension x cs)
+  operand_tells ts rest y (G.a_list_comprehension {c = c} {ts = us} {mid = mid} {x = x} {cs = cs} f p q g h) ps w = made_expr (ap out-Expr h ∙ L.out-ListComprehension x cs frame.Shared)
       (W.token f (tests us mid x p (row parts.clause cs (parts.token k.RightBracket ∷ ps)) (clauses_tell mid (c ∷ rest) cs q (parts.token k.RightBracket ∷ ps) (W.token g w))))
   operand_tells ts rest y (G.a_dict {ts = us} {ps = xs} f q h) ps w = made_expr (ap out-Expr h ∙ L.out-Dict xs)
       (W.token f (listed_tells parts.pair (IsPair O T V) pair_tells k.RightBrace us rest xs q ps w))
-  operand_tells ts rest y (G.a_dict_comprehension {c = c} {ts = us} {mid = mid} {p = x} {cs = cs} f p q g h) ps w = made_expr (ap out-Expr h ∙ L.out-DictComprehension x cs)
+  operand_tells ts rest y (G.a_dict_comprehension {c = c} {ts = us} {mid = mid} {p = x} {cs = cs} f p q g h) ps w = made_expr (ap out-Expr h ∙ L.out-DictComprehension x cs frame.Shared)
       (W.token f (pair_tells us mid x p (row parts.clause cs (parts.token k.RightBrace ∷ ps)) (clauses_tell mid (c ∷ rest) cs q (parts.token k.RightBrace ∷ ps) (W.token g w))))
 
   -- after the token before it

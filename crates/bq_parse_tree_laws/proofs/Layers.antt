@@ -7,6 +7,7 @@ use Rattle.bq_parse_grammar.specs.declared.tree.Comparison.{Comparison}
 use Rattle.bq_parse_grammar.specs.declared.tree.Argument.{Argument, out-Argument}
 use Rattle.bq_parse_grammar.specs.declared.tree.Argument.TheVariants as a
 use Rattle.bq_parse_grammar.specs.declared.tree.Choice.{Choice, out-Choice, roll-Choice}
+use Rattle.bq_parse_grammar.specs.declared.tree.ComprehensionFrame.{ComprehensionFrame}
 use Rattle.bq_parse_grammar.specs.declared.tree.Clause.{Clause, out-Clause}
 use Rattle.bq_parse_grammar.specs.declared.tree.Clause.TheVariants as cl
 use Rattle.bq_parse_grammar.specs.declared.tree.Expr.{Expr, out-Expr, the_lemmas}
@@ -43,11 +44,11 @@ out-Tuple xs = search (rules, the_lemmas)
 pub out-Dict : (ps : List Pair) → out-Expr (e.Dict ps) ≡ Expr-F.Dict ps
 out-Dict ps = search (rules, the_lemmas)
 
-pub out-ListComprehension : (x : Expr) (cs : List Clause) → out-Expr (e.ListComprehension x cs) ≡ Expr-F.ListComprehension x cs
-out-ListComprehension x cs = search (rules, the_lemmas)
+pub out-ListComprehension : (x : Expr) (cs : List Clause) (own : ComprehensionFrame) → out-Expr (e.ListComprehension x cs own) ≡ Expr-F.ListComprehension x cs own
+out-ListComprehension x cs own = search (rules, the_lemmas)
 
-pub out-DictComprehension : (p : Pair) (cs : List Clause) → out-Expr (e.DictComprehension p cs) ≡ Expr-F.DictComprehension p cs
-out-DictComprehension p cs = search (rules, the_lemmas)
+pub out-DictComprehension : (p : Pair) (cs : List Clause) (own : ComprehensionFrame) → out-Expr (e.DictComprehension p cs own) ≡ Expr-F.DictComprehension p cs own
+out-DictComprehension p cs own = search (rules, the_lemmas)
 
 pub out-Primary : (x : Expr) (xs : List Suffix) → out-Expr (e.Primary x xs) ≡ Expr-F.Primary x xs
 out-Primary x xs = search (rules, the_lemmas)

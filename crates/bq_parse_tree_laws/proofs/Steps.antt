@@ -7,6 +7,7 @@ use Rattle.bq_parse_grammar.specs.declared.tree.Comparison.{Comparison}
 use Rattle.bq_parse_grammar.specs.declared.tree.Argument.{Argument}
 use Rattle.bq_parse_grammar.specs.declared.tree.Argument.TheVariants as a
 use Rattle.bq_parse_grammar.specs.declared.tree.Choice.{Choice, roll-Choice}
+use Rattle.bq_parse_grammar.specs.declared.tree.ComprehensionFrame.{ComprehensionFrame}
 use Rattle.bq_parse_grammar.specs.declared.tree.Clause.{Clause}
 use Rattle.bq_parse_grammar.specs.declared.tree.Clause.TheVariants as cl
 use Rattle.bq_parse_grammar.specs.declared.tree.Expr.{Expr, the_lemmas}
@@ -43,11 +44,11 @@ depth-Tuple xs = search (rules, the_lemmas)
 pub depth-Dict : (xs : List Pair) → expr_depth (e.Dict xs) ≡ deepest (map pair_depth xs) + 1
 depth-Dict xs = search (rules, the_lemmas)
 
-pub depth-ListComprehension : (x : Expr) (cs : List Clause) → expr_depth (e.ListComprehension x cs) ≡ max (expr_depth x) (deepest (map clause_depth cs)) + 1
-depth-ListComprehension x cs = search (rules, the_lemmas)
+pub depth-ListComprehension : (x : Expr) (cs : List Clause) (own : ComprehensionFrame) → expr_depth (e.ListComprehension x cs own) ≡ max (expr_depth x) (deepest (map clause_depth cs)) + 1
+depth-ListComprehension x cs own = search (rules, the_lemmas)
 
-pub depth-DictComprehension : (x : Pair) (cs : List Clause) → expr_depth (e.DictComprehension x cs) ≡ max (pair_depth x) (deepest (map clause_depth cs)) + 1
-depth-DictComprehension x cs = search (rules, the_lemmas)
+pub depth-DictComprehension : (x : Pair) (cs : List Clause) (own : ComprehensionFrame) → expr_depth (e.DictComprehension x cs own) ≡ max (pair_depth x) (deepest (map clause_depth cs)) + 1
+depth-DictComprehension x cs own = search (rules, the_lemmas)
 
 pub depth-Primary : (x : Expr) (xs : List Suffix) → expr_depth (e.Primary x xs) ≡ max (expr_depth x) (deepest (map suffix_depth xs)) + 1
 depth-Primary x xs = search (rules, the_lemmas)

@@ -155,8 +155,8 @@ expr_parts_by (Expr-F.Expr::List xs) more = token k.LeftBracket ∷ listed k.Com
 expr_parts_by (Expr-F.Expr::Tuple []) more = token k.LeftParen ∷ token k.RightParen ∷ more
 expr_parts_by (Expr-F.Expr::Tuple (x ∷ xs)) more = token k.LeftParen ∷ expr x ∷ token k.Comma ∷ listed k.Comma expr xs (token k.RightParen ∷ more)
 expr_parts_by (Expr-F.Dict ps) more = token k.LeftBrace ∷ listed k.Comma pair ps (token k.RightBrace ∷ more)
-expr_parts_by (Expr-F.ListComprehension x cs) more = token k.LeftBracket ∷ expr x ∷ row clause cs (token k.RightBracket ∷ more)
-expr_parts_by (Expr-F.DictComprehension p cs) more = token k.LeftBrace ∷ pair p ∷ row clause cs (token k.RightBrace ∷ more)
+expr_parts_by (Expr-F.ListComprehension x cs own) more = token k.LeftBracket ∷ expr x ∷ row clause cs (token k.RightBracket ∷ more)
+expr_parts_by (Expr-F.DictComprehension p cs own) more = token k.LeftBrace ∷ pair p ∷ row clause cs (token k.RightBrace ∷ more)
 -- an operand to which nothing is done stands in parentheses
 expr_parts_by (Expr-F.Primary x []) more = token k.LeftParen ∷ expr x ∷ token k.RightParen ∷ more
 expr_parts_by (Expr-F.Primary x (y ∷ ys)) more = expr x ∷ row suffix (y ∷ ys) more

@@ -8,7 +8,7 @@ use Rattle.bq_source.specs.declared.token.TokenKind.TheVariants as k
 use Rattle.bq_source.specs.Number.{int_value}
 use Rattle.bq_source.specs.StringLiteral.{string_value}
 use Rattle.bq_parse_grammar.specs.Lexeme.{Lexeme}
-use Rattle.bq_parse_grammar.specs.Literals.{identifier}
+use Rattle.bq_parse_grammar.specs.Literals.{identifier, named}
 use Rattle.bq_parse_grammar.specs.Statements.{line_of}
 use Rattle.bq_parse_grammar.specs.Turns.{sees}
 use Rattle.bq_parse_grammar.specs.declared.tree.Identifier.{Identifier}
@@ -76,7 +76,7 @@ pub data Writes : List Part → List Lexeme → Type 0 where
   -- statements
   parameter : {x : Parameter} {ps : List Part} {ts : List Lexeme} → Writes (parts.parameter_parts x ps) ts → Writes (parts.parameter x ∷ ps) ts
   same_name : {x : LoadClause} {b : List ℕ} {w : Lexeme} {ps : List Part} {ts : List Lexeme} → w.kind ≡ k.String → string_value w.spelling ≡ Some b
-      → x ≡ record { local = record { name = b; line = w.line }; symbol = b } → Writes ps ts → Writes (parts.load_clause x ∷ ps) (w ∷ ts)
+      → x ≡ record { local = named b w.line; symbol = b } → Writes ps ts → Writes (parts.load_clause x ∷ ps) (w ∷ ts)
   renamed : {x : LoadClause} {ps : List Part} {ts : List Lexeme} → Writes (parts.word x.local ∷ parts.token k.Assign ∷ parts.text x.symbol ∷ ps) ts
       → Writes (parts.load_clause x ∷ ps) ts
   small_stmt : {x : SmallStmt} {ps : List Part} {ts : List Lexeme} → x.line ≡ line_of ts → Writes (parts.small_parts x.kind ps) ts

@@ -1,5 +1,5 @@
 -- The lines that are put are those of the labels that name no target.
-use Rattle.std.proofs.Common.{◌≡◌, ◌<◌, ◌+◌, ◌∙◌, ◌↔◌, ℕ, Bool, true, false, cond, nat_lt, List, [], ◌∷◌, ◌++◌, Option, Some, None, length, take, get_or, position, if◌then◌else◌, refl, sym, ap, subst, inl, inr, arith, append-nil, if◌then◌else◌}
+use Rattle.std.proofs.Common.{◌≡◌, ◌<◌, ◌+◌, ◌∙◌, ◌↔◌, ℕ, Bool, true, false, cond, nat_lt, List, [], ◌∷◌, ◌++◌, Option, Some, None, length, take, drop, get_or, position, if◌then◌else◌, refl, sym, ap, subst, inl, inr, arith, append-nil, if◌then◌else◌}
 use Rattle.std.specs.List.{flat_map, find, position_or_len, Contains, All}
 use Rattle.std.specs.List.Sorted.{IsPermutation}
 use Rattle.std.specs.Option.{unwrap_or}
@@ -8,6 +8,7 @@ use Rattle.std.specs.declared.cmp.Ordering.{Ordering}
 use Rattle.std.specs.declared.cmp.Ordering.TheVariants.{Less, Equal}
 use Rattle.std.proofs.lemmas.Bool.Decides.{nat_tests}
 use Rattle.std.proofs.lemmas.Cmp.{tied_itself}
+use Rattle.std.proofs.lemmas.List.{take-append-drop}
 use Rattle.std.proofs.lemmas.List.Concat.{flat_map-append}
 use Rattle.std.proofs.lemmas.List.Elements.{All-contains, All-from_recursion}
 use Rattle.std.proofs.lemmas.List.Folds.{list_any_at, list_any_none}
@@ -34,7 +35,7 @@ use Rattle.bq_query_target_graph.specs.Dangling.{dangling_line, dangling, dangli
 use Rattle.bq_query_target_graph.proofs.Cases.{dangling_in}
 use Rattle.bq_query_target_graph.proofs.Ascends.{own_package}
 use Rattle.bq_query_target_graph.proofs.Files.{of_package}
-use Rattle.bq_query_target_graph.proofs.Lists.{next_taken}
+use Rattle.bq_query_target_graph.proofs.Lists.{given_next}
 use Rattle.bq_query_target_graph.proofs.Depends.{in_flat, flat_in}
 
 -- ---- whether a label is known
@@ -68,43 +69,28 @@ pub none_put : (s : List FaultLine) → put_lines s [] ≡ s
 unfolding put_lines
 none_put s = refl
 
-pub lines_next : {X : Type 0} (f : X → List FaultLine) (xs : List X) (i : ℕ) (x : X) (s t u : List FaultLine) → i < length xs → x ≡ get_or xs i x → t ≡ put_lines s (flat_map f (take i xs)) → u ≡ put_lines t (f x)
-    → u ≡ put_lines s (flat_map f (take (i + 1) xs))
-lines_next {X} f xs i x s t u h e g k =
-    let last : flat_map f (take (i + 1) xs) ≡ flat_map f (take i xs) ++ f x =
-    ap (flat_map f) (next_taken xs i x h e) ∙ (flat_map-append f (take i xs) (x ∷ []) ∙ ap (λ (z : List FaultLine). flat_map f (take i xs) ++ z) (append-nil (f x))) in
-    k ∙ (ap (λ (z : List FaultLine). put_lines z (f x)) g ∙ (sym (put_lines-append s (flat_map f (take i xs)) (f x)) ∙ ap (put_lines s) (sym last)))
-
-pub put_one : (s : List FaultLine) (x : FaultLine) → put_lines s (x ∷ []) ≡ insert_key line_cmp s x
-unfolding put_lines
-put_one s x = refl
-
-pub lines_each : {X : Type 0} (f : LabelParts → List FaultLine) (named : X → List LabelParts) (xs : List X) (i : ℕ) (x : X) (s t u : List FaultLine) → i < length xs → x ≡ get_or xs i x
-    → t ≡ put_lines s (flat_map f (flat_map named (take i xs))) → u ≡ put_lines t (flat_map f (named x)) → u ≡ put_lines s (flat_map f (flat_map named (take (i + 1) xs)))
-lines_each {X} f named xs i x s t u h e g k =
-    let last : flat_map named (take (i + 1) xs) ≡ flat_map named (take i xs) ++ named x =
-    ap (flat_map named) (next_taken xs i x h e) ∙ (flat_map-append named (take i xs) (x ∷ []) ∙ ap (λ (z : List LabelParts). flat_map named (take i xs) ++ z) (append-nil (named x))) in
-    let all : flat_map f (flat_map named (take (i + 1) xs)) ≡ flat_map f (flat_map named (take i xs)) ++ flat_map f (named x) = ap (flat_map f) last ∙ flat_map-append f (flat_map named (take i xs)) (named x) in
-    k ∙ (ap (λ (z : List FaultLine). put_lines z (flat_map f (named x))) g ∙ (sym (put_lines-append s (flat_map f (flat_map named (take i xs))) (flat_map f (named x))) ∙ ap (put_lines s) (sym all)))
+-- one step along a list of which each element gives lines
+pub put_next : {X : Type 0} (f : X → List FaultLine) (old rest : List X) (x : X) (s t all : List FaultLine) → old ≡ x ∷ rest → put_lines s (flat_map f old) ≡ all → t ≡ put_lines s (f x) → put_lines t (flat_map f rest) ≡ all
+put_next {X} f old rest x s t all e h g =
+    ap (λ (z : List FaultLine). put_lines z (flat_map f rest)) g ∙ (sym (put_lines-append s (f x) (flat_map f rest)) ∙ (ap (λ (z : List X). put_lines s (flat_map f z)) (sym e) ∙ h))
 
 -- ---- one label
 
 module _ (known : LabelParts → Bool) (b l : LabelParts) (n : ℕ) (s : List FaultLine) where
-  pub own_label : is_of (package_of b) l ≡ true → put_lines s (dangling known b n l) ≡ s
-  unfolding put_lines dangling
-  own_label h = rw h refl
+  pub own_label : is_of (package_of b) l ≡ true → s ++ dangling known b n l ≡ s
+  unfolding dangling
+  own_label h = rw h (append-nil s)
 
-  known_in : (own : Bool) → put_lines s (if own then [] else (if true then [] else dangling_line b n l ∷ [])) ≡ s
-  unfolding put_lines
-  known_in true = refl
-  known_in false = refl
+  known_in : (own : Bool) → s ++ (if own then [] else (if true then [] else dangling_line b n l ∷ [])) ≡ s
+  known_in true = append-nil s
+  known_in false = append-nil s
 
-  pub known_label : known l ≡ true → put_lines s (dangling known b n l) ≡ s
+  pub known_label : known l ≡ true → s ++ dangling known b n l ≡ s
   unfolding dangling
   known_label k = rw k (known_in (is_of (package_of b) l))
 
-  pub missing_label : is_of (package_of b) l ≡ false → known l ≡ false → put_lines s (dangling known b n l) ≡ put_lines s (dangling_line b n l ∷ [])
-  unfolding put_lines dangling
+  pub missing_label : is_of (package_of b) l ≡ false → known l ≡ false → s ++ dangling known b n l ≡ s ++ dangling_line b n l ∷ []
+  unfolding dangling
   missing_label h k = rw (h, k) refl
 
   -- a label that isn't known is as if none were
@@ -114,17 +100,22 @@ module _ (known : LabelParts → Bool) (b l : LabelParts) (n : ℕ) (s : List Fa
 
 -- ---- one label after another
 
-module _ (ls files : List LabelParts) (t : Target) (xs : List LabelParts) (i : ℕ) (x : LabelParts) (h : i < length xs) (e : x ≡ get_or xs i x) (s u : List FaultLine) (f : u ≡ put_lines s (dangling_to ls files t (take i xs))) where
-  -- one that has a number adds no line
-  pub label_found : (n : ℕ) → position (same_label x) ls ≡ Some n → u ≡ put_lines s (dangling_to ls files t (take (i + 1) xs))
-  label_found n p =
-      let b : LabelParts = file_of files t.label in
-      lines_next (dangling (has_label ls) b t.line) xs i x s u u h e f (sym (known_label (has_label ls) b x t.line u (has_number ls x n p)))
+module _ (ls files : List LabelParts) (t : Target) (xs : List LabelParts) (i : ℕ) (x : LabelParts) (h : i < length xs) (e : x ≡ get_or xs i x) (s u : List FaultLine) (f : u ≡ s ++ dangling_to ls files t (take i xs)) where
+  abbrev lines_of : LabelParts → List FaultLine
+  lines_of = dangling (has_label ls) (file_of files t.label) t.line
 
-  pub label_missing : (v : List FaultLine) → position (same_label x) ls ≡ None → v ≡ put_lines u (dangling (λ _. false) (file_of files t.label) t.line x) → v ≡ put_lines s (dangling_to ls files t (take (i + 1) xs))
+  -- one that has a number adds no line
+  pub label_found : (n : ℕ) → position (same_label x) ls ≡ Some n → u ≡ s ++ dangling_to ls files t (take (i + 1) xs)
+  label_found n p = given_next lines_of xs i x s u u h e f (sym (known_label (has_label ls) (file_of files t.label) x t.line u (has_number ls x n p)))
+
+  pub label_missing : (v : List FaultLine) → position (same_label x) ls ≡ None → v ≡ u ++ dangling (λ _. false) (file_of files t.label) t.line x → v ≡ s ++ dangling_to ls files t (take (i + 1) xs)
   label_missing v p g =
-      let b : LabelParts = file_of files t.label in
-      lines_next (dangling (has_label ls) b t.line) xs i x s u v h e f (g ∙ ap (put_lines u) (unknown_label (has_label ls) b x t.line u (has_no_number ls x p)))
+      given_next lines_of xs i x s u v h e f (g ∙ ap (λ (z : List FaultLine). u ++ z) (unknown_label (has_label ls) (file_of files t.label) x t.line u (has_no_number ls x p)))
+
+-- ---- the lines of targets are those of the first of them and those of the rest
+
+pub lines_cut : (ls files : List LabelParts) (k : ℕ) (ts : List Target) → dangling_from ls files ts ≡ dangling_from ls files (take k ts) ++ dangling_from ls files (drop k ts)
+lines_cut ls files k ts = ap (dangling_from ls files) (sym (take-append-drop k ts)) ∙ flat_map-append (dangling_at ls files) (take k ts) (drop k ts)
 
 -- ---- in words
 

@@ -1,32 +1,15 @@
 -- The list of edges has just the dependencies of targets.
-use Rattle.std.proofs.Common.{◌≡◌, ◌<◌, ◌≤◌, ◌+◌, ◌∙◌, ℕ, List, [], ◌∷◌, ◌++◌, Option, Some, None, length, take, drop, position, get_or, sym, ap, append_assoc, append-nil}
-use Rattle.std.specs.List.{flat_map}
+use Rattle.std.proofs.Common.{◌≡◌, ◌<◌, ◌≤◌, ◌+◌, ◌∙◌, ℕ, zero, suc, List, [], ◌∷◌, ◌++◌, Option, Some, None, length, take, drop, position, get_or, refl, sym, ap, arith, add-zero, append_assoc, append-nil}
 use Rattle.std.proofs.lemmas.List.{drop_more, drop_all}
-use Rattle.std.proofs.lemmas.List.Concat.{flat_map-append}
 use Rattle.bq_label.specs.Label.{LabelParts}
 use Rattle.bq_query_graph.specs.declared.edge.Edge.{Edge}
 use Rattle.bq_package_target.specs.declared.target.Target.{Target}
 use Rattle.bq_package_target.specs.Target.{dependencies}
 use Rattle.bq_label_set.specs.Labels.{same_label}
 use Rattle.bq_query_target_graph.specs.Edges.{edge_by, edges_to, edges_from}
-use Rattle.bq_query_target_graph.proofs.Lists.{next_taken}
+use Rattle.bq_query_target_graph.proofs.Lists.{given_next}
 
 -- ---- the steps of the walk
-
-pub edges_more : (ls : List LabelParts) (a : ℕ) (xs ys : List LabelParts) (es fs gs : List Edge) → fs ≡ es ++ edges_to ls a xs → gs ≡ fs ++ edges_to ls a ys → gs ≡ es ++ edges_to ls a (xs ++ ys)
-edges_more ls a xs ys es fs gs f g =
-    g ∙ (ap (λ (z : List Edge). z ++ edges_to ls a ys) f ∙ (append_assoc es (edges_to ls a xs) (edges_to ls a ys) ∙ ap (λ (z : List Edge). es ++ z) (sym (flat_map-append (λ (l : LabelParts). edge_by a (position (same_label l) ls)) xs ys))))
-
-pub edges_each : {X : Type 0} (named : X → List LabelParts) (ls : List LabelParts) (a : ℕ) (xs : List X) (i : ℕ) (x : X) (es fs gs : List Edge) → i < length xs → x ≡ get_or xs i x
-    → fs ≡ es ++ edges_to ls a (flat_map named (take i xs)) → gs ≡ fs ++ edges_to ls a (named x) → gs ≡ es ++ edges_to ls a (flat_map named (take (i + 1) xs))
-edges_each {X} named ls a xs i x es fs gs h e f g =
-    let last : flat_map named (take (i + 1) xs) ≡ flat_map named (take i xs) ++ named x =
-    ap (flat_map named) (next_taken xs i x h e) ∙ (flat_map-append named (take i xs) (x ∷ []) ∙ ap (λ (z : List LabelParts). flat_map named (take i xs) ++ z) (append-nil (named x))) in
-    edges_more ls a (flat_map named (take i xs)) (named x) es fs gs f g ∙ ap (λ (z : List LabelParts). es ++ edges_to ls a z) (sym last)
-
-pub edges_next : (ls : List LabelParts) (a : ℕ) (xs : List LabelParts) (i : ℕ) (x : LabelParts) (es fs gs : List Edge) → i < length xs → x ≡ get_or xs i x
-    → fs ≡ es ++ edges_to ls a (take i xs) → gs ≡ fs ++ edges_to ls a (x ∷ []) → gs ≡ es ++ edges_to ls a (take (i + 1) xs)
-edges_next ls a xs i x es fs gs h e f g = edges_more ls a (take i xs) (x ∷ []) es fs gs f g ∙ ap (λ (z : List LabelParts). es ++ edges_to ls a z) (sym (next_taken xs i x h e))
 
 -- what is left from here and what is there is all
 pub walk_next : (ls : List LabelParts) (ts : List Target) (a i : ℕ) (t : Target) (es fs all : List Edge) → i < length ts → t ≡ get_or ts i t → es ++ edges_from ls a (drop i ts) ≡ all → fs ≡ es ++ edges_to ls a (dependencies t)
@@ -41,14 +24,31 @@ pub walk_end : (ls : List LabelParts) (ts : List Target) (a i : ℕ) (es all : L
 unfolding edges_from
 walk_end ls ts a i es all h f = sym (append-nil es) ∙ (ap (λ (z : List Target). es ++ edges_from ls a z) (sym (drop_all i ts h)) ∙ f)
 
--- the edge to the target of one label
-pub one_edge : (ls : List LabelParts) (a : ℕ) (l : LabelParts) (o : Option ℕ) → position (same_label l) ls ≡ o → edges_to ls a (l ∷ []) ≡ edge_by a o
-one_edge ls a l o h = append-nil (edge_by a (position (same_label l) ls)) ∙ ap (edge_by a) h
-
+-- the edges to the target of one label
 module _ (ls : List LabelParts) (a : ℕ) (xs : List LabelParts) (i : ℕ) (x : LabelParts) (h : i < length xs) (e : x ≡ get_or xs i x) (es fs : List Edge) (f : fs ≡ es ++ edges_to ls a (take i xs)) where
+  abbrev edges_of : LabelParts → List Edge
+  edges_of l = edge_by a (position (same_label l) ls)
+
   pub edge_found : (n : ℕ) (gs : List Edge) → position (same_label x) ls ≡ Some n → gs ≡ fs ++ record { from = a; to = n } ∷ [] → gs ≡ es ++ edges_to ls a (take (i + 1) xs)
-  edge_found n gs p g = edges_next ls a xs i x es fs gs h e f (g ∙ ap (λ (z : List Edge). fs ++ z) (sym (one_edge ls a x (Some n) p)))
+  edge_found n gs p g = given_next edges_of xs i x es fs gs h e f (g ∙ ap (λ (o : Option ℕ). fs ++ edge_by a o) (sym p))
 
   -- a label that has no number adds no edge
   pub edge_missing : position (same_label x) ls ≡ None → fs ≡ es ++ edges_to ls a (take (i + 1) xs)
-  edge_missing p = edges_next ls a xs i x es fs fs h e f (sym (append-nil fs) ∙ ap (λ (z : List Edge). fs ++ z) (sym (one_edge ls a x None p)))
+  edge_missing p = given_next edges_of xs i x es fs fs h e f (sym (append-nil fs) ∙ ap (λ (o : Option ℕ). fs ++ edge_by a o) (sym p))
+
+-- ---- the edges of targets are those of the first of them and those of the rest
+
+pub edges_cut : (ls : List LabelParts) (a k : ℕ) (ts : List Target) → edges_from ls a ts ≡ edges_from ls a (take k ts) ++ edges_from ls (a + k) (drop k ts)
+unfolding edges_from
+edges_cut ls a zero ts = ap (λ (n : ℕ). edges_from ls n ts) (sym (add-zero a))
+edges_cut ls a (suc k) [] = refl
+edges_cut ls a (suc k) (t ∷ ts) =
+    let more : a + 1 + k ≡ a + suc k = omega arith in
+    let first : List Edge = edges_to ls a (dependencies t) in
+    ap (λ (z : List Edge). first ++ z) (edges_cut ls (a + 1) k ts)
+    ∙ (sym (append_assoc first (edges_from ls (a + 1) (take k ts)) (edges_from ls (a + 1 + k) (drop k ts)))
+    ∙ ap (λ (n : ℕ). (first ++ edges_from ls (a + 1) (take k ts)) ++ edges_from ls n (drop k ts)) more)
+
+pub no_edges : (ls : List LabelParts) (a : ℕ) → edges_from ls a [] ≡ []
+unfolding edges_from
+no_edges ls a = refl

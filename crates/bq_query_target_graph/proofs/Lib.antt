@@ -6,5 +6,8 @@ pub mod Places
 pub mod Whole
 pub mod Files
 pub mod Danglings
+pub mod Parts
+-- what may cross threads
+pub mod Crossing
 -- Parts of definitions, as words that proofs name.
 pub mod Cases

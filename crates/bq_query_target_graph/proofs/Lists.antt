@@ -1,15 +1,35 @@
 -- Lists that are walked along, and lists of which no two elements are equal.
-use Rattle.std.proofs.Common.{◌≡◌, ◌<◌, ◌+◌, ◌∙◌, ℕ, zero, suc, Bool, false, List, [], ◌∷◌, ◌++◌, length, take, get_or, set, sym, ap, subst, arith, append_assoc}
+use Rattle.std.proofs.Common.{◌≡◌, ◌<◌, ◌+◌, ◌∙◌, ℕ, zero, suc, List, [], ◌∷◌, ◌++◌, length, take, get_or, set, sym, ap, subst, arith, append_assoc, append-nil}
 use Rattle.std.proofs.lemmas.List.Elements.{All-cons}
 use Rattle.std.specs.List.{All, AllByRecursion, flat_map, swap}
 use Rattle.std.specs.List.Sorted.{IsPermutation, IsStrictlySortedBy}
 use Rattle.std.specs.declared.cmp.Ordering.{Ordering}
 use Rattle.std.specs.declared.cmp.Ordering.TheVariants.{Less}
 use Rattle.std.proofs.lemmas.List.{take_more}
+use Rattle.std.proofs.lemmas.List.Concat.{flat_map-append}
 use Rattle.std.proofs.lemmas.List.Sorted.{IsPermutation-refl, IsPermutation-trans, IsPermutation-keeps, IsPermutation-append_left, IsPermutation-append_right, IsPermutation-append_comm}
 
 pub next_taken : {X : Type 0} (xs : List X) (i : ℕ) (x : X) → i < length xs → x ≡ get_or xs i x → take (i + 1) xs ≡ take i xs ++ x ∷ []
 next_taken {X} xs i x h e = take_more xs i x h ∙ ap (λ (z : X). take i xs ++ z ∷ []) (sym e)
+
+-- ---- one step along a list of which each element gives a list
+
+module _ {X Y : Type 0} (f : X → List Y) where
+  given_more : (xs ys : List X) (es fs gs : List Y) → fs ≡ es ++ flat_map f xs → gs ≡ fs ++ flat_map f ys → gs ≡ es ++ flat_map f (xs ++ ys)
+  given_more xs ys es fs gs a b =
+      b ∙ (ap (λ (z : List Y). z ++ flat_map f ys) a ∙ (append_assoc es (flat_map f xs) (flat_map f ys) ∙ ap (λ (z : List Y). es ++ z) (sym (flat_map-append f xs ys))))
+
+  pub given_next : (xs : List X) (i : ℕ) (x : X) (es fs gs : List Y) → i < length xs → x ≡ get_or xs i x → fs ≡ es ++ flat_map f (take i xs) → gs ≡ fs ++ f x → gs ≡ es ++ flat_map f (take (i + 1) xs)
+  given_next xs i x es fs gs h e a b =
+      given_more (take i xs) (x ∷ []) es fs gs a (b ∙ ap (λ (z : List Y). fs ++ z) (sym (append-nil (f x)))) ∙ ap (λ (z : List X). es ++ flat_map f z) (sym (next_taken xs i x h e))
+
+  -- the same where the elements are in lists that others give
+  pub given_each : {Z : Type 0} (named : Z → List X) (zs : List Z) (i : ℕ) (z : Z) (es fs gs : List Y) → i < length zs → z ≡ get_or zs i z
+      → fs ≡ es ++ flat_map f (flat_map named (take i zs)) → gs ≡ fs ++ flat_map f (named z) → gs ≡ es ++ flat_map f (flat_map named (take (i + 1) zs))
+  given_each {Z} named zs i z es fs gs h e a b =
+      let last : flat_map named (take (i + 1) zs) ≡ flat_map named (take i zs) ++ named z =
+      ap (flat_map named) (next_taken zs i z h e) ∙ (flat_map-append named (take i zs) (z ∷ []) ∙ ap (λ (n : List X). flat_map named (take i zs) ++ n) (append-nil (named z))) in
+      given_more (flat_map named (take i zs)) (named z) es fs gs a b ∙ ap (λ (n : List X). es ++ flat_map f n) (sym last)
 
 pub all_recursion-append : {X : Type 0} (P : X → Type 0) (xs ys : List X) → AllByRecursion P xs → AllByRecursion P ys → AllByRecursion P (xs ++ ys)
 all_recursion-append P [] ys f g = g

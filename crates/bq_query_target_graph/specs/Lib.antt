@@ -3,3 +3,4 @@ pub mod Graph
 pub mod Edges
 pub mod BuildFiles
 pub mod Dangling
+pub mod Parts

@@ -1,15 +1,14 @@
 //! Fault F79: labels of other packages that name no target.
 
-ghost use Rattle.std.specs.Prelude.{◌≡◌, ◌↔◌, List, false, IfOk, OnOk};
+ghost use Rattle.std.specs.Prelude.{◌≡◌, ◌↔◌, ◌++◌, List, false, IfOk, OnOk};
 ghost use Rattle.std.specs.List.{Contains};
-ghost use Rattle.bq_base_fault_line.specs.FaultLine.{put_lines};
 ghost use Rattle.bq_base_fault_line.specs.declared.fault_line.FaultLine.{FaultLine};
 ghost use Rattle.bq_label.specs.Label.{full_form};
 ghost use Rattle.bq_package_target.specs.Package.{PackageTargets};
 ghost use Rattle.bq_query_target_graph.specs.Dangling.{dangling, dangling_line, all_dangling, IsDangling};
 
 use bq_base::{Bytes, FaultKind};
-use bq_base_fault_line::{FaultLine, FaultLines};
+use bq_base_fault_line::FaultLine;
 use bq_label::{Label, print_label};
 use bq_package_target::is_of;
 use std::alloc::{AllocError, Global};
@@ -39,20 +38,22 @@ fn dangling_line(
     })
 }
 
-/// Adds the line of a label that names no target, if it is of another package than the BUILD file.
+/// Appends the line of a label that names no target, if it is of another package than the BUILD file.
 pub(crate) fn add_dangling(
     alloc: Global,
     build_file: &Label,
     line: u32,
     label: &Label,
-    lines: &mut FaultLines,
+    lines: &mut Vec<FaultLine>,
 ) -> Result<(), AllocError>
-    ensures { OnOk result (lines.new ≡ put_lines lines.old (dangling (λ _. false) build_file.now line label.now)) }
+    ensures { OnOk result (lines.new.items ≡ lines.old.items ++ dangling (λ _. false) build_file.now line label.now) }
 {
     if is_of(build_file.package_id(), label) {
         return Ok(());
     }
-    lines.add(dangling_line(alloc, build_file, line, label)?)
+    let found = dangling_line(alloc, build_file, line, label)?;
+    lines.push(found)?;
+    Ok(())
 }
 
 /// The lines are those of the labels of other packages that a target of a package depends on and no target has.

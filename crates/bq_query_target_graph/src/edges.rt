@@ -1,23 +1,30 @@
 //! Which targets depend on which, and which labels among them name no target.
 
-ghost use Rattle.std.specs.Prelude.{◌≡◌, ◌++◌, IfOk, OnOk};
+ghost use Rattle.std.specs.Prelude.{◌≡◌, ◌++◌, ◌+◌, ◌^◌, ◌<◌, length, IfOk, IsOk, OnOk};
+ghost use Rattle.std.specs.List.{flat_map, All};
 ghost use Rattle.std.specs.List.Sorted.{IsStrictlySortedBy};
 ghost use Rattle.bq_base_fault_line.specs.FaultLine.{put_lines, sorted_lines};
 ghost use Rattle.bq_package_target.specs.Target.{dependencies};
 ghost use Rattle.bq_query_target_graph.specs.Order.{target_cmp, labels_of};
 ghost use Rattle.bq_query_target_graph.specs.Edges.{edges_to, edges_from};
 ghost use Rattle.bq_query_target_graph.specs.Dangling.{dangling_to, dangling_at, dangling_from};
+ghost use Rattle.bq_query_target_graph.specs.Parts.{part_edges, part_lines, IsFoundIn};
 
 use crate::build_files::BuildFiles;
 use crate::dangling::add_dangling;
 use crate::named::labels_of;
 use crate::numbers::Numbers;
-use bq_base_fault_line::FaultLines;
+use bq_base_fault_line::{FaultLine, FaultLines};
 use bq_label::Label;
 use bq_package_target::{Target, TargetKind};
 use bq_query_graph::Edge;
 use std::alloc::{AllocError, Global};
 use std::slice::from_ref;
+use std::thread;
+use std::thread::Threads;
+
+/// How many targets a thread has to have to be worth its start.
+const TARGETS_OF_A_THREAD: usize = 1_024;
 
 /// What is found along the labels that targets depend on.
 #[derive(Drop)]
@@ -25,6 +32,14 @@ pub struct Found {
     pub edges: Vec<Edge>,
     /// The lines of the labels that name no target.
     pub dangling: FaultLines,
+}
+
+/// What is found along the labels that some of the targets depend on.
+#[derive(Drop)]
+pub(crate) struct Part {
+    edges: Vec<Edge>,
+    /// The lines of the labels that name no target, in the order in which they are found.
+    dangling: Vec<FaultLine>,
 }
 
 /// A target that depends on others, with its number, and what these are found by.
@@ -36,15 +51,15 @@ struct Source<'a> {
     files: &'a BuildFiles,
 }
 
-/// Appends the edges to the targets that the labels name, and adds the lines of the labels that name none.
+/// Appends the edges to the targets that the labels name, and the lines of the labels that name none.
 fn add_labels(
     alloc: Global,
     source: Source<'_>,
     named: &[Label],
-    found: &mut Found,
+    found: &mut Part,
 ) -> Result<(), AllocError>
     ensures edges { OnOk result (found.new.edges.items ≡ found.old.edges.items ++ edges_to source.entry.labels.now source.entry.number named.now) }
-    ensures lines { OnOk result (found.new.dangling ≡ put_lines found.old.dangling (dangling_to source.entry.labels.now source.entry.files.now source.entry.target.now named.now)) }
+    ensures lines { OnOk result (found.new.dangling.items ≡ found.old.dangling.items ++ dangling_to source.entry.labels.now source.entry.files.now source.entry.target.now named.now) }
 {
     for label in named {
         // lists of labels are mostly sorted, so the target after the one that was found last is likely the next
@@ -68,9 +83,9 @@ fn add_labels(
 
 /// Appends what is found along the dependencies of a target.
 #[tactic(auto, unfolding(bq_package_target::specs::Target::dependencies))]
-fn add_dependencies(alloc: Global, source: Source<'_>, found: &mut Found) -> Result<(), AllocError>
+fn add_dependencies(alloc: Global, source: Source<'_>, found: &mut Part) -> Result<(), AllocError>
     ensures edges { OnOk result (found.new.edges.items ≡ found.old.edges.items ++ edges_to source.entry.labels.now source.entry.number (dependencies source.entry.target.now)) }
-    ensures lines { OnOk result (found.new.dangling ≡ put_lines found.old.dangling (dangling_at source.entry.labels.now source.entry.files.now source.entry.target.now)) }
+    ensures lines { OnOk result (found.new.dangling.items ≡ found.old.dangling.items ++ dangling_at source.entry.labels.now source.entry.files.now source.entry.target.now) }
 {
     if let TargetKind::Generated(rule) = &source.target.kind {
         return add_labels(alloc, source, from_ref(rule), found);
@@ -82,19 +97,25 @@ fn add_dependencies(alloc: Global, source: Source<'_>, found: &mut Found) -> Res
     Ok(())
 }
 
-/// Returns the edges between targets, by their numbers, and the lines of the labels that name no target.
-pub fn edges(alloc: Global, files: &BuildFiles, targets: &[Target]) -> Result<Found, AllocError>
-    requires { IsStrictlySortedBy target_cmp targets.now }
-    ensures edges { IfOk result (λ f. f.edges.items ≡ edges_from (labels_of targets.now) 0 targets.now) }
-    ensures lines { IfOk result (λ f. f.dangling ≡ sorted_lines (dangling_from (labels_of targets.now) files.now targets.now)) }
+/// Returns what is found along the dependencies of some of the targets, the first of which has this number.
+fn found_in(
+    alloc: Global,
+    files: &BuildFiles,
+    targets: &[Target],
+    first: usize,
+    part: &[Target],
+) -> Result<Part, AllocError>
+    requires ascending { IsStrictlySortedBy target_cmp targets.now }
+    requires room { first + length part.now < 2 ^ 64 }
+    ensures { IfOk result (IsFoundIn (labels_of targets.now) files.now first part.now) }
 {
     let mut labels = Numbers::of(targets);
-    let mut found = Found {
+    let mut found = Part {
         edges: Vec::new(alloc),
-        dangling: FaultLines::new(alloc),
+        dangling: Vec::new(alloc),
     };
-    let mut number = 0;
-    for target in targets {
+    let mut number = first;
+    for target in part {
         labels.enter(number);
         let source = Source {
             target,
@@ -106,4 +127,71 @@ pub fn edges(alloc: Global, files: &BuildFiles, targets: &[Target]) -> Result<Fo
         number += 1;
     }
     Ok(found)
+}
+
+/// Adds lines to those that are there.
+fn add_lines(lines: Vec<FaultLine>, all: &mut FaultLines) -> Result<(), AllocError>
+    ensures { OnOk result (all.new ≡ put_lines all.old lines.items) }
+{
+    for line in lines {
+        all.add(line)?;
+    }
+    Ok(())
+}
+
+impl Found {
+    /// Adds what is found along the targets that come next.
+    fn add(&mut self, part: Part) -> Result<(), AllocError>
+        ensures edges { OnOk result (self.new.edges.items ≡ self.old.edges.items ++ part.edges.items) }
+        ensures lines { OnOk result (self.new.dangling ≡ put_lines self.old.dangling part.dangling.items) }
+    {
+        let Part {
+            mut edges,
+            dangling,
+        } = part;
+        self.edges.append(&mut edges)?;
+        add_lines(dangling, &mut self.dangling)
+    }
+}
+
+/// Joins what is found along one part of the targets after the other. If memory was refused to one of them, it fails too.
+fn joined(alloc: Global, parts: Vec<Result<Part, AllocError>>) -> Result<Found, AllocError>
+    ensures given { OnOk result (All IsOk parts.items) }
+    ensures edges { IfOk result (λ f. f.edges.items ≡ flat_map part_edges parts.items) }
+    ensures lines { IfOk result (λ f. f.dangling ≡ sorted_lines (flat_map part_lines parts.items)) }
+{
+    let mut found = Found {
+        edges: Vec::new(alloc),
+        dangling: FaultLines::new(alloc),
+    };
+    for one in parts {
+        match one {
+            Ok(part) => found.add(part)?,
+            Err(_) => return Err(AllocError),
+        }
+    }
+    Ok(found)
+}
+
+/// Returns the edges between targets, by their numbers, and the lines of the labels that name no target. They are found by at most
+/// `threads` threads, each along a part of the targets.
+pub fn edges<R: Threads + Sync>(
+    rt: &R,
+    alloc: Global,
+    files: &BuildFiles,
+    targets: &[Target],
+    threads: usize,
+) -> Result<Found, AllocError>
+    requires { IsStrictlySortedBy target_cmp targets.now }
+    ensures edges { IfOk result (λ f. f.edges.items ≡ edges_from (labels_of targets.now) 0 targets.now) }
+    ensures lines { IfOk result (λ f. f.dangling ≡ sorted_lines (dangling_from (labels_of targets.now) files.now targets.now)) }
+{
+    let each = |first: usize, part: &[Target]| -> Result<Part, AllocError>
+        requires { (IsStrictlySortedBy target_cmp targets.now) × (first + length part.now < 2 ^ 64) }
+        ensures { IfOk result (IsFoundIn (labels_of targets.entry.now) files.entry.now first part.entry.now) }
+    { found_in(alloc, files, targets, first, part) };
+    let even = targets.len().div_ceil(threads.max(1));
+    let size = even.max(TARGETS_OF_A_THREAD);
+    let parts = thread::map_chunks(rt, alloc, targets, size, &each)?;
+    joined(alloc, parts)
 }

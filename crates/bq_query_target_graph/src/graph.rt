@@ -20,6 +20,7 @@ use bq_query_graph::DependencyGraph;
 use sqlite_items::Items;
 use std::alloc::{AllocError, Global};
 use std::marker::Model;
+use std::thread::Threads;
 
 /// The targets of a workspace with their dependencies. Contracts see the targets in the order of their labels, the packages in theirs,
 /// and for each target the numbers of those that it depends on.
@@ -89,14 +90,20 @@ struct Linked {
     dangling: FaultLines,
 }
 
-/// Links the targets of packages that have these BUILD files.
-fn link(alloc: Global, files: &BuildFiles, targets: &[Target]) -> Result<Linked, AllocError>
+/// Links the targets of packages that have these BUILD files, by at most `threads` threads.
+fn link<R: Threads + Sync>(
+    rt: &R,
+    alloc: Global,
+    files: &BuildFiles,
+    targets: &[Target],
+    threads: usize,
+) -> Result<Linked, AllocError>
     requires { IsStrictlySortedBy target_cmp targets.now }
     ensures packages { IfOk result (λ l. l.packages ≡ map package_of files.now) }
     ensures graph { IfOk result (λ l. HasPairsOf (length targets.now) (edges_from (labels_of targets.now) 0 targets.now) l.graph) }
     ensures dangling { IfOk result (λ l. l.dangling ≡ sorted_lines (dangling_from (labels_of targets.now) files.now targets.now)) }
 {
-    let found = edges(alloc, files, targets)?;
+    let found = edges(rt, alloc, files, targets, threads)?;
     Ok(Linked {
         packages: files.packages(alloc)?,
         graph: DependencyGraph::new(alloc, targets.len(), &found.edges)?,
@@ -105,10 +112,13 @@ fn link(alloc: Global, files: &BuildFiles, targets: &[Target]) -> Result<Linked,
 }
 
 /// Makes the graph of the targets of packages, and a line for each label of another package that names no target (F79).
-/// The graph takes the targets over if nobody else owns the packages, else it has shares of them.
-pub fn build_graph(
+/// The graph takes the targets over if nobody else owns the packages, else it has shares of them. At most `threads` threads look for
+/// edges.
+pub fn build_graph<R: Threads + Sync>(
+    rt: &R,
     alloc: Global,
     packages: PackageList,
+    threads: usize,
 ) -> Result<(TargetGraph, FaultLines), AllocError>
     ensures graph { IfOk result (λ made. IsGraphOf packages made.0) }
     ensures lines { IfOk result (λ made. made.1 ≡ dangling_lines packages) }
@@ -121,7 +131,7 @@ pub fn build_graph(
         drop(files); // PROOF: and the files
         return Err(AllocError);
     };
-    let linked = link(alloc, &files, &targets);
+    let linked = link(rt, alloc, &files, &targets, threads);
     drop(files);
     let Ok(linked) = linked else {
         drop(targets); // PROOF: and the targets

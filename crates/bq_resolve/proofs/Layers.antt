@@ -10,7 +10,7 @@ use Rattle.bq_resolve_scope.specs.declared.code.CodeStmt.{CodeStmt}
 use Rattle.bq_resolve_scope.specs.Scope.{BlockParts, FileParts}
 use Rattle.bq_resolve_scope.specs.Visit.{Passed}
 use Rattle.bq_resolve_scope.specs.Statements.{stmt_by, stmt_to}
-use Rattle.bq_resolve_expression.specs.Walks.{Walks}
+use Rattle.bq_resolve_expression.specs.Walks.{Writes}
 
 stmt_layer : (file : FileParts) (layers : ℕ) (blocks : List BlockParts) (looping : Bool) (x : Stmt) (s : Passed) → layers ≢ 0
     → stmt_to file layers blocks looping x s ≡ stmt_by file (stmt_to file (layers - 1) blocks) blocks looping (out-Stmt x) s
@@ -19,10 +19,10 @@ stmt_layer file zero blocks looping x s some = absurd (some refl)
 stmt_layer file (suc layers) blocks looping x s some = let e : suc layers - 1 ≡ layers = omega arith in rw e refl
 
 -- a resolver of one layer more
-pub walks_layer : (file : FileParts) (layers : ℕ) (blocks : List BlockParts) (looping : Bool) (x : Stmt) (s new : Passed) (r : Result CodeStmt SourceErr) → layers ≢ 0
-    → Walks (stmt_by file (stmt_to file (layers - 1) blocks) blocks looping (out-Stmt x) s) r new → Walks (stmt_to file layers blocks looping x s) r new
-walks_layer file layers blocks looping x s new r some walks =
-    let P : Result (CodeStmt × Passed) Fault → Type 0 = λ found. Walks found r new in subst P (sym (stmt_layer file layers blocks looping x s some)) walks
+pub writes_layer : (file : FileParts) (layers : ℕ) (blocks : List BlockParts) (looping : Bool) (x : Stmt) (s new : Passed) (code : CodeStmt) (r : Result (Unit {0}) SourceErr) → layers ≢ 0
+    → Writes (stmt_by file (stmt_to file (layers - 1) blocks) blocks looping (out-Stmt x) s) r code new → Writes (stmt_to file layers blocks looping x s) r code new
+writes_layer file layers blocks looping x s new code r some writes =
+    let P : Result (CodeStmt × Passed) Fault → Type 0 = λ found. Writes found r code new in subst P (sym (stmt_layer file layers blocks looping x s some)) writes
 
 no_layer : (file : FileParts) (layers : ℕ) (blocks : List BlockParts) (looping : Bool) (x : Stmt) (s : Passed) → layers ≡ 0
     → stmt_to file layers blocks looping x s ≡ Err (fault_at f.Nesting 0)
@@ -30,7 +30,7 @@ unfolding stmt_to
 no_layer file layers blocks looping x s none = ap (λ n. stmt_to file n blocks looping x s) none
 
 -- and of none
-pub walks_no_layer : (file : FileParts) (layers : ℕ) (blocks : List BlockParts) (looping : Bool) (x : Stmt) (s : Passed) (made why : Fault) → layers ≡ 0
+pub writes_no_layer : (file : FileParts) (layers : ℕ) (blocks : List BlockParts) (looping : Bool) (x : Stmt) (s : Passed) (made why : Fault) → layers ≡ 0
     → made ≡ fault_at f.Nesting 0 → Bad made ≡ Bad why → stmt_to file layers blocks looping x s ≡ Err why
-walks_no_layer file layers blocks looping x s made why none is same =
+writes_no_layer file layers blocks looping x s made why none is same =
     let e : fault_at f.Nesting 0 ≡ why = cc in no_layer file layers blocks looping x s none ∙ ap Err e

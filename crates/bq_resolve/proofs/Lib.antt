@@ -1,3 +1,2 @@
--- `Layers`: one layer of a statement. `Forms`: the forms of statements.
+-- `Layers`: one layer of a statement.
 mod Layers
-mod Forms

@@ -1,35 +1,37 @@
 //! The expressions and the targets of statements.
 
+ghost use Rattle.bq_resolve_scope.specs.Codes.{expr_code, target_code};
 ghost use Rattle.bq_resolve_scope.specs.Expressions as expressions;
 ghost use Rattle.bq_resolve_scope.specs.Statements as spec;
-ghost use Rattle.bq_resolve_expression.specs.Walks.{Walks};
+ghost use Rattle.bq_resolve_expression.specs.Walks.{Writes};
 
 use bq_base::SourceErr;
 use bq_parse_grammar::{Expr, TargetExpr};
 use bq_resolve_expression::{Rules, Scope, Walk, expr_to};
-use bq_resolve_scope::{Code, CodeTarget, MAX_LAYERS};
+use bq_resolve_scope::MAX_LAYERS;
 
 /// Resolves an expression that is at most `depth` layers deep: `expr_to`, which only its own crate can pass on as a function.
-fn nested(scope: &Scope<'_>, depth: usize, walk: &mut Walk, expr: &Expr) -> Result<Code, SourceErr>
-    ensures { Walks (expressions.expr_to depth scope.now.file.now scope.now.blocks.now expr.now walk.old) result walk.new }
+fn nested(
+    scope: &Scope<'_>,
+    depth: usize,
+    walk: &mut Walk,
+    expr: &mut Expr,
+) -> Result<(), SourceErr>
+    ensures { Writes (expressions.expr_to depth scope.now.file.now scope.now.blocks.now expr.old walk.old) result (expr_code expr.new) walk.new }
 {
     expr_to(scope, depth, walk, expr)
 }
 
 #[tactic(auto, unfolding(bq_resolve_scope::specs::Statements::expr, bq_resolve_scope::specs::Names::max_layers))]
-pub fn expr(scope: &Scope<'_>, walk: &mut Walk, expr: &Expr) -> Result<Code, SourceErr>
-    ensures { Walks (spec.expr scope.now.file.now scope.now.blocks.now expr.now walk.old) result walk.new }
+pub fn expr(scope: &Scope<'_>, walk: &mut Walk, expr: &mut Expr) -> Result<(), SourceErr>
+    ensures { Writes (spec.expr scope.now.file.now scope.now.blocks.now expr.old walk.old) result (expr_code expr.new) walk.new }
 {
     expr_to(scope, MAX_LAYERS, walk, expr)
 }
 
 #[tactic(auto, unfolding(bq_resolve_scope::specs::Statements::target, bq_resolve_scope::specs::Names::max_layers))]
-pub fn target(
-    scope: &Scope<'_>,
-    walk: &mut Walk,
-    target: &TargetExpr,
-) -> Result<CodeTarget, SourceErr>
-    ensures { Walks (spec.target scope.now.file.now scope.now.blocks.now target.now walk.old) result walk.new }
+pub fn target(scope: &Scope<'_>, walk: &mut Walk, target: &mut TargetExpr) -> Result<(), SourceErr>
+    ensures { Writes (spec.target scope.now.file.now scope.now.blocks.now target.old walk.old) result (target_code target.new) walk.new }
 {
     let rules = Rules {
         scope: *scope,

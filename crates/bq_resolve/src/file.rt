@@ -10,19 +10,23 @@ use crate::outside::top_levels;
 use bq_base::SourceErr;
 use bq_parse::ParsedFile;
 use bq_resolve_expression::Walk;
-use bq_resolve_scope::{FileNames, LoadStmt, Resolved, Universe};
+use bq_resolve_scope::{FileNames, LoadStmt, ResolvedFile, Universe};
 use std::alloc::Global;
 
-/// Returns what the file resolves to, or the first fault of its names in the order of its text, F20 to F24. It takes time and memory in
+/// Returns the file with what its names refer to written into it, or the first fault of its names in the order of its text, F20 to F24. It takes time and memory in
 /// proportion to the file.
 #[tactic(auto, unfolding(bq_resolve_scope::specs::Files::resolved))]
-pub fn resolve(alloc: Global, file: &ParsedFile, universe: &Universe) -> Result<Resolved, SourceErr>
-    ensures { Gives itself Bad result (resolved universe.now file.now) }
+pub fn resolve(
+    alloc: Global,
+    file: ParsedFile,
+    universe: &Universe,
+) -> Result<ResolvedFile, SourceErr>
+    ensures { Gives itself Bad result (resolved universe.now file) }
 {
     let names = FileNames::new(alloc, universe, file.statements())?;
     let globals = names.globals(alloc)?;
     let mut walk = Walk::new(alloc);
-    let statements = top_levels(alloc, &names, &mut walk, file.statements());
+    let statements = top_levels(alloc, &names, &mut walk, file.into_statements());
     // PROOF: `drop` is a single step.
     drop(names);
     let statements = match statements {
@@ -34,7 +38,7 @@ pub fn resolve(alloc: Global, file: &ParsedFile, universe: &Universe) -> Result<
         }
     };
     let (functions, loads) = walk.into_parts();
-    Ok(Resolved {
+    Ok(ResolvedFile {
         statements,
         functions,
         globals,
@@ -43,7 +47,7 @@ pub fn resolve(alloc: Global, file: &ParsedFile, universe: &Universe) -> Result<
 }
 
 /// Returns the loads of a file, in the order in which they are written.
-pub fn loads(resolved: &Resolved) -> &[LoadStmt]
+pub fn loads(resolved: &ResolvedFile) -> &[LoadStmt]
     ensures { result.now ≡ resolved.now.loads }
 {
     resolved.loads.as_slice()

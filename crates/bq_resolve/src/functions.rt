@@ -1,59 +1,82 @@
 //! Functions, and the `def`s that make them.
 
+ghost use Rattle.bq_base.specs.Gives.{Gives};
+ghost use Rattle.bq_base.specs.declared.fault.SourceErr.TheVariants.{Bad};
+ghost use Rattle.bq_resolve_scope.specs.declared.code.FileStmt.TheVariants as top;
+ghost use Rattle.bq_resolve_scope.specs.Codes.{def_code};
 ghost use Rattle.bq_resolve_scope.specs.Files as files;
+ghost use Rattle.bq_resolve_scope.specs.Statements as spec;
 ghost use Rattle.bq_resolve_expression.specs.Walks.{Walks};
 
 use crate::blocks::BlockResolver;
 use crate::parameters::{ParameterList, parameters};
 use crate::statements::stmt_to;
-use bq_base::SourceErr;
+use bq_base::{Bytes, SourceErr};
 use bq_parse_grammar::{Identifier, Parameter, Stmt};
 use bq_resolve_expression::{Scope, Walk, name_target};
 use bq_resolve_scope::{
-    Block, CodeDef, CodeFunction, FileNames, FileStmt, MAX_LAYERS, function_names, inside,
+    Block, CodeParameter, Def, FileNames, Function, MAX_LAYERS, Names, function_names, inside,
 };
-use sqlite_items::Boxed;
+use bq_tree_items::Items as Trees;
+use sqlite_items::Items;
 use std::alloc::Global;
 
-/// Resolves a `def`: its name is bound before its parameters are looked at. Its function has a frame of its own.
-#[tactic(auto, unfolding(bq_resolve_scope::specs::Files::def_stmt, bq_resolve_scope::specs::Statements::function, bq_resolve_scope::specs::Names::max_layers))]
-pub fn def_stmt(
-    alloc: Global,
-    file: &FileNames,
+/// Resolves the statements of a function that binds these names, in a frame of its own: its number.
+#[tactic(auto, unfolding(bq_resolve_scope::specs::Statements::function, bq_resolve_scope::specs::Names::max_layers))]
+fn function(
+    outside: &Scope<'_>,
     walk: &mut Walk,
-    name: &Identifier,
-    listed: &[Parameter],
-    body: &[Stmt],
-) -> Result<FileStmt, SourceErr>
-    ensures { Walks (files.def_stmt file.now name.now listed.now body.now walk.old) result walk.new }
+    name: Bytes,
+    parameters: Items<CodeParameter>,
+    names: Names,
+    body: Trees<Stmt>,
+) -> Result<usize, SourceErr>
+    ensures { Walks (spec.function outside.now.file.now name parameters names body walk.old) result walk.new }
 {
-    let outside = Scope::outside(alloc, file);
-    let target = Boxed::new(alloc, name_target(&outside, walk, name)?)?;
-    let ParameterList {
-        names: _,
-        parameters,
-        defaults,
-    } = parameters(alloc, file, walk, listed)?;
-    let names = function_names(alloc, listed, body)?;
+    let mut body = body;
     let slots_outside = walk.frame(names.len());
-    let block = Block::new(alloc, 0, names)?;
-    let blocks = inside(alloc, block, &[])?;
+    let block = Block::new(outside.alloc, 0, names)?;
+    let blocks = inside(outside.alloc, block, &[])?;
     let statements = BlockResolver {
         scope: outside.among(blocks.as_slice()),
         layers: MAX_LAYERS,
         inner: stmt_to,
     };
-    let body = statements.block(false, walk, body)?;
+    statements.block(false, walk, &mut body)?;
     let slots = walk.frame(slots_outside);
-    let function = walk.add_function(CodeFunction {
-        name: name.name.share()?,
+    Ok(walk.add_function(Function {
+        name,
         parameters,
         slots,
         body,
-    })?;
-    Ok(FileStmt::Def(CodeDef {
-        target: target.into_inner(),
+    })?)
+}
+
+/// Resolves a `def`: its name is bound before its parameters are looked at. Its function has a frame of its own.
+#[tactic(auto, unfolding(bq_resolve_scope::specs::Files::def_stmt))]
+pub fn def_stmt(
+    alloc: Global,
+    file: &FileNames,
+    walk: &mut Walk,
+    name: Identifier,
+    listed: Trees<Parameter>,
+    body: Trees<Stmt>,
+) -> Result<Def, SourceErr>
+    ensures { Gives (λ d. (top.Def (def_code d), walk.new)) Bad result (files.def_stmt file.now name listed body walk.old) }
+{
+    let mut name = name;
+    let outside = Scope::outside(alloc, file);
+    name_target(&outside, walk, &mut name)?;
+    let names = function_names(alloc, listed.as_slice(), body.as_slice())?;
+    let ParameterList {
+        names: _,
+        parameters,
+        defaults,
+    } = parameters(alloc, file, walk, listed)?;
+    let function = function(&outside, walk, name.name.share()?, parameters, names, body)?;
+    Ok(Def {
+        name,
         function,
         defaults,
-    }))
+    })
 }

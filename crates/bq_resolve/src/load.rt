@@ -1,12 +1,13 @@
 //! Loads: what a file takes from other files.
 
+ghost use Rattle.bq_resolve_scope.specs.declared.code.CodeSmall.TheVariants as small;
 ghost use Rattle.bq_resolve_scope.specs.Statements as spec;
-ghost use Rattle.bq_resolve_expression.specs.Walks.{Walks};
+ghost use Rattle.bq_resolve_expression.specs.Walks.{Writes};
 
 use bq_base::{FaultKind, SourceErr};
 use bq_parse_grammar::Load;
 use bq_resolve_expression::{Walk, fault_of};
-use bq_resolve_scope::{CodeSmall, FileNames, LoadStmt, LoadedSymbol};
+use bq_resolve_scope::{FileNames, LoadStmt, LoadedSymbol};
 use sqlite_items::Items;
 use std::alloc::Global;
 
@@ -19,8 +20,8 @@ pub fn load(
     walk: &mut Walk,
     line: u32,
     load: &Load,
-) -> Result<CodeSmall, SourceErr>
-    ensures { Walks (spec.load file.now line load.now walk.old) result walk.new }
+) -> Result<(), SourceErr>
+    ensures { Writes (spec.load file.now line load.now walk.old) result small.Load walk.new }
 {
     let mut clauses = Items::from_vec(Vec::with_capacity(alloc, load.clauses.len())?);
     for clause in load.clauses.as_slice() {
@@ -44,5 +45,5 @@ pub fn load(
         line,
         clauses,
     })?;
-    Ok(CodeSmall::Load)
+    Ok(())
 }

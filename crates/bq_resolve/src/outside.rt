@@ -10,45 +10,57 @@ use crate::small::{line, misplaced};
 use bq_base::SourceErr;
 use bq_parse_grammar::{Stmt, TopLevel};
 use bq_resolve_expression::{Scope, Walk};
-use bq_resolve_scope::{CodeTopLevel, FileNames, FileStmt};
+use bq_resolve_scope::{FileLine, FileNames, Outside};
+use bq_tree_items::{Boxed, Items as Trees};
 use sqlite_items::Items;
 use std::alloc::Global;
 
-/// Resolves the top-level statements of a file, where `if` and `for` are not allowed.
-#[tactic(auto, unfolding(bq_resolve_scope::specs::Visit::each, bq_resolve_scope::specs::Files::top_level))]
+/// Resolves a top-level statement: `if` and `for` are not allowed.
+#[tactic(auto, unfolding(bq_resolve_scope::specs::Files::top_level))]
+fn top_level(
+    alloc: Global,
+    file: &FileNames,
+    walk: &mut Walk,
+    top_level: TopLevel,
+) -> Result<FileLine, SourceErr>
+    ensures { Walks (files.top_level file.now top_level walk.old) result walk.new }
+{
+    let TopLevel {
+        line: first_line,
+        statement,
+    } = top_level;
+    let statement = match statement {
+        Stmt::Simple(small) => {
+            let mut small = small;
+            line(&Scope::outside(alloc, file), false, walk, &mut small)?;
+            Outside::Simple(small)
+        }
+        Stmt::If(_, _) => return misplaced(first_line),
+        Stmt::For(_, _, _) => return misplaced(first_line),
+        Stmt::Def(name, parameters, body) => {
+            let def = def_stmt(alloc, file, walk, name, parameters, body)?;
+            Outside::Def(Boxed::new(alloc, def)?)
+        }
+    };
+    Ok(FileLine {
+        line: first_line,
+        statement,
+    })
+}
+
+/// Resolves the top-level statements of a file.
+#[tactic(auto, unfolding(bq_resolve_scope::specs::Visit::each))]
 pub fn top_levels(
     alloc: Global,
     file: &FileNames,
     walk: &mut Walk,
-    statements: &[TopLevel],
-) -> Result<Items<CodeTopLevel>, SourceErr>
-    ensures { Walks (visit.each (files.top_level file.now) [] statements.now walk.old) result walk.new }
+    statements: Trees<TopLevel>,
+) -> Result<Items<FileLine>, SourceErr>
+    ensures { Walks (visit.each (files.top_level file.now) [] statements walk.old) result walk.new }
 {
     let mut done = Items::from_vec(Vec::with_capacity(alloc, statements.len())?);
-    for top_level in statements {
-        let first_line = top_level.line;
-        let statement = match &top_level.statement {
-            Stmt::Simple(small) => {
-                let outside = Scope::outside(alloc, file);
-                FileStmt::Simple(line(&outside, false, walk, small.as_slice())?)
-            }
-            Stmt::If(_, _) => return misplaced(first_line),
-            Stmt::For(_, _, _) => return misplaced(first_line),
-            Stmt::Def(name, parameters, body) => {
-                def_stmt(
-                    alloc,
-                    file,
-                    walk,
-                    name,
-                    parameters.as_slice(),
-                    body.as_slice(),
-                )?
-            }
-        };
-        done.push(CodeTopLevel {
-            line: first_line,
-            statement,
-        })?;
+    for statement in statements.into_vec() {
+        done.push(top_level(alloc, file, walk, statement)?)?;
     }
     Ok(done)
 }

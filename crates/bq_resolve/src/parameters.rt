@@ -11,20 +11,23 @@ use crate::expressions::expr;
 use bq_base::{FaultKind, SourceErr};
 use bq_parse_grammar::{Expr, Identifier, Parameter};
 use bq_resolve_expression::{Scope, Walk, fault_of};
-use bq_resolve_scope::{Code, CodeParameter, FileNames, Names};
+use bq_resolve_scope::{CodeParameter, FileNames, Names};
+use bq_tree_items::Items as Trees;
 use sqlite_items::Items;
 use std::alloc::Global;
 use std::marker::Model;
 
-/// The parameters so far. Contracts see their names, what they resolve to, and their defaults.
+/// The parameters so far. Contracts see their names, what they resolve to, and the code of their defaults.
 #[derive(Drop)]
 pub struct ParameterList {
     pub names: Names,
     pub parameters: Items<CodeParameter>,
-    pub defaults: Items<Code>,
+    pub defaults: Items<Expr>,
 }
 
 impl Model for ParameterList {
+    ghost use Rattle.std.specs.Prelude.{map};
+    ghost use Rattle.bq_resolve_scope.specs.Codes.{expr_code};
     ghost use Rattle.bq_resolve_scope.specs.Statements.{ParameterParts};
     ghost use Rattle.bq_resolve_scope.specs.contracts.code.Code as code;
     ghost use Rattle.std.specs.Coded.{codes};
@@ -33,7 +36,7 @@ impl Model for ParameterList {
 
     ghost coded = { Prim.hlevel (codes, code.the_row.coded) };
 
-    ghost view = { λ p. record { names = p.names; parameters = p.parameters; defaults = p.defaults } };
+    ghost view = { λ p. record { names = p.names; parameters = p.parameters; defaults = map expr_code p.defaults } };
 }
 
 impl ParameterList {
@@ -57,19 +60,20 @@ impl ParameterList {
         alloc: Global,
         file: &FileNames,
         walk: &mut Walk,
-        parameter: &Parameter,
+        parameter: Parameter,
     ) -> Result<(), SourceErr>
-        ensures { Gives (λ _. (self.new, walk.new)) Bad result (spec.next_parameter file.now self.old parameter.now walk.old) }
+        ensures { Gives (λ _. (self.new, walk.new)) Bad result (spec.next_parameter file.now self.old parameter walk.old) }
     {
         let slot = self.names.len();
         match parameter {
             Parameter::Plain(name) => {
-                let plain = CodeParameter::Plain(name.name.share()?, slot);
-                self.add_named(name, plain)
+                self.add_named(&name, CodeParameter::Plain(name.name.share()?, slot))?;
+                Ok(())
             }
             Parameter::Default(name, default) => {
-                self.add_named(name, CodeParameter::Default(name.name.share()?, slot))?;
-                let default = expr(&Scope::outside(alloc, file), walk, default)?;
+                self.add_named(&name, CodeParameter::Default(name.name.share()?, slot))?;
+                let mut default = default;
+                expr(&Scope::outside(alloc, file), walk, &mut default)?;
                 self.defaults.push(default)?;
                 Ok(())
             }
@@ -77,8 +81,8 @@ impl ParameterList {
                 self.parameters.push(CodeParameter::BareStar)?;
                 Ok(())
             }
-            Parameter::Star(name) => self.add_named(name, CodeParameter::Star(slot)),
-            Parameter::StarStar(name) => self.add_named(name, CodeParameter::StarStar(slot)),
+            Parameter::Star(name) => self.add_named(&name, CodeParameter::Star(slot)),
+            Parameter::StarStar(name) => self.add_named(&name, CodeParameter::StarStar(slot)),
         }
     }
 }
@@ -89,16 +93,16 @@ pub fn parameters(
     alloc: Global,
     file: &FileNames,
     walk: &mut Walk,
-    parameters: &[Parameter],
+    parameters: Trees<Parameter>,
 ) -> Result<ParameterList, SourceErr>
-    ensures { Walks (spec.parameters file.now spec.no_parameters parameters.now walk.old) result walk.new }
+    ensures { Walks (spec.parameters file.now spec.no_parameters parameters walk.old) result walk.new }
 {
     let mut list = ParameterList {
         names: Names::new(alloc),
         parameters: Items::new(alloc),
         defaults: Items::new(alloc),
     };
-    for parameter in parameters {
+    for parameter in parameters.into_vec() {
         list.add(alloc, file, walk, parameter)?;
     }
     Ok(list)

@@ -1,46 +1,35 @@
 //! Statements without a block.
 
-ghost use Rattle.std.specs.Prelude.{[]};
-ghost use Rattle.bq_resolve_scope.specs.Scope.{FileParts};
-ghost use Rattle.bq_resolve_scope.specs.Visit.{Passed};
+ghost use Rattle.std.specs.Prelude.{◌≡◌, [], map, Ok, Err, if◌then◌else◌};
+ghost use Rattle.bq_base.specs.declared.fault.FaultKind.TheVariants as f;
+ghost use Rattle.bq_base.specs.declared.fault.SourceErr.TheVariants.{Bad};
+ghost use Rattle.bq_base.specs.Fault.{fault_at};
 ghost use Rattle.bq_resolve_scope.specs.Visit as visit;
 ghost use Rattle.bq_resolve_scope.specs.declared.code.CodeSmall.TheVariants as small;
+ghost use Rattle.bq_resolve_scope.specs.Codes.{expr_code, optional_code, small_code, target_code};
 ghost use Rattle.bq_resolve_scope.specs.Statements as spec;
-ghost use Rattle.bq_resolve_expression.specs.Walks.{Walks};
+ghost use Rattle.bq_resolve_expression.specs.Walks.{Writes};
 
 use crate::expressions::{expr, target};
 use crate::load::load;
 use bq_base::{Fault, FaultKind, SourceErr};
 use bq_parse_grammar::{Expr, Operator, SmallKind, SmallStmt, TargetExpr};
 use bq_resolve_expression::{Scope, Walk};
-use bq_resolve_scope::CodeSmall;
-use sqlite_items::{Boxed, Items};
+use bq_tree_items::Items;
 
 /// Returns F23, the fault of what stands where it may not.
 pub fn misplaced<T>(line: u32) -> Result<T, SourceErr>
-    ensures { (s : Passed) → Walks (spec.misplaced line s) result s }
+    ensures { result ≡ Err (Bad (fault_at f.BadFlow line)) }
 {
     Err(SourceErr::Bad(Fault::at(FaultKind::BadFlow, line)))
 }
 
-/// Resolves `break`, which is allowed in loops alone.
-#[tactic(auto, unfolding(bq_resolve_scope::specs::Statements::in_loop))]
-fn break_stmt(looping: bool, line: u32) -> Result<CodeSmall, SourceErr>
-    ensures { (file : FileParts) (s : Passed) → Walks (spec.in_loop file looping line small.Break s) result s }
+/// Returns F23 for what is allowed in loops alone.
+fn in_loop(looping: bool, line: u32) -> Result<(), SourceErr>
+    ensures { result ≡ (if looping then Ok tt else Err (Bad (fault_at f.BadFlow line))) }
 {
     if looping {
-        return Ok(CodeSmall::Break);
-    }
-    misplaced(line)
-}
-
-/// Resolves `continue`, which is allowed in loops alone.
-#[tactic(auto, unfolding(bq_resolve_scope::specs::Statements::in_loop))]
-fn continue_stmt(looping: bool, line: u32) -> Result<CodeSmall, SourceErr>
-    ensures { (file : FileParts) (s : Passed) → Walks (spec.in_loop file looping line small.Continue s) result s }
-{
-    if looping {
-        return Ok(CodeSmall::Continue);
+        return Ok(());
     }
     misplaced(line)
 }
@@ -50,15 +39,13 @@ fn continue_stmt(looping: bool, line: u32) -> Result<CodeSmall, SourceErr>
 fn assign(
     scope: &Scope<'_>,
     walk: &mut Walk,
-    left: &TargetExpr,
-    value: &Expr,
-) -> Result<CodeSmall, SourceErr>
-    ensures { Walks (spec.assign scope.now.file.now scope.now.blocks.now left.now value.now walk.old) result walk.new }
+    left: &mut TargetExpr,
+    value: &mut Expr,
+) -> Result<(), SourceErr>
+    ensures { Writes (spec.assign scope.now.file.now scope.now.blocks.now left.old value.old walk.old) result (small.Assign (target_code left.new) (expr_code value.new)) walk.new }
 {
-    let left = target(scope, walk, left)?;
-    let left = Boxed::new(scope.alloc, left)?;
-    let value = expr(scope, walk, value)?;
-    Ok(CodeSmall::Assign(left.into_inner(), value))
+    target(scope, walk, left)?;
+    expr(scope, walk, value)
 }
 
 /// `target += value`
@@ -66,16 +53,14 @@ fn assign(
 fn augment(
     scope: &Scope<'_>,
     walk: &mut Walk,
-    left: &TargetExpr,
+    left: &mut TargetExpr,
     operator: Operator,
-    value: &Expr,
-) -> Result<CodeSmall, SourceErr>
-    ensures { Walks (spec.augment scope.now.file.now scope.now.blocks.now left.now operator value.now walk.old) result walk.new }
+    value: &mut Expr,
+) -> Result<(), SourceErr>
+    ensures { Writes (spec.augment scope.now.file.now scope.now.blocks.now left.old operator value.old walk.old) result (small.Augment (target_code left.new) operator (expr_code value.new)) walk.new }
 {
-    let left = target(scope, walk, left)?;
-    let left = Boxed::new(scope.alloc, left)?;
-    let value = expr(scope, walk, value)?;
-    Ok(CodeSmall::Augment(left.into_inner(), operator, value))
+    target(scope, walk, left)?;
+    expr(scope, walk, value)
 }
 
 /// Resolves `return`, which is allowed in functions alone.
@@ -84,40 +69,40 @@ fn returned(
     scope: &Scope<'_>,
     walk: &mut Walk,
     line: u32,
-    value: &Option<Expr>,
-) -> Result<CodeSmall, SourceErr>
-    ensures { Walks (spec.returned scope.now.file.now scope.now.blocks.now line value.now walk.old) result walk.new }
+    value: &mut Option<Expr>,
+) -> Result<(), SourceErr>
+    ensures { Writes (spec.returned scope.now.file.now scope.now.blocks.now line value.old walk.old) result (small.Return (optional_code value.new)) walk.new }
 {
     if scope.blocks.is_empty() {
         return misplaced(line);
     }
     match value {
-        None => Ok(CodeSmall::Return(None)),
-        Some(value) => Ok(CodeSmall::Return(Some(expr(scope, walk, value)?))),
+        None => Ok(()),
+        Some(value) => expr(scope, walk, value),
     }
 }
 
 /// Resolves a small statement; `looping` is true inside a `for` of the function.
-#[tactic(auto, unfolding(bq_resolve_scope::specs::Statements::small_stmt, bq_resolve_scope::specs::Statements::load_in))]
-pub fn small_stmt(
+#[tactic(auto, unfolding(bq_resolve_scope::specs::Statements::small_stmt, bq_resolve_scope::specs::Statements::load_in, bq_resolve_scope::specs::Statements::in_loop))]
+fn small_stmt(
     scope: &Scope<'_>,
     looping: bool,
     walk: &mut Walk,
-    statement: &SmallStmt,
-) -> Result<CodeSmall, SourceErr>
-    ensures { Walks (spec.small_stmt scope.now.file.now scope.now.blocks.now looping statement.now walk.old) result walk.new }
+    statement: &mut SmallStmt,
+) -> Result<(), SourceErr>
+    ensures { Writes (spec.small_stmt scope.now.file.now scope.now.blocks.now looping statement.old walk.old) result (small_code statement.new) walk.new }
 {
     let line = statement.line;
-    match &statement.kind {
-        SmallKind::Expr(x) => expr(scope, walk, x).map(CodeSmall::Expr),
-        SmallKind::Assign(left, value) => assign(scope, walk, left, value),
+    match &mut statement.kind {
+        SmallKind::Expr(x) => expr(scope, walk, x),
+        SmallKind::Assign(left, value) => assign(scope, walk, left.get_mut(), value),
         SmallKind::Augment(left, operator, value) => {
-            augment(scope, walk, left, *operator, value)
+            augment(scope, walk, left.get_mut(), *operator, value)
         }
         SmallKind::Return(value) => returned(scope, walk, line, value),
-        SmallKind::Break => break_stmt(looping, line),
-        SmallKind::Continue => continue_stmt(looping, line),
-        SmallKind::Pass => Ok(CodeSmall::Pass),
+        SmallKind::Break => in_loop(looping, line),
+        SmallKind::Continue => in_loop(looping, line),
+        SmallKind::Pass => Ok(()),
         // outside functions alone
         SmallKind::Load(statement) => {
             if scope.blocks.is_empty() {
@@ -129,18 +114,16 @@ pub fn small_stmt(
 }
 
 /// Resolves the small statements of one logical line.
-#[tactic(auto, unfolding(bq_resolve_scope::specs::Visit::each))]
 pub fn line(
     scope: &Scope<'_>,
     looping: bool,
     walk: &mut Walk,
-    statements: &[SmallStmt],
-) -> Result<Items<CodeSmall>, SourceErr>
-    ensures { Walks (visit.each (spec.small_stmt scope.now.file.now scope.now.blocks.now looping) [] statements.now walk.old) result walk.new }
+    statements: &mut Items<SmallStmt>,
+) -> Result<(), SourceErr>
+    ensures { Writes (visit.each (spec.small_stmt scope.now.file.now scope.now.blocks.now looping) [] statements.old walk.old) result (map small_code statements.new) walk.new }
 {
-    let mut done = Items::from_vec(Vec::with_capacity(scope.alloc, statements.len())?);
-    for statement in statements {
-        done.push(small_stmt(scope, looping, walk, statement)?)?;
+    for at in 0..statements.len() {
+        small_stmt(scope, looping, walk, statements.item_mut(at))?;
     }
-    Ok(done)
+    Ok(())
 }

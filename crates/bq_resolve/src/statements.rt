@@ -1,13 +1,13 @@
 //! Statements of functions, with the resolver of those in blocks.
 
+ghost use Rattle.bq_resolve_scope.specs.Codes.{stmt_code};
 ghost use Rattle.bq_resolve_scope.specs.Statements as spec;
-ghost use Rattle.bq_resolve_expression.specs.Walks.{Walks};
+ghost use Rattle.bq_resolve_expression.specs.Walks.{Writes};
 
 use crate::blocks::BlockResolver;
 use bq_base::{Fault, FaultKind, SourceErr};
 use bq_parse_grammar::Stmt;
 use bq_resolve_expression::{Scope, Walk};
-use bq_resolve_scope::CodeStmt;
 
 /// Resolves a statement of a function that is at most `layers` layers deep; `looping` is true inside a `for` of the function.
 pub fn stmt_to(
@@ -15,9 +15,9 @@ pub fn stmt_to(
     layers: usize,
     looping: bool,
     walk: &mut Walk,
-    statement: &Stmt,
-) -> Result<CodeStmt, SourceErr>
-    ensures { Walks (spec.stmt_to scope.now.file.now layers scope.now.blocks.now looping statement.now walk.old) result walk.new }
+    statement: &mut Stmt,
+) -> Result<(), SourceErr>
+    ensures { Writes (spec.stmt_to scope.now.file.now layers scope.now.blocks.now looping statement.old walk.old) result (stmt_code statement.new) walk.new }
 {
     if layers == 0 {
         return Err(SourceErr::Bad(Fault::at(FaultKind::Nesting, 0)));

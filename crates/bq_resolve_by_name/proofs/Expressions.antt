@@ -233,9 +233,9 @@ module _ (file : FileParts) (visit : List BlockParts → Expr → Visit Code) (v
   expr_by_needs blocks (Expr-F.Expr::Tuple xs) = needs_map blocks 0 codes_slots code_slots (each (visit blocks) [] xs) (λ ys. c.Tuple ys) (all_need blocks xs) (λ ys. omega (arith, S.slots-Tuple ys))
   expr_by_needs blocks (Expr-F.Dict ps) =
       needs_map blocks 0 (λ qs. most (map pair_slots qs)) code_slots (each (pair file visit blocks) [] ps) (λ qs. c.Dict qs) (needs_all blocks pair_slots (pair file visit blocks) (pair_needs blocks) ps) (λ qs. omega (arith, S.slots-Dict qs))
-  expr_by_needs blocks (Expr-F.ListComprehension x xs) =
+  expr_by_needs blocks (Expr-F.ListComprehension x xs own) =
       comprehension_needs (λ bs. visit bs x) (λ y ys. c.ListComprehension y ys) code_slots (λ bs. visits bs x) (λ y ys. omega (arith, S.slots-ListComprehension y ys)) blocks xs
-  expr_by_needs blocks (Expr-F.DictComprehension p xs) =
+  expr_by_needs blocks (Expr-F.DictComprehension p xs own) =
       comprehension_needs (λ bs. pair file visit bs p) (λ y ys. c.DictComprehension y ys) pair_slots (λ bs. pair_needs bs p) (λ y ys. omega (arith, S.slots-DictComprehension y ys)) blocks xs
   expr_by_needs blocks (Expr-F.Primary x ss) = primary_needs blocks x ss
   expr_by_needs blocks (Expr-F.Unary os x) = needs_map blocks 0 code_slots code_slots (visit blocks x) (λ y. c.Unary os y) (visits blocks x) (λ y. omega (arith, S.slots-Unary os y))

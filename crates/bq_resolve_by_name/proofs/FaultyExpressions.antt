@@ -213,8 +213,8 @@ module _ (file : FileParts) (visit : List BlockParts → Expr → Visit Code) (i
   expr_by_finds blocks (Expr-F.Expr::Tuple xs) = finds_map (each (visit blocks) [] xs) (λ ys. c.Tuple ys) (flat_map (inner (around_of blocks)) xs) (all_find blocks xs)
   expr_by_finds blocks (Expr-F.Dict ps) =
       finds_map (each (pair file visit blocks) [] ps) (λ qs. c.Dict qs) (flat_map (in_pair file inner (around_of blocks)) ps) (finds_each (pair file visit blocks) (in_pair file inner (around_of blocks)) (pair_finds blocks) [] ps)
-  expr_by_finds blocks (Expr-F.ListComprehension x xs) = comprehension_finds (λ bs. visit bs x) (λ own. inner own x) (λ y ys. c.ListComprehension y ys) (λ bs. visits bs x) blocks xs
-  expr_by_finds blocks (Expr-F.DictComprehension p xs) =
+  expr_by_finds blocks (Expr-F.ListComprehension x xs slots) = comprehension_finds (λ bs. visit bs x) (λ own. inner own x) (λ y ys. c.ListComprehension y ys) (λ bs. visits bs x) blocks xs
+  expr_by_finds blocks (Expr-F.DictComprehension p xs slots) =
       comprehension_finds (λ bs. pair file visit bs p) (λ own. in_pair file inner own p) (λ y ys. c.DictComprehension y ys) (λ bs. pair_finds bs p) blocks xs
   expr_by_finds blocks (Expr-F.Primary x ss) = primary_finds blocks x ss
   expr_by_finds blocks (Expr-F.Unary os x) = finds_map (visit blocks x) (λ y. c.Unary os y) (inner (around_of blocks) x) (visits blocks x)

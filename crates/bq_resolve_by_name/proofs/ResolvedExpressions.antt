@@ -214,8 +214,8 @@ module _ (file : FileParts) (visit : List BlockParts → Expr → Visit Code) (I
   expr_by_makes blocks (Expr-F.Expr::Tuple xs) = makes_map (λ ys. InOrder (Is blocks) xs ys) (each (visit blocks) [] xs) (λ ys. c.Tuple ys) (all_make blocks xs)
   expr_by_makes blocks (Expr-F.Dict ps) =
       makes_map (λ qs. InOrder (PairIs file Is blocks) ps qs) (each (pair file visit blocks) [] ps) (λ qs. c.Dict qs) (makes_all (PairIs file Is blocks) (pair file visit blocks) (pair_makes blocks) ps)
-  expr_by_makes blocks (Expr-F.ListComprehension x xs) = comprehension_makes (λ bs. visit bs x) (λ bs y. Is bs x y) (λ y ys. c.ListComprehension y ys) (λ bs. visits bs x) blocks xs
-  expr_by_makes blocks (Expr-F.DictComprehension p xs) =
+  expr_by_makes blocks (Expr-F.ListComprehension x xs own) = comprehension_makes (λ bs. visit bs x) (λ bs y. Is bs x y) (λ y ys. c.ListComprehension y ys) (λ bs. visits bs x) blocks xs
+  expr_by_makes blocks (Expr-F.DictComprehension p xs own) =
       comprehension_makes (λ bs. pair file visit bs p) (λ bs q. PairIs file Is bs p q) (λ y ys. c.DictComprehension y ys) (λ bs. pair_makes bs p) blocks xs
   expr_by_makes blocks (Expr-F.Primary x ss) = primary_makes blocks x ss
   expr_by_makes blocks (Expr-F.Unary os x) = makes_map (Is blocks x) (visit blocks x) (λ y. c.Unary os y) (visits blocks x)

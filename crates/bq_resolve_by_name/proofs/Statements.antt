@@ -15,6 +15,7 @@ use Rattle.bq_parse_grammar.specs.declared.tree.SmallStmt.{SmallStmt}
 use Rattle.bq_parse_grammar.specs.declared.tree.Stmt.{Stmt, out-Stmt}
 use Rattle.bq_parse_grammar.specs.declared.tree.Stmt.TheOpen.{Stmt-F}
 use Rattle.bq_parse_grammar.specs.declared.tree.TargetExpr.{TargetExpr}
+use Rattle.bq_parse_grammar.specs.Literals.{name_line}
 use Rattle.bq_resolve_scope.specs.declared.code.Code.{Code}
 use Rattle.bq_resolve_scope.specs.declared.code.CodeBranch.{roll-CodeBranch}
 use Rattle.bq_resolve_scope.specs.declared.code.CodeSmall.{CodeSmall}
@@ -147,7 +148,7 @@ module _ (file : FileParts) where
       (needs_all blocks small_slots (small_stmt file blocks looping) (small_needs blocks looping) xs) (λ ys. omega (arith, S.slots-Simple ys))
   stmt_by_needs inner blocks looping inners (Stmt-F.If bs zs) = if_needs (inner looping) blocks (inners looping) bs zs
   stmt_by_needs inner blocks looping inners (Stmt-F.For t x body) = for_needs (inner true) blocks (inners true) t x body
-  stmt_by_needs inner blocks looping inners (Stmt-F.Def n ps body) = needs_stop blocks 0 stmt_slots (fault_at f.BadFlow n.line)
+  stmt_by_needs inner blocks looping inners (Stmt-F.Def n ps body) = needs_stop blocks 0 stmt_slots (fault_at f.BadFlow (name_line n))
 
   pub stmt_needs : (depth : ℕ) (blocks : List BlockParts) (looping : Bool) (x : Stmt) → Needs blocks 0 stmt_slots (stmt_to file depth blocks looping x)
   unfolding stmt_to

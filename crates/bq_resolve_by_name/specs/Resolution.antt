@@ -150,8 +150,8 @@ module _ (file : FileParts) where
     expr_is_by blocks (Expr-F.Expr::List xs) z = (ys : List Code) × InOrder (Is blocks) xs ys × (z ≡ c.List ys)
     expr_is_by blocks (Expr-F.Expr::Tuple xs) z = (ys : List Code) × InOrder (Is blocks) xs ys × (z ≡ c.Tuple ys)
     expr_is_by blocks (Expr-F.Dict ps) z = (qs : List CodePair) × InOrder (PairIs blocks) ps qs × (z ≡ c.Dict qs)
-    expr_is_by blocks (Expr-F.ListComprehension x xs) z = comprehension_is (λ bs y. Is bs x y) c.ListComprehension blocks xs z
-    expr_is_by blocks (Expr-F.DictComprehension p xs) z = comprehension_is (λ bs q. PairIs bs p q) c.DictComprehension blocks xs z
+    expr_is_by blocks (Expr-F.ListComprehension x xs own) z = comprehension_is (λ bs y. Is bs x y) c.ListComprehension blocks xs z
+    expr_is_by blocks (Expr-F.DictComprehension p xs own) z = comprehension_is (λ bs q. PairIs bs p q) c.DictComprehension blocks xs z
     expr_is_by blocks (Expr-F.Primary x ss) z = primary_is_by blocks x ss (member_call (namespace_at file blocks (out-Expr x)) ss) z
     expr_is_by blocks (Expr-F.Unary os x) z = (y : Code) × Is blocks x y × (z ≡ c.Unary os y)
     expr_is_by blocks (Expr-F.Binary x os) z = (y : Code) × (ps : List CodeOperation) × Is blocks x y × InOrder (OperationIs blocks) os ps × (z ≡ c.Binary y ps)

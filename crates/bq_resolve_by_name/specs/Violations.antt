@@ -28,6 +28,7 @@ use Rattle.bq_parse_grammar.specs.declared.tree.Stmt.TheOpen.{Stmt-F}
 use Rattle.bq_parse_grammar.specs.declared.tree.Suffix.{Suffix, out-Suffix}
 use Rattle.bq_parse_grammar.specs.declared.tree.TargetExpr.{TargetExpr, out-TargetExpr}
 use Rattle.bq_parse_grammar.specs.declared.tree.TopLevel.{TopLevel}
+use Rattle.bq_parse_grammar.specs.Literals.{name_line}
 use Rattle.bq_parse_grammar.specs.Targets.{ExprLayer, SuffixLayer}
 use Rattle.bq_resolve_scope.specs.declared.universe.Namespace.{Namespace}
 use Rattle.bq_resolve_scope.specs.Universe.{UniverseParts, member_named, namespace_named, universe_has}
@@ -221,8 +222,8 @@ module _ (file : FileParts) where
     in_expr_by around (Expr-F.Expr::List xs) = flat_map (inner around) xs
     in_expr_by around (Expr-F.Expr::Tuple xs) = flat_map (inner around) xs
     in_expr_by around (Expr-F.Dict ps) = flat_map (in_pair around) ps
-    in_expr_by around (Expr-F.ListComprehension x cs) = in_comprehension (λ own. inner own x) around cs
-    in_expr_by around (Expr-F.DictComprehension p cs) = in_comprehension (λ own. in_pair own p) around cs
+    in_expr_by around (Expr-F.ListComprehension x cs slots) = in_comprehension (λ own. inner own x) around cs
+    in_expr_by around (Expr-F.DictComprehension p cs slots) = in_comprehension (λ own. in_pair own p) around cs
     in_expr_by around (Expr-F.Primary x ss) = in_primary around x ss
     in_expr_by around (Expr-F.Unary os x) = inner around x
     in_expr_by around (Expr-F.Binary x os) = inner around x ++ flat_map (in_operation around) os
@@ -269,7 +270,7 @@ module _ (file : FileParts) where
   in_stmt_by inner around looping (Stmt-F.Simple xs) = flat_map (in_small around looping) xs
   in_stmt_by inner around looping (Stmt-F.If bs zs) = flat_map (in_branch (inner looping) around) bs ++ flat_map (inner looping) zs
   in_stmt_by inner around looping (Stmt-F.For t x body) = in_target around t ++ (in_expr around x ++ flat_map (inner true) body)
-  in_stmt_by inner around looping (Stmt-F.Def n ps body) = misplaced_at n.line
+  in_stmt_by inner around looping (Stmt-F.Def n ps body) = misplaced_at (name_line n)
 
   -- the faults in a statement of a function, down to a depth
   unfoldable pub in_stmt_to : ℕ → Around → Bool → Stmt → List Fault

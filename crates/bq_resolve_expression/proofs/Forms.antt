@@ -1,26 +1,43 @@
--- What a part of a tree resolves to by its form, also where the parts of the form are borrowed.
-use Rattle.std.proofs.Common.{◌≡◌, ◌∙◌, Result, sym, ap, subst}
+-- Comprehensions, by their forms.
+use Rattle.std.proofs.Common.{◌≡◌, ◌∙◌, List, map, Result, sym, ap, subst}
 use Rattle.bq_base.specs.declared.fault.SourceErr.{SourceErr}
+use Rattle.bq_parse_grammar.specs.declared.tree.Argument.TheOpen.{Expr-F}
+use Rattle.bq_parse_grammar.specs.declared.tree.Clause.{Clause}
+use Rattle.bq_parse_grammar.specs.declared.tree.ComprehensionFrame.{ComprehensionFrame}
+use Rattle.bq_parse_grammar.specs.declared.tree.Expr.{Expr, out-Expr}
+use Rattle.bq_parse_grammar.specs.declared.tree.Expr.TheVariants as e
+use Rattle.bq_parse_grammar.specs.declared.tree.Expr.TheVariants.{outs-ListComprehension, outs-DictComprehension}
+use Rattle.bq_parse_grammar.specs.declared.tree.Pair.{Pair}
+use Rattle.bq_parse_grammar.specs.Targets.{ExprLayer}
+use Rattle.bq_resolve_scope.specs.declared.code.Code.{Code}
+use Rattle.bq_resolve_scope.specs.declared.code.Code.TheVariants as code
+use Rattle.bq_resolve_scope.specs.Codes.{clause_code, expr_code, frame_code, pair_code}
+use Rattle.bq_resolve_scope.specs.Scope.{BlockParts, FileParts}
 use Rattle.bq_resolve_scope.specs.Visit.{Passed, Visit}
-use Rattle.bq_resolve_expression.specs.Walks.{Walks}
+use Rattle.bq_resolve_scope.specs.Expressions.{comprehension, expr_by, pair}
+use Rattle.bq_resolve_scope.proofs.Codes.{expr_is, expr_layer}
+use Rattle.bq_resolve_expression.specs.Walks.{Writes}
 
-module _ {X L R : Type 0} (out : X → L) (by : L → Visit R) (x : X) (s new : Passed) (r : Result R SourceErr) where
-  pub of_form : (layer : L) → out x ≡ layer → Walks (by layer s) r new → Walks (by (out x) s) r new
-  of_form layer is walks = let P : L → Type 0 = λ l. Walks (by l s) r new in subst P (sym is) walks
+module _ (file : FileParts) (visit : List BlockParts → Expr → Visit Code) (blocks : List BlockParts) (x : Expr) (s new : Passed) (r : Result (Unit {0}) SourceErr) where
+  of_form : (l : ExprLayer) (made : Expr) (k : Code) → out-Expr x ≡ l → expr_code made ≡ k → Writes (expr_by file visit blocks l s) r k new
+      → Writes (expr_by file visit blocks (out-Expr x) s) r (expr_code made) new
+  of_form l made k is codes writes =
+      let P : ExprLayer → Type 0 = λ v. Writes (expr_by file visit blocks v s) r (expr_code made) new in
+      let Q : Code → Type 0 = λ v. Writes (expr_by file visit blocks l s) r v new in
+      subst P (sym is) (subst Q (sym codes) writes)
 
-  -- of one part
-  pub of_one : {A : Type 0} (make : A → X) (form : A → L) → ((a : A) → out (make a) ≡ form a) → (a y : A) → x ≡ make a → y ≡ a
-      → Walks (by (form y) s) r new → Walks (by (out x) s) r new
-  of_one make form outs a y is part walks = of_form (form y) (ap out is ∙ outs a ∙ sym (ap form part)) walks
+  -- of a list
+  pub list_form : (element made : Expr) (cs ds : List Clause) (own frame : ComprehensionFrame) → x ≡ e.ListComprehension element cs own
+      → Writes (comprehension file visit (λ bs. visit bs element) code.ListComprehension blocks cs s) r (frame_code frame (code.ListComprehension (expr_code made) (map clause_code ds))) new
+      → Writes (expr_by file visit blocks (out-Expr x) s) r (expr_code (e.ListComprehension made ds frame)) new
+  list_form element made cs ds own frame is writes =
+      of_form (Expr-F.ListComprehension element cs own) (e.ListComprehension made ds frame) (frame_code frame (code.ListComprehension (expr_code made) (map clause_code ds)))
+      (ap out-Expr is ∙ outs-ListComprehension element cs own) (expr_is (e.ListComprehension made ds frame) ∙ ap expr_layer (outs-ListComprehension made ds frame)) writes
 
-  -- of two
-  pub of_two : {A B : Type 0} (make : A → B → X) (form : A → B → L) → ((a : A) (b : B) → out (make a b) ≡ form a b)
-      → (a y : A) (b z : B) → x ≡ make a b → y ≡ a → z ≡ b
-      → Walks (by (form y z) s) r new → Walks (by (out x) s) r new
-  of_two make form outs a y b z is first second walks = of_form (form y z) (ap out is ∙ outs a b ∙ sym (ap (λ v. form v z) first ∙ ap (form a) second)) walks
-
-  -- of three
-  pub of_three : {A B C : Type 0} (make : A → B → C → X) (form : A → B → C → L) → ((a : A) (b : B) (c : C) → out (make a b c) ≡ form a b c)
-      → (a y : A) (b : B) (c z : C) → x ≡ make a b c → y ≡ a → z ≡ c
-      → Walks (by (form y b z) s) r new → Walks (by (out x) s) r new
-  of_three make form outs a y b c z is first third walks = of_form (form y b z) (ap out is ∙ outs a b c ∙ sym (ap (λ v. form v b z) first ∙ ap (form a b) third)) walks
+  -- of a dict
+  pub dict_form : (p made : Pair) (cs ds : List Clause) (own frame : ComprehensionFrame) → x ≡ e.DictComprehension p cs own
+      → Writes (comprehension file visit (λ bs. pair file visit bs p) code.DictComprehension blocks cs s) r (frame_code frame (code.DictComprehension (pair_code made) (map clause_code ds))) new
+      → Writes (expr_by file visit blocks (out-Expr x) s) r (expr_code (e.DictComprehension made ds frame)) new
+  dict_form p made cs ds own frame is writes =
+      of_form (Expr-F.DictComprehension p cs own) (e.DictComprehension made ds frame) (frame_code frame (code.DictComprehension (pair_code made) (map clause_code ds)))
+      (ap out-Expr is ∙ outs-DictComprehension p cs own) (expr_is (e.DictComprehension made ds frame) ∙ ap expr_layer (outs-DictComprehension made ds frame)) writes

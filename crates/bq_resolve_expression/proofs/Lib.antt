@@ -1,5 +1,9 @@
--- `Layers`: one layer of a tree. `Forms`: the forms of expressions. `Walked`: what is made of a value. `Frames`: the frame that a comprehension is in.
+-- `Layers`: one layer of a tree. `Frames`: the frame that a comprehension is in.
 mod Layers
+-- Comprehensions, by their forms.
 mod Forms
-mod Walked
 mod Frames
+-- A call of a member.
+mod Members
+-- One item more of a list is done.
+pub mod Each

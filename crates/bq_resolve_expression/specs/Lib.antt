@@ -1,3 +1,3 @@
 pub mod Walks
 pub mod Comprehensions
-pub mod Targets
+pub mod Members

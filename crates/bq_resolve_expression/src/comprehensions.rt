@@ -1,89 +1,68 @@
 //! Comprehensions.
 
-ghost use Rattle.std.specs.Prelude.{◌≡◌, Ok};
+ghost use Rattle.std.specs.Prelude.{map, take, drop};
 ghost use Rattle.bq_parse_grammar.specs.declared.tree.Clause.{out-Clause};
+ghost use Rattle.bq_resolve_scope.specs.declared.code.Code.TheVariants as code;
+ghost use Rattle.bq_resolve_scope.specs.Codes.{clause_code, expr_code, frame_code, pair_code};
 ghost use Rattle.bq_resolve_scope.specs.Expressions as spec;
-ghost use Rattle.bq_resolve_expression.specs.Walks.{Walks, WalksNested};
+ghost use Rattle.bq_resolve_expression.specs.Walks.{Writes, WritesNested};
 ghost use Rattle.bq_resolve_expression.specs.Comprehensions.{further_clauses, list_in_block, list_comprehension, dict_in_block, dict_comprehension};
 
 use crate::rules::Rules;
 use crate::scope::Scope;
 use crate::walk::Walk;
 use bq_base::SourceErr;
-use bq_parse_grammar::{Clause, Expr, Pair};
-use bq_resolve_scope::{Block, Code, CodeClause, MAX_LAYERS, comprehension_names};
-use sqlite_items::{Boxed, Items};
-use std::alloc::Global;
+use bq_parse_grammar::{Clause, ComprehensionFrame, Expr, Pair};
+use bq_resolve_scope::{Block, MAX_LAYERS, comprehension_names};
+use bq_tree_items::{Boxed, Items};
 
-/// Ends a frame that was opened, and goes on with the enclosing one, which had `had` slots.
-fn framed(alloc: Global, walk: &mut Walk, had: usize, code: Code) -> Result<Code, SourceErr>
-    ensures { Walks (spec.framed had (Ok (code, walk.old))) result walk.new }
-{
-    let own = walk.frame(had);
-    Ok(Code::Framed(own, Boxed::new(alloc, code)?))
-}
-
-impl<'a, F: Copy + Fn(&Scope<'_>, usize, &mut Walk, &Expr) -> Result<Code, SourceErr>> Rules<
+impl<'a, F: Copy + Fn(&Scope<'_>, usize, &mut Walk, &mut Expr) -> Result<(), SourceErr>> Rules<
     'a,
     F,
 > {
     /// Resolves a clause: its iterable among the blocks `round`.
     #[tactic(auto, unfolding(bq_resolve_scope::specs::Names::max_layers))]
-    fn clause(
-        &self,
-        round: &[Block],
-        walk: &mut Walk,
-        clause: &Clause,
-    ) -> Result<CodeClause, SourceErr>
-        requires { WalksNested self.now.depth (F.pre self.now.visit) (F.post self.now.visit) }
-        ensures { Walks (spec.clause_by self.now.scope.file.now (spec.expr_to self.now.depth self.now.scope.file.now) round.now self.now.scope.blocks.now (out-Clause clause.now) walk.old) result walk.new }
+    fn clause(&self, round: &[Block], walk: &mut Walk, clause: &mut Clause) -> Result<(), SourceErr>
+        requires { WritesNested self.now.depth (F.pre self.now.visit) (F.post self.now.visit) }
+        ensures { Writes (spec.clause_by self.now.scope.file.now (spec.expr_to self.now.depth self.now.scope.file.now) round.now self.now.scope.blocks.now (out-Clause clause.old) walk.old) result (clause_code clause.new) walk.new }
     {
         match clause {
             Clause::For(target, iterable) => {
-                let target = self.target_to(MAX_LAYERS, walk, target)?;
-                let target = Boxed::new(self.scope.alloc, target)?;
+                self.target_to(MAX_LAYERS, walk, target)?;
                 let round = self.scope.among(round);
-                let iterable = (self.visit)(&round, self.depth, walk, iterable)?;
-                Ok(CodeClause::For(target.into_inner(), iterable))
+                (self.visit)(&round, self.depth, walk, iterable)
             }
-            Clause::If(condition) => Ok(CodeClause::If(self.expr(walk, condition)?)),
+            Clause::If(condition) => self.expr(walk, condition),
         }
     }
 
-    /// Resolves clauses that lie inside, and appends them to those done.
-    #[tactic(auto, unfolding(bq_resolve_scope::specs::Visit::each))]
-    fn further_clauses(
-        &self,
-        walk: &mut Walk,
-        mut done: Items<CodeClause>,
-        clauses: &[Clause],
-    ) -> Result<Items<CodeClause>, SourceErr>
-        requires { WalksNested self.now.depth (F.pre self.now.visit) (F.post self.now.visit) }
-        ensures { Walks (further_clauses self.now.depth self.now.scope done clauses.now walk.old) result walk.new }
+    /// Resolves the clauses after the first, which lie inside.
+    fn further_clauses(&self, walk: &mut Walk, clauses: &mut Items<Clause>) -> Result<(), SourceErr>
+        requires { WritesNested self.now.depth (F.pre self.now.visit) (F.post self.now.visit) }
+        ensures { Writes (further_clauses self.now.depth self.now.scope (map clause_code (take 1 clauses.old)) (drop 1 clauses.old) walk.old) result (map clause_code clauses.new) walk.new }
     {
-        for clause in clauses {
-            done.push(self.clause(self.scope.blocks, walk, clause)?)?;
+        for at in 1..clauses.len() {
+            self.clause(self.scope.blocks, walk, clauses.item_mut(at))?;
         }
-        Ok(done)
+        Ok(())
     }
 
     /// Resolves the clauses of a comprehension: its first iterable lies outside it.
-    #[tactic(auto, unfolding(bq_resolve_scope::specs::Expressions::clauses))]
+    #[tactic(auto, using(crate::proofs::Each::clauses_none))]
     fn clauses(
         &self,
         round: &[Block],
         walk: &mut Walk,
-        clauses: &[Clause],
-    ) -> Result<Items<CodeClause>, SourceErr>
-        requires { WalksNested self.now.depth (F.pre self.now.visit) (F.post self.now.visit) }
-        ensures { Walks (spec.clauses self.now.scope.file.now (spec.expr_to self.now.depth self.now.scope.file.now) round.now self.now.scope.blocks.now clauses.now walk.old) result walk.new }
+        clauses: &mut Items<Clause>,
+    ) -> Result<(), SourceErr>
+        requires { WritesNested self.now.depth (F.pre self.now.visit) (F.post self.now.visit) }
+        ensures { Writes (spec.clauses self.now.scope.file.now (spec.expr_to self.now.depth self.now.scope.file.now) round.now self.now.scope.blocks.now clauses.old walk.old) result (map clause_code clauses.new) walk.new }
     {
-        let mut done = Items::from_vec(Vec::with_capacity(self.scope.alloc, clauses.len())?);
-        let [first, rest @ ..] = clauses else {
-            return Ok(done);
-        };
-        done.push(self.clause(round, walk, first)?)?;
-        self.further_clauses(walk, done, rest)
+        if clauses.is_empty() {
+            return Ok(());
+        }
+        self.clause(round, walk, clauses.item_mut(0))?;
+        self.further_clauses(walk, clauses)
     }
 
     /// `[element for .. in ..]`, in the frame that is open.
@@ -91,26 +70,21 @@ impl<'a, F: Copy + Fn(&Scope<'_>, usize, &mut Walk, &Expr) -> Result<Code, Sourc
     fn list_in_block(
         &self,
         walk: &mut Walk,
-        element: &Expr,
-        clauses: &[Clause],
-    ) -> Result<Code, SourceErr>
-        requires { WalksNested self.now.depth (F.pre self.now.visit) (F.post self.now.visit) }
-        ensures { Walks (list_in_block self.now.depth self.now.scope element.now clauses.now walk.old) result walk.new }
+        element: &mut Boxed<Expr>,
+        clauses: &mut Boxed<Items<Clause>>,
+    ) -> Result<(), SourceErr>
+        requires { WritesNested self.now.depth (F.pre self.now.visit) (F.post self.now.visit) }
+        ensures { Writes (list_in_block self.now.depth self.now.scope element.old clauses.old walk.old) result (code.ListComprehension (expr_code element.new) (map clause_code clauses.new)) walk.new }
     {
-        let names = comprehension_names(self.scope.alloc, clauses)?;
+        let names = comprehension_names(self.scope.alloc, clauses.get().as_slice())?;
         let blocks = walk.open(self.scope.alloc, names, self.scope.blocks)?;
         let inside = Rules {
-            scope: Scope {
-                alloc: self.scope.alloc,
-                file: self.scope.file,
-                blocks: blocks.as_slice(),
-            },
+            scope: self.scope.among(blocks.as_slice()),
             depth: self.depth,
             visit: self.visit,
         };
-        let element = inside.boxed(walk, element)?;
-        let clauses = inside.clauses(self.scope.blocks, walk, clauses)?;
-        Ok(Code::ListComprehension(element, clauses))
+        inside.expr(walk, element.get_mut())?;
+        inside.clauses(self.scope.blocks, walk, clauses.get_mut())
     }
 
     /// `[element for .. in ..]`
@@ -118,18 +92,21 @@ impl<'a, F: Copy + Fn(&Scope<'_>, usize, &mut Walk, &Expr) -> Result<Code, Sourc
     pub fn list_comprehension(
         &self,
         walk: &mut Walk,
-        element: &Expr,
-        clauses: &[Clause],
-    ) -> Result<Code, SourceErr>
-        requires { WalksNested self.now.depth (F.pre self.now.visit) (F.post self.now.visit) }
-        ensures { Walks (list_comprehension self.now.depth self.now.scope element.now clauses.now walk.old) result walk.new }
+        element: &mut Boxed<Expr>,
+        clauses: &mut Boxed<Items<Clause>>,
+        frame: &mut ComprehensionFrame,
+    ) -> Result<(), SourceErr>
+        requires { WritesNested self.now.depth (F.pre self.now.visit) (F.post self.now.visit) }
+        ensures { Writes (list_comprehension self.now.depth self.now.scope element.old clauses.old walk.old) result (frame_code frame.new (code.ListComprehension (expr_code element.new) (map clause_code clauses.new))) walk.new }
     {
         if !self.scope.blocks.is_empty() {
+            *frame = ComprehensionFrame::Shared;
             return self.list_in_block(walk, element, clauses);
         }
         let had = walk.frame(0);
-        let code = self.list_in_block(walk, element, clauses)?;
-        framed(self.scope.alloc, walk, had, code)
+        self.list_in_block(walk, element, clauses)?;
+        *frame = ComprehensionFrame::Own(walk.frame(had));
+        Ok(())
     }
 
     /// `{key: value for .. in ..}`, in the frame that is open.
@@ -137,27 +114,21 @@ impl<'a, F: Copy + Fn(&Scope<'_>, usize, &mut Walk, &Expr) -> Result<Code, Sourc
     fn dict_in_block(
         &self,
         walk: &mut Walk,
-        pair: &Pair,
-        clauses: &[Clause],
-    ) -> Result<Code, SourceErr>
-        requires { WalksNested self.now.depth (F.pre self.now.visit) (F.post self.now.visit) }
-        ensures { Walks (dict_in_block self.now.depth self.now.scope pair.now clauses.now walk.old) result walk.new }
+        pair: &mut Boxed<Pair>,
+        clauses: &mut Boxed<Items<Clause>>,
+    ) -> Result<(), SourceErr>
+        requires { WritesNested self.now.depth (F.pre self.now.visit) (F.post self.now.visit) }
+        ensures { Writes (dict_in_block self.now.depth self.now.scope pair.old clauses.old walk.old) result (code.DictComprehension (pair_code pair.new) (map clause_code clauses.new)) walk.new }
     {
-        let names = comprehension_names(self.scope.alloc, clauses)?;
+        let names = comprehension_names(self.scope.alloc, clauses.get().as_slice())?;
         let blocks = walk.open(self.scope.alloc, names, self.scope.blocks)?;
         let inside = Rules {
-            scope: Scope {
-                alloc: self.scope.alloc,
-                file: self.scope.file,
-                blocks: blocks.as_slice(),
-            },
+            scope: self.scope.among(blocks.as_slice()),
             depth: self.depth,
             visit: self.visit,
         };
-        let pair = inside.pair(walk, pair)?;
-        let pair = Boxed::new(self.scope.alloc, pair)?;
-        let clauses = inside.clauses(self.scope.blocks, walk, clauses)?;
-        Ok(Code::DictComprehension(pair, clauses))
+        inside.pair(walk, pair.get_mut())?;
+        inside.clauses(self.scope.blocks, walk, clauses.get_mut())
     }
 
     /// `{key: value for .. in ..}`
@@ -165,17 +136,20 @@ impl<'a, F: Copy + Fn(&Scope<'_>, usize, &mut Walk, &Expr) -> Result<Code, Sourc
     pub fn dict_comprehension(
         &self,
         walk: &mut Walk,
-        pair: &Pair,
-        clauses: &[Clause],
-    ) -> Result<Code, SourceErr>
-        requires { WalksNested self.now.depth (F.pre self.now.visit) (F.post self.now.visit) }
-        ensures { Walks (dict_comprehension self.now.depth self.now.scope pair.now clauses.now walk.old) result walk.new }
+        pair: &mut Boxed<Pair>,
+        clauses: &mut Boxed<Items<Clause>>,
+        frame: &mut ComprehensionFrame,
+    ) -> Result<(), SourceErr>
+        requires { WritesNested self.now.depth (F.pre self.now.visit) (F.post self.now.visit) }
+        ensures { Writes (dict_comprehension self.now.depth self.now.scope pair.old clauses.old walk.old) result (frame_code frame.new (code.DictComprehension (pair_code pair.new) (map clause_code clauses.new))) walk.new }
     {
         if !self.scope.blocks.is_empty() {
+            *frame = ComprehensionFrame::Shared;
             return self.dict_in_block(walk, pair, clauses);
         }
         let had = walk.frame(0);
-        let code = self.dict_in_block(walk, pair, clauses)?;
-        framed(self.scope.alloc, walk, had, code)
+        self.dict_in_block(walk, pair, clauses)?;
+        *frame = ComprehensionFrame::Own(walk.frame(had));
+        Ok(())
     }
 }

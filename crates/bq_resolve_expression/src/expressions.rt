@@ -1,128 +1,130 @@
 //! All forms of expressions, with the resolver of those inside.
 
+ghost use Rattle.std.specs.Prelude.{[], map};
 ghost use Rattle.bq_parse_grammar.specs.declared.tree.Argument.TheOpen.{Expr-F};
 ghost use Rattle.bq_parse_grammar.specs.declared.tree.Expr.{out-Expr};
+ghost use Rattle.bq_resolve_scope.specs.declared.code.Code.TheVariants as code;
+ghost use Rattle.bq_resolve_scope.specs.Codes.{choice_code, expr_code, operation_code, use_code};
+ghost use Rattle.bq_resolve_scope.specs.Visit as visit;
 ghost use Rattle.bq_resolve_scope.specs.Expressions as spec;
-ghost use Rattle.bq_resolve_expression.specs.Walks.{Walks, WalksNested};
+ghost use Rattle.bq_resolve_expression.specs.Walks.{Writes, WritesNested};
 
-use crate::identifier::fault_of;
+use crate::identifier::{fault_of, referent};
 use crate::rules::Rules;
 use crate::scope::Scope;
 use crate::walk::Walk;
 use bq_base::{Fault, FaultKind, SourceErr};
-use bq_parse_grammar::{Choice, Comparison, Expr, Operation, UnaryOperator};
-use bq_resolve_scope::{Code, CodeOperation};
-use sqlite_items::Items;
+use bq_parse_grammar::{Choice, Comparison, Expr, Identifier, Operation};
+use bq_tree_items::{Boxed, Items};
 
-impl<'a, F: Copy + Fn(&Scope<'_>, usize, &mut Walk, &Expr) -> Result<Code, SourceErr>> Rules<
+impl<'a, F: Copy + Fn(&Scope<'_>, usize, &mut Walk, &mut Expr) -> Result<(), SourceErr>> Rules<
     'a,
     F,
 > {
-    /// Resolves an operand, with the operators before it.
-    fn unary(
+    /// Resolves the use of a name: it is of the innermost block that holds it, else F20.
+    #[tactic(auto, unfolding(bq_resolve_scope::specs::Expressions::use_at))]
+    fn name(&self, walk: &mut Walk, name: &mut Identifier) -> Result<(), SourceErr>
+        ensures { Writes (spec.expr_by self.now.scope.file.now (spec.expr_to self.now.depth self.now.scope.file.now) self.now.scope.blocks.now (Expr-F.Expr::Name name.old) walk.old) result (use_code name.new.referent) walk.new }
+    {
+        match self.scope.file.use_of(self.scope.blocks, &name.name) {
+            Some(binding) => {
+                name.referent = referent(binding);
+                Ok(())
+            }
+            None => Err(SourceErr::Bad(fault_of(FaultKind::UnknownName, name)?)),
+        }
+    }
+
+    #[tactic(auto, unfolding(bq_resolve_scope::specs::Expressions::operation))]
+    fn operation(&self, walk: &mut Walk, operation: &mut Operation) -> Result<(), SourceErr>
+        requires { WritesNested self.now.depth (F.pre self.now.visit) (F.post self.now.visit) }
+        ensures { Writes (spec.operation self.now.scope.file.now (spec.expr_to self.now.depth self.now.scope.file.now) self.now.scope.blocks.now operation.old walk.old) result (operation_code operation.new) walk.new }
+    {
+        self.expr(walk, &mut operation.operand)
+    }
+
+    fn operations(
         &self,
         walk: &mut Walk,
-        operators: &[UnaryOperator],
-        operand: &Expr,
-    ) -> Result<Code, SourceErr>
-        requires { WalksNested self.now.depth (F.pre self.now.visit) (F.post self.now.visit) }
-        ensures { Walks (spec.expr_by self.now.scope.file.now (spec.expr_to self.now.depth self.now.scope.file.now) self.now.scope.blocks.now (Expr-F.Unary operators.now operand.now) walk.old) result walk.new }
+        operations: &mut Items<Operation>,
+    ) -> Result<(), SourceErr>
+        requires { WritesNested self.now.depth (F.pre self.now.visit) (F.post self.now.visit) }
+        ensures { Writes (visit.each (spec.operation self.now.scope.file.now (spec.expr_to self.now.depth self.now.scope.file.now) self.now.scope.blocks.now) [] operations.old walk.old) result (map operation_code operations.new) walk.new }
     {
-        let operand = self.boxed(walk, operand)?;
-        Ok(Code::Unary(Items::from_slice(self.scope.alloc, operators)?, operand))
+        for at in 0..operations.len() {
+            self.operation(walk, operations.item_mut(at))?;
+        }
+        Ok(())
     }
 
     /// Resolves an operand, and the operations on it.
-    #[tactic(auto, unfolding(bq_resolve_scope::specs::Visit::each, bq_resolve_scope::specs::Expressions::operation))]
     fn binary(
         &self,
         walk: &mut Walk,
-        first: &Expr,
-        operations: &[Operation],
-    ) -> Result<Code, SourceErr>
-        requires { WalksNested self.now.depth (F.pre self.now.visit) (F.post self.now.visit) }
-        ensures { Walks (spec.expr_by self.now.scope.file.now (spec.expr_to self.now.depth self.now.scope.file.now) self.now.scope.blocks.now (Expr-F.Binary first.now operations.now) walk.old) result walk.new }
+        first: &mut Boxed<Expr>,
+        operations: &mut Items<Operation>,
+    ) -> Result<(), SourceErr>
+        requires { WritesNested self.now.depth (F.pre self.now.visit) (F.post self.now.visit) }
+        ensures { Writes (spec.expr_by self.now.scope.file.now (spec.expr_to self.now.depth self.now.scope.file.now) self.now.scope.blocks.now (Expr-F.Binary first.old operations.old) walk.old) result (code.Binary (expr_code first.new) (map operation_code operations.new)) walk.new }
     {
-        let first = self.boxed(walk, first)?;
-        let mut done = Items::from_vec(Vec::with_capacity(self.scope.alloc, operations.len())?);
-        for operation in operations {
-            let operand = self.expr(walk, &operation.operand)?;
-            done.push(CodeOperation {
-                operator: operation.operator,
-                operand,
-            })?;
-        }
-        Ok(Code::Binary(first, done))
+        self.boxed(walk, first)?;
+        self.operations(walk, operations)
     }
 
     fn compare(
         &self,
         walk: &mut Walk,
-        left: &Expr,
+        left: &mut Boxed<Expr>,
         comparison: Comparison,
-        right: &Expr,
-    ) -> Result<Code, SourceErr>
-        requires { WalksNested self.now.depth (F.pre self.now.visit) (F.post self.now.visit) }
-        ensures { Walks (spec.expr_by self.now.scope.file.now (spec.expr_to self.now.depth self.now.scope.file.now) self.now.scope.blocks.now (Expr-F.Compare left.now comparison right.now) walk.old) result walk.new }
+        right: &mut Boxed<Expr>,
+    ) -> Result<(), SourceErr>
+        requires { WritesNested self.now.depth (F.pre self.now.visit) (F.post self.now.visit) }
+        ensures { Writes (spec.expr_by self.now.scope.file.now (spec.expr_to self.now.depth self.now.scope.file.now) self.now.scope.blocks.now (Expr-F.Compare left.old comparison right.old) walk.old) result (code.Compare (expr_code left.new) comparison (expr_code right.new)) walk.new }
     {
-        let left = self.boxed(walk, left)?;
-        let right = self.boxed(walk, right)?;
-        Ok(Code::Compare(left, comparison, right))
+        self.boxed(walk, left)?;
+        self.boxed(walk, right)
     }
 
     /// Resolves choices, and the last value.
     fn conditional(
         &self,
         walk: &mut Walk,
-        choices: &[Choice],
-        last: &Expr,
-    ) -> Result<Code, SourceErr>
-        requires { WalksNested self.now.depth (F.pre self.now.visit) (F.post self.now.visit) }
-        ensures { Walks (spec.expr_by self.now.scope.file.now (spec.expr_to self.now.depth self.now.scope.file.now) self.now.scope.blocks.now (Expr-F.Conditional choices.now last.now) walk.old) result walk.new }
+        choices: &mut Items<Choice>,
+        last: &mut Boxed<Expr>,
+    ) -> Result<(), SourceErr>
+        requires { WritesNested self.now.depth (F.pre self.now.visit) (F.post self.now.visit) }
+        ensures { Writes (spec.expr_by self.now.scope.file.now (spec.expr_to self.now.depth self.now.scope.file.now) self.now.scope.blocks.now (Expr-F.Conditional choices.old last.old) walk.old) result (code.Conditional (map choice_code choices.new) (expr_code last.new)) walk.new }
     {
-        let choices = self.choices(walk, choices)?;
-        let last = self.boxed(walk, last)?;
-        Ok(Code::Conditional(choices, last))
+        self.choices(walk, choices)?;
+        self.boxed(walk, last)
     }
 
-    /// Resolves an expression, of any form. A use of a name is of the innermost block that holds it, else F20.
-    #[tactic(auto, unfolding(bq_resolve_scope::specs::Expressions::use_at))]
-    fn expr_by(&self, walk: &mut Walk, expr: &Expr) -> Result<Code, SourceErr>
-        requires { WalksNested self.now.depth (F.pre self.now.visit) (F.post self.now.visit) }
-        ensures { Walks (spec.expr_by self.now.scope.file.now (spec.expr_to self.now.depth self.now.scope.file.now) self.now.scope.blocks.now (out-Expr expr.now) walk.old) result walk.new }
+    /// Resolves an expression, of any form.
+    fn expr_by(&self, walk: &mut Walk, expr: &mut Expr) -> Result<(), SourceErr>
+        requires { WritesNested self.now.depth (F.pre self.now.visit) (F.post self.now.visit) }
+        ensures { Writes (spec.expr_by self.now.scope.file.now (spec.expr_to self.now.depth self.now.scope.file.now) self.now.scope.blocks.now (out-Expr expr.old) walk.old) result (expr_code expr.new) walk.new }
     {
         match expr {
-            Expr::Name(name) => match self.scope.file.use_of(self.scope.blocks, &name.name) {
-                Some(binding) => Ok(Code::Use(binding)),
-                None => Err(SourceErr::Bad(fault_of(FaultKind::UnknownName, name)?)),
-            },
-            Expr::Int(value) => Ok(Code::Int(*value)),
-            Expr::String(text) => Ok(Code::String(text.share()?)),
-            Expr::List(items) => self.exprs(walk, items.as_slice()).map(Code::List),
-            Expr::Tuple(items) => self.exprs(walk, items.as_slice()).map(Code::Tuple),
-            Expr::Dict(pairs) => self.pairs(walk, pairs.as_slice()).map(Code::Dict),
-            Expr::ListComprehension(element, clauses) => {
-                self.list_comprehension(walk, element.get(), clauses.as_slice())
+            Expr::Name(name) => self.name(walk, name),
+            Expr::Int(_) => Ok(()),
+            Expr::String(_) => Ok(()),
+            Expr::List(items) => self.exprs(walk, items),
+            Expr::Tuple(items) => self.exprs(walk, items),
+            Expr::Dict(pairs) => self.pairs(walk, pairs),
+            Expr::ListComprehension(element, clauses, frame) => {
+                self.list_comprehension(walk, element, clauses, frame)
             }
-            Expr::DictComprehension(pair, clauses) => {
-                self.dict_comprehension(walk, pair.get(), clauses.as_slice())
+            Expr::DictComprehension(pair, clauses, frame) => {
+                self.dict_comprehension(walk, pair, clauses, frame)
             }
-            Expr::Primary(operand, suffixes) => {
-                self.primary(walk, operand.get(), suffixes.as_slice())
-            }
-            Expr::Unary(operators, operand) => {
-                self.unary(walk, operators.as_slice(), operand.get())
-            }
-            Expr::Binary(first, operations) => {
-                self.binary(walk, first.get(), operations.as_slice())
-            }
+            Expr::Primary(operand, suffixes) => self.primary(walk, operand, suffixes),
+            Expr::Unary(_, operand) => self.boxed(walk, operand),
+            Expr::Binary(first, operations) => self.binary(walk, first, operations),
             Expr::Compare(left, comparison, right) => {
-                self.compare(walk, left.get(), *comparison, right.get())
+                self.compare(walk, left, *comparison, right)
             }
-            Expr::Conditional(choices, last) => {
-                self.conditional(walk, choices.as_slice(), last.get())
-            }
-            Expr::Lambda => Ok(Code::Lambda),
+            Expr::Conditional(choices, last) => self.conditional(walk, choices, last),
+            Expr::Lambda => Ok(()),
         }
     }
 }
@@ -133,9 +135,9 @@ pub fn expr_to(
     scope: &Scope<'_>,
     depth: usize,
     walk: &mut Walk,
-    expr: &Expr,
-) -> Result<Code, SourceErr>
-    ensures { Walks (spec.expr_to depth scope.now.file.now scope.now.blocks.now expr.now walk.old) result walk.new }
+    expr: &mut Expr,
+) -> Result<(), SourceErr>
+    ensures { Writes (spec.expr_to depth scope.now.file.now scope.now.blocks.now expr.old walk.old) result (expr_code expr.new) walk.new }
 {
     if depth == 0 {
         return Err(SourceErr::Bad(Fault::at(FaultKind::Nesting, 0)));

@@ -1,15 +1,17 @@
 //! Names that are bound, and faults at names.
 
 ghost use Rattle.std.specs.Prelude.{◌≡◌, IfOk};
+ghost use Rattle.bq_resolve_scope.specs.declared.code.Code.TheVariants as code;
+ghost use Rattle.bq_resolve_scope.specs.Codes.{use_code, variable_code};
 ghost use Rattle.bq_resolve_scope.specs.Visit.{fault_of};
 ghost use Rattle.bq_resolve_scope.specs.Expressions as spec;
-ghost use Rattle.bq_resolve_expression.specs.Walks.{Walks};
+ghost use Rattle.bq_resolve_expression.specs.Walks.{Writes};
 
 use crate::scope::Scope;
 use crate::walk::Walk;
 use bq_base::{Fault, FaultKind, SourceErr};
-use bq_parse_grammar::{FileKind, Identifier};
-use bq_resolve_scope::{Binding, CodeTarget};
+use bq_parse_grammar::{FileKind, Identifier, Referent};
+use bq_resolve_scope::Binding;
 use std::alloc::AllocError;
 
 /// Returns a fault at a name.
@@ -18,9 +20,21 @@ pub fn fault_of(kind: FaultKind, name: &Identifier) -> Result<Fault, AllocError>
 {
     Ok(Fault {
         kind,
-        line: name.line,
+        line: name.line(),
         detail: name.name.share()?,
     })
+}
+
+/// Returns what a name refers to that stands for this.
+pub fn referent(binding: Binding) -> Referent
+    ensures { use_code result ≡ code.Use binding }
+{
+    match binding {
+        Binding::Local(slot) => Referent::Local(slot),
+        Binding::Global(k) => Referent::Global(k),
+        Binding::Loaded(k) => Referent::Loaded(k),
+        Binding::Predeclared(predeclared) => Referent::Predeclared(predeclared),
+    }
 }
 
 /// Resolves a name that is bound: its block holds it. Outside functions and comprehensions, where there is no enclosing block, it is a
@@ -29,9 +43,10 @@ pub fn fault_of(kind: FaultKind, name: &Identifier) -> Result<Fault, AllocError>
 pub fn name_target(
     scope: &Scope<'_>,
     walk: &mut Walk,
-    name: &Identifier,
-) -> Result<CodeTarget, SourceErr>
-    ensures { Walks (spec.name_target scope.now.file.now scope.now.blocks.now name.now walk.old) result walk.new }
+    name: &mut Identifier,
+) -> Result<(), SourceErr>
+    ensures writes { Writes (spec.name_target scope.now.file.now scope.now.blocks.now name.old walk.old) result (variable_code name.new.referent) walk.new }
+    ensures spelling { name.new.name ≡ name.old.name }
 {
     if scope.blocks.is_empty() {
         let is_rebound = match scope.file.kind() {
@@ -44,8 +59,14 @@ pub fn name_target(
         walk.bound.add(&name.name)?;
     }
     match scope.file.use_of(scope.blocks, &name.name) {
-        Some(Binding::Local(slot)) => Ok(CodeTarget::Local(slot)),
-        Some(Binding::Global(k)) => Ok(CodeTarget::Global(k)),
+        Some(Binding::Local(slot)) => {
+            name.referent = Referent::Local(slot);
+            Ok(())
+        }
+        Some(Binding::Global(k)) => {
+            name.referent = Referent::Global(k);
+            Ok(())
+        }
         _ => Err(SourceErr::Bad(fault_of(FaultKind::UnknownName, name)?)),
     }
 }

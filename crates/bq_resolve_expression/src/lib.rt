@@ -1,12 +1,17 @@
-//! The trees of expressions and targets come in; trees in which each use of a name says where its value is go out, or the first
-//! fault in the order of the text, F20 or F21.
+//! The trees of expressions and targets are lent, and what their names refer to is written into them; or the first fault in the order of
+//! the text is returned, F20 or F21.
 //!
-//! The promise: each rule answers just what the definition of its name in `bq_resolve_scope` (`specs/Expressions.antt`) gives, out of
-//! memory aside. The head of `bq_resolve_scope` says what scopes are.
+//! What is written: the referent of each name, and of each comprehension whether its slots are its own. `native.f(..)` and `attr.f(..)` keep
+//! their form: both words refer to the member `f`. Nothing is copied, and nothing else of a tree changes.
+//!
+//! The promise: where a rule succeeds, the code that its tree stands for now (`expr_code` and others, `specs/Codes.antt` of
+//! `bq_resolve_scope`) is just what the definition of its name (`specs/Expressions.antt` there) gives for the tree as it was; else its
+//! fault is the fault there, out of memory aside. Of a tree with a fault no more is said: its file is refused. The head of
+//! `bq_resolve_scope` says what scopes are.
 //!
 //! What a contract sees: a [`Walk`] is what was passed so far (`Passed`): the slots of the frame, the names that the file bound and
-//! loaded, its functions and its loads. So a rule says in one line what it makes of `walk.old`, and that `walk.new` is what was
-//! passed then (`Walks`).
+//! loaded, its functions and its loads. So a rule says in one line what it makes of `walk.old`, which code stands there then, and that
+//! `walk.new` is what was passed (`Writes`).
 //!
 //! Each rule over the expressions inside is a method of [`Rules`], which holds the resolver of these, so that each is proved by
 //! itself; only [`expr_to`] closes the circle. `depth` is how many layers of a tree are looked at.

@@ -1,18 +1,23 @@
 //! An operand with what is done to it, among them `native.NAME(..)` and `attr.NAME(..)`.
 
-ghost use Rattle.std.specs.Prelude.{◌≡◌};
+ghost use Rattle.std.specs.Prelude.{◌≡◌, ◌<◌, map, length};
 ghost use Rattle.bq_parse_grammar.specs.declared.tree.Expr.{out-Expr};
+ghost use Rattle.bq_parse_grammar.specs.declared.tree.Suffix.{out-Suffix};
+ghost use Rattle.bq_resolve_scope.specs.declared.code.Code.TheVariants as code;
+ghost use Rattle.bq_resolve_scope.specs.Codes.{expr_code, suffix_code};
 ghost use Rattle.bq_resolve_scope.specs.Expressions as spec;
-ghost use Rattle.bq_resolve_expression.specs.Walks.{Walks, WalksNested};
+ghost use Rattle.bq_resolve_expression.specs.Members as members;
+ghost use Rattle.bq_resolve_expression.specs.Walks.{Writes, WritesNested};
 
 use crate::identifier::fault_of;
 use crate::rules::Rules;
 use crate::scope::Scope;
 use crate::walk::Walk;
 use bq_base::{FaultKind, SourceErr};
-use bq_parse_grammar::{Expr, FileKind, Suffix};
-use bq_resolve_scope::{Code, CodeSuffix, Namespace};
-use sqlite_items::{Boxed, Items};
+use bq_parse_grammar::{Expr, FileKind, Referent, Suffix};
+use bq_resolve_predeclared::Predeclared;
+use bq_resolve_scope::Namespace;
+use bq_tree_items::{Boxed, Items};
 
 /// Returns the namespace that the operand is, in a .bzl file that binds no such name.
 fn namespace_at(scope: &Scope<'_>, operand: &Expr) -> Option<Namespace>
@@ -36,40 +41,90 @@ fn namespace_at(scope: &Scope<'_>, operand: &Expr) -> Option<Namespace>
     }
 }
 
-impl<'a, F: Copy + Fn(&Scope<'_>, usize, &mut Walk, &Expr) -> Result<Code, SourceErr>> Rules<
+/// Makes a name refer to the member.
+fn refer(operand: &mut Expr, member: Predeclared)
+    ensures { expr_code operand.new ≡ members.as_member member (out-Expr operand.old) (expr_code operand.old) }
+{
+    if let Expr::Name(name) = operand {
+        name.referent = Referent::Member(member);
+    }
+}
+
+impl<'a, F: Copy + Fn(&Scope<'_>, usize, &mut Walk, &mut Expr) -> Result<(), SourceErr>> Rules<
     'a,
     F,
 > {
+    /// Resolves an operand that is no namespace, and what is done to it.
+    #[tactic(auto, unfolding(bq_resolve_scope::specs::Expressions::operand))]
+    fn operand(
+        &self,
+        walk: &mut Walk,
+        operand: &mut Boxed<Expr>,
+        suffixes: &mut Items<Suffix>,
+    ) -> Result<(), SourceErr>
+        requires { WritesNested self.now.depth (F.pre self.now.visit) (F.post self.now.visit) }
+        ensures { Writes (spec.operand self.now.scope.file.now (spec.expr_to self.now.depth self.now.scope.file.now) self.now.scope.blocks.now operand.old suffixes.old walk.old) result (code.Primary (expr_code operand.new) (map suffix_code suffixes.new)) walk.new }
+    {
+        self.boxed(walk, operand)?;
+        self.suffixes_from(0, walk, suffixes)
+    }
+
+    /// Makes a method a call of the member, and resolves its arguments.
+    fn member_suffix(
+        &self,
+        member: Predeclared,
+        walk: &mut Walk,
+        suffix: &mut Suffix,
+    ) -> Result<(), SourceErr>
+        requires { WritesNested self.now.depth (F.pre self.now.visit) (F.post self.now.visit) }
+        ensures { Writes (members.member_suffix_by self.now.scope.file.now (spec.expr_to self.now.depth self.now.scope.file.now) self.now.scope.blocks.now (out-Suffix suffix.old) walk.old) result (suffix_code suffix.new) walk.new }
+    {
+        match suffix {
+            Suffix::Method(name, arguments) => {
+                name.referent = Referent::Member(member);
+                self.arguments(walk, arguments)
+            }
+            _ => self.suffix(walk, suffix),
+        }
+    }
+
+    /// Resolves a call of the member of a namespace, and what is done to its result.
+    fn member_call(
+        &self,
+        member: Predeclared,
+        walk: &mut Walk,
+        operand: &mut Boxed<Expr>,
+        suffixes: &mut Items<Suffix>,
+    ) -> Result<(), SourceErr>
+        requires nested { WritesNested self.now.depth (F.pre self.now.visit) (F.post self.now.visit) }
+        requires some { 0 < length suffixes.old }
+        ensures { Writes (members.member_primary self.now.scope.file.now (spec.expr_to self.now.depth self.now.scope.file.now) self.now.scope.blocks.now member operand.old suffixes.old walk.old) result (code.Primary (expr_code operand.new) (map suffix_code suffixes.new)) walk.new }
+    {
+        refer(operand.get_mut(), member);
+        self.member_suffix(member, walk, suffixes.item_mut(0))?;
+        self.suffixes_from(1, walk, suffixes)
+    }
+
     /// Resolves an operand, and what is done to it: `native.name(..)` is the build function or rule `name`, `attr.name(..)` the function
     /// that makes an attribute, else F20 at `name`.
-    #[tactic(auto, unfolding(bq_resolve_scope::specs::Expressions::primary, bq_resolve_scope::specs::Expressions::operand, bq_resolve_scope::specs::Expressions::call_member))]
+    #[tactic(auto, unfolding(bq_resolve_scope::specs::Expressions::primary, bq_resolve_scope::specs::Expressions::call_member))]
     pub fn primary(
         &self,
         walk: &mut Walk,
-        operand: &Expr,
-        suffixes: &[Suffix],
-    ) -> Result<Code, SourceErr>
-        requires { WalksNested self.now.depth (F.pre self.now.visit) (F.post self.now.visit) }
-        ensures { Walks (spec.primary self.now.scope.file.now (spec.expr_to self.now.depth self.now.scope.file.now) self.now.scope.blocks.now operand.now suffixes.now walk.old) result walk.new }
+        operand: &mut Boxed<Expr>,
+        suffixes: &mut Items<Suffix>,
+    ) -> Result<(), SourceErr>
+        requires { WritesNested self.now.depth (F.pre self.now.visit) (F.post self.now.visit) }
+        ensures { Writes (spec.primary self.now.scope.file.now (spec.expr_to self.now.depth self.now.scope.file.now) self.now.scope.blocks.now operand.old suffixes.old walk.old) result (code.Primary (expr_code operand.new) (map suffix_code suffixes.new)) walk.new }
     {
-        if let Some(space) = namespace_at(&self.scope, operand) {
-            if let [Suffix::Method(name, arguments), rest @ ..] = suffixes {
+        if let Some(space) = namespace_at(&self.scope, operand.get()) {
+            if let [Suffix::Method(name, _), ..] = suffixes.as_slice() {
                 let Some(member) = self.scope.file.member(space, &name.name) else {
                     return Err(SourceErr::Bad(fault_of(FaultKind::UnknownName, name)?));
                 };
-                let arguments = self.arguments(walk, arguments.as_slice())?;
-                let mut done = Items::from_vec(Vec::with_capacity(
-                    self.scope.alloc,
-                    suffixes.len(),
-                )?);
-                done.push(CodeSuffix::Call(arguments))?;
-                let suffixes = self.suffixes(walk, done, rest)?;
-                let member = Boxed::new(self.scope.alloc, Code::Member(member))?;
-                return Ok(Code::Primary(member, suffixes));
+                return self.member_call(member, walk, operand, suffixes);
             }
         }
-        let operand = self.boxed(walk, operand)?;
-        let done = Items::from_vec(Vec::with_capacity(self.scope.alloc, suffixes.len())?);
-        Ok(Code::Primary(operand, self.suffixes(walk, done, suffixes)?))
+        self.operand(walk, operand, suffixes)
     }
 }

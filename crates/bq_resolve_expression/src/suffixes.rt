@@ -1,66 +1,60 @@
 //! Operands, and what is done to them.
 
+ghost use Rattle.std.specs.Prelude.{map, take, drop};
 ghost use Rattle.bq_parse_grammar.specs.declared.tree.Argument.{out-Argument};
 ghost use Rattle.bq_parse_grammar.specs.declared.tree.Argument.TheOpen.{Suffix-F};
 ghost use Rattle.bq_parse_grammar.specs.declared.tree.Suffix.{out-Suffix};
+ghost use Rattle.bq_resolve_scope.specs.declared.code.CodeSuffix.TheVariants as code;
+ghost use Rattle.bq_resolve_scope.specs.Codes.{argument_code, method_code, optional_code, suffix_code};
 ghost use Rattle.bq_resolve_scope.specs.Visit as visit;
 ghost use Rattle.bq_resolve_scope.specs.Expressions as spec;
-ghost use Rattle.bq_resolve_expression.specs.Walks.{Walks, WalksNested};
+ghost use Rattle.bq_resolve_expression.specs.Walks.{Writes, WritesNested};
 
 use crate::rules::Rules;
 use crate::scope::Scope;
 use crate::walk::Walk;
 use bq_base::SourceErr;
-use bq_parse_grammar::{Argument, Expr, Identifier, Suffix};
-use bq_resolve_scope::{Code, CodeArgument, CodeSuffix};
-use sqlite_items::{Boxed, Items};
+use bq_parse_grammar::{Argument, Expr, Identifier, Referent, Suffix};
+use bq_tree_items::{Boxed, Items};
 
-impl<'a, F: Copy + Fn(&Scope<'_>, usize, &mut Walk, &Expr) -> Result<Code, SourceErr>> Rules<
+impl<'a, F: Copy + Fn(&Scope<'_>, usize, &mut Walk, &mut Expr) -> Result<(), SourceErr>> Rules<
     'a,
     F,
 > {
-    fn argument(&self, walk: &mut Walk, argument: &Argument) -> Result<CodeArgument, SourceErr>
-        requires { WalksNested self.now.depth (F.pre self.now.visit) (F.post self.now.visit) }
-        ensures { Walks (spec.argument_by self.now.scope.file.now (spec.expr_to self.now.depth self.now.scope.file.now) self.now.scope.blocks.now (out-Argument argument.now) walk.old) result walk.new }
+    fn argument(&self, walk: &mut Walk, argument: &mut Argument) -> Result<(), SourceErr>
+        requires { WritesNested self.now.depth (F.pre self.now.visit) (F.post self.now.visit) }
+        ensures { Writes (spec.argument_by self.now.scope.file.now (spec.expr_to self.now.depth self.now.scope.file.now) self.now.scope.blocks.now (out-Argument argument.old) walk.old) result (argument_code argument.new) walk.new }
     {
         match argument {
-            Argument::Positional(value) => { self.expr(walk, value).map(CodeArgument::Positional) }
-            Argument::Named(name, value) => {
-                let name = name.share()?;
-                Ok(CodeArgument::Named(name, self.expr(walk, value)?))
-            }
-            Argument::Star(value) => self.expr(walk, value).map(CodeArgument::Star),
-            Argument::StarStar(value) => { self.expr(walk, value).map(CodeArgument::StarStar) }
+            Argument::Positional(value) => self.expr(walk, value),
+            Argument::Named(_, value) => self.expr(walk, value),
+            Argument::Star(value) => self.expr(walk, value),
+            Argument::StarStar(value) => self.expr(walk, value),
         }
     }
 
-    #[tactic(auto, unfolding(bq_resolve_scope::specs::Expressions::arguments, bq_resolve_scope::specs::Visit::each))]
+    #[tactic(auto, unfolding(bq_resolve_scope::specs::Expressions::arguments))]
     pub fn arguments(
         &self,
         walk: &mut Walk,
-        arguments: &[Argument],
-    ) -> Result<Items<CodeArgument>, SourceErr>
-        requires { WalksNested self.now.depth (F.pre self.now.visit) (F.post self.now.visit) }
-        ensures { Walks (spec.arguments self.now.scope.file.now (spec.expr_to self.now.depth self.now.scope.file.now) self.now.scope.blocks.now arguments.now walk.old) result walk.new }
+        arguments: &mut Items<Argument>,
+    ) -> Result<(), SourceErr>
+        requires { WritesNested self.now.depth (F.pre self.now.visit) (F.post self.now.visit) }
+        ensures { Writes (spec.arguments self.now.scope.file.now (spec.expr_to self.now.depth self.now.scope.file.now) self.now.scope.blocks.now arguments.old walk.old) result (map argument_code arguments.new) walk.new }
     {
-        let mut done = Items::from_vec(Vec::with_capacity(self.scope.alloc, arguments.len())?);
-        for argument in arguments {
-            done.push(self.argument(walk, argument)?)?;
+        for at in 0..arguments.len() {
+            self.argument(walk, arguments.item_mut(at))?;
         }
-        Ok(done)
+        Ok(())
     }
 
-    fn optional(
-        &self,
-        walk: &mut Walk,
-        part: &Option<Boxed<Expr>>,
-    ) -> Result<Option<Boxed<Code>>, SourceErr>
-        requires { WalksNested self.now.depth (F.pre self.now.visit) (F.post self.now.visit) }
-        ensures { Walks (visit.optional (spec.expr_to self.now.depth self.now.scope.file.now self.now.scope.blocks.now) part.now walk.old) result walk.new }
+    fn optional(&self, walk: &mut Walk, part: &mut Option<Boxed<Expr>>) -> Result<(), SourceErr>
+        requires { WritesNested self.now.depth (F.pre self.now.visit) (F.post self.now.visit) }
+        ensures { Writes (visit.optional (spec.expr_to self.now.depth self.now.scope.file.now self.now.scope.blocks.now) part.old walk.old) result (optional_code part.new) walk.new }
     {
         match part {
-            None => Ok(None),
-            Some(part) => self.boxed(walk, part.get()).map(Some),
+            None => Ok(()),
+            Some(part) => self.boxed(walk, part),
         }
     }
 
@@ -68,63 +62,59 @@ impl<'a, F: Copy + Fn(&Scope<'_>, usize, &mut Walk, &Expr) -> Result<Code, Sourc
     fn slice(
         &self,
         walk: &mut Walk,
-        start: &Option<Boxed<Expr>>,
-        stop: &Option<Boxed<Expr>>,
-        step: &Option<Boxed<Expr>>,
-    ) -> Result<CodeSuffix, SourceErr>
-        requires { WalksNested self.now.depth (F.pre self.now.visit) (F.post self.now.visit) }
-        ensures { Walks (spec.suffix_by self.now.scope.file.now (spec.expr_to self.now.depth self.now.scope.file.now) self.now.scope.blocks.now (Suffix-F.Slice start.now stop.now step.now) walk.old) result walk.new }
+        start: &mut Option<Boxed<Expr>>,
+        stop: &mut Option<Boxed<Expr>>,
+        step: &mut Option<Boxed<Expr>>,
+    ) -> Result<(), SourceErr>
+        requires { WritesNested self.now.depth (F.pre self.now.visit) (F.post self.now.visit) }
+        ensures { Writes (spec.suffix_by self.now.scope.file.now (spec.expr_to self.now.depth self.now.scope.file.now) self.now.scope.blocks.now (Suffix-F.Slice start.old stop.old step.old) walk.old) result (code.Slice (optional_code start.new) (optional_code stop.new) (optional_code step.new)) walk.new }
     {
-        let start = self.optional(walk, start)?;
-        let stop = self.optional(walk, stop)?;
-        let step = self.optional(walk, step)?;
-        Ok(CodeSuffix::Slice(start, stop, step))
+        self.optional(walk, start)?;
+        self.optional(walk, stop)?;
+        self.optional(walk, step)
     }
 
-    /// `.name(arguments)`
+    /// `.name(arguments)`: a method of the operand.
     fn method(
         &self,
         walk: &mut Walk,
-        name: &Identifier,
-        arguments: &[Argument],
-    ) -> Result<CodeSuffix, SourceErr>
-        requires { WalksNested self.now.depth (F.pre self.now.visit) (F.post self.now.visit) }
-        ensures { Walks (spec.suffix_by self.now.scope.file.now (spec.expr_to self.now.depth self.now.scope.file.now) self.now.scope.blocks.now (Suffix-F.Method name.now arguments.now) walk.old) result walk.new }
+        name: &mut Identifier,
+        arguments: &mut Items<Argument>,
+    ) -> Result<(), SourceErr>
+        requires { WritesNested self.now.depth (F.pre self.now.visit) (F.post self.now.visit) }
+        ensures { Writes (spec.suffix_by self.now.scope.file.now (spec.expr_to self.now.depth self.now.scope.file.now) self.now.scope.blocks.now (Suffix-F.Method name.old arguments.old) walk.old) result (method_code name.new (map argument_code arguments.new) name.new.referent) walk.new }
     {
-        let arguments = self.arguments(walk, arguments)?;
-        Ok(CodeSuffix::Method(name.name.share()?, arguments))
+        name.referent = Referent::Local(0);
+        self.arguments(walk, arguments)
     }
 
-    fn suffix(&self, walk: &mut Walk, suffix: &Suffix) -> Result<CodeSuffix, SourceErr>
-        requires { WalksNested self.now.depth (F.pre self.now.visit) (F.post self.now.visit) }
-        ensures { Walks (spec.suffix_by self.now.scope.file.now (spec.expr_to self.now.depth self.now.scope.file.now) self.now.scope.blocks.now (out-Suffix suffix.now) walk.old) result walk.new }
+    pub fn suffix(&self, walk: &mut Walk, suffix: &mut Suffix) -> Result<(), SourceErr>
+        requires { WritesNested self.now.depth (F.pre self.now.visit) (F.post self.now.visit) }
+        ensures { Writes (spec.suffix_by self.now.scope.file.now (spec.expr_to self.now.depth self.now.scope.file.now) self.now.scope.blocks.now (out-Suffix suffix.old) walk.old) result (suffix_code suffix.new) walk.new }
     {
         match suffix {
-            Suffix::Call(arguments) => {
-                self.arguments(walk, arguments.as_slice())
-                    .map(CodeSuffix::Call)
-            }
-            Suffix::Method(method, arguments) => { self.method(walk, method, arguments.as_slice()) }
-            Suffix::Attribute(name) => Ok(CodeSuffix::Attribute(name.name.share()?)),
-            Suffix::Index(index) => { self.boxed(walk, index.get()).map(CodeSuffix::Index) }
+            Suffix::Call(arguments) => self.arguments(walk, arguments),
+            Suffix::Method(name, arguments) => self.method(walk, name, arguments),
+            Suffix::Attribute(_) => Ok(()),
+            Suffix::Index(index) => self.boxed(walk, index),
             Suffix::Slice(start, stop, step) => self.slice(walk, start, stop, step),
         }
     }
 
-    /// Resolves the suffixes, and appends them to those done.
-    #[tactic(auto, unfolding(bq_resolve_scope::specs::Expressions::suffixes, bq_resolve_scope::specs::Visit::each))]
-    pub fn suffixes(
+    /// Resolves the suffixes from this place on; those before it are resolved.
+    #[tactic(auto, unfolding(bq_resolve_scope::specs::Expressions::suffixes))]
+    pub fn suffixes_from(
         &self,
+        first: usize,
         walk: &mut Walk,
-        mut done: Items<CodeSuffix>,
-        suffixes: &[Suffix],
-    ) -> Result<Items<CodeSuffix>, SourceErr>
-        requires { WalksNested self.now.depth (F.pre self.now.visit) (F.post self.now.visit) }
-        ensures { Walks (spec.suffixes self.now.scope.file.now (spec.expr_to self.now.depth self.now.scope.file.now) self.now.scope.blocks.now done suffixes.now walk.old) result walk.new }
+        suffixes: &mut Items<Suffix>,
+    ) -> Result<(), SourceErr>
+        requires { WritesNested self.now.depth (F.pre self.now.visit) (F.post self.now.visit) }
+        ensures { Writes (spec.suffixes self.now.scope.file.now (spec.expr_to self.now.depth self.now.scope.file.now) self.now.scope.blocks.now (map suffix_code (take first suffixes.old)) (drop first suffixes.old) walk.old) result (map suffix_code suffixes.new) walk.new }
     {
-        for suffix in suffixes {
-            done.push(self.suffix(walk, suffix)?)?;
+        for at in first..suffixes.len() {
+            self.suffix(walk, suffixes.item_mut(at))?;
         }
-        Ok(done)
+        Ok(())
     }
 }

@@ -7,7 +7,7 @@ ghost use Rattle.bq_resolve_scope.specs.Expressions.{is_bzl};
 
 use bq_base::Bytes;
 use bq_parse_grammar::FileKind;
-use bq_resolve_scope::{Block, CodeFunction, LoadStmt, Names, inside};
+use bq_resolve_scope::{Block, Function, LoadStmt, Names, inside};
 use sqlite_items::Items;
 use std::alloc::{AllocError, Global};
 use std::marker::Model;
@@ -19,7 +19,7 @@ pub struct Walk {
     slots: usize,
     pub(crate) bound: Names,
     pub(crate) loaded: Names,
-    functions: Items<CodeFunction>,
+    functions: Items<Function>,
     loads: Items<LoadStmt>,
 }
 
@@ -50,7 +50,7 @@ impl Walk {
     }
 
     /// Returns the functions and the loads.
-    pub fn into_parts(self) -> (Items<CodeFunction>, Items<LoadStmt>)
+    pub fn into_parts(self) -> (Items<Function>, Items<LoadStmt>)
         ensures functions { result.0 ≡ self.functions }
         ensures loads { result.1 ≡ self.loads }
     {
@@ -106,7 +106,7 @@ impl Walk {
     }
 
     /// Adds a function: its number.
-    pub fn add_function(&mut self, function: CodeFunction) -> Result<usize, AllocError>
+    pub fn add_function(&mut self, function: Function) -> Result<usize, AllocError>
         ensures number { IfOk result (λ k. k ≡ length self.old.functions) }
         ensures added { OnOk result (self.new ≡ record self.old { functions = self.old.functions ++ function ∷ [] }) }
     {

@@ -6,6 +6,8 @@ use Rattle.bq_base.specs.declared.fault.Fault.{Fault}
 use Rattle.bq_base.specs.declared.fault.FaultKind.TheVariants as f
 use Rattle.bq_parse_grammar.specs.declared.tree.Argument.{Argument}
 use Rattle.bq_parse_grammar.specs.declared.tree.Argument.TheOpen.{Expr-F, Suffix-F, Clause-F}
+use Rattle.bq_parse_grammar.specs.declared.tree.ComprehensionFrame.{ComprehensionFrame}
+use Rattle.bq_parse_grammar.specs.declared.tree.ComprehensionFrame.TheVariants as frame
 use Rattle.bq_parse_grammar.specs.declared.tree.Clause.{Clause, out-Clause}
 use Rattle.bq_parse_grammar.specs.declared.tree.Clause.TheVariants as clause
 use Rattle.bq_parse_grammar.specs.declared.tree.Expr.{Expr, out-Expr, roll-Expr, the_lemmas}
@@ -56,8 +58,8 @@ open_primary x ss = search (rules, the_lemmas)
 open_list : (xs : List Expr) → out-Expr (e.List xs) ≡ Expr-F.Expr::List xs
 open_list xs = search (rules, the_lemmas)
 
-open_comprehension : (x : Expr) (cs : List Clause) → out-Expr (e.ListComprehension x cs) ≡ Expr-F.ListComprehension x cs
-open_comprehension x cs = search (rules, the_lemmas)
+open_comprehension : (x : Expr) (cs : List Clause) (own : ComprehensionFrame) → out-Expr (e.ListComprehension x cs own) ≡ Expr-F.ListComprehension x cs own
+open_comprehension x cs own = search (rules, the_lemmas)
 
 open_call : (xs : List Argument) → out-Suffix (suffix.Call xs) ≡ Suffix-F.Call xs
 open_call xs = search (rules, the_lemmas)
@@ -97,7 +99,7 @@ first_iterable : FirstIterable
 unfolding first_called attr_named first_named predeclared_named max_layers place_among with_name with_target_to with_target with_clause comprehension_names with_small with_stmt_to with_stmt function_names global_names with_load with_loads loaded_names host_named member_named universe_has slot_in slot_of file_has use_of each bind_global use_at name_target target_to arguments suffixes operand call_member primary clauses in_block comprehension expr_to expr target load_clause load assign augment returned load_in in_loop small_stmt branch if_stmt for_stmt stmt_to named_parameter default_parameter next_parameter parameters function file_names def_stmt top_level resolved out-Stmt roll-Stmt out-TargetExpr roll-TargetExpr out
 first_iterable =
     let y = codes "y" in
-    rw (open_comprehension (named 1 y) (clause.For (target_of.Name (word 1 y)) (named 1 y) ∷ []), open_for (target_of.Name (word 1 y)) (named 1 y), open_name (word 1 y)) refl
+    rw (open_comprehension (named 1 y) (clause.For (target_of.Name (word 1 y)) (named 1 y) ∷ []) frame.Shared, open_for (target_of.Name (word 1 y)) (named 1 y), open_name (word 1 y)) refl
 
 -- ---- files of one expression, by what the expression resolves to
 

@@ -4,6 +4,7 @@ use Rattle.bq_base.specs.declared.fault.Fault.{Fault}
 use Rattle.bq_base.specs.declared.fault.FaultKind.{FaultKind}
 use Rattle.bq_base.specs.declared.fault.FaultKind.TheVariants as f
 use Rattle.bq_parse_grammar.specs.declared.tree.Clause.TheVariants as clause
+use Rattle.bq_parse_grammar.specs.declared.tree.ComprehensionFrame.TheVariants as frame
 use Rattle.bq_parse_grammar.specs.declared.tree.Expr.{Expr}
 use Rattle.bq_parse_grammar.specs.declared.tree.Expr.TheVariants as e
 use Rattle.bq_parse_grammar.specs.declared.tree.FileKind.TheVariants as kinds
@@ -17,6 +18,7 @@ use Rattle.bq_parse_grammar.specs.declared.tree.Stmt.TheVariants as stmt
 use Rattle.bq_parse_grammar.specs.declared.tree.Suffix.TheVariants as suffix
 use Rattle.bq_parse_grammar.specs.declared.tree.TargetExpr.TheVariants as target
 use Rattle.bq_parse_grammar.specs.declared.tree.TopLevel.{TopLevel}
+use Rattle.bq_parse_grammar.specs.Literals as literals
 use Rattle.bq_resolve_predeclared.specs.declared.host_function.HostFunction.TheVariants as host
 use Rattle.bq_resolve_predeclared.specs.declared.predeclared.Predeclared.TheVariants as p
 use Rattle.bq_resolve_predeclared.specs.declared.rule_function.RuleFunction.TheVariants as function
@@ -56,7 +58,7 @@ abbrev pub build_beside : List ℕ → UniverseParts
 build_beside name = record { kind = kinds.Build; rules = name ∷ [] }
 
 abbrev pub word : ℕ → List ℕ → Identifier
-word line name = record { name = name; line = line }
+word line name = literals.named name line
 
 abbrev pub named : ℕ → List ℕ → Expr
 named line name = e.Name (word line name)
@@ -93,7 +95,7 @@ attr_call line name = member_call line (codes "attr") name
 
 -- `[name for name in x]`
 abbrev pub each_of : ℕ → List ℕ → Expr → Expr
-each_of line name x = e.ListComprehension (named line name) (clause.For (target.Name (word line name)) x ∷ [])
+each_of line name x = e.ListComprehension (named line name) (clause.For (target.Name (word line name)) x ∷ []) frame.Shared
 
 -- ---- what comes of them
 

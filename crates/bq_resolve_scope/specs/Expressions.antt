@@ -217,8 +217,8 @@ module _ (file : FileParts) (visit : List BlockParts → Expr → Visit Code) wh
   expr_by blocks (Expr-F.Expr::List xs) = each (visit blocks) [] xs >>= λ ys. pure (c.List ys)
   expr_by blocks (Expr-F.Expr::Tuple xs) = each (visit blocks) [] xs >>= λ ys. pure (c.Tuple ys)
   expr_by blocks (Expr-F.Dict ps) = each (pair blocks) [] ps >>= λ qs. pure (c.Dict qs)
-  expr_by blocks (Expr-F.ListComprehension x xs) = comprehension (λ bs. visit bs x) c.ListComprehension blocks xs
-  expr_by blocks (Expr-F.DictComprehension p xs) = comprehension (λ bs. pair bs p) c.DictComprehension blocks xs
+  expr_by blocks (Expr-F.ListComprehension x xs own) = comprehension (λ bs. visit bs x) c.ListComprehension blocks xs
+  expr_by blocks (Expr-F.DictComprehension p xs own) = comprehension (λ bs. pair bs p) c.DictComprehension blocks xs
   expr_by blocks (Expr-F.Primary x ss) = primary blocks x ss
   expr_by blocks (Expr-F.Unary os x) = visit blocks x >>= λ y. pure (c.Unary os y)
   expr_by blocks (Expr-F.Binary x os) = visit blocks x >>= λ y. each (operation blocks) [] os >>= λ ps. pure (c.Binary y ps)

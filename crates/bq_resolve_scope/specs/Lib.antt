@@ -7,3 +7,4 @@ pub mod Statements
 pub mod Files
 pub mod Laws
 pub mod Examples
+pub mod Codes

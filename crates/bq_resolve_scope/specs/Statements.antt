@@ -17,6 +17,7 @@ use Rattle.bq_parse_grammar.specs.declared.tree.SmallStmt.{SmallStmt}
 use Rattle.bq_parse_grammar.specs.declared.tree.Stmt.{Stmt, out-Stmt}
 use Rattle.bq_parse_grammar.specs.declared.tree.Stmt.TheOpen.{Stmt-F}
 use Rattle.bq_parse_grammar.specs.declared.tree.TargetExpr.{TargetExpr}
+use Rattle.bq_parse_grammar.specs.Literals.{name_line}
 use Rattle.bq_resolve_scope.specs.declared.code.Code.{Code}
 use Rattle.bq_resolve_scope.specs.declared.code.CodeBranch.{CodeBranch, roll-CodeBranch}
 use Rattle.bq_resolve_scope.specs.declared.code.CodeParameter.{CodeParameter}
@@ -131,7 +132,7 @@ module _ (file : FileParts) where
   stmt_by inner blocks looping (Stmt-F.Simple xs) = each (small_stmt blocks looping) [] xs >>= λ ys. pure (s.Simple ys)
   stmt_by inner blocks looping (Stmt-F.If bs zs) = if_stmt (inner looping) blocks bs zs
   stmt_by inner blocks looping (Stmt-F.For t x body) = for_stmt (inner true) blocks t x body
-  stmt_by inner blocks looping (Stmt-F.Def n ps body) = misplaced n.line
+  stmt_by inner blocks looping (Stmt-F.Def n ps body) = misplaced (name_line n)
 
   -- a statement that is at most this many layers deep; no tree that is parsed holds a deeper one
   unfoldable pub stmt_to : ℕ → List BlockParts → Bool → Stmt → Visit CodeStmt

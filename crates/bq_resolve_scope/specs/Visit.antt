@@ -3,6 +3,7 @@ use Rattle.std.specs.Prelude.{ℕ, List, [], ◌∷◌, ◌++◌, Option, Some, 
 use Rattle.bq_base.specs.declared.fault.Fault.{Fault}
 use Rattle.bq_base.specs.declared.fault.FaultKind.{FaultKind}
 use Rattle.bq_parse_grammar.specs.declared.tree.Identifier.{Identifier}
+use Rattle.bq_parse_grammar.specs.Literals.{name_line}
 use Rattle.bq_resolve_scope.specs.declared.code.CodeFunction.{CodeFunction}
 use Rattle.bq_resolve_scope.specs.declared.code.LoadStmt.{LoadStmt}
 use Rattle.bq_resolve_scope.specs.Names.{Name}
@@ -42,7 +43,7 @@ pure x = λ s. Ok (x, s)
 
 -- a fault about a name
 abbrev pub fault_of : FaultKind → Identifier → Fault
-fault_of kind n = record { kind = kind; line = n.line; detail = n.name }
+fault_of kind n = record { kind = kind; line = name_line n; detail = n.name }
 
 -- the walk ends in a fault
 abbrev pub stop : {A : Type 0} → Fault → Visit A

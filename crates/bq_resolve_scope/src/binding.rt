@@ -79,8 +79,8 @@ fn add_line(names: &mut Names, line: &[SmallStmt]) -> Result<(), AllocError>
 {
     for small in line {
         match &small.kind {
-            SmallKind::Assign(target, _) => add_target(names, target)?,
-            SmallKind::Augment(target, _, _) => add_target(names, target)?,
+            SmallKind::Assign(target, _) => add_target(names, target.get())?,
+            SmallKind::Augment(target, _, _) => add_target(names, target.get())?,
             _ => {}
         }
     }

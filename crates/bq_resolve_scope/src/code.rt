@@ -1,4 +1,5 @@
-//! Resolved trees: in place of each name stands where its value is. They have the shape of the trees that they come from.
+//! Code: in place of each name stands where its value is. It has the shape of the trees that stand for it, and contracts alone see it;
+//! but parameters and loads are made as they are here.
 
 use bq_base::Bytes;
 use bq_parse_grammar::{Comparison, Operator, UnaryOperator};

@@ -1,8 +1,10 @@
 //! Scopes: which binding each use of a name in a file stands for.
 //!
-//! The trees of `bq_parse_grammar` come in; what their blocks bind, and what a name among these blocks stands for, go out. The trees in
-//! which each use says where its value is (`code`) and the whole definition of what a file resolves to are here too;
-//! `bq_resolve_expression` and the crates above it compute it.
+//! The trees of `bq_parse_grammar` come in; what their blocks bind, and what a name among these blocks stands for, go out. Resolved files
+//! (`file`) and the whole definition of what a file resolves to are here too; `bq_resolve_expression` and the crates above it compute it.
+//!
+//! A resolved file holds the trees that were parsed: what each name refers to is written into them. Definitions and contracts speak of the
+//! *code* that such a tree stands for (`specs/Codes.antt`), in which there is no name, but where its value is; no program makes code.
 //!
 //! The idea. A *block* is what binds names: a function, a comprehension, the file. Which names a block binds is known before any
 //! use is looked at, since a name that is bound anywhere in a function or file is bound in all of it (`specs/Names.antt`). A use
@@ -17,7 +19,8 @@
 //!
 //! In reading order:
 //!
-//! - `code`: resolved trees;
+//! - `code`: the code that resolved trees stand for, and the parameters and loads of resolved files;
+//! - `file`: resolved files;
 //! - `names`: sets of names;
 //! - `binding`: what targets, clauses, statements, functions and files bind;
 //! - `universe`: what every file of a kind has, and the namespaces `native` and `attr` of .bzl files;
@@ -27,6 +30,7 @@
 
 mod binding;
 mod code;
+mod file;
 mod laws;
 mod names;
 mod scope;
@@ -38,6 +42,7 @@ pub use code::{
     CodeOperation, CodePair, CodeParameter, CodeSmall, CodeStmt, CodeSuffix, CodeTarget,
     CodeTopLevel, FileStmt, LoadStmt, LoadedSymbol, Resolved,
 };
+pub use file::{Def, FileLine, Function, Outside, ResolvedFile};
 pub use laws::{
     blocks_have_slots_of_their_own, each_use_stands_for_one, files_resolve_by_hand,
     held_names_are_local, names_have_slots_of_their_own,

@@ -49,7 +49,7 @@ fn report_by<T: Threads + Wait + RandomSource + Sync>(
     ensures { IfOk result (λ r. IsReportOn options.now workspace.now (report_view r)) }
 {
     match load_workspace(rt, alloc, workspace, schema, options) {
-        Ok(loaded) => report_on(rt, alloc, loaded, question),
+        Ok(loaded) => report_on(rt, alloc, loaded, question, options.jobs as usize),
         Err(LoadErr::TooManyModules) => Ok(refused_report(alloc, NoAnswer::TooManyModules)),
         Err(_) => Err(AllocError),
     }

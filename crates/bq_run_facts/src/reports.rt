@@ -99,13 +99,14 @@ fn report_over(
     })
 }
 
-/// Makes the report on a loaded workspace. A label that names no target is one more fault.
-fn report_loaded<R: Threads>(
+/// Makes the report on a loaded workspace, by at most `threads` threads. A label that names no target is one more fault.
+fn report_loaded<R: Threads + Sync>(
     rt: &R,
     alloc: Global,
     before: Before,
     loaded: Loaded,
     asked: Option<&CheckedQuery>,
+    threads: usize,
 ) -> Result<Report, AllocError>
     ensures { IfOk result (λ r. TellsFacts before.packages before.modules.items (inside loaded) (option_copied asked.entry) (report_view r)) }
 {
@@ -116,7 +117,7 @@ fn report_loaded<R: Threads>(
         prints,
     } = loaded;
     drop(modules); // so that the graph gets the memory of their values
-    let (graph, dangling) = build_graph(alloc, packages)?;
+    let (graph, dangling) = build_graph(rt, alloc, packages, threads)?;
     let told = Told {
         prints,
         faults,
@@ -146,7 +147,7 @@ fn report_graph<T: Threads + Wait + RandomSource + Sync>(
         return Err(AllocError);
     };
     let loaded = load_graph(rt, alloc, workspace, schema, graph, options)?;
-    report_loaded(rt, alloc, before, loaded, asked)
+    report_loaded(rt, alloc, before, loaded, asked, options.jobs as usize)
 }
 
 /// Makes the report of a run that finds no load graph.

@@ -13,6 +13,7 @@ use bq_load::Loaded;
 use bq_query_target_graph::{TargetGraph, build_graph};
 use bq_run_write::Status;
 use std::alloc::{AllocError, Global};
+use std::thread::Threads;
 
 /// A workspace that is loaded.
 #[derive(Drop)]
@@ -53,8 +54,13 @@ fn fault_text(
     Ok((prints, status))
 }
 
-/// Makes the session over a loaded workspace. A label that names no target is one more fault, F79.
-pub fn session_over(alloc: Global, loaded: Loaded) -> Result<Session, AllocError>
+/// Makes the session over a loaded workspace, by at most `threads` threads. A label that names no target is one more fault, F79.
+pub fn session_over<R: Threads + Sync>(
+    rt: &R,
+    alloc: Global,
+    loaded: Loaded,
+    threads: usize,
+) -> Result<Session, AllocError>
     ensures { IfOk result (IsOver (inside loaded)) }
 {
     let Loaded {
@@ -64,7 +70,7 @@ pub fn session_over(alloc: Global, loaded: Loaded) -> Result<Session, AllocError
         prints,
     } = loaded;
     drop(modules); // so that the graph gets the memory of their values
-    let (graph, dangling) = build_graph(alloc, packages)?;
+    let (graph, dangling) = build_graph(rt, alloc, packages, threads)?;
     let Ok((text, status)) = fault_text(alloc, prints, faults, dangling) else {
         drop(graph); // PROOF: one call lets the graph go
         return Err(AllocError);

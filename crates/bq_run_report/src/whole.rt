@@ -13,12 +13,13 @@ use bq_run_write::Report;
 use std::alloc::{AllocError, Global};
 use std::thread::Threads;
 
-/// Makes the report on a loaded workspace. Only out of memory is an error; Q5 and Q6 are in the ending.
-pub fn report_on<R: Threads>(
+/// Makes the report on a loaded workspace, by at most `threads` threads. Only out of memory is an error; Q5 and Q6 are in the ending.
+pub fn report_on<R: Threads + Sync>(
     rt: &R,
     alloc: Global,
     loaded: Loaded,
     question: Question<'_>,
+    threads: usize,
 ) -> Result<Report, AllocError>
     ensures { IfOk result (λ r. Reports (inside loaded) (formula_of question.entry.query.now.set) question.entry.form (report_view r)) }
 {
@@ -26,7 +27,7 @@ pub fn report_on<R: Threads>(
         faults,
         status,
         graph,
-    } = session_over(alloc, loaded)?;
+    } = session_over(rt, alloc, loaded, threads)?;
     let reply = reply_to(alloc, &graph, question, status);
     drop_aside(rt, graph); // PROOF: one call lets the graph go
     let reply = reply?;

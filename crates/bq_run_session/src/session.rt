@@ -34,7 +34,7 @@ fn open_with<T: Threads + Wait + RandomSource + Sync>(
     ensures { Opens workspace.now options.now.max_steps result }
 {
     match load_workspace(rt, alloc, workspace, schema, options) {
-        Ok(loaded) => Ok(session_over(alloc, loaded)?),
+        Ok(loaded) => Ok(session_over(rt, alloc, loaded, options.jobs as usize)?),
         Err(LoadErr::TooManyModules) => Err(RunErr::TooManyModules),
         Err(_) => Err(RunErr::Memory),
     }

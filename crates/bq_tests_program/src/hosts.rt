@@ -14,7 +14,7 @@ use bq_package_host::{BuiltIns, Host};
 use bq_package_typed_value::Written;
 use bq_parse_grammar::FileKind;
 use bq_resolve_predeclared::HostFunction;
-use bq_resolve_scope::{Resolved, Universe};
+use bq_resolve_scope::{ResolvedFile, Universe};
 use bq_value::{EvalErr, Value};
 use bq_value_rule_class::{AttributeValue, RuleClass};
 use bq_value_seed::Seed;
@@ -120,7 +120,11 @@ struct Setting<'a> {
 }
 
 /// Whether a file that is read gives what is wanted of it.
-fn file_is_right(setting: Setting<'_>, file: &Resolved, case: Case) -> Result<bool, AllocError> {
+fn file_is_right(
+    setting: Setting<'_>,
+    file: &ResolvedFile,
+    case: Case,
+) -> Result<bool, AllocError> {
     let host = Noting {
         calls: Vec::new(setting.alloc),
     };

@@ -15,7 +15,7 @@ use Rattle.bq_load_module.specs.contracts.outcome.LoadedModule as LoadedModule
 use Rattle.bq_load.specs.contracts.loading.Loading as Loading
 use Rattle.bq_load.specs.contracts.gate.GateWatch as GateWatch
 use Rattle.bq_load.proofs.Crossing.Values.{frozen_send, frozen_sync}
-use Rattle.bq_load.proofs.Crossing.Trees.{resolved_sync}
+use Rattle.bq_load_discover.proofs.Crossing.Trees.{resolved_sync}
 use Rattle.bq_load.proofs.Crossing.Targets.{package_send, package_sync}
 use Rattle.bq_load.proofs.Crossing.Classes.{label_send, label_sync}
 use Rattle.bq_load.proofs.Crossing.Workspaces.{workspace_sync, packages_sync, schema_sync}

@@ -18,6 +18,7 @@ use Rattle.bq_parse_grammar.specs.declared.tree.Suffix.{Suffix, out-Suffix}
 use Rattle.bq_parse_grammar.specs.declared.tree.TargetExpr.{TargetExpr, out-TargetExpr}
 use Rattle.bq_parse_grammar.specs.declared.tree.TargetExpr.TheVariants as t
 use Rattle.bq_parse_grammar.specs.declared.tree.UnaryOperator.{UnaryOperator}
+use Rattle.bq_parse_grammar.specs.Literals.{name_line}
 use Rattle.bq_parse_tree_laws.specs.Parts as parts
 use Rattle.bq_parse_tree_laws.specs.Parts.{Part, row, unary, comparison, ExprLayer, expr_parts_by, expr_parts, pair_parts, operation_parts, choice_parts, SuffixLayer, optional_expr, step_parts, arguments, suffix_parts_by, suffix_parts, ArgumentLayer, argument_parts_by, argument_parts, ClauseLayer, clause_parts_by, clause_parts, TargetLayer, target_parts_by, target_parts}
 use Rattle.bq_parse_tree_laws.proofs.Layers.{out-Tuple, out-target_Tuple}
@@ -29,15 +30,15 @@ use Rattle.bq_load_line_laws.proofs.Names.Fine.{Fine, Maybe, two_fine, when_fine
 use Rattle.bq_load_line_laws.proofs.Names.Parts.{ExprFine, Inner, Sound, expr_sound, ExprLayerFine, expr_of_layer, TargetFine, TargetLayerFine, target_of_layer, PairFine, OperationFine, ChoiceFine, ArgumentFine, SuffixLayerFine, SuffixFine, ClauseFine, AllFine, row_fine, listed_fine}
 
 module _ (file : FileParts) where
-  pub use_fine : (around : Around) (n : Identifier) → 1 ≤ n.line → Fine (in_use file around n)
+  pub use_fine : (around : Around) (n : Identifier) → 1 ≤ name_line n → Fine (in_use file around n)
   unfolding in_use
   use_fine around n h = unless_fine _ _ h
 
-  member_fine : (space : Namespace) (n : Identifier) → 1 ≤ n.line → Fine (in_member file space n)
+  member_fine : (space : Namespace) (n : Identifier) → 1 ≤ name_line n → Fine (in_member file space n)
   unfolding in_member
   member_fine space n h = unless_fine _ _ h
 
-  pub binding_fine : (before : Before) (n : Identifier) → 1 ≤ n.line → Fine (in_binding file before n)
+  pub binding_fine : (before : Before) (n : Identifier) → 1 ≤ name_line n → Fine (in_binding file before n)
   unfolding in_binding
   binding_fine before n h = when_fine _ _ h
 
@@ -133,10 +134,10 @@ module _ (file : FileParts) where
   expr_by (Expr-F.Dict xs) ps h =
       let i = listed_fine file parts.pair (PairFine file) (λ x g. g) k.Comma xs (parts.token k.RightBrace ∷ ps) h.1 in
       (λ inner sound around. all_fine (PairFine file) (in_pair file inner around) (λ p g. g inner sound around) xs i.0, i.1.1)
-  expr_by (Expr-F.ListComprehension x cs) ps h =
+  expr_by (Expr-F.ListComprehension x cs own) ps h =
       let i = row_fine file parts.clause (ClauseFine file) (λ x g. g) cs (parts.token k.RightBracket ∷ ps) h.1.1 in
       (λ inner sound around. comprehension_fine inner sound (λ own. inner own x) (λ own. sound own x h.1.0) around cs i.0, i.1.1)
-  expr_by (Expr-F.DictComprehension x cs) ps h =
+  expr_by (Expr-F.DictComprehension x cs own) ps h =
       let i = row_fine file parts.clause (ClauseFine file) (λ x g. g) cs (parts.token k.RightBrace ∷ ps) h.1.1 in
       (λ inner sound around. comprehension_fine inner sound (λ own. in_pair file inner own x) (λ own. h.1.0 inner sound own) around cs i.0, i.1.1)
   expr_by (Expr-F.Primary x []) ps h = (λ inner sound around. primary_fine inner sound around x [] h.1.0 tt, h.1.1.1)

@@ -21,6 +21,7 @@ use Rattle.bq_parse_grammar.specs.declared.tree.Stmt.{Stmt, out-Stmt}
 use Rattle.bq_parse_grammar.specs.declared.tree.Stmt.TheOpen.{Stmt-F}
 use Rattle.bq_parse_grammar.specs.declared.tree.Suffix.{Suffix, out-Suffix}
 use Rattle.bq_parse_grammar.specs.declared.tree.TargetExpr.{TargetExpr, out-TargetExpr}
+use Rattle.bq_parse_grammar.specs.Literals.{name_line}
 use Rattle.bq_parse_tree_laws.specs.Parts as parts
 use Rattle.bq_parse_tree_laws.specs.Parts.{Part, row, listed, commas, ExprLayer, SuffixLayer, TargetLayer}
 use Rattle.bq_resolve_scope.specs.Names.{Name}
@@ -30,11 +31,11 @@ use Rattle.bq_load_line_laws.proofs.Names.Fine.{Fine, deep_fine}
 
 -- the name of a method, which a namespace may lack
 abbrev pub MethodFine : SuffixLayer → Type 0
-MethodFine (Suffix-F.Method n xs) = 1 ≤ n.line
+MethodFine (Suffix-F.Method n xs) = 1 ≤ name_line n
 MethodFine _ = Unit {0}
 
 abbrev pub LoadClauseFine : LoadClause → Type 0
-LoadClauseFine c = 1 ≤ c.local.line
+LoadClauseFine c = 1 ≤ name_line c.local
 
 -- a load names its line
 abbrev pub LoadFine : ℕ → SmallKind → Type 0
@@ -164,9 +165,9 @@ module _ (file : FileParts) where
   PartFine (parts.token q) = TokenFine q
   PartFine (parts.maybe q) = Unit {0}
   PartFine (parts.both q r) = Unit {0}
-  PartFine (parts.method n) = 1 ≤ n.line
+  PartFine (parts.method n) = 1 ≤ name_line n
   PartFine (parts.attribute n) = Unit {0}
-  PartFine (parts.word n) = 1 ≤ n.line
+  PartFine (parts.word n) = 1 ≤ name_line n
   PartFine (parts.spelled s) = Unit {0}
   PartFine (parts.number n) = Unit {0}
   PartFine (parts.text s) = Unit {0}

@@ -17,6 +17,7 @@ use Rattle.bq_parse_grammar.specs.declared.tree.SmallStmt.{SmallStmt}
 use Rattle.bq_parse_grammar.specs.declared.tree.Stmt.{Stmt, out-Stmt}
 use Rattle.bq_parse_grammar.specs.declared.tree.Stmt.TheOpen.{Stmt-F}
 use Rattle.bq_parse_grammar.specs.declared.tree.TargetExpr.{TargetExpr}
+use Rattle.bq_parse_grammar.specs.Literals.{name_line}
 use Rattle.bq_parse_tree_laws.specs.Parts as parts
 use Rattle.bq_parse_tree_laws.specs.Parts.{Part, assignment_kind, token_of, parameter_parts, load_parts, small_parts, branch_parts, else_parts, if_parts, stmt_parts_by, stmt_parts}
 use Rattle.bq_resolve_scope.specs.Visit.{fault_of}
@@ -46,7 +47,7 @@ module _ (file : FileParts) where
 
   -- ---- parameters
 
-  name_fine : (names : List Name) (n : Identifier) → 1 ≤ n.line → Fine (in_parameter_name file names n)
+  name_fine : (names : List Name) (n : Identifier) → 1 ≤ name_line n → Fine (in_parameter_name file names n)
   name_fine names n h = when_fine _ _ h
 
   pub parameter_told : (x : Parameter) (ps : List Part) → AllFine file (parameter_parts x ps) → AllFine file (parts.parameter x ∷ ps)
@@ -59,7 +60,7 @@ module _ (file : FileParts) where
 
   -- ---- small statements
 
-  load_clause_fine : (before : Before) (x : LoadClause) → 1 ≤ x.local.line → Fine (in_load_clause file before x)
+  load_clause_fine : (before : Before) (x : LoadClause) → 1 ≤ name_line x.local → Fine (in_load_clause file before x)
   unfolding in_load_clause
   load_clause_fine before x h =
       let twice : Fine (fault_of f.BoundTwice x.local ∷ []) = (inl h, tt) in
@@ -178,7 +179,7 @@ module _ (file : FileParts) where
   stmt_by (Stmt-F.Def n qs xs) ps h =
       let i = listed_fine file parts.parameter (ParameterFine file) (λ x g. g) k.Comma qs (parts.token k.RightParen ∷ parts.token k.Colon ∷ parts.suite xs ∷ ps) h.1.1.1 in (
         (
-          λ inner each around looping. misplaced_fine n.line h.1.0,
+          λ inner each around looping. misplaced_fine (name_line n) h.1.0,
           (λ before line m. two_fine (in_binding file before n) _ (binding_fine file before n h.1.0) (function_fine qs xs i.0 i.1.1.1.0), tt),
         ),
         i.1.1.1.1,

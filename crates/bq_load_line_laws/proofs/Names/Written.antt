@@ -4,7 +4,7 @@ use Rattle.std.specs.List.{AllByRecursion}
 use Rattle.bq_source.specs.declared.token.TokenKind.{TokenKind}
 use Rattle.bq_source.specs.declared.token.TokenKind.TheVariants as k
 use Rattle.bq_parse_grammar.specs.Lexeme.{Lexeme}
-use Rattle.bq_parse_grammar.specs.Literals.{identifier}
+use Rattle.bq_parse_grammar.specs.Literals.{identifier, name_line}
 use Rattle.bq_parse_grammar.specs.Statements.{line_of}
 use Rattle.bq_parse_grammar.specs.declared.tree.Identifier.{Identifier}
 use Rattle.bq_parse_tree_laws.specs.Parts as parts
@@ -32,8 +32,8 @@ token_fine _ n = tt
 token_stands : (q : TokenKind) (w : Lexeme) → w.kind ≡ q → Stands w → TokenFine q
 token_stands q w e h = subst TokenFine e (token_fine w.kind h.1)
 
-named_line : (n : Identifier) (w : Lexeme) → n ≡ identifier w → Stands w → 1 ≤ n.line
-named_line n w e h = let P : Identifier → Type 0 = λ m. 1 ≤ m.line in subst P (sym e) h.0
+named_line : (n : Identifier) (w : Lexeme) → n ≡ identifier w → Stands w → 1 ≤ name_line n
+named_line n w e h = let P : Identifier → Type 0 = λ m. 1 ≤ name_line m in subst P (sym e) h.0
 
 module _ (file : FileParts) where
   pub written_fine : (ps : List Part) (ts : List Lexeme) → Writes ps ts → AllStand ts → AllFine file ps
@@ -72,7 +72,7 @@ module _ (file : FileParts) where
       let j = commas_fine file parts.target (TargetFine file) (λ x g. g) (y ∷ xs) qs i.1 in
       (targets_fine file z (x ∷ y ∷ xs) e (i.0, j.0), j.1)
   written_fine ps ts (W.parameter {x = x} {ps = qs} r) h = parameter_told file x qs (written_fine _ ts r h)
-  written_fine ps ts (W.same_name {x = x} {ps = qs} {ts = us} f g e r) h = (subst (λ z. 1 ≤ z.local.line) (sym e) h.0.0, written_fine qs us r h.1)
+  written_fine ps ts (W.same_name {x = x} {ps = qs} {ts = us} f g e r) h = (subst (λ z. 1 ≤ name_line z.local) (sym e) h.0.0, written_fine qs us r h.1)
   written_fine ps ts (W.renamed {x = x} {ps = qs} r) h =
       let i = written_fine (parts.word x.local ∷ parts.token k.Assign ∷ parts.text x.symbol ∷ qs) ts r h in (i.0, i.1.1.1)
   written_fine ps ts (W.small_stmt {x = x} {ps = qs} e r) h =

@@ -211,10 +211,10 @@ module _ (file : FileParts) (n : ℕ) (visit : List BlockParts → Expr → Visi
   expr_by_calm blocks (Expr-F.Expr::List xs) h small = calm_map (each (visit blocks) [] xs) (λ ys. c.List ys) (all_calm blocks xs (omega arith))
   expr_by_calm blocks (Expr-F.Expr::Tuple xs) h small = calm_map (each (visit blocks) [] xs) (λ ys. c.Tuple ys) (all_calm blocks xs (omega arith))
   expr_by_calm blocks (Expr-F.Dict ps) h small = calm_map (each (pair file visit blocks) [] ps) (λ qs. c.Dict qs) (calm_each pair_depth n (pair file visit blocks) (pair_calm blocks) [] ps (omega arith))
-  expr_by_calm blocks (Expr-F.ListComprehension x xs) h small =
+  expr_by_calm blocks (Expr-F.ListComprehension x xs own) h small =
       let p : expr_depth x ≤ n = omega arith in
       comprehension_calm (λ bs. visit bs x) (λ y ys. c.ListComprehension y ys) (λ bs. visits bs x p) blocks xs (omega arith) small
-  expr_by_calm blocks (Expr-F.DictComprehension x xs) h small =
+  expr_by_calm blocks (Expr-F.DictComprehension x xs own) h small =
       let p : pair_depth x ≤ n = omega arith in
       comprehension_calm (λ bs. pair file visit bs x) (λ y ys. c.DictComprehension y ys) (λ bs. pair_calm bs x p) blocks xs (omega arith) small
   expr_by_calm blocks (Expr-F.Primary x ss) h small = primary_calm blocks x ss (omega arith) (omega arith)

@@ -244,9 +244,9 @@ module _ (file : FileParts) (visit : List BlockParts → Expr → Visit Code) (l
   expr_by_lists rs bs (Expr-F.Dict ps) =
       lists_map rs bs [] (λ qs. all (map pair_slots qs)) code_slots (uses.all (uses.pair listed rs) ps) (each (pair file visit bs) [] ps) (λ qs. c.Dict qs)
       (lists_all rs bs pair_slots (uses.pair listed rs) (pair file visit bs) (pair_lists rs bs) ps) S.slots-Dict
-  expr_by_lists rs bs (Expr-F.ListComprehension x xs) =
+  expr_by_lists rs bs (Expr-F.ListComprehension x xs own) =
       comprehension_lists (λ cs. visit cs x) (λ qs. listed qs x) (λ y ys. c.ListComprehension y ys) code_slots (λ qs cs. visits qs cs x) S.slots-ListComprehension rs bs xs
-  expr_by_lists rs bs (Expr-F.DictComprehension p xs) =
+  expr_by_lists rs bs (Expr-F.DictComprehension p xs own) =
       comprehension_lists (λ cs. pair file visit cs p) (λ qs. uses.pair listed qs p) (λ y ys. c.DictComprehension y ys) pair_slots (λ qs cs. pair_lists qs cs p) S.slots-DictComprehension rs bs xs
   expr_by_lists rs bs (Expr-F.Primary x ss) = primary_lists rs bs x ss
   expr_by_lists rs bs (Expr-F.Unary os x) = lists_map rs bs [] code_slots code_slots (listed rs x) (visit bs x) (λ y. c.Unary os y) (visits rs bs x) (S.slots-Unary os)

@@ -12,6 +12,7 @@ use Rattle.bq_parse_grammar.specs.declared.tree.SmallStmt.{SmallStmt}
 use Rattle.bq_parse_grammar.specs.declared.tree.Stmt.{Stmt, out-Stmt}
 use Rattle.bq_parse_grammar.specs.declared.tree.Stmt.TheOpen.{Stmt-F}
 use Rattle.bq_parse_grammar.specs.declared.tree.TargetExpr.{TargetExpr}
+use Rattle.bq_parse_grammar.specs.Literals.{name_line}
 use Rattle.bq_resolve_scope.specs.declared.code.Code.{Code}
 use Rattle.bq_resolve_scope.specs.declared.code.CodeBranch.{roll-CodeBranch}
 use Rattle.bq_resolve_scope.specs.declared.code.CodeSmall.{CodeSmall}
@@ -106,7 +107,7 @@ module _ (file : FileParts) where
       (lists_all rs bs small_slots (uses.small_stmt rs) (small_stmt file bs looping) (small_lists rs bs looping) xs) S.slots-Simple
   stmt_by_lists inner part rs bs looping inners (Stmt-F.If cs zs) = if_lists (inner looping) part rs bs (inners looping) cs zs
   stmt_by_lists inner part rs bs looping inners (Stmt-F.For t x body) = for_lists (inner true) part rs bs (inners true) t x body
-  stmt_by_lists inner part rs bs looping inners (Stmt-F.Def n ps body) = lists_stop rs bs [] stmt_slots uses.nothing (fault_at f.BadFlow n.line)
+  stmt_by_lists inner part rs bs looping inners (Stmt-F.Def n ps body) = lists_stop rs bs [] stmt_slots uses.nothing (fault_at f.BadFlow (name_line n))
 
   pub stmt_lists : (layers : ℕ) (rs : List Block) (bs : List BlockParts) (looping : Bool) (x : Stmt) → Lists rs bs [] stmt_slots (uses.stmt_to layers rs x) (stmt_to file layers bs looping x)
   unfolding stmt_to uses.stmt_to

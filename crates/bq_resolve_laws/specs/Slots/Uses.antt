@@ -118,8 +118,8 @@ module _ (visit : List Block → Expr → Part) where
   expr_by blocks (Expr-F.Expr::List xs) = all (visit blocks) xs
   expr_by blocks (Expr-F.Expr::Tuple xs) = all (visit blocks) xs
   expr_by blocks (Expr-F.Dict ps) = all (pair blocks) ps
-  expr_by blocks (Expr-F.ListComprehension x xs) = comprehension (λ bs. visit bs x) blocks xs
-  expr_by blocks (Expr-F.DictComprehension p xs) = comprehension (λ bs. pair bs p) blocks xs
+  expr_by blocks (Expr-F.ListComprehension x xs own) = comprehension (λ bs. visit bs x) blocks xs
+  expr_by blocks (Expr-F.DictComprehension p xs own) = comprehension (λ bs. pair bs p) blocks xs
   expr_by blocks (Expr-F.Primary x ss) = both (visit blocks x) (suffixes blocks ss)
   expr_by blocks (Expr-F.Unary os x) = visit blocks x
   expr_by blocks (Expr-F.Binary x os) = both (visit blocks x) (all (operation blocks) os)

@@ -1,5 +1,6 @@
-use Rattle.std.proofs.Common.{◌∙◌, ap, sym, subst, arith}
+use Rattle.std.proofs.Common.{◌∙◌, map, ap, sym, subst, arith}
 use Rattle.std.proofs.lemmas.Grind.{common_steps}
+use Rattle.bq_resolve_scope.specs.Codes.{stmt_code}
 use Rattle.bq_value.specs.Datum.{Datum, list_of_data_of}
 use Rattle.bq_builtin_machine.specs.Action.{Run, done}
 use Rattle.bq_eval_frame.specs.Slots.{slots_of}
@@ -22,7 +23,7 @@ unfolding evals in_function inside round_of
 run_body-returns g t c =
     let h = g.R.Runtime in
     let x = c.args.context.now in
-    let ran = ran_body x.left h.means (units_at x.program.now (globals_of x.own)) (unit_of c.args.unit.now) c.args.function.now (slots_of c.args.frame.now) (h.seen c.args.runtime.now) (flow_of c.in_ok-flow.flow) (slots_of c.run_block.new.frame) (h.seen c.run_block.new.runtime) c.as_slice.result.now (omega (arith, c.if-context-eq0.false)) c.as_slice.ensures c.in_ok-flow.ensures in
+    let ran = ran_body x.left h.means (units_at x.program.now (globals_of x.own)) (unit_of c.args.unit.now) c.args.function.now (slots_of c.args.frame.now) (h.seen c.args.runtime.now) (flow_of c.in_ok-flow.flow) (slots_of c.run_block.new.frame) (h.seen c.run_block.new.runtime) (map stmt_code c.as_slice.result.now) (omega (arith, c.if-context-eq0.false)) (ap (λ xs. map stmt_code xs) c.as_slice.ensures ∙ ap (λ d. d.body) c.function.view_is) c.in_ok-flow.ensures in
     ran ∙ ap (λ v. done v (h.seen c.run_block.new.runtime)) (sym c.answered.ensures)
 
 pub call_function-returns-in_err-frame : goal.call_function-returns-in_err-frame

@@ -1,17 +1,16 @@
-use Rattle.std.proofs.Common.{◌∙◌, ◌++◌, append-nil, ap, sym}
+use Rattle.std.proofs.Common.{◌∙◌, ◌++◌, position, append-nil, ap, sym}
 use Rattle.std.specs.List.{flat_map}
-use Rattle.bq_base_fault_line.specs.FaultLine.{put_lines}
+use Rattle.bq_label.specs.Label.{LabelParts}
 use Rattle.bq_package_target.specs.Value.{labels_of}
-use Rattle.bq_label_set.specs.Labels.{has_label}
+use Rattle.bq_label_set.specs.Labels.{same_label, has_label}
 use Rattle.bq_query_target_graph.specs.BuildFiles.{file_of}
-use Rattle.bq_query_target_graph.specs.Edges.{edges_to}
+use Rattle.bq_query_target_graph.specs.Edges.{edge_by, edges_to}
 use Rattle.bq_query_target_graph.specs.Dangling.{dangling}
-use Rattle.bq_query_target_graph.proofs.EdgeWalks.{edges_each}
-use Rattle.bq_query_target_graph.proofs.Danglings.{none_put, lines_each}
+use Rattle.bq_query_target_graph.proofs.Lists.{given_each}
 use Rattle.bq_query_target_graph.proofs.edges.add_dependencies.Goals as goal
 
 pub loop-given-init : goal.loop-given-init
-loop-given-init c = record { edges = sym (append-nil c.args.found.now.edges.items); lines = sym (none_put c.args.found.now.dangling) }
+loop-given-init c = record { edges = sym (append-nil c.args.found.now.edges.items); lines = sym (append-nil c.args.found.now.dangling.items) }
 
 pub loop-given-preserved : goal.loop-given-preserved
 loop-given-preserved c =
@@ -21,10 +20,11 @@ loop-given-preserved c =
     let given = c.given-item.result in
     let now = c.add_labels-in-loop-given.new.found in
     let added = c.in_ok-add_labels.ensures in
+    let e = λ (a : LabelParts). edge_by s.number (position (same_label a) s.labels.now) in
     let f = dangling (has_label s.labels.now) (file_of s.files.now s.target.now.label) s.target.now.line in
     record {
-      edges = edges_each (λ a. labels_of a.value) s.labels.now s.number all l.given-index given c.args.found.now.edges.items l.found.edges.items now.edges.items c.loop-given-test.true c.given-item.is l.invariant.edges
+      edges = given_each e (λ a. labels_of a.value) all l.given-index given c.args.found.now.edges.items l.found.edges.items now.edges.items c.loop-given-test.true c.given-item.is l.invariant.edges
           (added.edges ∙ ap (λ ls. l.found.edges.items ++ edges_to s.labels.now s.number ls) c.labels_of.ensures);
-      lines = lines_each f (λ a. labels_of a.value) all l.given-index given c.args.found.now.dangling l.found.dangling now.dangling c.loop-given-test.true c.given-item.is l.invariant.lines
-          (added.lines ∙ ap (λ ls. put_lines l.found.dangling (flat_map f ls)) c.labels_of.ensures);
+      lines = given_each f (λ a. labels_of a.value) all l.given-index given c.args.found.now.dangling.items l.found.dangling.items now.dangling.items c.loop-given-test.true c.given-item.is l.invariant.lines
+          (added.lines ∙ ap (λ ls. l.found.dangling.items ++ flat_map f ls) c.labels_of.ensures);
     }

@@ -12,7 +12,7 @@ use Rattle.bq_query_target_graph.proofs.Whole.{linked_graph, linked_is, linked_l
 use Rattle.bq_query_target_graph.proofs.graph.build_graph.Goals as goal
 
 pub invariant_of-graph : goal.invariant_of-graph
-invariant_of-graph c =
+invariant_of-graph g c =
     let ascend = subst (λ (z : List PackageTargets). PackagesAscend z) (sym c.into_vec.ensures.value) c.into_vec.ensures.ascend in
     let e = c.in-Ok-in_order.ensures in
     let l = c.in-Ok-linked.linked in
@@ -22,7 +22,7 @@ invariant_of-graph c =
     linked_graph c.into_vec.result.items ascend e.own c.in-Ok.files files c.in-Ok-in_order.targets.items e.targets e.ascending l.packages r.packages l.graph pairs
 
 pub returns-clause-graph : goal.returns-clause-graph
-returns-clause-graph c =
+returns-clause-graph g c =
     let ascend = subst (λ (z : List PackageTargets). PackagesAscend z) (sym c.into_vec.ensures.value) c.into_vec.ensures.ascend in
     let e = c.in-Ok-in_order.ensures in
     let l = c.in-Ok-linked.linked in
@@ -34,7 +34,7 @@ returns-clause-graph c =
     (linked_is c.into_vec.result.items ascend e.own c.in-Ok.files files ts e.targets e.ascending l.packages r.packages l.graph pairs)
 
 pub returns-clause-lines : goal.returns-clause-lines
-returns-clause-lines c =
+returns-clause-lines g c =
     let ascend = subst (λ (z : List PackageTargets). PackagesAscend z) (sym c.into_vec.ensures.value) c.into_vec.ensures.ascend in
     let e = c.in-Ok-in_order.ensures in
     let l = c.in-Ok-linked.linked in

@@ -1,10 +1,11 @@
-use Rattle.bq_resolve.proofs.Layers.{walks_layer, walks_no_layer}
+use Rattle.bq_resolve_scope.specs.Codes.{stmt_code}
+use Rattle.bq_resolve.proofs.Layers.{writes_layer, writes_no_layer}
 use Rattle.bq_resolve.proofs.statements.+stmt_to.Goals as goal
 
 pub returns-then-layers-eq0 : goal.returns-then-layers-eq0
 returns-then-layers-eq0 t c why =
-    walks_no_layer c.args.scope.now.file.now c.args.layers c.args.scope.now.blocks.now c.args.looping c.args.statement.now c.args.walk.now c.at.result why c.if-layers-eq0.true c.at.ensures
+    writes_no_layer c.args.scope.now.file.now c.args.layers c.args.scope.now.blocks.now c.args.looping c.args.statement.now c.args.walk.now c.at.result why c.if-layers-eq0.true c.at.ensures
 
 pub returns : goal.returns
 returns t c =
-    walks_layer c.args.scope.now.file.now c.args.layers c.args.scope.now.blocks.now c.args.looping c.args.statement.now c.args.walk.now c.stmt.new.walk c.stmt.result c.if-layers-eq0.false c.stmt.ensures
+    writes_layer c.args.scope.now.file.now c.args.layers c.args.scope.now.blocks.now c.args.looping c.args.statement.now c.args.walk.now c.stmt.new.walk (stmt_code c.stmt.new.statement) c.stmt.result c.if-layers-eq0.false c.stmt.ensures

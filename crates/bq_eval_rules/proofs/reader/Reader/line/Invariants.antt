@@ -1,4 +1,5 @@
-use Rattle.std.proofs.Common.{◌≡◌, drop}
+use Rattle.std.proofs.Common.{◌≡◌, drop, map}
+use Rattle.bq_resolve_scope.specs.Codes.{small_code}
 use Rattle.bq_eval_meaning_spec.specs.Statements.{line}
 use Rattle.bq_eval_frame.specs.Slots.{slots_of}
 use Rattle.bq_eval_rules.specs.Round.{evals}
@@ -8,4 +9,4 @@ abbrev pub invariant-loop-stmt : goal.invariant-loop-stmt
 invariant-loop-stmt g l =
     let h = g.R.Runtime in
     let e = evals h.means l.self.context.now in
-    line h.means e (drop l.stmt-index l.stmts) (slots_of l.frame) (h.seen l.runtime) ≡ line h.means e l.stmts (slots_of l.fn.frame) (h.seen l.fn.runtime)
+    line h.means e (map small_code (drop l.stmt-index l.stmts)) (slots_of l.frame) (h.seen l.runtime) ≡ line h.means e (map small_code l.stmts) (slots_of l.fn.frame) (h.seen l.fn.runtime)

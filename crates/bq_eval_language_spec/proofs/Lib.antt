@@ -1,0 +1,2 @@
+-- clauses of the definitions, by words of their own
+pub mod Forms

@@ -1,0 +1,9 @@
+pub mod Environment
+pub mod Trees
+pub mod Targets
+pub mod Comprehensions
+pub mod Expressions
+pub mod Statements
+pub mod Calls
+pub mod Module
+pub mod Slots

@@ -1,0 +1,97 @@
+-- The meaning by slots: an environment is a frame, and each name says where its value is.
+use Rattle.std.specs.Prelude.{ℕ, List, [], ◌∷◌, length, take, drop, Option, Some, None, slice_get}
+use Rattle.bq_parse_grammar.specs.declared.tree.Argument.TheOpen.{Expr-F, Suffix-F}
+use Rattle.bq_parse_grammar.specs.declared.tree.ComprehensionFrame.{ComprehensionFrame}
+use Rattle.bq_parse_grammar.specs.declared.tree.ComprehensionFrame.TheVariants as frames
+use Rattle.bq_parse_grammar.specs.declared.tree.Expr.{out-Expr}
+use Rattle.bq_parse_grammar.specs.declared.tree.LoadClause.{LoadClause}
+use Rattle.bq_parse_grammar.specs.declared.tree.Referent.{Referent}
+use Rattle.bq_parse_grammar.specs.declared.tree.Referent.TheVariants as referent
+use Rattle.bq_parse_grammar.specs.declared.tree.Suffix.{Suffix, out-Suffix}
+use Rattle.bq_parse_grammar.specs.declared.tree.TopLevel.{TopLevel}
+use Rattle.bq_parse_grammar.specs.Targets.{ExprLayer, SuffixLayer}
+use Rattle.bq_resolve_predeclared.specs.declared.predeclared.Predeclared.{Predeclared}
+use Rattle.bq_resolve_scope.specs.Names.{global_names}
+use Rattle.bq_value.specs.Datum.{Datum}
+use Rattle.bq_builtin_machine.specs.Action.{Action}
+use Rattle.bq_eval_meaning_spec.specs.Frame.{Frame, empty, fill, Surroundings}
+use Rattle.bq_eval_meaning_spec.specs.Primitives.{Primitives}
+use Rattle.bq_eval_language_spec.specs.Calls.{TreeUnit, Units}
+use Rattle.bq_eval_language_spec.specs.Environment.{NameValue, variable, predeclared, NamespaceCall, Scoping}
+use Rattle.bq_eval_language_spec.specs.Module as meaning
+use Rattle.bq_eval_language_spec.specs.Module.{Own, defs, load_clauses}
+
+-- What is at the place that a name refers to. A namespace is no value: it has what the member that is called is.
+abbrev pub value_at : Surroundings → Frame → Referent → Option NameValue
+value_at round frame (referent.Unresolved line) = None
+value_at round frame (referent.Local slot) = Some (variable (frame slot))
+value_at round frame (referent.Global k) = Some (variable (round.globals k))
+value_at round frame (referent.Loaded k) = Some (variable (round.loaded k))
+value_at round frame (referent.Predeclared p) = Some (predeclared p)
+value_at round frame (referent.Member p) = Some (predeclared p)
+
+-- where the value of a variable goes: outside functions the file's globals are the frame
+abbrev pub slot_of : Referent → ℕ
+slot_of (referent.Local slot) = slot
+slot_of (referent.Global k) = k
+slot_of _ = 0
+
+-- a namespace refers to the member of it that is called
+abbrev pub member_at : ExprLayer → Option Predeclared
+member_at (Expr-F.Expr::Name n) = elim n.referent [ referent.Member p ↦ Some p | _ ↦ None ]
+member_at _ = None
+
+-- `.name(arguments)` after a namespace, and what is done to its result
+abbrev pub called_by : Option Predeclared → SuffixLayer → List Suffix → Option NamespaceCall
+called_by (Some p) (Suffix-F.Method n xs) ss = Some (Some p, xs, ss)
+called_by _ _ ss = None
+
+abbrev pub called : Option Predeclared → List Suffix → Option NamespaceCall
+called p [] = None
+called p (s ∷ ss) = called_by p (out-Suffix s) ss
+
+-- outside functions a comprehension has a frame of its own
+abbrev pub opened : Frame → ComprehensionFrame → Frame
+opened frame frames.Shared = frame
+opened frame (frames.Own slots) = empty
+
+-- what names mean
+abbrev pub by_slots : Scoping Surroundings Frame
+by_slots = record {
+  value = λ round frame n. value_at round frame n.referent;
+  member = λ round frame x ss. called (member_at (out-Expr x)) ss;
+  own_value = λ frame n. frame (slot_of n.referent);
+  bind = λ frame n v. fill frame (slot_of n.referent) v;
+  outside = empty;
+  in_function = λ ps body. empty;
+  in_comprehension = λ frame cs own. opened frame own;
+}
+
+-- ---- files
+
+-- what is around the blocks of a file: each clause of its loads has bound a value, by its place among them
+abbrev pub round_of : List Datum → Frame → Surroundings
+round_of loaded globals = record { globals = globals; loaded = λ k. slice_get loaded k }
+
+-- what a file has from its start on
+abbrev pub own_of : ℕ → List TopLevel → List Datum → Own Surroundings Frame
+own_of number ts loaded = record { number = number; functions = defs ts; round = round_of loaded }
+
+-- where it is a global
+abbrev pub with_first : Referent → Datum → Frame → Frame
+with_first (referent.Global k) v globals = fill globals k v
+with_first _ v globals = globals
+
+-- a loaded name that the file binds too is a global whose first value is the loaded one
+unfoldable pub first_globals : List LoadClause → List Datum → Frame → Frame
+first_globals (c ∷ cs) (v ∷ vs) globals = first_globals cs vs (with_first c.local.referent v globals)
+first_globals _ _ globals = globals
+
+-- a file, as module `number` among these, with a value for each clause of its loads
+unfoldable pub module_meaning : {S : Type 0} → Primitives S → Units Surroundings → ℕ → List TopLevel → List Datum → Action S Frame
+module_meaning m units number ts loaded = meaning.module_meaning m by_slots units (own_of number ts loaded) ts (first_globals (load_clauses ts) loaded empty)
+
+-- a frozen module: of the values that it ended with the first are those of its globals, and after them come those of what its loads bind
+abbrev pub frozen_unit : List TopLevel → List Datum → TreeUnit Surroundings
+frozen_unit ts values =
+    (let count = length (global_names ts) in record { functions = defs ts; round = round_of (drop count values) (λ k. slice_get (take count values) k) })
