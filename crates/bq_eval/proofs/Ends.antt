@@ -4,7 +4,7 @@ use Rattle.std.proofs.Common.{◌≡◌, ◌∙◌, List, Some, ap}
 use Rattle.bq_value.specs.declared.error.EvalErr.{EvalErr}
 use Rattle.bq_eval_meaning_spec.specs.Primitives.{Primitives}
 use Rattle.bq_eval_rules.specs.Acts.{Acts}
-use Rattle.bq_resolve_scope.specs.declared.code.Resolved.{Resolved}
+use Rattle.bq_resolve_scope.specs.declared.file.ResolvedFile.{ResolvedFile}
 use Rattle.bq_value.specs.Cells.{frozen}
 use Rattle.bq_value.specs.Datum.{Datum}
 use Rattle.bq_builtin_machine.specs.Action.{Run, done, stopped, HostDoes}
@@ -12,11 +12,11 @@ use Rattle.bq_builtin_machine.specs.State.{State, Stop, stop_at}
 use Rattle.bq_eval_meaning_spec.specs.Frame.{Frame}
 use Rattle.bq_eval.specs.Module.{evaluated, failed, fault_of, frozen_values, ended, kept_after}
 
-pub ended_done : {W : Type 0} (file : Resolved) (imports : List Datum) (run : Run (State × W) Frame) (globals : Frame) (s : State × W) → run ≡ done globals s
+pub ended_done : {W : Type 0} (file : ResolvedFile) (imports : List Datum) (run : Run (State × W) Frame) (globals : Frame) (s : State × W) → run ≡ done globals s
     → ended file imports run ≡ evaluated (frozen s.0.store file.globals (frozen_values file imports globals)) s.0.prints
 ended_done file imports run globals s h = ap (ended file imports) h
 
-pub ended_stopped : {W : Type 0} (file : Resolved) (imports : List Datum) (run : Run (State × W) Frame) (why : Stop) → run ≡ stopped why → ended file imports run ≡ failed (fault_of why) why.prints
+pub ended_stopped : {W : Type 0} (file : ResolvedFile) (imports : List Datum) (run : Run (State × W) Frame) (why : Stop) → run ≡ stopped why → ended file imports run ≡ failed (fault_of why) why.prints
 ended_stopped file imports run why h = ap (ended file imports) h
 
 pub kept_done : {W : Type 0} (run : Run (State × W) Frame) (globals : Frame) (s : State × W) → run ≡ done globals s → kept_after run ≡ Some s.1

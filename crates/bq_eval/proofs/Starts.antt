@@ -5,7 +5,7 @@ use Rattle.bq_value.specs.Cells.{StoreView}
 use Rattle.bq_builtin_machine.specs.Action.{Run}
 use Rattle.bq_builtin_machine.specs.State.{State, started}
 use Rattle.bq_eval_meaning_spec.specs.Frame.{Frame}
-use Rattle.bq_eval_meaning_spec.specs.Module.{module_meaning, frozen_units}
+use Rattle.bq_eval_language_spec.specs.Slots.{module_meaning, frozen_units}
 use Rattle.bq_eval_rules.specs.Round.{views_of, lent_files}
 use Rattle.bq_eval_operations.specs.Calling.{HostCalls}
 use Rattle.bq_eval_operations.specs.Runtime.{primitives}

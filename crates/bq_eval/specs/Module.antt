@@ -6,13 +6,13 @@ use Rattle.bq_base.specs.declared.fault.Fault.{Fault}
 use Rattle.bq_base.specs.declared.fault.FaultKind.{FaultKind}
 use Rattle.bq_base.specs.declared.fault.FaultKind.TheVariants as f
 use Rattle.bq_resolve_scope.specs.Names.{Name}
-use Rattle.bq_resolve_scope.specs.declared.code.Resolved.{Resolved}
+use Rattle.bq_resolve_scope.specs.declared.file.ResolvedFile.{ResolvedFile}
 use Rattle.bq_value.specs.Cells.{StoreView, FrozenView, frozen, loading}
 use Rattle.bq_value.specs.Datum.{Datum, or_none}
 use Rattle.bq_builtin_machine.specs.Action.{Run, done, stopped}
 use Rattle.bq_builtin_machine.specs.State.{State, Stop, started}
 use Rattle.bq_eval_meaning_spec.specs.Frame.{Frame}
-use Rattle.bq_eval_meaning_spec.specs.Module.{module_meaning, frozen_units}
+use Rattle.bq_eval_language_spec.specs.Slots.{module_meaning, frozen_units}
 use Rattle.bq_eval_operations.specs.Calling.{HostCalls}
 use Rattle.bq_eval_operations.specs.Runtime.{primitives}
 
@@ -35,7 +35,7 @@ values_from slot [] globals = []
 values_from slot (name ∷ names) globals = or_none (globals slot) ∷ values_from (slot + 1) names globals
 
 -- the values of a file's globals, and then of what its loads bind: its functions use both
-unfoldable pub frozen_values : Resolved → List Datum → Frame → List Datum
+unfoldable pub frozen_values : ResolvedFile → List Datum → Frame → List Datum
 frozen_values file imports globals = values_from 0 file.globals globals ++ imports
 
 -- `fail` has its message as its detail
@@ -46,7 +46,7 @@ detail_of kind message = cond (fault_number kind == fault_number f.Fail) (quoted
 abbrev pub fault_of : Stop → Fault
 fault_of why = record { kind = why.kind; line = why.line; detail = detail_of why.kind why.message }
 
-abbrev pub ended : {W : Type 0} → Resolved → List Datum → Run (State × W) Frame → Ended
+abbrev pub ended : {W : Type 0} → ResolvedFile → List Datum → Run (State × W) Frame → Ended
 ended file imports (done globals s) = evaluated (frozen s.0.store file.globals (frozen_values file imports globals)) s.0.prints
 ended file imports (stopped why) = failed (fault_of why) why.prints
 
@@ -57,6 +57,6 @@ kept_after (stopped why) = None
 
 -- A file among those of the workspace runs as the module of that number, with the frozen modules that it loads and a
 -- value for each clause of its loads: its statements in order, on a fresh machine, with `limit` steps.
-unfoldable pub module_run : {W : Type 0} → List Name → HostCalls W → List (Option Resolved) → ℕ → Resolved → List FrozenView → List Datum → ℕ → W → Run (State × W) Frame
+unfoldable pub module_run : {W : Type 0} → List Name → HostCalls W → List (Option ResolvedFile) → ℕ → ResolvedFile → List FrozenView → List Datum → ℕ → W → Run (State × W) Frame
 module_run rules host code number file loaded imports limit kept =
     module_meaning (primitives rules host) (frozen_units code loaded) number file imports (started (first_store number loaded) limit, kept)

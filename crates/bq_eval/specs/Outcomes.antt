@@ -1,13 +1,14 @@
 -- What the types of the code stand for.
 use Rattle.std.specs.Prelude.{ℕ, List}
 use Rattle.bq_resolve_scope.specs.Names.{Name}
-use Rattle.bq_resolve_scope.specs.declared.code.CodeTopLevel.{CodeTopLevel}
-use Rattle.bq_resolve_scope.specs.declared.code.LoadStmt.{LoadStmt}
-use Rattle.bq_builtin_machine.specs.Action.{Run, Action, ◌>>=◌, pure}
+use Rattle.bq_resolve_scope.specs.declared.file.FileLine.{FileLine}
+use Rattle.bq_resolve_scope.specs.declared.loads.LoadStmt.{LoadStmt}
+use Rattle.bq_builtin_machine.specs.Action.{Run, Action}
 use Rattle.bq_builtin_machine.specs.State.{State}
 use Rattle.bq_eval_meaning_spec.specs.Frame.{Frame, empty}
-use Rattle.bq_eval_meaning_spec.specs.Module.{eval_top, first_globals, frozen_units, module_meaning, top_levels}
 use Rattle.bq_eval_meaning_spec.specs.Primitives.{Primitives}
+use Rattle.bq_eval_language_spec.specs.Module as language
+use Rattle.bq_eval_language_spec.specs.Slots.{by_slots, first_globals, frozen_units, module_meaning}
 use Rattle.bq_eval_rules.specs.Round.{views_of, lent_files, own_of}
 use Rattle.bq_eval_rules.specs.declared.context.Program.{Program}
 use Rattle.bq_eval_operations.specs.Calling.{HostCalls}
@@ -28,7 +29,7 @@ run_of rules host m limit kept = module_run rules host (lent_files m.code.now) m
 abbrev pub file_run : {S : Type 0} → Primitives S → ResolvedModule → Action S Frame
 file_run means m = module_meaning means (frozen_units (lent_files m.code.now) (views_of m.loaded.now)) m.number m.file.now m.imports.now
 
--- these statements run as those of a module of a program; what it loads gives some globals their first values
-unfoldable pub program_run : {S : Type 0} → Primitives S → Program → List LoadStmt → List CodeTopLevel → Action S Frame
-program_run m p loads stmts =
-    top_levels m (own_of p) (eval_top m (frozen_units (lent_files p.code.now) (views_of p.frozen.now)) (own_of p)) stmts (first_globals loads p.loaded.now empty) >>= λ r. pure r.1
+-- these lines run as those of a module of a program; what it loads gives some globals their first values
+unfoldable pub program_run : {S : Type 0} → Primitives S → Program → List LoadStmt → List FileLine → Action S Frame
+program_run m p loads lines =
+    language.module_meaning m by_slots (frozen_units (lent_files p.code.now) (views_of p.frozen.now)) (own_of p) lines (first_globals loads p.loaded.now empty)

@@ -1,13 +1,13 @@
 -- Evaluations end by names in what they end in by slots.
 use Rattle.std.proofs.Common.{◌≡◌, ℕ, List, Option, Some, refl, ap, sym, ◌∙◌}
-use Rattle.bq_resolve_scope.specs.declared.code.Resolved.{Resolved}
+use Rattle.bq_resolve_scope.specs.declared.file.ResolvedFile.{ResolvedFile}
 use Rattle.bq_resolve_scope.specs.Names.{Name, place_among, global_names}
 use Rattle.bq_value.specs.Cells.{FrozenView, frozen}
 use Rattle.bq_value.specs.Datum.{Datum}
 use Rattle.bq_builtin_machine.specs.Action.{Run, done, stopped}
 use Rattle.bq_builtin_machine.specs.State.{State, started}
 use Rattle.bq_eval_meaning_spec.specs.Frame.{Frame}
-use Rattle.bq_eval_meaning_spec.specs.Module as slots
+use Rattle.bq_eval_language_spec.specs.Slots as slots
 use Rattle.bq_eval_by_name_expression_laws.specs.Alike.{Alike}
 use Rattle.bq_eval_by_name_expression_laws.specs.Shows.{Reads}
 use Rattle.bq_eval_by_name_spec.specs.Names.{Env}
@@ -20,10 +20,10 @@ use Rattle.bq_resolve_by_name.specs.Files.{ParsedFile, IsCodeOf}
 use Rattle.bq_resolve_by_name.proofs.Loads.{globals_kept}
 use Rattle.bq_eval_by_name.specs.Agreement.{AreCodesOf, EvaluationsAgree}
 use Rattle.bq_eval_by_name.specs.Evaluation.{frozen_units, frozen_values, ended, kept_after, module_run}
-use Rattle.bq_eval_by_name.proofs.Units.{fits, units_agree}
+use Rattle.bq_eval_by_name.proofs.Units.{units_agree}
 use Rattle.bq_eval_by_name.proofs.Values.{frozen_same}
 
-module _ {W : Type 0} (file : ParsedFile) (code : Resolved) (imports : List Datum) (globals : code.globals ≡ global_names file.statements) where
+module _ {W : Type 0} (file : ParsedFile) (code : ResolvedFile) (imports : List Datum) (globals : code.globals ≡ global_names file.statements) where
   abbrev Ends : Run (State × W) Env → Run (State × W) Frame → Type 0
   Ends = Alike (Reads (λ name. place_among name (global_names file.statements)))
 
@@ -43,12 +43,12 @@ module _ {W : Type 0} (file : ParsedFile) (code : Resolved) (imports : List Datu
   kept_same (stopped because) (stopped why) h = refl
 
 module _ {W : Type 0} (rules : List Name) (host : HostCalls W) where
-  runs_alike : (files : List (Option ParsedFile)) (codes : List (Option Resolved)) → AreCodesOf files codes → (number : ℕ) (file : ParsedFile) (code : Resolved) → IsCodeOf file code
+  runs_alike : (files : List (Option ParsedFile)) (codes : List (Option ResolvedFile)) → AreCodesOf files codes → (number : ℕ) (file : ParsedFile) (code : ResolvedFile) → IsCodeOf file code
       → (loaded : List FrozenView) (imports : List Datum) (limit : ℕ) (kept : W)
       → Alike (Reads (λ name. place_among name (global_names file.statements))) (module_run rules host files number file loaded imports limit kept) (by_slots.module_run rules host codes number code loaded imports limit kept)
   unfolding module_run by_slots.module_run
   runs_alike files codes are number file code is loaded imports limit kept =
-      module_alike file.universe file.statements code is.names (fits file code is) (primitives rules host) (frozen_units files loaded) (slots.frozen_units codes loaded) (units_agree files codes are loaded)
+      module_alike file.universe file.statements code is.names (primitives rules host) (frozen_units files loaded) (slots.frozen_units codes loaded) (units_agree files codes are loaded)
       number imports (started (first_store number loaded) limit, kept)
 
   pub evaluations_agree : EvaluationsAgree rules host

@@ -1,17 +1,13 @@
 -- Frozen modules, read by names, are what they are by slots.
 use Rattle.std.proofs.Common.{ℕ, zero, suc, List, [], ◌∷◌, length, drop, Option, Some, None, Ok, slice_get, refl, ap, subst}
-use Rattle.bq_parse_grammar.specs.Pieces.{pieces}
-use Rattle.bq_resolve_scope.specs.declared.code.Resolved.{Resolved}
+use Rattle.bq_resolve_scope.specs.declared.file.ResolvedFile.{ResolvedFile}
 use Rattle.bq_resolve_scope.specs.Names.{global_names}
 use Rattle.bq_resolve_by_name.specs.Resolution.{InOrder, Maybe}
 use Rattle.bq_resolve_by_name.proofs.Loads.{globals_kept}
 use Rattle.bq_value.specs.Cells.{FrozenView}
 use Rattle.bq_value.specs.Datum.{Datum}
-use Rattle.bq_eval_depth_laws.specs.Fits.{FileFits}
-use Rattle.bq_eval_depth_laws.proofs.ParsedFiles.{file_within}
-use Rattle.bq_eval_depth_laws.proofs.ResolvedFiles.{file_fits}
-use Rattle.bq_eval_meaning_spec.specs.Module as slots
-use Rattle.bq_eval_meaning_spec.specs.Module.{globals_among}
+use Rattle.bq_eval_language_spec.specs.Slots as slots
+use Rattle.bq_eval_language_spec.specs.Slots.{globals_among}
 use Rattle.bq_eval_by_name_spec.specs.Module as names
 use Rattle.bq_eval_by_name_module_laws.specs.Units.{UnitIs, UnitsAgree}
 use Rattle.bq_eval_by_name_module_laws.proofs.Agreement.{frozen_is}
@@ -19,10 +15,6 @@ use Rattle.bq_resolve_by_name.specs.Files.{ParsedFile, IsCodeOf}
 use Rattle.bq_eval_by_name.specs.Agreement.{AreCodesOf}
 use Rattle.bq_eval_by_name.specs.Evaluation.{values_named, frozen_by, frozen_unit, frozen_units}
 use Rattle.bq_eval_by_name.proofs.Values.{named_reads}
-
-pub fits : (file : ParsedFile) (code : Resolved) → IsCodeOf file code → FileFits code
-fits file code is =
-    file_fits file.universe file.statements code (file_within file.universe.kind (pieces is.lexemes) file.statements (Ok file.statements) refl is.parses) is.names
 
 -- those of one place are related, as all are
 pub in_place : {A B : Type 0} (R : A → B → Type 0) (xs : List A) (ys : List B) (n : ℕ) → InOrder R xs ys → Maybe R (slice_get xs n) (slice_get ys n)
@@ -32,14 +24,14 @@ in_place R (x ∷ xs) [] n h = absurd h
 in_place R (x ∷ xs) (y ∷ ys) zero h = h.0
 in_place R (x ∷ xs) (y ∷ ys) (suc n) h = in_place R xs ys n h.1
 
-frozen_of : (file : ParsedFile) (code : Resolved) → IsCodeOf file code → (values : List Datum) → Maybe UnitIs (Some (frozen_by file values)) (slots.frozen_unit (Some (Some code)) (Some values))
+frozen_of : (file : ParsedFile) (code : ResolvedFile) → IsCodeOf file code → (values : List Datum) → Maybe UnitIs (Some (frozen_by file values)) (slots.frozen_unit (Some (Some code)) (Some values))
 frozen_of file code is values =
     subst (λ n. Maybe UnitIs (Some (names.frozen_unit file.universe file.statements (drop n values) (values_named (global_names file.statements) values))) (slots.frozen_unit (Some (Some code)) (Some values)))
     (ap length (globals_kept file code is))
-    (frozen_is file.universe file.statements code is.names (fits file code is) (values_named (global_names file.statements) values) (λ k. slice_get values k) values
+    (frozen_is file.universe file.statements code is.names (values_named (global_names file.statements) values) (λ k. slice_get values k) values
     (named_reads (global_names file.statements) values) (λ k within. refl))
 
-unit_by : (f : Option (Option ParsedFile)) (c : Option (Option Resolved)) → Maybe (Maybe IsCodeOf) f c → (values : Option (List Datum)) → Maybe UnitIs (frozen_unit f values) (slots.frozen_unit c values)
+unit_by : (f : Option (Option ParsedFile)) (c : Option (Option ResolvedFile)) → Maybe (Maybe IsCodeOf) f c → (values : Option (List Datum)) → Maybe UnitIs (frozen_unit f values) (slots.frozen_unit c values)
 unit_by None None h values = tt
 unit_by None (Some c) h values = absurd h
 unit_by (Some f) None h values = absurd h
@@ -49,6 +41,6 @@ unit_by (Some (Some f)) (Some None) h values = absurd h
 unit_by (Some (Some f)) (Some (Some c)) h None = tt
 unit_by (Some (Some f)) (Some (Some c)) h (Some values) = frozen_of f c h values
 
-pub units_agree : (files : List (Option ParsedFile)) (codes : List (Option Resolved)) → AreCodesOf files codes → (loaded : List FrozenView) → UnitsAgree (frozen_units files loaded) (slots.frozen_units codes loaded)
+pub units_agree : (files : List (Option ParsedFile)) (codes : List (Option ResolvedFile)) → AreCodesOf files codes → (loaded : List FrozenView) → UnitsAgree (frozen_units files loaded) (slots.frozen_units codes loaded)
 unfolding frozen_units slots.frozen_units
 units_agree files codes are loaded n = unit_by (slice_get files n) (slice_get codes n) (in_place (Maybe IsCodeOf) files codes n are) (globals_among n loaded)

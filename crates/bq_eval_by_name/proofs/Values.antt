@@ -3,7 +3,7 @@ use Rattle.std.proofs.Common.{◌≡◌, ℕ, suc, ◌+◌, Bool, true, false, �
 use Rattle.std.specs.Prelude.{if◌then◌else◌}
 use Rattle.std.specs.Option.{option_map}
 use Rattle.std.proofs.lemmas.Slice.Eq.{bytes_eq-Decides}
-use Rattle.bq_resolve_scope.specs.declared.code.Resolved.{Resolved}
+use Rattle.bq_resolve_scope.specs.declared.file.ResolvedFile.{ResolvedFile}
 use Rattle.bq_resolve_scope.specs.Names.{Name, has, place_among, global_names}
 use Rattle.bq_value.specs.Datum.{Datum, or_none}
 use Rattle.bq_eval_meaning_spec.specs.Frame.{Frame}
@@ -61,7 +61,7 @@ values_same all k (x ∷ xs) stand env frame reads =
     let rest : StandFrom (k + 1) all xs = λ i name e. (let next : k + suc i ≡ k + 1 + i = omega arith in stand (suc i) name e ∙ ap Some next) in
     ap (λ v. v ∷ map (λ name. value_of (env name)) xs) head ∙ ap (λ vs. or_none (frame k) ∷ vs) (values_same all (k + 1) xs rest env frame reads)
 
-pub frozen_same : (file : ParsedFile) (code : Resolved) → code.globals ≡ global_names file.statements → (imports : List Datum) (env : Env) (frame : Frame)
+pub frozen_same : (file : ParsedFile) (code : ResolvedFile) → code.globals ≡ global_names file.statements → (imports : List Datum) (env : Env) (frame : Frame)
     → Reads (λ name. place_among name (global_names file.statements)) env frame → frozen_values file imports env ≡ by_slots.frozen_values code imports frame
 unfolding frozen_values by_slots.frozen_values
 frozen_same file code globals imports env frame reads =

@@ -1,13 +1,13 @@
 -- The law of names for evaluations: on the machine and the host of a program a file ends by names in what it ends in by slots.
 use Rattle.std.specs.Prelude.{◌≡◌, ℕ, true, List, length, drop, Option, Ok}
-use Rattle.bq_resolve_scope.specs.declared.code.Resolved.{Resolved}
+use Rattle.bq_resolve_scope.specs.declared.file.ResolvedFile.{ResolvedFile}
 use Rattle.bq_resolve_scope.specs.Files.{resolved}
 use Rattle.bq_resolve_scope.specs.Names.{Name, has, global_names}
 use Rattle.bq_resolve_by_name.specs.Files.{ParsedFile, IsCodeOf}
 use Rattle.bq_resolve_by_name.specs.Resolution.{InOrder, Maybe}
 use Rattle.bq_value.specs.Cells.{FrozenView}
 use Rattle.bq_value.specs.Datum.{Datum}
-use Rattle.bq_eval_meaning_spec.specs.Module as slots
+use Rattle.bq_eval_language_spec.specs.Slots as slots
 use Rattle.bq_eval_by_name_spec.specs.Names.{Env}
 use Rattle.bq_eval_by_name_module_laws.specs.Ends.{Gives, AllBound, PartsAreCounted}
 use Rattle.bq_eval_by_name_module_laws.specs.Units.{UnitsAgree}
@@ -17,7 +17,7 @@ use Rattle.bq_eval.specs.Module as by_slots
 use Rattle.bq_eval_by_name.specs.Evaluation.{values_named, frozen_units, frozen_values, ended, kept_after, module_run}
 
 -- of each module the code is that of its file, or it has neither
-abbrev pub AreCodesOf : List (Option ParsedFile) → List (Option Resolved) → Type 0
+abbrev pub AreCodesOf : List (Option ParsedFile) → List (Option ResolvedFile) → Type 0
 AreCodesOf files codes = InOrder (Maybe IsCodeOf) files codes
 
 -- A frozen module is read as it ended: each global that was bound has its value, and what its loads bind has the values that they gave.
@@ -29,14 +29,14 @@ FrozenModulesKeepTheirGlobals =
 
 -- the frozen modules that are reached from these are the same ones by names and by slots, whatever they are
 abbrev pub FrozenUnitsAgree : Type 0
-FrozenUnitsAgree = (files : List (Option ParsedFile)) (codes : List (Option Resolved)) → AreCodesOf files codes → (loaded : List FrozenView) → UnitsAgree (frozen_units files loaded) (slots.frozen_units codes loaded)
+FrozenUnitsAgree = (files : List (Option ParsedFile)) (codes : List (Option ResolvedFile)) → AreCodesOf files codes → (loaded : List FrozenView) → UnitsAgree (frozen_units files loaded) (slots.frozen_units codes loaded)
 
 module _ {W : Type 0} (rules : List Name) (host : HostCalls W) where
   -- A file ends by names in what its code ends in by slots: the same frozen module, with the same cells, values of its globals and kinds of
   -- its rules, or the same fault; the same prints; and the host keeps the same.
   abbrev pub EvaluationsAgree : Type 0
   EvaluationsAgree =
-      (files : List (Option ParsedFile)) (codes : List (Option Resolved)) → AreCodesOf files codes → (number : ℕ) (file : ParsedFile) (code : Resolved) → IsCodeOf file code
+      (files : List (Option ParsedFile)) (codes : List (Option ResolvedFile)) → AreCodesOf files codes → (number : ℕ) (file : ParsedFile) (code : ResolvedFile) → IsCodeOf file code
       → (loaded : List FrozenView) (imports : List Datum) (limit : ℕ) (kept : W)
       → (ended file imports (module_run rules host files number file loaded imports limit kept) ≡ by_slots.ended code imports (by_slots.module_run rules host codes number code loaded imports limit kept))
       × (kept_after (module_run rules host files number file loaded imports limit kept) ≡ by_slots.kept_after (by_slots.module_run rules host codes number code loaded imports limit kept))
@@ -44,7 +44,7 @@ module _ {W : Type 0} (rules : List Name) (host : HostCalls W) where
   -- Where a file ends, each of its globals is bound.
   abbrev pub GlobalsAreBound : Type 0
   GlobalsAreBound =
-      (files : List (Option ParsedFile)) (number : ℕ) (file : ParsedFile) (code : Resolved) → resolved file.universe file.statements ≡ Ok code
+      (files : List (Option ParsedFile)) (number : ℕ) (file : ParsedFile) (code : ResolvedFile) → resolved file.universe file.statements ≡ Ok code
       → (loaded : List FrozenView) (imports : List Datum) (limit : ℕ) (kept : W)
       → Gives (AllBound (global_names file.statements)) (module_run rules host files number file loaded imports limit kept)
 

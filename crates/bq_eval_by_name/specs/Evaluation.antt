@@ -7,8 +7,8 @@ use Rattle.bq_value.specs.Cells.{FrozenView, frozen}
 use Rattle.bq_value.specs.Datum.{Datum, none, or_none}
 use Rattle.bq_builtin_machine.specs.Action.{Run, done, stopped}
 use Rattle.bq_builtin_machine.specs.State.{State, started}
-use Rattle.bq_eval_meaning_spec.specs.Module.{globals_among}
 use Rattle.bq_eval_language_spec.specs.Calls.{TreeUnit, Units}
+use Rattle.bq_eval_language_spec.specs.Slots.{globals_among}
 use Rattle.bq_eval_by_name_spec.specs.Module as meaning
 use Rattle.bq_eval_by_name_spec.specs.Names.{Env, Round}
 use Rattle.bq_eval.specs.Calling.{HostCalls}

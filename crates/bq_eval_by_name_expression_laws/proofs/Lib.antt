@@ -6,13 +6,13 @@ pub mod Walks
 pub mod Slots
 pub mod Envs
 pub mod Uses
--- what is in an expression
+-- what is in an expression, in two kinds of environments
 pub mod Parts
--- comprehensions: their names, and what their clauses do
+-- comprehensions: their names, and what their clauses do, in two kinds of environments
 pub mod Held
 pub mod Turns
 pub mod Clauses
--- what a made expression means
+-- the outermost layer of what is made
 pub mod Making
 -- what each rule of the resolver makes
 pub mod ResolvedParts

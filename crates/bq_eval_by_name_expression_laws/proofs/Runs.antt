@@ -42,15 +42,3 @@ choice W false a b c d s h k = k
 pub then_pure : {S A B C : Type 0} (W : B → C → Type 0) (r : Run S A) (f : A → B) (g : A → C) → ((a : A) → W (f a) (g a)) → Alike W (following r (λ a s. done (f a) s)) (following r (λ a s. done (g a) s))
 then_pure W (done a s) f g k = (refl, k a)
 then_pure W (stopped because) f g k = refl
-
--- ---- what is done in a row, as what comes after those before
-
-pub after_two : {S A B C D : Type 0} (W : C → D → Type 0) (r : Run S A) (f : A → Action S B) (g : B → Action S C) (q : Run S D) → Alike W (following (following r f) g) q
-    → Alike W (following r (λ a s. following (f a s) g)) q
-after_two W (done a s) f g q h = h
-after_two W (stopped why) f g q h = h
-
-pub after_three : {S A B C D E : Type 0} (W : D → E → Type 0) (r : Run S A) (f : A → Action S B) (g : A → B → Action S C) (h : C → Action S D) (q : Run S E)
-    → Alike W (following (following r (λ a s. following (f a s) (g a))) h) q → Alike W (following r (λ a s. following (f a s) (λ b t. following (g a b t) h))) q
-after_three W (done a s) f g h q k = after_two W (f a s) (g a) h q k
-after_three W (stopped why) f g h q k = k

@@ -1,6 +1,9 @@
 -- What walks make that resolve a tree: something of which `P` holds, and no slot is given back.
 use Rattle.std.proofs.Common.{◌≡◌, ◌≤◌, ◌+◌, ℕ, suc, List, [], ◌∷◌, ◌++◌, length, Option, Some, None, Result, Ok, Err, refl, sym, ◌∙◌, ap, subst, arith}
 use Rattle.bq_base.specs.declared.fault.Fault.{Fault}
+use Rattle.bq_parse_grammar.specs.declared.tree.Identifier.{Identifier}
+use Rattle.bq_parse_grammar.specs.declared.tree.Referent.{Referent}
+use Rattle.bq_resolve_scope.specs.Expressions.{refer}
 use Rattle.bq_resolve_scope.specs.Scope.{BlockParts}
 use Rattle.bq_resolve_scope.specs.Visit.{Passed, Visit, following, ◌>>=◌, pure, given, each, optional}
 use Rattle.bq_eval_by_name_expression_laws.specs.Shows.{Below}
@@ -83,6 +86,13 @@ pub walks_three : {A B C D : Type 0} (blocks : List BlockParts) (P : A → Type 
     → Walks {A = D} blocks T (v >>= λ x. u >>= λ y. t >>= λ z. pure (make x y z))
 walks_three blocks P Q R T v u t make w one two three =
     walks_bind blocks P T v (λ x. u >>= λ y. t >>= λ z. pure (make x y z)) one (λ x p. walks_two blocks Q R T u t (λ y z. make x y z) (λ y z q r. w x y z p q r) two three)
+
+-- a name and what it refers to
+abbrev pub Refers : Identifier → Option Referent → Identifier → Type 0
+Refers n o j = (x : Referent) × (o ≡ Some x) × (j ≡ refer n x)
+
+pub walks_refer : (blocks : List BlockParts) (why : Fault) (n : Identifier) (o : Option Referent) → Walks {A = Identifier} blocks (λ j. Refers n o j) (given why o >>= λ x. pure (refer n x))
+walks_refer blocks why n o = walks_map blocks (λ x. o ≡ Some x) (λ j. Refers n o j) (given why o) (λ x. refer n x) (λ x e. (x, e, refl)) (walks_given blocks why o)
 
 -- ---- lists
 

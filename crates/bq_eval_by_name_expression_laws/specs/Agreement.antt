@@ -1,19 +1,17 @@
 -- The law of names: what a tree means by names, the tree that it resolves to means by slots.
-use Rattle.std.specs.Prelude.{◌≡◌, ◌≤◌, ◌+◌, ℕ, List, [], Ok}
+use Rattle.std.specs.Prelude.{◌≡◌, ◌≤◌, ℕ, List, [], Ok}
 use Rattle.bq_parse_grammar.specs.declared.tree.Expr.{Expr}
-use Rattle.bq_resolve_scope.specs.declared.code.Code.{Code}
 use Rattle.bq_resolve_scope.specs.Names.{max_layers}
 use Rattle.bq_resolve_scope.specs.Scope.{BlockParts, FileParts}
 use Rattle.bq_resolve_scope.specs.Expressions as scope
 use Rattle.bq_resolve_scope.specs.Visit.{Passed}
 use Rattle.bq_value.specs.Datum.{Datum}
 use Rattle.bq_builtin_machine.specs.Args as args
-use Rattle.bq_eval_meaning_spec.specs.Expressions as slots
 use Rattle.bq_eval_meaning_spec.specs.Frame.{Frame, Surroundings, empty}
 use Rattle.bq_eval_meaning_spec.specs.Primitives.{Primitives}
-use Rattle.bq_eval_meaning_spec.specs.Trees.{Calls}
-use Rattle.bq_eval_meaning_laws.specs.Layers.{IsWithin}
-use Rattle.bq_eval_language_spec.specs.Expressions as names
+use Rattle.bq_eval_language_spec.specs.Expressions as language
+use Rattle.bq_eval_language_spec.specs.Slots.{by_slots}
+use Rattle.bq_eval_language_spec.specs.Trees.{Calls}
 use Rattle.bq_eval_by_name_spec.specs.Names.{Env, Round, outside, by_names}
 use Rattle.bq_eval_by_name_expression_laws.specs.Shows.{Below, Nested, Shows, Around}
 
@@ -33,22 +31,20 @@ pub record Context (S : Type 0) (file : FileParts) : Type 0 where
 -- What is around an expression says the same by names and by slots.
 module _ {S : Type 0} (m : Primitives S) (file : FileParts) (round : Round) (surroundings : Surroundings) (call other : Calls S) where
   -- An expression that resolves, among blocks whose slots are taken already, and where no name of a block has the slot
-  -- of another. Both meanings look at as many layers as there are: a resolved tree has at most twice those of its tree,
-  -- since what is outside functions has a layer that gives it a frame.
+  -- of another. Each meaning looks at no fewer layers than the resolver did.
   abbrev pub LayersAgree : Type 0
   LayersAgree =
-      (n k l : ℕ) (blocks : List BlockParts) (x : Expr) (c : Code) (p q : Passed) → n ≤ k → n + n ≤ l → Nested blocks → Below blocks p.slots → scope.expr_to n file blocks x p ≡ Ok (c, q)
-      → (env : Env) (frame : Frame) (s : S) → Shows blocks env frame → names.expr_to k m by_names call round x env s ≡ slots.expr_to l m other surroundings c frame s
+      (n k l : ℕ) (blocks : List BlockParts) (x z : Expr) (p q : Passed) → n ≤ k → n ≤ l → Nested blocks → Below blocks p.slots → scope.expr_to n file blocks x p ≡ Ok (z, q)
+      → (env : Env) (frame : Frame) (s : S) → Shows blocks env frame → language.expr_to k m by_names call round x env s ≡ language.expr_to l m by_slots other surroundings z frame s
 
-  -- The same of both meanings as programs have them. The resolved tree is no deeper than the layers that its meaning looks at, as are all
-  -- trees of a file (bq_eval_depth_laws).
+  -- the same of both meanings as programs have them
   abbrev pub ExpressionsAgree : Type 0
   ExpressionsAgree =
-      (blocks : List BlockParts) (x : Expr) (c : Code) (p q : Passed) → Nested blocks → Below blocks p.slots → scope.expr_to max_layers file blocks x p ≡ Ok (c, q) → IsWithin max_layers c
-      → (env : Env) (frame : Frame) (s : S) → Shows blocks env frame → names.eval_in m by_names call round x env s ≡ slots.eval_in m other surroundings c frame s
+      (blocks : List BlockParts) (x z : Expr) (p q : Passed) → Nested blocks → Below blocks p.slots → scope.expr_to max_layers file blocks x p ≡ Ok (z, q)
+      → (env : Env) (frame : Frame) (s : S) → Shows blocks env frame → language.eval_in m by_names call round x env s ≡ language.eval_in m by_slots other surroundings z frame s
 
   -- outside all blocks
   abbrev pub OutsideAgree : Type 0
   OutsideAgree =
-      (x : Expr) (c : Code) (p q : Passed) → scope.expr_to max_layers file [] x p ≡ Ok (c, q) → IsWithin max_layers c
-      → (s : S) → names.eval_in m by_names call round x outside s ≡ slots.eval_in m other surroundings c empty s
+      (x z : Expr) (p q : Passed) → scope.expr_to max_layers file [] x p ≡ Ok (z, q)
+      → (s : S) → language.eval_in m by_names call round x outside s ≡ language.eval_in m by_slots other surroundings z empty s

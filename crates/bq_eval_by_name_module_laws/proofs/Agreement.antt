@@ -3,10 +3,10 @@ use Rattle.std.proofs.Common.{◌≡◌, ◌<◌, ℕ, zero, suc, Bool, true, fa
 use Rattle.std.specs.Prelude.{if◌then◌else◌}
 use Rattle.bq_base.specs.declared.fault.Fault.{Fault}
 use Rattle.bq_parse_grammar.specs.declared.tree.TopLevel.{TopLevel}
-use Rattle.bq_resolve_scope.specs.declared.code.CodeTopLevel.{CodeTopLevel}
-use Rattle.bq_resolve_scope.specs.declared.code.Resolved.{Resolved}
+use Rattle.bq_resolve_scope.specs.declared.file.FileLine.{FileLine}
+use Rattle.bq_resolve_scope.specs.declared.file.ResolvedFile.{ResolvedFile}
 use Rattle.bq_resolve_scope.specs.Files.{file_names, top_level, resolved_by, resolved}
-use Rattle.bq_resolve_scope.specs.Names.{Name, max_layers, place_among, global_names, loaded_names}
+use Rattle.bq_resolve_scope.specs.Names.{Name, place_among, global_names, loaded_names}
 use Rattle.bq_resolve_scope.specs.Scope.{FileParts}
 use Rattle.bq_resolve_scope.specs.Statements as scope
 use Rattle.bq_resolve_scope.specs.Universe.{UniverseParts}
@@ -17,18 +17,15 @@ use Rattle.bq_resolve_by_name.proofs.FaultyFiles.{without_violations}
 use Rattle.bq_resolve_by_name.proofs.ResolvedFiles.{to_themselves}
 use Rattle.bq_resolve_by_name.proofs.Uses.{place_within}
 use Rattle.bq_value.specs.Datum.{Datum}
-use Rattle.bq_eval_depth_laws.specs.Fits.{FileFits}
-use Rattle.bq_eval_depth_laws.proofs.Within.{code_within}
-use Rattle.bq_eval_meaning_spec.specs.Calls as calls
-use Rattle.bq_eval_meaning_spec.specs.Frame.{Frame, empty}
-use Rattle.bq_eval_meaning_spec.specs.Module as slots
+use Rattle.bq_eval_meaning_spec.specs.Frame.{Frame, Surroundings, empty}
 use Rattle.bq_eval_meaning_spec.specs.Primitives.{Primitives}
-use Rattle.bq_eval_meaning_spec.specs.Trees as trees
-use Rattle.bq_eval_meaning_spec.specs.Trees.{Calls}
-use Rattle.bq_eval_language_spec.specs.Calls as functions
+use Rattle.bq_eval_language_spec.specs.Calls.{Units, calls, max_active}
 use Rattle.bq_eval_language_spec.specs.Module as language
-use Rattle.bq_eval_language_spec.specs.Module.{defs, load_clauses}
+use Rattle.bq_eval_language_spec.specs.Module.{Own}
+use Rattle.bq_eval_language_spec.specs.Slots as slots
+use Rattle.bq_eval_language_spec.specs.Slots.{by_slots}
 use Rattle.bq_eval_language_spec.specs.Trees.{Eval}
+use Rattle.bq_eval_by_name_spec.specs.Files.{functions_of, load_clauses}
 use Rattle.bq_eval_by_name_spec.specs.Module as names
 use Rattle.bq_eval_by_name_spec.specs.Names.{Env, Round, declare, outside, by_names}
 use Rattle.bq_eval_by_name_expression_laws.specs.Alike.{Alike}
@@ -45,11 +42,11 @@ use Rattle.bq_eval_by_name_module_laws.proofs.Loads.{nothing_bound, all_places, 
 use Rattle.bq_eval_by_name_module_laws.proofs.Modules.{tops_alike}
 use Rattle.bq_eval_by_name_module_laws.proofs.Sent.{all_sent}
 
-parts_by : (file : FileParts) (q : Result (List CodeTopLevel × Passed) Fault) (x : Resolved) → resolved_by file q ≡ Ok x
-    → (zs : List CodeTopLevel) × (v : Passed) × (q ≡ Ok (zs, v)) × (x ≡ record { statements = zs; functions = v.functions; globals = file.globals; loads = v.loads })
+parts_by : (file : FileParts) (q : Result (List FileLine × Passed) Fault) (x : ResolvedFile) → resolved_by file q ≡ Ok x
+    → (zs : List FileLine) × (v : Passed) × (q ≡ Ok (zs, v)) × (x ≡ record { statements = zs; functions = v.functions; globals = file.globals; loads = v.loads })
 parts_by file (Err why) x e = absurd (let no : ⊥ = cc in no)
 parts_by file (Ok p) x e =
-    let made : Resolved = record { statements = p.0; functions = p.1.functions; globals = file.globals; loads = p.1.loads } in
+    let made : ResolvedFile = record { statements = p.0; functions = p.1.functions; globals = file.globals; loads = p.1.loads } in
     let is : x ≡ made = cc in (p.0, p.1, refl, is)
 
 -- of the first ones, the one at a place
@@ -63,12 +60,12 @@ module _ (universe : UniverseParts) (ts : List TopLevel) where
   abbrev names_in : FileParts
   names_in = record { universe = universe; globals = global_names ts; loaded = loaded_names ts }
 
-  module _ (r : Resolved) (e : resolved universe ts ≡ Ok r) where
+  module _ (r : ResolvedFile) (e : resolved universe ts ≡ Ok r) where
     -- the statements and functions of the file, from its walk
     abbrev Walk : Type 0
-    Walk = (v : Passed) × TopsAre names_in nothing_passed ts r.statements v × (r.functions ≡ v.functions) × InOrder (FunctionIs names_in) (defs ts) r.functions
+    Walk = (v : Passed) × TopsAre names_in nothing_passed ts r.statements v × (r.functions ≡ v.functions) × InOrder (FunctionIs names_in) (functions_of ts) r.functions
 
-    walk_by : (zs : List CodeTopLevel) (v : Passed) → each (top_level names_in) [] ts nothing_passed ≡ Ok (zs, v) → r ≡ record { statements = zs; functions = v.functions; globals = global_names ts; loads = v.loads } → Walk
+    walk_by : (zs : List FileLine) (v : Passed) → each (top_level names_in) [] ts nothing_passed ≡ Ok (zs, v) → r ≡ record { statements = zs; functions = v.functions; globals = global_names ts; loads = v.loads } → Walk
     walk_by zs v made is =
         let tops = tops_are names_in ts [] nothing_passed zs v made in
         let statements : r.statements ≡ tops.0 = ap (λ z. z.statements) is ∙ tops.2 in
@@ -77,7 +74,7 @@ module _ (universe : UniverseParts) (ts : List TopLevel) where
           v,
           subst (λ ys. TopsAre names_in nothing_passed ts ys v) (sym statements) tops.1,
           functions,
-          subst (λ fs. InOrder (FunctionIs names_in) (defs ts) fs) (sym (functions ∙ added.1)) added.2,
+          subst (λ fs. InOrder (FunctionIs names_in) (functions_of ts) fs) (sym (functions ∙ added.1)) added.2,
         )
 
     walk : Walk
@@ -108,55 +105,53 @@ module _ (universe : UniverseParts) (ts : List TopLevel) where
     globals_are = (to_themselves universe ts r e).1
 
     -- the file's own functions, with what is around them
-    module _ (fits : FileFits r) where
-      unit_is : (vs : List Datum) (env : Env) (frame loaded : Frame) → Reads (λ name. place_among name (global_names ts)) env frame
-          → Reads (λ name. place_among name (loaded_names ts)) (names.loaded_values ts vs) loaded
-          → UnitIs (names.frozen_unit universe ts vs env) (record { functions = r.functions; round = record { globals = frame; loaded = loaded } })
-      unit_is vs env frame loaded reads read =
-          record { file = names_in; functions = walk.3; fits = fits.1; round = record { globals = reads; loaded = read; universe = refl } }
+    unit_is : (vs : List Datum) (env : Env) (frame loaded : Frame) → Reads (λ name. place_among name (global_names ts)) env frame
+        → Reads (λ name. place_among name (loaded_names ts)) (names.loaded_values ts vs) loaded
+        → UnitIs (names.frozen_unit universe ts vs env) (record { functions = r.functions; round = record { globals = frame; loaded = loaded } })
+    unit_is vs env frame loaded reads read = record { file = names_in; functions = walk.3; round = record { globals = reads; loaded = read; universe = refl } }
 
-      frozen_reads : (values : List Datum) (frame : Frame) → ((k : ℕ) → k < length r.globals → frame k ≡ slice_get values k) → (name : Name) (o : Option ℕ) → place_among name (global_names ts) ≡ o
-          → through frame o ≡ through (λ k. slice_get (take (length r.globals) values) k) o
-      frozen_reads values frame same name None at = refl
-      frozen_reads values frame same name (Some k) at =
-          let within : k < length r.globals = subst (λ n. k < n) (sym (ap length globals_are)) (place_within name (global_names ts) k at) in
-          ap (λ o. Some o) (same k within ∙ sym (of_first (length r.globals) values k within))
+    frozen_reads : (values : List Datum) (frame : Frame) → ((k : ℕ) → k < length r.globals → frame k ≡ slice_get values k) → (name : Name) (o : Option ℕ) → place_among name (global_names ts) ≡ o
+        → through frame o ≡ through (λ k. slice_get (take (length r.globals) values) k) o
+    frozen_reads values frame same name None at = refl
+    frozen_reads values frame same name (Some k) at =
+        let within : k < length r.globals = subst (λ n. k < n) (sym (ap length globals_are)) (place_within name (global_names ts) k at) in
+        ap (λ o. Some o) (same k within ∙ sym (of_first (length r.globals) values k within))
 
-      pub frozen_is : (globals : Env) (frame : Frame) (values : List Datum) → Reads (λ name. place_among name (global_names ts)) globals frame
-          → ((k : ℕ) → k < length r.globals → frame k ≡ slice_get values k)
-          → Maybe UnitIs (Some (names.frozen_unit universe ts (drop (length r.globals) values) globals)) (slots.frozen_unit (Some (Some r)) (Some values))
-      frozen_is globals frame values reads same =
-          unit_is (drop (length r.globals) values) globals (λ k. slice_get (take (length r.globals) values) k) (λ k. slice_get (drop (length r.globals) values) k)
-          (λ name. reads name ∙ frozen_reads values frame same name (place_among name (global_names ts)) refl) (loaded_reads (drop (length r.globals) values))
+    pub frozen_is : (globals : Env) (frame : Frame) (values : List Datum) → Reads (λ name. place_among name (global_names ts)) globals frame
+        → ((k : ℕ) → k < length r.globals → frame k ≡ slice_get values k)
+        → Maybe UnitIs (Some (names.frozen_unit universe ts (drop (length r.globals) values) globals)) (slots.frozen_unit (Some (Some r)) (Some values))
+    frozen_is globals frame values reads same =
+        unit_is (drop (length r.globals) values) globals (λ k. slice_get (take (length r.globals) values) k) (λ k. slice_get (drop (length r.globals) values) k)
+        (λ name. reads name ∙ frozen_reads values frame same name (place_among name (global_names ts)) refl) (loaded_reads (drop (length r.globals) values))
 
-      module _ {S : Type 0} (m : Primitives S) (named : functions.Units Round) (units : calls.Units) (agree : UnitsAgree named units) (number : ℕ) (vs : List Datum) where
-        abbrev own : language.Own Round Env
-        own = names.own_of number universe ts vs
+    module _ {S : Type 0} (m : Primitives S) (named : Units Round) (units : Units Surroundings) (agree : UnitsAgree named units) (number : ℕ) (vs : List Datum) where
+      abbrev own : Own Round Env
+      own = names.own_of number universe ts vs
 
-        abbrev other : slots.Own
-        other = record { number = number; functions = r.functions; loaded = vs }
+      abbrev other : Own Surroundings Frame
+      other = slots.own_of number r vs
 
-        own_by : (env : Env) (frame : Frame) → GlobalsShow names_in env frame → (t : Bool) (n : ℕ)
-            → Maybe UnitIs (if t then Some (record { functions = own.functions; round = own.round env }) else named n)
-            (if t then Some (record { functions = other.functions; round = slots.own_round other frame }) else units n)
-        own_by env frame reads true n = unit_is vs env frame (λ k. slice_get vs k) reads (loaded_reads vs)
-        own_by env frame reads false n = agree n
+      own_by : (env : Env) (frame : Frame) → GlobalsShow names_in env frame → (t : Bool) (n : ℕ)
+          → Maybe UnitIs (if t then Some (record { functions = own.functions; round = own.round env }) else named n)
+          (if t then Some (record { functions = other.functions; round = other.round frame }) else units n)
+      own_by env frame reads true n = unit_is vs env frame (λ k. slice_get vs k) reads (loaded_reads vs)
+      own_by env frame reads false n = agree n
 
-        own_agrees : (env : Env) (frame : Frame) → GlobalsShow names_in env frame → UnitsAgree (language.with_own named own env) (slots.with_own units other frame)
-        own_agrees env frame reads n = own_by env frame reads (n == number) n
+      own_agrees : (env : Env) (frame : Frame) → GlobalsShow names_in env frame → UnitsAgree (language.with_own named own env) (language.with_own units other frame)
+      own_agrees env frame reads n = own_by env frame reads (n == number) n
 
-        evals_agree : EvalsAgree names_in [] (GlobalsShow names_in) (language.eval_top m by_names named own) (slots.eval_top m units other)
-        unfolding scope.expr language.eval_top slots.eval_top
-        evals_agree x c p q below made fit env frame s reads =
-            outside_agree m names_in (own.round env) (slots.own_round other frame) (functions.calls calls.max_active m by_names (language.with_own named own env))
-            (calls.calls calls.max_active m (slots.with_own units other frame)) (record { globals = reads; loaded = loaded_reads vs; universe = refl })
-            (calls_agree m (language.with_own named own env) (slots.with_own units other frame) (own_agrees env frame reads) calls.max_active) x c p q made (code_within max_layers c fit) s
+      evals_agree : EvalsAgree names_in [] (GlobalsShow names_in) (language.eval_top m by_names named own) (language.eval_top m by_slots units other)
+      unfolding scope.expr language.eval_top
+      evals_agree x z p q below made env frame s reads =
+          outside_agree m names_in (own.round env) (other.round frame) (calls max_active m by_names (language.with_own named own env)) (calls max_active m by_slots (language.with_own units other frame))
+          (record { globals = reads; loaded = loaded_reads vs; universe = refl })
+          (calls_agree m (language.with_own named own env) (language.with_own units other frame) (own_agrees env frame reads) max_active) x z p q made s
 
-        pub module_alike : (s : S) → Alike (Reads (λ name. place_among name (global_names ts))) (names.module_meaning m named number universe ts vs s) (slots.module_meaning m units number r vs s)
-        unfolding names.module_meaning language.module_meaning slots.module_meaning
-        module_alike s =
-            let eval : Eval S Env = language.eval_top m by_names named own in
-            let slotted : trees.Eval S = slots.eval_top m units other in
-            then_alike (Ended (GlobalsShow names_in)) (GlobalsShow names_in) _ _ _ _
-            (tops_alike m names_in own other eval slotted refl evals_agree (lines_agree m names_in eval slotted evals_agree) ts r.statements nothing_passed walk.0 walk.1 fits.0 walk.2
-            (names.first_globals ts vs) (slots.first_globals r.loads vs empty) (globals_read vs) s) (λ a b z k. (refl, k.1))
+      pub module_alike : (s : S) → Alike (Reads (λ name. place_among name (global_names ts))) (names.module_meaning m named number universe ts vs s) (slots.module_meaning m units number r vs s)
+      unfolding names.module_meaning language.module_meaning slots.module_meaning
+      module_alike s =
+          let eval : Eval S Env = language.eval_top m by_names named own in
+          let slotted : Eval S Frame = language.eval_top m by_slots units other in
+          then_alike (Ended (GlobalsShow names_in)) (GlobalsShow names_in) _ _ _ _
+          (tops_alike m names_in own other eval slotted refl evals_agree (lines_agree m names_in eval slotted evals_agree) ts r.statements nothing_passed walk.0 walk.1
+          (names.first_globals ts vs) (slots.first_globals r.loads vs empty) (globals_read vs) s) (λ a b z k. (refl, k.1))

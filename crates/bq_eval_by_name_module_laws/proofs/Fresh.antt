@@ -17,7 +17,7 @@ use Rattle.bq_resolve_scope.specs.Scope.{FileParts}
 use Rattle.bq_resolve_scope.specs.Visit.{fault_of}
 use Rattle.bq_resolve_by_name.specs.Violations.{in_turn, when, no_double, Before, in_load_clause, in_file_small_by, in_file_small, after_small, in_top_level_by, in_top_level, after}
 use Rattle.bq_resolve_by_name.proofs.Cases.{after_by}
-use Rattle.bq_eval_language_spec.specs.Module.{clauses_by, line_clauses, clauses_of, load_clauses}
+use Rattle.bq_eval_by_name_spec.specs.Files.{clauses_by, line_clauses, clauses_of, load_clauses}
 use Rattle.bq_eval_by_name_module_laws.proofs.Places.{new_place, name_stays, each_stays}
 
 -- each binds a name that is not among those before it

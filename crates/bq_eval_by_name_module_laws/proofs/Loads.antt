@@ -3,13 +3,13 @@ use Rattle.std.proofs.Common.{◌≡◌, ◌≢◌, ◌<◌, ◌≤◌, ℕ, zer
 use Rattle.std.specs.Prelude.{if◌then◌else◌}
 use Rattle.std.specs.Option.{option_map}
 use Rattle.bq_parse_grammar.specs.declared.tree.LoadClause.{LoadClause}
-use Rattle.bq_resolve_scope.specs.declared.code.LoadStmt.{LoadStmt}
-use Rattle.bq_resolve_scope.specs.declared.code.LoadedSymbol.{LoadedSymbol}
+use Rattle.bq_resolve_scope.specs.declared.loads.LoadStmt.{LoadStmt}
+use Rattle.bq_resolve_scope.specs.declared.loads.LoadedSymbol.{LoadedSymbol}
 use Rattle.bq_resolve_scope.specs.Names.{Name, has, place_among}
 use Rattle.bq_resolve_by_name.proofs.Uses.{place_within}
 use Rattle.bq_value.specs.Datum.{Datum}
 use Rattle.bq_eval_meaning_spec.specs.Frame.{Frame, empty, fill}
-use Rattle.bq_eval_meaning_spec.specs.Module as slots
+use Rattle.bq_eval_language_spec.specs.Slots as slots
 use Rattle.bq_eval_by_name_spec.specs.Module as named
 use Rattle.bq_eval_by_name_spec.specs.Names.{Env, bind, declare, outside}
 use Rattle.bq_eval_by_name_expression_laws.specs.Shows.{through, Reads}

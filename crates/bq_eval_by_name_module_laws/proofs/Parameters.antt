@@ -8,29 +8,33 @@ use Rattle.bq_parse_grammar.specs.declared.tree.Expr.{Expr}
 use Rattle.bq_parse_grammar.specs.declared.tree.Identifier.{Identifier}
 use Rattle.bq_parse_grammar.specs.declared.tree.Parameter.{Parameter}
 use Rattle.bq_parse_grammar.specs.declared.tree.Parameter.TheVariants as parameter
-use Rattle.bq_resolve_scope.specs.declared.code.Code.{Code}
-use Rattle.bq_resolve_scope.specs.declared.code.CodeParameter.{CodeParameter}
-use Rattle.bq_resolve_scope.specs.declared.code.CodeParameter.TheVariants as slot
+use Rattle.bq_resolve_scope.specs.declared.file.Formal.{Formal}
+use Rattle.bq_resolve_scope.specs.declared.file.Formal.TheVariants as formal
+use Rattle.bq_parse_grammar.specs.declared.tree.Referent.TheVariants as b
 use Rattle.bq_resolve_scope.specs.Names.{Name, has, place_among, with_name, with_each, with_parameter}
+use Rattle.bq_resolve_scope.specs.Expressions.{refer}
 use Rattle.bq_resolve_scope.specs.Scope.{FileParts}
 use Rattle.bq_resolve_scope.specs.Visit.{Passed, Visit, ◌>>=◌, pure, stop, fault_of}
 use Rattle.bq_resolve_scope.specs.Statements.{ParameterParts, expr, named_parameter, default_parameter, next_parameter, parameters}
 use Rattle.bq_resolve_by_name.specs.Resolution.{InOrder, ExprIs}
 use Rattle.bq_resolve_by_name.proofs.Makes.{append_none, append_one, append_all}
 use Rattle.bq_resolve_by_name.proofs.ResolvedStatements.{an_expr_makes}
-use Rattle.bq_eval_language_spec.specs.Module.{defaults_of}
+use Rattle.bq_eval_by_name_spec.specs.Files.{formal_of, defaults_of}
 use Rattle.bq_eval_by_name_module_laws.proofs.Keeps.{Made, Kept, Keeps, Anything, keeps_bind, keeps_made, keeps_weaker, keeps_makes, both}
 use Rattle.bq_eval_by_name_module_laws.proofs.Places.{Stays, new_place, each_stays, parameter_stays}
 
--- a parameter among these names
-abbrev pub RowIs : List Name → Parameter → CodeParameter → Type 0
-RowIs names (parameter.Plain n) z = (k : ℕ) × (place_among n.name names ≡ Some k) × (z ≡ slot.Plain n.name k)
-RowIs names (parameter.Default n x) z = (k : ℕ) × (place_among n.name names ≡ Some k) × (z ≡ slot.Default n.name k)
-RowIs names parameter.BareStar z = z ≡ slot.BareStar
-RowIs names (parameter.Star n) z = (k : ℕ) × (place_among n.name names ≡ Some k) × (z ≡ slot.Star k)
-RowIs names (parameter.StarStar n) z = (k : ℕ) × (place_among n.name names ≡ Some k) × (z ≡ slot.StarStar k)
+-- a parameter among these names, apart from its default
+abbrev pub FormalIs : List Name → Formal → Formal → Type 0
+FormalIs names (formal.Plain n) z = (k : ℕ) × (place_among n.name names ≡ Some k) × (z ≡ formal.Plain (refer n (b.Local k)))
+FormalIs names (formal.Default n) z = (k : ℕ) × (place_among n.name names ≡ Some k) × (z ≡ formal.Default (refer n (b.Local k)))
+FormalIs names formal.BareStar z = z ≡ formal.BareStar
+FormalIs names (formal.Star n) z = (k : ℕ) × (place_among n.name names ≡ Some k) × (z ≡ formal.Star (refer n (b.Local k)))
+FormalIs names (formal.StarStar n) z = (k : ℕ) × (place_among n.name names ≡ Some k) × (z ≡ formal.StarStar (refer n (b.Local k)))
 
-row_stays : (names more : List Name) → Stays names more → (q : Parameter) (z : CodeParameter) → RowIs names q z → RowIs more q z
+abbrev pub RowIs : List Name → Parameter → Formal → Type 0
+RowIs names q z = FormalIs names (formal_of q) z
+
+row_stays : (names more : List Name) → Stays names more → (q : Parameter) (z : Formal) → RowIs names q z → RowIs more q z
 row_stays names more stays (parameter.Plain n) z h = (h.0, stays n.name h.0 h.1, h.2)
 row_stays names more stays (parameter.Default n x) z h = (h.0, stays n.name h.0 h.1, h.2)
 row_stays names more stays parameter.BareStar z h = h
@@ -39,7 +43,7 @@ row_stays names more stays (parameter.StarStar n) z h = (h.0, stays n.name h.0 h
 
 module _ (file : FileParts) where
   -- an expression that resolves outside all blocks
-  abbrev pub Outer : Expr → Code → Type 0
+  abbrev pub Outer : Expr → Expr → Type 0
   Outer x y = Made (expr file [] x) y
 
   an_expr_keeps : (x : Expr) → Keeps (Outer x) (expr file [] x)
@@ -48,36 +52,36 @@ module _ (file : FileParts) where
   -- ---- one parameter
 
   -- the name is a new one
-  abbrev Named : ParameterParts → Name → CodeParameter → ParameterParts → Type 0
+  abbrev Named : ParameterParts → Name → Formal → ParameterParts → Type 0
   Named l name x m =
       (place_among name m.names ≡ Some (length l.names)) × (m.names ≡ with_name l.names name) × (m.parameters ≡ l.parameters ++ x ∷ []) × (m.defaults ≡ l.defaults)
 
-  named_by : (t : Bool) (why : Fault) (l : ParameterParts) (n : Identifier) (x : CodeParameter) (u : Passed) → has l.names n.name ≡ t
+  named_by : (t : Bool) (why : Fault) (l : ParameterParts) (n : Identifier) (x : Formal) (u : Passed) → has l.names n.name ≡ t
       → Kept {A = ParameterParts} (Named l n.name x) u
       (let go : Visit ParameterParts = if t then stop why else pure (record l { names = l.names ++ n.name ∷ []; parameters = l.parameters ++ x ∷ [] }) in go u)
   unfolding with_name
   named_by true why l n x u e = tt
   named_by false why l n x u e = ((new_place l.names n.name e, rw e refl, refl, refl), refl)
 
-  named_keeps : (l : ParameterParts) (n : Identifier) (x : CodeParameter) → Keeps (Named l n.name x) (named_parameter file l n x)
+  named_keeps : (l : ParameterParts) (n : Identifier) (x : Formal) → Keeps (Named l n.name x) (named_parameter file l n x)
   unfolding named_parameter
   named_keeps l n x u = named_by (has l.names n.name) (fault_of f.DoubleParameter n) l n x u refl
 
   abbrev Step : ParameterParts → Parameter → ParameterParts → Type 0
   Step l q m =
-      (z : CodeParameter) × (ds : List Code) × RowIs m.names q z × InOrder Outer (defaults_of (q ∷ [])) ds × (m.names ≡ with_parameter l.names q)
+      (z : Formal) × (ds : List Expr) × RowIs m.names q z × InOrder Outer (defaults_of (q ∷ [])) ds × (m.names ≡ with_parameter l.names q)
       × (m.parameters ≡ l.parameters ++ z ∷ []) × (m.defaults ≡ l.defaults ++ ds)
 
   default_keeps : (l : ParameterParts) (n : Identifier) (x : Expr) → Keeps (Step l (parameter.Default n x)) (default_parameter file l n x)
   unfolding default_parameter
   default_keeps l n x =
-      let z : CodeParameter = slot.Default n.name (length l.names) in
+      let z : Formal = formal.Default (refer n (b.Local (length l.names))) in
       keeps_bind (Named l n.name z) (Step l (parameter.Default n x)) (named_parameter file l n z) (λ m. expr file [] x >>= λ y. pure (record m { defaults = m.defaults ++ y ∷ [] })) (named_keeps l n z)
       (λ m h. keeps_bind (Outer x) (Step l (parameter.Default n x)) (expr file [] x) (λ y. pure (record m { defaults = m.defaults ++ y ∷ [] })) (an_expr_keeps x)
       (λ y e u. ((z, y ∷ [], (length l.names, h.0, refl), (e, tt), h.1, h.2, ap (λ ds. ds ++ y ∷ []) h.3), refl)))
 
   -- without a default
-  plain_keeps : (l : ParameterParts) (n : Identifier) (z : CodeParameter) (q : Parameter) → with_parameter l.names q ≡ with_name l.names n.name → defaults_of (q ∷ []) ≡ []
+  plain_keeps : (l : ParameterParts) (n : Identifier) (z : Formal) (q : Parameter) → with_parameter l.names q ≡ with_name l.names n.name → defaults_of (q ∷ []) ≡ []
       → ((m : ParameterParts) → place_among n.name m.names ≡ Some (length l.names) → RowIs m.names q z) → Keeps (Step l q) (named_parameter file l n z)
   plain_keeps l n z q named none row =
       keeps_weaker (Named l n.name z) (Step l q) (named_parameter file l n z)
@@ -85,17 +89,17 @@ module _ (file : FileParts) where
 
   next_keeps : (l : ParameterParts) (q : Parameter) → Keeps (Step l q) (next_parameter file l q)
   unfolding next_parameter
-  next_keeps l (parameter.Plain n) = plain_keeps l n (slot.Plain n.name (length l.names)) (parameter.Plain n) refl refl (λ m h. (length l.names, h, refl))
+  next_keeps l (parameter.Plain n) = plain_keeps l n (formal.Plain (refer n (b.Local (length l.names)))) (parameter.Plain n) refl refl (λ m h. (length l.names, h, refl))
   next_keeps l (parameter.Default n x) = default_keeps l n x
-  next_keeps l parameter.BareStar = λ u. ((slot.BareStar, [], refl, tt, refl, refl, append_none l.defaults), refl)
-  next_keeps l (parameter.Star n) = plain_keeps l n (slot.Star (length l.names)) (parameter.Star n) refl refl (λ m h. (length l.names, h, refl))
-  next_keeps l (parameter.StarStar n) = plain_keeps l n (slot.StarStar (length l.names)) (parameter.StarStar n) refl refl (λ m h. (length l.names, h, refl))
+  next_keeps l parameter.BareStar = λ u. ((formal.BareStar, [], refl, tt, refl, refl, append_none l.defaults), refl)
+  next_keeps l (parameter.Star n) = plain_keeps l n (formal.Star (refer n (b.Local (length l.names)))) (parameter.Star n) refl refl (λ m h. (length l.names, h, refl))
+  next_keeps l (parameter.StarStar n) = plain_keeps l n (formal.StarStar (refer n (b.Local (length l.names)))) (parameter.StarStar n) refl refl (λ m h. (length l.names, h, refl))
 
   -- ---- all of them, among the names of the function
 
   abbrev pub Rows : List Name → ParameterParts → List Parameter → ParameterParts → Type 0
   Rows names l ps m =
-      (zs : List CodeParameter) × (ds : List Code) × InOrder (RowIs names) ps zs × InOrder Outer (defaults_of ps) ds × (m.parameters ≡ l.parameters ++ zs) × (m.defaults ≡ l.defaults ++ ds)
+      (zs : List Formal) × (ds : List Expr) × InOrder (RowIs names) ps zs × InOrder Outer (defaults_of ps) ds × (m.parameters ≡ l.parameters ++ zs) × (m.defaults ≡ l.defaults ++ ds)
 
   defaults_first : (q : Parameter) (qs : List Parameter) → defaults_of (q ∷ qs) ≡ defaults_of (q ∷ []) ++ defaults_of qs
   defaults_first (parameter.Plain n) qs = refl

@@ -9,16 +9,15 @@ use Rattle.bq_parse_grammar.specs.declared.tree.SmallStmt.{SmallStmt}
 use Rattle.bq_parse_grammar.specs.declared.tree.Stmt.{Stmt, out-Stmt}
 use Rattle.bq_parse_grammar.specs.declared.tree.Stmt.TheOpen.{Stmt-F}
 use Rattle.bq_parse_grammar.specs.declared.tree.TopLevel.{TopLevel}
-use Rattle.bq_resolve_scope.specs.declared.code.CodeFunction.{CodeFunction}
-use Rattle.bq_resolve_scope.specs.declared.code.CodeSmall.{CodeSmall}
-use Rattle.bq_resolve_scope.specs.declared.code.CodeTopLevel.{CodeTopLevel}
-use Rattle.bq_resolve_scope.specs.declared.code.FileStmt.{FileStmt}
-use Rattle.bq_resolve_scope.specs.declared.code.LoadStmt.{LoadStmt}
-use Rattle.bq_resolve_scope.specs.declared.code.LoadedSymbol.{LoadedSymbol}
+use Rattle.bq_resolve_scope.specs.declared.file.Function.{Function}
+use Rattle.bq_resolve_scope.specs.declared.file.FileLine.{FileLine}
+use Rattle.bq_resolve_scope.specs.declared.file.Outside.{Outside}
+use Rattle.bq_resolve_scope.specs.declared.loads.LoadStmt.{LoadStmt}
+use Rattle.bq_resolve_scope.specs.declared.loads.LoadedSymbol.{LoadedSymbol}
 use Rattle.bq_resolve_scope.specs.Scope.{FileParts}
 use Rattle.bq_resolve_by_name.specs.Resolution.{InOrder, InTurn, SymbolIs, LoadIs, loads_are, OuterIs, file_stmt_is, TopLevelIs}
 use Rattle.bq_resolve_by_name.proofs.Makes.{append_none, append_all}
-use Rattle.bq_eval_language_spec.specs.Module.{clauses_by, line_clauses, clauses_of, load_clauses}
+use Rattle.bq_eval_by_name_spec.specs.Files.{clauses_by, line_clauses, clauses_of, load_clauses}
 use Rattle.bq_eval_by_name_module_laws.proofs.Loads.{Sent, global_places, all_places}
 
 module _ (file : FileParts) where
@@ -65,19 +64,19 @@ module _ (file : FileParts) where
       subst (λ ns. Sent file.globals (cs ++ ds) (all_places file.globals ns)) (sym e)
       (subst (λ os. Sent file.globals (cs ++ ds) os) (sym (places_both ls ms)) (sent_both cs ds (all_places file.globals ls) (all_places file.globals ms) h k))
 
-  line_sent : (k : ℕ) (xs : List SmallStmt) (ys : List CodeSmall) (fs : List CodeFunction) (ls : List LoadStmt) → InTurn (OuterIs file) k xs ys fs ls → Sent file.globals (line_clauses xs) (all_places file.globals ls)
+  line_sent : (k : ℕ) (xs : List SmallStmt) (ys : List SmallStmt) (fs : List Function) (ls : List LoadStmt) → InTurn (OuterIs file) k xs ys fs ls → Sent file.globals (line_clauses xs) (all_places file.globals ls)
   unfolding OuterIs
   line_sent k [] ys fs ls h = none_sent ls h.2
   line_sent k (x ∷ xs) ys fs ls h =
       joined (clauses_by x.kind) (line_clauses xs) h.4 h.5 ls (kind_sent x.line x.kind h.4 h.6.2) (line_sent (k + length h.2) xs h.1 h.3 h.5 h.7) h.10
 
-  stmt_sent : (k : ℕ) (o : Stmt-F Stmt Branch) (z : FileStmt) (fs : List CodeFunction) (ls : List LoadStmt) → file_stmt_is file k o z fs ls → Sent file.globals (clauses_of o) (all_places file.globals ls)
+  stmt_sent : (k : ℕ) (o : Stmt-F Stmt Branch) (z : Outside) (fs : List Function) (ls : List LoadStmt) → file_stmt_is file k o z fs ls → Sent file.globals (clauses_of o) (all_places file.globals ls)
   stmt_sent k (Stmt-F.Simple xs) z fs ls h = line_sent k xs h.0 fs ls h.1
   stmt_sent k (Stmt-F.If bs zs) z fs ls h = absurd h
   stmt_sent k (Stmt-F.For t x body) z fs ls h = absurd h
   stmt_sent k (Stmt-F.Def n ps body) z fs ls h = none_sent ls h.8
 
-  pub all_sent : (k : ℕ) (ts : List TopLevel) (ys : List CodeTopLevel) (fs : List CodeFunction) (ls : List LoadStmt) → InTurn (TopLevelIs file) k ts ys fs ls
+  pub all_sent : (k : ℕ) (ts : List TopLevel) (ys : List FileLine) (fs : List Function) (ls : List LoadStmt) → InTurn (TopLevelIs file) k ts ys fs ls
       → Sent file.globals (load_clauses ts) (all_places file.globals ls)
   unfolding TopLevelIs
   all_sent k [] ys fs ls h = none_sent ls h.2

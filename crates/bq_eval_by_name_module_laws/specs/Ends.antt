@@ -1,7 +1,7 @@
 -- Where a file ends, each of its globals is bound: each of its statements runs once, and binds its names.
 use Rattle.std.specs.Prelude.{◌≡◌, ℕ, List, length, true, Some, Ok}
 use Rattle.bq_parse_grammar.specs.declared.tree.TopLevel.{TopLevel}
-use Rattle.bq_resolve_scope.specs.declared.code.Resolved.{Resolved}
+use Rattle.bq_resolve_scope.specs.declared.file.ResolvedFile.{ResolvedFile}
 use Rattle.bq_resolve_scope.specs.Files.{resolved}
 use Rattle.bq_resolve_scope.specs.Names.{Name, has, global_names}
 use Rattle.bq_resolve_scope.specs.Universe.{UniverseParts}
@@ -28,5 +28,5 @@ module _ {S : Type 0} (m : Primitives S) where
 
   abbrev pub GlobalsAreBound : Type 0
   GlobalsAreBound =
-      PartsAreCounted → (units : Units Round) (number : ℕ) (universe : UniverseParts) (ts : List TopLevel) (r : Resolved) → resolved universe ts ≡ Ok r → (loaded : List Datum) (s : S)
+      PartsAreCounted → (units : Units Round) (number : ℕ) (universe : UniverseParts) (ts : List TopLevel) (r : ResolvedFile) → resolved universe ts ≡ Ok r → (loaded : List Datum) (s : S)
       → Gives (AllBound (global_names ts)) (module_meaning m units number universe ts loaded s)

@@ -1,7 +1,7 @@
 //! What holds of names and slots in calls and modules. The functions do nothing: their contracts are the laws.
 
 ghost use Rattle.bq_eval_meaning_spec.specs.Primitives.{Primitives};
-ghost use Rattle.bq_eval_by_name_module_laws.specs.Agreement.{SignaturesAgree, EntriesAgree, CallsOfUnitsAgree, ModulesAgree, FilesAgree, FrozenUnitsAgree};
+ghost use Rattle.bq_eval_by_name_module_laws.specs.Agreement.{SignaturesAgree, EntriesAgree, CallsOfUnitsAgree, ModulesAgree, FrozenUnitsAgree};
 ghost use Rattle.bq_eval_by_name_module_laws.specs.Ends.{GlobalsAreBound};
 
 /// Parameters take the same arguments by names and by slots, and a call begins with the same values of the function's
@@ -20,7 +20,6 @@ pub fn calls_agree<S>()
 /// same.
 pub fn modules_agree<S>()
     ensures modules { (m : Primitives S) → ModulesAgree m }
-    ensures files { (m : Primitives S) → FilesAgree m }
     ensures frozen { FrozenUnitsAgree }
 {}
 

@@ -1,10 +1,10 @@
 //! Laws of names: what a call and a file mean by names, the resolved ones mean by slots.
 //!
 //! In: nothing; the functions do nothing, and their contracts are the laws. The promise: a call binds its arguments,
-//! runs and faults, and a file evaluates its statements, by the meaning over frames of slots (bq_eval_meaning_spec) as
-//! the Starlark specification describes it over the tree as parsed (bq_eval_by_name_spec): each `def` makes the file's
-//! function of its place, a function sees the globals as they are when it runs, and a loaded name is a global if the
-//! file binds it too.
+//! runs and faults, and a file evaluates its statements, over frames of slots as by names over the tree as parsed, which
+//! is what the Starlark specification describes: each `def` makes the file's function of its place, a function sees the
+//! globals as they are when it runs, and a loaded name is a global if the file binds it too. Both are one definition
+//! (bq_eval_language_spec) with two kinds of environments.
 //!
 //! `specs/Units.antt` says when modules by names and by slots are the same. The proof: no name loses its place as more
 //! names are bound (`proofs/Places.antt`), so the parameters have the first slots (`proofs/Parameters.antt`,

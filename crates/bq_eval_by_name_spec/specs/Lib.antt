@@ -1,3 +1,4 @@
 pub mod Names
+pub mod Files
 pub mod Module
 pub mod Laws

@@ -10,7 +10,8 @@ use Rattle.bq_builtin_machine.specs.Action.{Action}
 use Rattle.bq_eval_meaning_spec.specs.Primitives.{Primitives}
 use Rattle.bq_eval_language_spec.specs.Calls.{TreeUnit, Units}
 use Rattle.bq_eval_language_spec.specs.Module as language
-use Rattle.bq_eval_language_spec.specs.Module.{Own, defs, load_clauses}
+use Rattle.bq_eval_language_spec.specs.Module.{Own}
+use Rattle.bq_eval_by_name_spec.specs.Files.{functions_of, lines_of, load_clauses}
 use Rattle.bq_eval_by_name_spec.specs.Names.{Env, Round, bind, declare, outside, by_names}
 
 -- ---- loads
@@ -40,12 +41,12 @@ round_of universe ts loaded globals = record { globals = globals; loaded = loade
 
 -- what a file has from its start on: its number, its functions and what it loads
 abbrev pub own_of : ℕ → UniverseParts → List TopLevel → List Datum → Own Round Env
-own_of number universe ts loaded = record { number = number; functions = defs ts; round = round_of universe ts loaded }
+own_of number universe ts loaded = record { number = number; functions = functions_of ts; round = round_of universe ts loaded }
 
 -- a file, as module `number` among these, with a value for each clause of its loads
 unfoldable pub module_meaning : {S : Type 0} → Primitives S → Units Round → ℕ → UniverseParts → List TopLevel → List Datum → Action S Env
-module_meaning m units number universe ts loaded = language.module_meaning m by_names units (own_of number universe ts loaded) ts (first_globals ts loaded)
+module_meaning m units number universe ts loaded = language.module_meaning m by_names units (own_of number universe ts loaded) (lines_of ts) (first_globals ts loaded)
 
 -- a frozen module: its globals are as they were when its evaluation ended
 abbrev pub frozen_unit : UniverseParts → List TopLevel → List Datum → Env → TreeUnit Round
-frozen_unit universe ts loaded globals = record { functions = defs ts; round = round_of universe ts loaded globals }
+frozen_unit universe ts loaded globals = record { functions = functions_of ts; round = round_of universe ts loaded globals }

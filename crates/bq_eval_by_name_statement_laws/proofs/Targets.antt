@@ -1,156 +1,114 @@
--- What is assigned to does the same by names and by slots, where binding a name keeps what an environment and a frame have in common.
-use Rattle.std.proofs.Common.{◌≡◌, ℕ, suc, List, [], ◌∷◌, refl, subst}
+-- What is assigned to does the same in two kinds of environments, where binding a name keeps what both have in common.
+use Rattle.std.proofs.Common.{◌≡◌, ℕ, suc, List, [], ◌∷◌, refl}
 use Rattle.bq_parse_grammar.specs.declared.tree.Argument.TheOpen.{TargetExpr-F}
 use Rattle.bq_parse_grammar.specs.declared.tree.Expr.{Expr}
 use Rattle.bq_parse_grammar.specs.declared.tree.Identifier.{Identifier}
 use Rattle.bq_parse_grammar.specs.declared.tree.Operator.{Operator}
 use Rattle.bq_parse_grammar.specs.declared.tree.TargetExpr.{TargetExpr, out-TargetExpr}
-use Rattle.bq_resolve_scope.specs.declared.code.Code.{Code}
-use Rattle.bq_resolve_scope.specs.declared.code.Code.TheOpen.{CodeTarget-F}
-use Rattle.bq_resolve_scope.specs.declared.code.CodeTarget.{CodeTarget, out-CodeTarget}
 use Rattle.bq_resolve_scope.specs.Names.{TargetLayer, max_layers}
 use Rattle.bq_value.specs.Datum.{Datum}
-use Rattle.bq_eval_meaning_spec.specs.Frame.{Frame, fill}
 use Rattle.bq_eval_meaning_spec.specs.Primitives.{Primitives}
-use Rattle.bq_eval_meaning_spec.specs.Targets as slots
-use Rattle.bq_eval_meaning_spec.specs.Targets.{Places}
-use Rattle.bq_eval_meaning_spec.specs.Trees as trees
-use Rattle.bq_eval_language_spec.specs.Targets as names
+use Rattle.bq_eval_language_spec.specs.Environment.{Scoping}
+use Rattle.bq_eval_language_spec.specs.Targets as forms
+use Rattle.bq_eval_language_spec.specs.Targets.{Places}
 use Rattle.bq_eval_language_spec.specs.Trees.{Eval}
-use Rattle.bq_eval_by_name_spec.specs.Names.{Env, bind, by_names}
 use Rattle.bq_eval_by_name_expression_laws.specs.Alike.{Alike, Same}
 use Rattle.bq_eval_by_name_expression_laws.proofs.Runs.{then_alike, then_same, then_both, then_pure}
-use Rattle.bq_eval_by_name_expression_laws.proofs.Walks.{Pairwise, same_length}
-use Rattle.bq_eval_by_name_statement_laws.proofs.Kept.{Keeps}
-use Rattle.bq_eval_by_name_statement_laws.proofs.Visits.{ExprAgree}
+use Rattle.bq_eval_by_name_expression_laws.proofs.Walks.{Pairwise}
+use Rattle.bq_eval_by_name_expression_laws.proofs.Parts.{ExprAgree}
+use Rattle.bq_eval_by_name_expression_laws.proofs.Turns.{Bound, BindAgree, BindLayer, layer_binds, name_binds, index_binds, unpack_binds}
 
-module _ {S : Type 0} (m : Primitives S) (R : Env → Frame → Type 0) (E : Eval S Env) (F : trees.Eval S) where
-  abbrev pub Bound : Env × Places → Frame × Places → Type 0
-  Bound r q = R r.0 q.0 × (r.1 ≡ q.1)
+-- Both say the same of the names, and `R` still holds where they are bound.
+abbrev pub NamesAlike : {Q P V W : Type 0} → Scoping Q V → Scoping P W → (V → W → Type 0) → Identifier → Identifier → Type 0
+NamesAlike {V = V} {W = W} left right R i j =
+    (env : V) (peer : W) → R env peer → (left.own_value env i ≡ right.own_value peer j) × ((v : Datum) → R (left.bind env i v) (right.bind peer j v))
 
+module _ {S Q P V W : Type 0} (m : Primitives S) (left : Scoping Q V) (right : Scoping P W) (R : V → W → Type 0) (E : Eval S V) (F : Eval S W) where
   -- ---- a target, and what it resolves to
 
-  abbrev pub BindAgree : ℕ → TargetExpr → CodeTarget → Type 0
-  BindAgree n t u = (v : Datum) (env : Env) (frame : Frame) (ps : Places) → R env frame → (s : S) → Alike Bound (names.bind_to m by_names n t v env ps s) (slots.bind_to m n u v frame ps s)
+  abbrev pub PlacesAgree : ℕ → TargetExpr → TargetExpr → Type 0
+  PlacesAgree n t u = (env : V) (peer : W) (ps : Places) → R env peer → (s : S) → Alike Same (forms.places_to m E n t env ps s) (forms.places_to m F n u peer ps s)
 
-  abbrev pub PlacesAgree : ℕ → TargetExpr → CodeTarget → Type 0
-  PlacesAgree n t u = (env : Env) (frame : Frame) (ps : Places) → R env frame → (s : S) → Alike Same (names.places_to m E n t env ps s) (slots.places_to m F n u frame ps s)
+  abbrev pub AugmentLayer : TargetLayer → TargetLayer → Type 0
+  AugmentLayer o p =
+      (a : Operator) (x y : Expr) → ExprAgree R E F x y → (env : V) (peer : W) → R env peer → (s : S) → Alike R (forms.augment_by m left E o a x env s) (forms.augment_by m right F p a y peer s)
 
-  abbrev pub AugmentAgree : TargetExpr → CodeTarget → Type 0
-  AugmentAgree t u =
-      (o : Operator) (x : Expr) (y : Code) → ExprAgree R E F x y → (env : Env) (frame : Frame) → R env frame → (s : S) → Alike R (names.augment_by m by_names E (out-TargetExpr t) o x env s) (slots.augment m F u o y frame s)
-
-  pub record TargetAgree (n : ℕ) (t : TargetExpr) (u : CodeTarget) : Type 0 where
-    pub binding : BindAgree n t u
+  pub record TargetAgree (n : ℕ) (t u : TargetExpr) : Type 0 where
+    pub binding : BindAgree m left right R n t u
     pub places : PlacesAgree n t u
-    pub augment : AugmentAgree t u
+    pub augment : AugmentLayer (out-TargetExpr t) (out-TargetExpr u)
 
   -- ---- their outermost layers
 
-  abbrev pub BindLayer : ℕ → TargetLayer → trees.TargetLayer → Type 0
-  BindLayer n o p =
-      (v : Datum) (env : Env) (frame : Frame) (ps : Places) → R env frame → (s : S) → Alike Bound (names.bind_by m by_names (names.bind_to m by_names n) o v env ps s) (slots.bind_by m (slots.bind_to m n) p v frame ps s)
-
-  abbrev pub PlacesLayer : ℕ → TargetLayer → trees.TargetLayer → Type 0
+  abbrev pub PlacesLayer : ℕ → TargetLayer → TargetLayer → Type 0
   PlacesLayer n o p =
-      (env : Env) (frame : Frame) (ps : Places) → R env frame → (s : S) → Alike Same (names.places_by m E (names.places_to m E n) o env ps s) (slots.places_by m F (slots.places_to m F n) p frame ps s)
+      (env : V) (peer : W) (ps : Places) → R env peer → (s : S) → Alike Same (forms.places_by m E (forms.places_to m E n) o env ps s) (forms.places_by m F (forms.places_to m F n) p peer ps s)
 
-  abbrev pub AugmentLayer : TargetLayer → trees.TargetLayer → Type 0
-  AugmentLayer o p =
-      (a : Operator) (x : Expr) (y : Code) → ExprAgree R E F x y → (env : Env) (frame : Frame) → R env frame → (s : S) → Alike R (names.augment_by m by_names E o a x env s) (slots.augment_by m F p a y frame s)
-
-  pub record LayerAgree (n : ℕ) (o : TargetLayer) (p : trees.TargetLayer) : Type 0 where
-    pub binding : BindLayer n o p
+  pub record LayerAgree (n : ℕ) (o p : TargetLayer) : Type 0 where
+    pub binding : BindLayer m left right R n o p
     pub places : PlacesLayer n o p
     pub augment : AugmentLayer o p
 
-  pub layer_agrees : (n : ℕ) (t : TargetExpr) (u : CodeTarget) → LayerAgree n (out-TargetExpr t) (out-CodeTarget u) → TargetAgree (suc n) t u
-  unfolding names.bind_to names.places_to slots.bind_to slots.bind_target slots.places_to slots.places_of slots.augment
-  layer_agrees n t u h = record { binding = h.binding; places = h.places; augment = h.augment }
+  pub layer_agrees : (n : ℕ) (t u : TargetExpr) → LayerAgree n (out-TargetExpr t) (out-TargetExpr u) → TargetAgree (suc n) t u
+  unfolding forms.places_to forms.places_of
+  layer_agrees n t u h = record { binding = layer_binds m left right R n t u h.binding; places = h.places; augment = h.augment }
 
   -- ---- `name`
 
-  name_augment : (i : Identifier) (slot : ℕ) → Keeps R i.name slot → (a : Operator) (x : Expr) (y : Code) → ExprAgree R E F x y → (env : Env) (frame : Frame) → R env frame → (s : S)
-      → Alike R (names.augment_by m by_names E (TargetExpr-F.TargetExpr::Name i) a x env s) (slots.augment_name m F slot a y frame s)
-  unfolding slots.augment_name
-  name_augment i slot keeps a x y agree env frame h s =
-      rw (keeps env frame h).0
-      (then_both R (slots.bound m (frame slot) s) _ _
-      (λ old t. then_same R _ _ _ _ (agree env frame h t) (λ v w. then_pure R (m.augment a old v w) (λ new. bind env i.name new) (λ new. fill frame slot new) (λ new. (keeps env frame h).1 new))))
+  name_augment : (i j : Identifier) → NamesAlike left right R i j → AugmentLayer (TargetExpr-F.TargetExpr::Name i) (TargetExpr-F.TargetExpr::Name j)
+  unfolding forms.augment_name
+  name_augment i j keeps a x y agree env peer h s =
+      rw (keeps env peer h).0
+      (then_both R (forms.bound m (right.own_value peer j) s) _ _
+      (λ old t. then_same R _ _ _ _ (agree env peer h t) (λ v w. then_pure R (m.augment a old v w) (λ new. left.bind env i new) (λ new. right.bind peer j new) (λ new. (keeps env peer h).1 new))))
 
-  pub local_agrees : (n : ℕ) (i : Identifier) (slot : ℕ) → Keeps R i.name slot → LayerAgree n (TargetExpr-F.TargetExpr::Name i) (CodeTarget-F.Local slot)
-  local_agrees n i slot keeps =
-      record { binding = λ v env frame ps h s. (refl, ((keeps env frame h).1 v, refl)); places = λ env frame ps h s. (refl, refl); augment = name_augment i slot keeps }
-
-  pub global_agrees : (n : ℕ) (i : Identifier) (slot : ℕ) → Keeps R i.name slot → LayerAgree n (TargetExpr-F.TargetExpr::Name i) (CodeTarget-F.Global slot)
-  global_agrees n i slot keeps =
-      record { binding = λ v env frame ps h s. (refl, ((keeps env frame h).1 v, refl)); places = λ env frame ps h s. (refl, refl); augment = name_augment i slot keeps }
+  pub name_agrees : (n : ℕ) (i j : Identifier) → NamesAlike left right R i j → LayerAgree n (TargetExpr-F.TargetExpr::Name i) (TargetExpr-F.TargetExpr::Name j)
+  name_agrees n i j keeps =
+      record { binding = name_binds m left right R n i j (λ env peer h. (keeps env peer h).1); places = λ env peer ps h s. (refl, refl); augment = name_augment i j keeps }
 
   -- ---- `x[i]`
 
-  place_bind : (n : ℕ) (x i : Expr) (v : Datum) (env : Env) (frame : Frame) (ps : Places) → R env frame → (s : S)
-      → Alike Bound (names.bind_by m by_names (names.bind_to m by_names n) (TargetExpr-F.TargetExpr::Index x i) v env ps s) (slots.bind_place m v frame ps s)
-  unfolding slots.bind_place
-  place_bind n x i v env frame [] h s = refl
-  place_bind n x i v env frame (p ∷ ps) h s = then_pure Bound (m.set_index p.0 p.1 v s) (λ _. (env, ps)) (λ _. (frame, ps)) (λ _. (h, refl))
+  module _ (x i y j : Expr) (operand : ExprAgree R E F x y) (index : ExprAgree R E F i j) where
+    place_alike : (n : ℕ) → PlacesLayer n (TargetExpr-F.TargetExpr::Index x i) (TargetExpr-F.TargetExpr::Index y j)
+    unfolding forms.place
+    place_alike n env peer ps h s = then_same Same _ _ _ _ (operand env peer h s) (λ v t. then_same Same _ _ _ _ (index env peer h t) (λ w u. (refl, refl)))
 
-  module _ (x i : Expr) (y j : Code) (operand : ExprAgree R E F x y) (index : ExprAgree R E F i j) where
-    place_alike : (n : ℕ) (env : Env) (frame : Frame) (ps : Places) → R env frame → (s : S)
-        → Alike Same (names.places_by m E (names.places_to m E n) (TargetExpr-F.TargetExpr::Index x i) env ps s) (slots.place m F y j frame ps s)
-    unfolding slots.place
-    place_alike n env frame ps h s = then_same Same _ _ _ _ (operand env frame h s) (λ v t. then_same Same _ _ _ _ (index env frame h t) (λ w u. (refl, refl)))
+    index_augment : AugmentLayer (TargetExpr-F.TargetExpr::Index x i) (TargetExpr-F.TargetExpr::Index y j)
+    unfolding forms.augment_index
+    index_augment a z w agree env peer h s =
+        then_same R _ _ _ _ (operand env peer h s) (λ u t. then_same R _ _ _ _ (index env peer h t)
+        (λ k r. then_both R (m.index u k r) _ _ (λ old q. then_same R _ _ _ _ (agree env peer h q)
+        (λ v p. then_both R (m.augment a old v p) _ _ (λ new o. then_pure R (m.set_index u k new o) (λ _. env) (λ _. peer) (λ _. h))))))
 
-    index_augment : (a : Operator) (z : Expr) (w : Code) → ExprAgree R E F z w → (env : Env) (frame : Frame) → R env frame → (s : S)
-        → Alike R (names.augment_by m by_names E (TargetExpr-F.TargetExpr::Index x i) a z env s) (slots.augment_index m F y j a w frame s)
-    unfolding slots.augment_index
-    index_augment a z w agree env frame h s =
-        then_same R _ _ _ _ (operand env frame h s) (λ u t. then_same R _ _ _ _ (index env frame h t)
-        (λ k r. then_both R (m.index u k r) _ _ (λ old q. then_same R _ _ _ _ (agree env frame h q)
-        (λ v p. then_both R (m.augment a old v p) _ _ (λ new o. then_pure R (m.set_index u k new o) (λ _. env) (λ _. frame) (λ _. h))))))
-
-    pub index_agrees : (n : ℕ) → LayerAgree n (TargetExpr-F.TargetExpr::Index x i) (CodeTarget-F.CodeTarget::Index y j)
-    index_agrees n = record { binding = place_bind n x i; places = place_alike n; augment = index_augment }
+    pub index_agrees : (n : ℕ) → LayerAgree n (TargetExpr-F.TargetExpr::Index x i) (TargetExpr-F.TargetExpr::Index y j)
+    index_agrees n = record { binding = index_binds m left right R n x i y j; places = place_alike n; augment = index_augment }
 
   -- ---- `(t, ..)` and `[t, ..]`
 
-  each_bind : (n : ℕ) (ts : List TargetExpr) (us : List CodeTarget) → Pairwise (TargetAgree n) ts us → (vs : List Datum) (env : Env) (frame : Frame) (ps : Places) → R env frame → (s : S)
-      → Alike Bound (names.bind_each m (names.bind_to m by_names n) ts vs env ps s) (slots.bind_each m (slots.bind_to m n) us vs frame ps s)
-  unfolding names.bind_each slots.bind_each
-  each_bind n [] [] h vs env frame ps r s = (refl, (r, refl))
-  each_bind n (t ∷ ts) (u ∷ us) h [] env frame ps r s = (refl, (r, refl))
-  each_bind n (t ∷ ts) (u ∷ us) h (v ∷ vs) env frame ps r s =
-      then_alike Bound Bound _ _ _ _ (h.0.binding v env frame ps r s)
-      (λ a b w k. subst (λ z. Alike Bound (names.bind_each m (names.bind_to m by_names n) ts vs a.0 a.1 w) (slots.bind_each m (slots.bind_to m n) us vs b.0 z w)) k.1 (each_bind n ts us h.1 vs a.0 b.0 a.1 k.0 w))
-  each_bind n [] (u ∷ us) h vs env frame ps r s = absurd h
-  each_bind n (t ∷ ts) [] h vs env frame ps r s = absurd h
+  all_bind : (n : ℕ) (ts us : List TargetExpr) → Pairwise (TargetAgree n) ts us → Pairwise (BindAgree m left right R n) ts us
+  all_bind n [] [] h = tt
+  all_bind n (t ∷ ts) (u ∷ us) h = (h.0.binding, all_bind n ts us h.1)
+  all_bind n [] (u ∷ us) h = absurd h
+  all_bind n (t ∷ ts) [] h = absurd h
 
-  unpack_bind : (n : ℕ) (ts : List TargetExpr) (us : List CodeTarget) → Pairwise (TargetAgree n) ts us → (v : Datum) (env : Env) (frame : Frame) (ps : Places) → R env frame → (s : S)
-      → Alike Bound (names.unpack m (names.bind_to m by_names n) ts v env ps s) (slots.unpack m (slots.bind_to m n) us v frame ps s)
-  unfolding names.unpack slots.unpack
-  unpack_bind n ts us h v env frame ps r s = rw (same_length (TargetAgree n) ts us h) (then_both Bound _ _ _ (λ vs t. each_bind n ts us h vs env frame ps r t))
+  each_places : (n : ℕ) (ts us : List TargetExpr) → Pairwise (TargetAgree n) ts us → (env : V) (peer : W) (ps : Places) → R env peer → (s : S)
+      → Alike Same (forms.places_each m E (forms.places_to m E n) ts env ps s) (forms.places_each m F (forms.places_to m F n) us peer ps s)
+  unfolding forms.places_each
+  each_places n [] [] h env peer ps r s = (refl, refl)
+  each_places n (t ∷ ts) (u ∷ us) h env peer ps r s = then_same Same _ _ _ _ (h.0.places env peer ps r s) (λ qs w. each_places n ts us h.1 env peer qs r w)
+  each_places n [] (u ∷ us) h env peer ps r s = absurd h
+  each_places n (t ∷ ts) [] h env peer ps r s = absurd h
 
-  each_places : (n : ℕ) (ts : List TargetExpr) (us : List CodeTarget) → Pairwise (TargetAgree n) ts us → (env : Env) (frame : Frame) (ps : Places) → R env frame → (s : S)
-      → Alike Same (names.places_each m E (names.places_to m E n) ts env ps s) (slots.places_each m F (slots.places_to m F n) us frame ps s)
-  unfolding names.places_each slots.places_each
-  each_places n [] [] h env frame ps r s = (refl, refl)
-  each_places n (t ∷ ts) (u ∷ us) h env frame ps r s = then_same Same _ _ _ _ (h.0.places env frame ps r s) (λ qs w. each_places n ts us h.1 env frame qs r w)
-  each_places n [] (u ∷ us) h env frame ps r s = absurd h
-  each_places n (t ∷ ts) [] h env frame ps r s = absurd h
+  pub tuple_agrees : (n : ℕ) (ts us : List TargetExpr) → Pairwise (TargetAgree n) ts us → LayerAgree n (TargetExpr-F.TargetExpr::Tuple ts) (TargetExpr-F.TargetExpr::Tuple us)
+  tuple_agrees n ts us h = record { binding = unpack_binds m left right R n ts us (all_bind n ts us h); places = each_places n ts us h; augment = λ a x y agree env peer r s. refl }
 
-  pub tuple_agrees : (n : ℕ) (ts : List TargetExpr) (us : List CodeTarget) → Pairwise (TargetAgree n) ts us → LayerAgree n (TargetExpr-F.TargetExpr::Tuple ts) (CodeTarget-F.CodeTarget::Tuple us)
-  tuple_agrees n ts us h = record { binding = unpack_bind n ts us h; places = each_places n ts us h; augment = λ a x y agree env frame r s. refl }
-
-  pub list_agrees : (n : ℕ) (ts : List TargetExpr) (us : List CodeTarget) → Pairwise (TargetAgree n) ts us → LayerAgree n (TargetExpr-F.TargetExpr::List ts) (CodeTarget-F.CodeTarget::List us)
-  list_agrees n ts us h = record { binding = unpack_bind n ts us h; places = each_places n ts us h; augment = λ a x y agree env frame r s. refl }
+  pub list_agrees : (n : ℕ) (ts us : List TargetExpr) → Pairwise (TargetAgree n) ts us → LayerAgree n (TargetExpr-F.TargetExpr::List ts) (TargetExpr-F.TargetExpr::List us)
+  list_agrees n ts us h = record { binding = unpack_binds m left right R n ts us (all_bind n ts us h); places = each_places n ts us h; augment = λ a x y agree env peer r s. refl }
 
   -- ---- assignments
 
-  pub assign_alike : (t : TargetExpr) (u : CodeTarget) → TargetAgree max_layers t u → (v : Datum) (env : Env) (frame : Frame) → R env frame → (s : S) → Alike R (names.assign m by_names E t v env s) (slots.assign m F u v frame s)
-  unfolding names.assign slots.assign
-  assign_alike t u h v env frame r s =
-      then_same R _ _ _ _ (h.places env frame [] r s) (λ ps w. then_alike Bound R _ _ _ _ (h.binding v env frame ps r w) (λ a b q k. (refl, k.0)))
-
-  pub variables_alike : (t : TargetExpr) (u : CodeTarget) → TargetAgree max_layers t u → (v : Datum) (env : Env) (frame : Frame) → R env frame → (s : S)
-      → Alike R (names.bind_variables m by_names t v env s) (slots.bind_variables m u v frame s)
-  unfolding names.bind_variables slots.bind_variables
-  variables_alike t u h v env frame r s = then_alike Bound R _ _ _ _ (h.binding v env frame [] r s) (λ a b w k. (refl, k.0))
+  pub assign_alike : (t u : TargetExpr) → TargetAgree max_layers t u → (v : Datum) (env : V) (peer : W) → R env peer → (s : S)
+      → Alike R (forms.assign m left E t v env s) (forms.assign m right F u v peer s)
+  unfolding forms.assign
+  assign_alike t u h v env peer r s =
+      then_same R _ _ _ _ (h.places env peer [] r s) (λ ps w. then_alike (Bound m left right R) R _ _ _ _ (h.binding v env peer ps r w) (λ a b q k. (refl, k.0)))

@@ -1,50 +1,42 @@
 -- The expressions in a statement resolve to what means the same, and no slot is given back.
-use Rattle.std.proofs.Common.{◌≡◌, ◌+◌, List, Result, Ok, Err, refl, arith}
+use Rattle.std.proofs.Common.{◌≡◌, List, Result, Ok, Err, refl, arith}
 use Rattle.bq_base.specs.declared.fault.Fault.{Fault}
 use Rattle.bq_base.specs.declared.fault.FaultKind.TheVariants as f
 use Rattle.bq_parse_grammar.specs.declared.tree.Expr.{Expr}
-use Rattle.bq_resolve_scope.specs.declared.code.Code.{Code}
 use Rattle.bq_resolve_scope.specs.Names.{max_layers, place_among}
 use Rattle.bq_resolve_scope.specs.Scope.{BlockParts, FileParts}
 use Rattle.bq_resolve_scope.specs.Statements as scope
 use Rattle.bq_resolve_scope.specs.Visit.{Passed}
-use Rattle.bq_eval_meaning_spec.specs.Expressions as codes
 use Rattle.bq_eval_meaning_spec.specs.Frame.{Frame, Surroundings, empty}
 use Rattle.bq_eval_meaning_spec.specs.Primitives.{Primitives, stop}
-use Rattle.bq_eval_meaning_spec.specs.Trees as trees
-use Rattle.bq_eval_meaning_spec.specs.Trees.{Calls}
-use Rattle.bq_eval_depth_laws.specs.Fits.{ExprFits}
-use Rattle.bq_eval_language_spec.specs.Expressions as exprs
-use Rattle.bq_eval_language_spec.specs.Trees.{Eval}
+use Rattle.bq_eval_language_spec.specs.Expressions.{expr_to}
+use Rattle.bq_eval_language_spec.specs.Slots.{by_slots}
+use Rattle.bq_eval_language_spec.specs.Trees.{Eval, Calls}
 use Rattle.bq_eval_by_name_spec.specs.Names.{Env, Round, by_names}
-use Rattle.bq_eval_by_name_expression_laws.specs.Alike.{Alike, Same}
 use Rattle.bq_eval_by_name_expression_laws.specs.Shows.{Below, Nested, through}
 use Rattle.bq_eval_by_name_expression_laws.proofs.Runs.{itself}
 use Rattle.bq_eval_by_name_expression_laws.proofs.Walks.{Walked, Walks, walks_weaker}
-use Rattle.bq_eval_by_name_expression_laws.proofs.Parts.{Agree}
+use Rattle.bq_eval_by_name_expression_laws.proofs.Parts.{ExprAgree}
+use Rattle.bq_eval_by_name_expression_laws.proofs.ResolvedParts.{Stands}
 use Rattle.bq_eval_by_name_expression_laws.proofs.Agreement.{expr_walks}
 use Rattle.bq_eval_by_name_statement_laws.specs.Agreement.{EvalsAgree}
 
--- an expression and what it resolves to mean the same
-abbrev pub ExprAgree : {S : Type 0} → (Env → Frame → Type 0) → Eval S Env → trees.Eval S → Expr → Code → Type 0
-ExprAgree {S} R E F x c = (env : Env) (frame : Frame) → R env frame → (s : S) → Alike Same (E x env s) (F c frame s)
-
 -- no slot is given back, whatever expressions mean
 module _ {S : Type 0} (m : Primitives S) (file : FileParts) (blocks : List BlockParts) (nested : Nested blocks) where
-  slots_grow : (x : Expr) → Walks {A = Code} blocks (λ _. Unit {0}) (scope.expr file blocks x)
+  slots_grow : (x : Expr) → Walks {A = Expr} blocks (λ _. Unit {0}) (scope.expr file blocks x)
   unfolding scope.expr
   slots_grow x =
       let surroundings : Surroundings = record { globals = empty; loaded = empty } in
       let round : Round = record { globals = λ n. through empty (place_among n file.globals); loaded = λ n. through empty (place_among n file.loaded); universe = file.universe } in
       let call : Calls S = λ v p. stop m f.LeftOut in
-      walks_weaker blocks (λ z. Agree m (exprs.expr_to max_layers m by_names call round) (codes.expr_to (max_layers + max_layers) m call surroundings) blocks x z) (λ _. Unit {0}) (scope.expr file blocks x) (λ z _. tt)
-      (expr_walks m file round surroundings call call (record { globals = λ n. refl; loaded = λ n. refl; universe = refl }) (λ v p s. refl) max_layers max_layers (max_layers + max_layers) (omega arith) (omega arith) blocks nested x)
+      walks_weaker blocks (λ z. Stands (expr_to max_layers m by_names call round) (expr_to max_layers m by_slots call surroundings) blocks x z) (λ _. Unit {0}) (scope.expr file blocks x) (λ z _. tt)
+      (expr_walks m file round surroundings call call (record { globals = λ n. refl; loaded = λ n. refl; universe = refl }) (λ v p s. refl) max_layers max_layers max_layers (omega arith) (omega arith) blocks nested x)
 
-  module _ (R : Env → Frame → Type 0) (E : Eval S Env) (F : trees.Eval S) (evals : EvalsAgree file blocks R E F) where
-    visited : (x : Expr) (p : Passed) → Below blocks p.slots → (r : Result (Code × Passed) Fault) → scope.expr file blocks x p ≡ r → Walked {A = Code} (λ _. Unit {0}) p.slots r
-        → Walked {A = Code} (λ z. ExprFits z → ExprAgree R E F x z) p.slots r
+  module _ (R : Env → Frame → Type 0) (E : Eval S Env) (F : Eval S Frame) (evals : EvalsAgree file blocks R E F) where
+    visited : (x : Expr) (p : Passed) → Below blocks p.slots → (r : Result (Expr × Passed) Fault) → scope.expr file blocks x p ≡ r → Walked {A = Expr} (λ _. Unit {0}) p.slots r
+        → Walked {A = Expr} (λ z. ExprAgree R E F x z) p.slots r
     visited x p below (Err why) e w = tt
-    visited x p below (Ok q) e w = (w.0, λ fits env frame h s. rw (evals x q.0 p q.1 below e fits env frame s h) (itself (F q.0 frame s)))
+    visited x p below (Ok q) e w = (w.0, λ env frame h s. rw (evals x q.0 p q.1 below e env frame s h) (itself (F q.0 frame s)))
 
-    pub visits : (x : Expr) → Walks {A = Code} blocks (λ z. ExprFits z → ExprAgree R E F x z) (scope.expr file blocks x)
+    pub visits : (x : Expr) → Walks {A = Expr} blocks (λ z. ExprAgree R E F x z) (scope.expr file blocks x)
     visits x p below = visited x p below (scope.expr file blocks x p) refl (slots_grow x p below)

@@ -2,8 +2,8 @@
 
 ghost use Rattle.std.specs.Prelude.{[]};
 ghost use Rattle.bq_resolve_scope.specs.Scope.{FileParts};
+ghost use Rattle.bq_eval_meaning_spec.specs.Frame.{Frame};
 ghost use Rattle.bq_eval_meaning_spec.specs.Primitives.{Primitives};
-ghost use Rattle.bq_eval_meaning_spec.specs.Trees as trees;
 ghost use Rattle.bq_eval_language_spec.specs.Trees.{Eval};
 ghost use Rattle.bq_eval_by_name_spec.specs.Names.{Env};
 ghost use Rattle.bq_eval_by_name_expression_laws.specs.Agreement.{Context};
@@ -22,5 +22,5 @@ pub fn bodies_agree<S>()
 
 /// The small statements of a line outside functions do the same by slots as by names, where expressions mean the same there.
 pub fn lines_agree<S>()
-    ensures { (m : Primitives S) (file : FileParts) (eval : Eval S Env) (other : trees.Eval S) → EvalsAgree file [] (GlobalsShow file) eval other → LinesAgree m file eval other }
+    ensures { (m : Primitives S) (file : FileParts) (eval : Eval S Env) (other : Eval S Frame) → EvalsAgree file [] (GlobalsShow file) eval other → LinesAgree m file eval other }
 {}

@@ -1,16 +1,11 @@
--- the layers of a parsed tree, by what it is made of and by its outermost one
-mod Layers
-mod Steps
-mod Opened
--- how many layers the trees of each phrase have
-mod ParsedExpressions
-mod ParsedStatements
-pub mod ParsedFiles
--- walks of the resolver that give what fits, and what each rule gives
-mod Made
-mod Gives
-mod ResolvedExpressions
-mod ResolvedStatements
-pub mod ResolvedFiles
+-- walks of the resolver, and what is measured of a tree's form
+pub mod Gives
+pub mod Measures
+-- what trees resolve to has the same form
+pub mod KeptExpressions
+pub mod KeptStatements
+pub mod KeptFiles
+-- the depth is such a measure, and trees that are no deeper fit
+pub mod Fitting
 -- what fits has no more layers
 pub mod Within

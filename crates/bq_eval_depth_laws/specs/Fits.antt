@@ -2,96 +2,108 @@
 -- `StmtIsWithin` of bq_eval_meaning_laws, of each expression, target and statement of a file, wherever it is.
 use Rattle.std.specs.Prelude.{ℕ, zero, suc}
 use Rattle.std.specs.List.{AllByRecursion}
-use Rattle.bq_resolve_scope.specs.declared.code.Code.{Code, out-Code}
-use Rattle.bq_resolve_scope.specs.declared.code.Code.TheOpen.{Code-F, CodeClause-F, CodeTarget-F}
-use Rattle.bq_resolve_scope.specs.declared.code.CodeBranch.{CodeBranch, out-CodeBranch}
-use Rattle.bq_resolve_scope.specs.declared.code.CodeClause.{CodeClause, out-CodeClause}
-use Rattle.bq_resolve_scope.specs.declared.code.CodeFunction.{CodeFunction}
-use Rattle.bq_resolve_scope.specs.declared.code.CodeSmall.{CodeSmall}
-use Rattle.bq_resolve_scope.specs.declared.code.CodeSmall.TheVariants as small
-use Rattle.bq_resolve_scope.specs.declared.code.CodeStmt.{CodeStmt, out-CodeStmt}
-use Rattle.bq_resolve_scope.specs.declared.code.CodeStmt.TheOpen.{CodeStmt-F}
-use Rattle.bq_resolve_scope.specs.declared.code.CodeTarget.{CodeTarget, out-CodeTarget}
-use Rattle.bq_resolve_scope.specs.declared.code.CodeTopLevel.{CodeTopLevel}
-use Rattle.bq_resolve_scope.specs.declared.code.FileStmt.{FileStmt}
-use Rattle.bq_resolve_scope.specs.declared.code.FileStmt.TheVariants as s
-use Rattle.bq_resolve_scope.specs.declared.code.Resolved.{Resolved}
-use Rattle.bq_resolve_scope.specs.Names.{max_layers}
-use Rattle.bq_eval_meaning_spec.specs.Trees.{CodeLayer, ClauseLayer, TargetLayer, StmtLayer}
-use Rattle.bq_eval_meaning_laws.specs.Layers.{OptionalParts, CodeParts, TargetParts}
+use Rattle.bq_parse_grammar.specs.declared.tree.Expr.{Expr, out-Expr}
+use Rattle.bq_parse_grammar.specs.declared.tree.Argument.TheOpen.{Expr-F, Clause-F, TargetExpr-F}
+use Rattle.bq_parse_grammar.specs.declared.tree.Branch.{Branch, out-Branch}
+use Rattle.bq_parse_grammar.specs.declared.tree.Clause.{Clause, out-Clause}
+use Rattle.bq_parse_grammar.specs.declared.tree.SmallKind.{SmallKind}
+use Rattle.bq_parse_grammar.specs.declared.tree.Stmt.{Stmt, out-Stmt}
+use Rattle.bq_parse_grammar.specs.declared.tree.Stmt.TheOpen.{Stmt-F}
+use Rattle.bq_parse_grammar.specs.declared.tree.TargetExpr.{TargetExpr, out-TargetExpr}
+use Rattle.bq_parse_grammar.specs.declared.tree.Parameter.{Parameter}
+use Rattle.bq_parse_grammar.specs.Targets.{ExprLayer}
+use Rattle.bq_parse_grammar.specs.declared.tree.SmallStmt.{SmallStmt}
+use Rattle.bq_parse_grammar.specs.declared.tree.SmallKind.TheVariants as small
+use Rattle.bq_parse_grammar.specs.declared.tree.Parameter.TheVariants as parameter
+use Rattle.bq_resolve_scope.specs.declared.file.Function.{Function}
+use Rattle.bq_resolve_scope.specs.declared.file.FileLine.{FileLine}
+use Rattle.bq_resolve_scope.specs.declared.file.Outside.{Outside}
+use Rattle.bq_resolve_scope.specs.declared.file.ResolvedFile.{ResolvedFile}
+use Rattle.bq_resolve_scope.specs.Names.{max_layers, ClauseLayer, TargetLayer}
+use Rattle.bq_resolve_scope.specs.declared.file.Outside.TheVariants as outside
+use Rattle.bq_eval_language_spec.specs.Trees.{StmtLayer}
+use Rattle.bq_eval_meaning_laws.specs.Layers.{OptionalParts, ExprParts, TargetParts}
 
 -- ---- targets: `E` holds of the operand and the index of each part `x[i]`
 
-abbrev pub IndexParts : (Code → Type 0) → TargetLayer → Type 0
-IndexParts E (CodeTarget-F.CodeTarget::Index x i) = E x × E i
+abbrev pub IndexParts : (Expr → Type 0) → TargetLayer → Type 0
+IndexParts E (TargetExpr-F.TargetExpr::Index x i) = E x × E i
 IndexParts E _ = Unit {0}
 
 -- a target is at most this many layers deep, and `E` holds of each expression in it
-unfoldable pub TargetFits : (Code → Type 0) → ℕ → CodeTarget → Type 0
+unfoldable pub TargetFits : (Expr → Type 0) → ℕ → TargetExpr → Type 0
 TargetFits E zero t = ⊥
-TargetFits E (suc layers) t = TargetParts (TargetFits E layers) (out-CodeTarget t) × IndexParts E (out-CodeTarget t)
+TargetFits E (suc layers) t = TargetParts (TargetFits E layers) (out-TargetExpr t) × IndexParts E (out-TargetExpr t)
 
 -- ---- expressions: `T` holds of the variables of each clause
 
-module _ (T : CodeTarget → Type 0) where
+module _ (T : TargetExpr → Type 0) where
   abbrev pub VariablesOfLayer : ClauseLayer → Type 0
-  VariablesOfLayer (CodeClause-F.For t x) = T t
-  VariablesOfLayer (CodeClause-F.If x) = Unit {0}
+  VariablesOfLayer (Clause-F.For t x) = T t
+  VariablesOfLayer (Clause-F.If x) = Unit {0}
 
-  abbrev pub Variables : CodeClause → Type 0
-  Variables c = VariablesOfLayer (out-CodeClause c)
+  abbrev pub Variables : Clause → Type 0
+  Variables c = VariablesOfLayer (out-Clause c)
 
-  abbrev pub VariableParts : CodeLayer → Type 0
-  VariableParts (Code-F.ListComprehension x cs) = AllByRecursion Variables cs
-  VariableParts (Code-F.DictComprehension p cs) = AllByRecursion Variables cs
+  abbrev pub VariableParts : ExprLayer → Type 0
+  VariableParts (Expr-F.ListComprehension x cs own) = AllByRecursion Variables cs
+  VariableParts (Expr-F.DictComprehension p cs own) = AllByRecursion Variables cs
   VariableParts _ = Unit {0}
 
 -- an expression is at most this many layers deep; the variables of its comprehensions fit, and what is in them is one
 -- layer less deep, as all else in it
-unfoldable pub CodeFits : ℕ → Code → Type 0
-CodeFits zero x = ⊥
-CodeFits (suc layers) x = CodeParts (CodeFits layers) (out-Code x) × VariableParts (TargetFits (CodeFits layers) max_layers) (out-Code x)
+unfoldable pub ExprFitsTo : ℕ → Expr → Type 0
+ExprFitsTo zero x = ⊥
+ExprFitsTo (suc layers) x = ExprParts (ExprFitsTo layers) (out-Expr x) × VariableParts (TargetFits (ExprFitsTo layers) max_layers) (out-Expr x)
 
 -- ---- statements
 
-abbrev pub ExprFits : Code → Type 0
-ExprFits x = CodeFits max_layers x
+abbrev pub ExprFits : Expr → Type 0
+ExprFits x = ExprFitsTo max_layers x
 
-abbrev pub PlaceFits : CodeTarget → Type 0
+abbrev pub PlaceFits : TargetExpr → Type 0
 PlaceFits t = TargetFits ExprFits max_layers t
 
-abbrev pub SmallFits : CodeSmall → Type 0
-SmallFits (small.Expr x) = ExprFits x
-SmallFits (small.Assign t x) = PlaceFits t × ExprFits x
-SmallFits (small.Augment t o x) = PlaceFits t × ExprFits x
-SmallFits (small.Return x) = OptionalParts ExprFits x
-SmallFits _ = Unit {0}
+abbrev pub KindFits : SmallKind → Type 0
+KindFits (small.Expr x) = ExprFits x
+KindFits (small.Assign t x) = PlaceFits t × ExprFits x
+KindFits (small.Augment t o x) = PlaceFits t × ExprFits x
+KindFits (small.Return x) = OptionalParts ExprFits x
+KindFits _ = Unit {0}
 
-abbrev pub BranchFits : (CodeStmt → Type 0) → CodeBranch → Type 0
-BranchFits inner b = ExprFits (out-CodeBranch b).condition × AllByRecursion inner (out-CodeBranch b).block
+abbrev pub SmallFits : SmallStmt → Type 0
+SmallFits x = KindFits x.kind
 
-abbrev pub StmtLayerFits : (CodeStmt → Type 0) → StmtLayer → Type 0
-StmtLayerFits inner (CodeStmt-F.Simple xs) = AllByRecursion SmallFits xs
-StmtLayerFits inner (CodeStmt-F.If bs otherwise) = AllByRecursion (BranchFits inner) bs × AllByRecursion inner otherwise
-StmtLayerFits inner (CodeStmt-F.For t x body) = PlaceFits t × ExprFits x × AllByRecursion inner body
+abbrev pub ParameterFits : Parameter → Type 0
+ParameterFits (parameter.Default n x) = ExprFits x
+ParameterFits _ = Unit {0}
+
+abbrev pub BranchFits : (Stmt → Type 0) → Branch → Type 0
+BranchFits inner b = ExprFits (out-Branch b).condition × AllByRecursion inner (out-Branch b).block
+
+abbrev pub StmtLayerFits : (Stmt → Type 0) → StmtLayer → Type 0
+StmtLayerFits inner (Stmt-F.Simple xs) = AllByRecursion SmallFits xs
+StmtLayerFits inner (Stmt-F.If bs otherwise) = AllByRecursion (BranchFits inner) bs × AllByRecursion inner otherwise
+StmtLayerFits inner (Stmt-F.For t x body) = PlaceFits t × ExprFits x × AllByRecursion inner body
+StmtLayerFits inner (Stmt-F.Def n ps body) = AllByRecursion ParameterFits ps × AllByRecursion inner body
 
 -- a statement is at most this many layers deep, and the expressions and targets in it fit
-unfoldable pub StmtFits : ℕ → CodeStmt → Type 0
+unfoldable pub StmtFits : ℕ → Stmt → Type 0
 StmtFits zero x = ⊥
-StmtFits (suc layers) x = StmtLayerFits (StmtFits layers) (out-CodeStmt x)
+StmtFits (suc layers) x = StmtLayerFits (StmtFits layers) (out-Stmt x)
 
 -- ---- files
 
-unfoldable pub FunctionFits : CodeFunction → Type 0
+unfoldable pub FunctionFits : Function → Type 0
 FunctionFits d = AllByRecursion (StmtFits max_layers) d.body
 
-abbrev pub FileStmtFits : FileStmt → Type 0
-FileStmtFits (s.Simple xs) = AllByRecursion SmallFits xs
-FileStmtFits (s.Def d) = PlaceFits d.target × AllByRecursion ExprFits d.defaults
+abbrev pub OutsideFits : Outside → Type 0
+OutsideFits (outside.Simple xs) = AllByRecursion SmallFits xs
+OutsideFits (outside.Def d) = AllByRecursion ExprFits d.defaults
 
-abbrev pub TopLevelFits : CodeTopLevel → Type 0
-TopLevelFits t = FileStmtFits t.statement
+abbrev pub LineFits : FileLine → Type 0
+LineFits l = OutsideFits l.statement
 
 -- all trees of a file
-abbrev pub FileFits : Resolved → Type 0
-FileFits file = AllByRecursion TopLevelFits file.statements × AllByRecursion FunctionFits file.functions
+abbrev pub FileFits : ResolvedFile → Type 0
+FileFits file = AllByRecursion LineFits file.statements × AllByRecursion FunctionFits file.functions

@@ -1,6 +1,7 @@
 //! What holds of the depth of files. The functions do nothing: their contracts are the laws.
 
 ghost use Rattle.bq_eval_meaning_spec.specs.Primitives.{Primitives};
+ghost use Rattle.bq_eval_language_spec.specs.Environment.{Scoping};
 ghost use Rattle.bq_eval_depth_laws.specs.Depth.{NoResolvedFileIsTooDeep, ExpressionsAreWithin, StatementsAreWithin, TargetsAreWithin, ExpressionsNeedNoMore, StatementsNeedNoMore, BindingsNeedNoMore, PlacesNeedNoMore};
 
 /// Where a file is parsed and resolved, each expression, target and statement in it, and in its functions, is no deeper than the
@@ -18,9 +19,9 @@ pub fn what_fits_is_within()
 
 /// What fits in the layers that are looked at means the same with more of them: an expression, a statement, and a
 /// target.
-pub fn what_fits_needs_no_more_layers<S>()
-    ensures expressions { (m : Primitives S) → ExpressionsNeedNoMore m }
-    ensures statements { (m : Primitives S) → StatementsNeedNoMore m }
-    ensures bindings { (m : Primitives S) → BindingsNeedNoMore m }
-    ensures places { (m : Primitives S) → PlacesNeedNoMore m }
+pub fn what_fits_needs_no_more_layers<S, R, V>()
+    ensures expressions { (m : Primitives S) (scoping : Scoping R V) → ExpressionsNeedNoMore m scoping }
+    ensures statements { (m : Primitives S) (scoping : Scoping R V) → StatementsNeedNoMore m scoping }
+    ensures bindings { (m : Primitives S) (scoping : Scoping R V) → BindingsNeedNoMore m scoping }
+    ensures places { (m : Primitives S) (scoping : Scoping R V) → PlacesNeedNoMore m scoping }
 {}

@@ -3,11 +3,11 @@
 //! In: nothing; the functions do nothing, and their contracts are the laws. The promise: no tree of a file that is parsed and resolved
 //! is deeper than the layers that the meaning looks at, so the number of these layers is no part of what a program means.
 //!
-//! `specs/Fits.antt` says of a file that all trees in it are no deeper. The proof: a measure counts the layers that a
-//! parsed tree may have once it is resolved, so a comprehension twice, since outside functions a layer around it has
-//! its frame (`proofs/Layers.antt`). No statement that reads as one has more than 978 of them (`proofs/Parsed*.antt`),
-//! and a tree of at most that many layers resolves to one that is no deeper (`proofs/Resolved*.antt`): each rule of the
-//! resolver is a walk whose result fits (`proofs/Gives.antt`).
+//! `specs/Fits.antt` says of a file that all trees in it are no deeper. The proof: what a file resolves to has the form
+//! of the file as it is parsed. Whatever is measured of a tree node by node, but for what names refer to and which frames
+//! comprehensions have, is the same of the tree that it resolves to (`proofs/Measures.antt`, `proofs/Kept*.antt`): each
+//! rule of the resolver is a walk that keeps it (`proofs/Gives.antt`). The depth is such a measure, no parsed statement is
+//! deeper than 913 (bq_parse_tree_laws), and trees that are no deeper than 1,024 fit (`proofs/Fitting.antt`).
 #![tactic(auto)]
 
 mod laws;

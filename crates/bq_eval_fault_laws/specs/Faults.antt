@@ -10,7 +10,7 @@ use Rattle.bq_parse_grammar.specs.declared.tree.TopLevel.{TopLevel}
 use Rattle.bq_resolve_scope.specs.Files.{resolved}
 use Rattle.bq_resolve_scope.specs.Names.{Name}
 use Rattle.bq_resolve_scope.specs.Universe.{UniverseParts}
-use Rattle.bq_resolve_scope.specs.declared.code.Resolved.{Resolved}
+use Rattle.bq_resolve_scope.specs.declared.file.ResolvedFile.{ResolvedFile}
 use Rattle.bq_resolve_predeclared.specs.declared.host_function.HostFunction.{HostFunction}
 use Rattle.bq_value_rule_class.specs.Class.{Class}
 use Rattle.bq_value.specs.Cells.{FrozenView}
@@ -51,7 +51,7 @@ FailsAsEvaluated (evaluated frozen prints) = Unit {0}
 FailsAsEvaluated (failed fault prints) = is_refusal fault.kind ≡ true
 
 -- what a file resolves to that some tokens read as
-pub record IsResolvedFile (file : Resolved) : Type 0 where
+pub record IsResolvedFile (file : ResolvedFile) : Type 0 where
   pub kind : FileKind
   pub lexemes : List Lexeme
   pub statements : List TopLevel
@@ -59,7 +59,7 @@ pub record IsResolvedFile (file : Resolved) : Type 0 where
   pub parses : Parses kind lexemes (Ok statements)
   pub resolves : resolved universe statements ≡ Ok file
 
-abbrev pub IfAny : Option Resolved → Type 0
+abbrev pub IfAny : Option ResolvedFile → Type 0
 IfAny (Some file) = IsResolvedFile file
 IfAny _ = Unit {0}
 
@@ -67,5 +67,5 @@ IfAny _ = Unit {0}
 -- too.
 abbrev pub FilesFailAsEvaluated : {W : Type 0} → List Name → HostCalls W → Type 0
 FilesFailAsEvaluated {W = W} names host =
-    (code : List (Option Resolved)) → AllByRecursion IfAny code → (number : ℕ) (file : Resolved) → IsResolvedFile file → (loaded : List FrozenView) (imports : List Datum) (limit : ℕ) (kept : W)
+    (code : List (Option ResolvedFile)) → AllByRecursion IfAny code → (number : ℕ) (file : ResolvedFile) → IsResolvedFile file → (loaded : List FrozenView) (imports : List Datum) (limit : ℕ) (kept : W)
     → FailsAsEvaluated (ended file imports (module_run names host code number file loaded imports limit kept))

@@ -5,9 +5,10 @@
 //! to F60), one of the calls of build functions and rules (F70 to F78), or F37. So no evaluation ends in what the
 //! meaning has for trees that no file resolves to: F10, F11 and F12.
 //!
-//! The proofs. Nothing in a resolved file ends an evaluation by itself (bq_eval_sound_laws). `Refusing`
-//! (`specs/Faults.antt`) says of an action that it stops with these faults alone; it holds of each rule of the language
-//! over a sound tree (`proofs/*Rules.antt`), if it holds of what the rules ask for (`proofs/Lawful.antt`). `Fine`
+//! The proofs. Nothing in a resolved file ends an evaluation by itself (bq_eval_sound_laws), and each name in it refers
+//! to something (`specs/Known.antt`, `proofs/Known*.antt`). `Refusing` (`specs/Faults.antt`) says of an action that it
+//! stops with these faults alone; it holds of each rule of the language over such a tree (`proofs/*Rules.antt`), if it
+//! holds of what the rules ask for (`proofs/Lawful.antt`). `Fine`
 //! (`proofs/Fine.antt`) says the same of an answer: operators, methods and built-in functions have such answers
 //! (`proofs/Sequences.antt`, `proofs/*Answers.antt`, `proofs/Walks.antt`), and so have the calls of build functions and
 //! rules (`proofs/BuildCalls.antt`).

@@ -1,4 +1,4 @@
--- Comprehensions (Starlark specification, "Comprehensions"): "the first iterable" is evaluated outside, all else in a
+-- Comprehensions (Starlark specification, "Comprehensions"): the first iterable is evaluated outside, all else in a
 -- block of its own, whose names are the variables of all its clauses. What is bound in it is not seen around it.
 use Rattle.std.specs.Prelude.{List, [], ◌∷◌, if◌then◌else◌}
 use Rattle.bq_parse_grammar.specs.declared.tree.Argument.TheOpen.{Clause-F}
@@ -31,30 +31,40 @@ module _ {S V : Type 0} (m : Primitives S) (eval : Eval S V) where
 
 -- ---- clauses: `inner` is what the clauses after this one do, and at last the element or pair
 
-module _ {S R V : Type 0} (m : Primitives S) (scoping : Scoping R V) (eval : Eval S V) where
-  -- the turns of a `for` clause over these elements: in each a step, its variables, and what stands further in
+module _ {S R V : Type 0} (m : Primitives S) (scoping : Scoping R V) where
+  -- one turn of a `for` clause: a step, its variables, and what stands further in
+  unfoldable pub turn : TargetExpr → Turn S V → Datum → Turn S V
+  turn t inner v env c = m.step 1 >>= λ _. bind_variables m scoping t v env >>= λ new. inner new c
+
+  -- the turns over these elements
   unfoldable pub turns : TargetExpr → Turn S V → List Datum → Turn S V
   turns t inner [] env c = pure (c, env)
-  turns t inner (v ∷ vs) env c = m.step 1 >>= λ _. bind_variables m scoping t v env >>= λ new. inner new c >>= λ r. turns t inner vs r.1 r.0
+  turns t inner (v ∷ vs) env c = turn t inner v env c >>= λ r. turns t inner vs r.1 r.0
 
-  -- a clause, by its form; the iterable of the first one is evaluated outside
-  abbrev pub clause_by : ClauseLayer → V → Turn S V → Turn S V
-  -- `for t in x`, where `x` is evaluated in the environment `there`
-  clause_by (Clause-F.For t x) there inner env c =
-      eval x there >>= λ v. m.begin_walk v >>= λ vs. turns t inner vs env c >>= λ r. change m (m.end_walk v) >>= λ _. pure r
-  -- `if x`
-  clause_by (Clause-F.If x) there inner env c = eval x env >>= λ v. λ s. (if m.truth v s then inner env c else pure (c, env)) s
+  module _ (eval : Eval S V) where
+    -- `for t in x`, where `x` is evaluated in the environment `there`
+    unfoldable pub for_clause : TargetExpr → Expr → V → Turn S V → Turn S V
+    for_clause t x there inner env c = eval x there >>= λ v. m.begin_walk v >>= λ vs. turns t inner vs env c >>= λ r. change m (m.end_walk v) >>= λ _. pure r
 
-  -- the clauses, each inside the one before
-  unfoldable pub clauses : List Clause → Turn S V → Turn S V
-  clauses [] inner env c = inner env c
-  clauses (x ∷ xs) inner env c = clause_by (out-Clause x) env (clauses xs inner) env c
+    -- `if x`
+    unfoldable pub if_clause : Expr → Turn S V → Turn S V
+    if_clause x inner env c = eval x env >>= λ v. λ s. (if m.truth v s then inner env c else pure (c, env)) s
 
-  -- the first iterable is evaluated in the environment `there`
-  unfoldable pub first_clauses : List Clause → V → Turn S V → Turn S V
-  first_clauses [] there inner env c = inner env c
-  first_clauses (x ∷ xs) there inner env c = clause_by (out-Clause x) there (clauses xs inner) env c
+    -- a clause, by its form
+    abbrev pub clause_by : ClauseLayer → V → Turn S V → Turn S V
+    clause_by (Clause-F.For t x) there inner env c = for_clause t x there inner env c
+    clause_by (Clause-F.If x) there inner env c = if_clause x inner env c
 
-  -- from an empty list or dict
-  unfoldable pub comprehension : Contents → Turn S V → List Clause → ComprehensionFrame → V → Action S Datum
-  comprehension none inner cs own env = m.step 1 >>= λ _. first_clauses cs env inner (scoping.in_comprehension env cs own) none >>= λ r. m.make r.0
+    -- the clauses, each inside the one before
+    unfoldable pub clauses : List Clause → Turn S V → Turn S V
+    clauses [] inner env c = inner env c
+    clauses (x ∷ xs) inner env c = clause_by (out-Clause x) env (clauses xs inner) env c
+
+    -- all clauses, where the first iterable is evaluated in the environment `there`
+    unfoldable pub first_clauses : List Clause → V → Turn S V → Turn S V
+    first_clauses [] there inner env c = inner env c
+    first_clauses (x ∷ xs) there inner env c = clause_by (out-Clause x) there (clauses xs inner) env c
+
+    -- from an empty list or dict
+    unfoldable pub comprehension : Contents → Turn S V → List Clause → ComprehensionFrame → V → Action S Datum
+    comprehension none inner cs own env = m.step 1 >>= λ _. first_clauses cs env inner (scoping.in_comprehension env cs own) none >>= λ r. m.make r.0

@@ -6,10 +6,9 @@ use Rattle.bq_parse_grammar.specs.declared.tree.Clause.{Clause}
 use Rattle.bq_parse_grammar.specs.declared.tree.ComprehensionFrame.{ComprehensionFrame}
 use Rattle.bq_parse_grammar.specs.declared.tree.Expr.{Expr}
 use Rattle.bq_parse_grammar.specs.declared.tree.Identifier.{Identifier}
-use Rattle.bq_parse_grammar.specs.declared.tree.Parameter.{Parameter}
-use Rattle.bq_parse_grammar.specs.declared.tree.Stmt.{Stmt}
 use Rattle.bq_parse_grammar.specs.declared.tree.Suffix.{Suffix}
 use Rattle.bq_resolve_predeclared.specs.declared.predeclared.Predeclared.{Predeclared}
+use Rattle.bq_resolve_scope.specs.declared.file.Function.{Function}
 use Rattle.bq_value.specs.Datum.{Datum}
 
 -- what a name has: a variable its value, or none while it is not bound; any other what all files have by the name
@@ -34,6 +33,6 @@ pub record Scoping (R V : Type 0) : Type 0 where
   -- no block is open
   pub outside : V
   -- the block of a function opens, with the names of its parameters and all that its body binds
-  pub in_function : List Parameter → List Stmt → V
+  pub in_function : Function → V
   -- the block of a comprehension opens, with the variables of all its clauses
   pub in_comprehension : V → List Clause → ComprehensionFrame → V

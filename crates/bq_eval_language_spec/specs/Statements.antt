@@ -1,22 +1,29 @@
 -- What a statement does (Starlark specification, "Statements"). In a function the environment holds its names, outside functions those
 -- of the file.
-use Rattle.std.specs.Prelude.{ℕ, zero, suc, List, [], ◌∷◌, Some, None, if◌then◌else◌}
+use Rattle.std.specs.Prelude.{ℕ, zero, suc, List, [], ◌∷◌, Option, Some, None, if◌then◌else◌}
 use Rattle.bq_base.specs.declared.fault.FaultKind.TheVariants as f
 use Rattle.bq_parse_grammar.specs.declared.tree.Branch.{Branch, out-Branch}
+use Rattle.bq_parse_grammar.specs.declared.tree.Expr.{Expr}
 use Rattle.bq_parse_grammar.specs.declared.tree.SmallKind.{SmallKind}
 use Rattle.bq_parse_grammar.specs.declared.tree.SmallKind.TheVariants as small
 use Rattle.bq_parse_grammar.specs.declared.tree.SmallStmt.{SmallStmt}
 use Rattle.bq_parse_grammar.specs.declared.tree.Stmt.{Stmt, out-Stmt}
 use Rattle.bq_parse_grammar.specs.declared.tree.Stmt.TheOpen.{Stmt-F}
-use Rattle.bq_parse_grammar.specs.declared.tree.TargetExpr.{TargetExpr, out-TargetExpr}
+use Rattle.bq_parse_grammar.specs.declared.tree.TargetExpr.{TargetExpr}
 use Rattle.bq_resolve_scope.specs.Names.{max_layers}
 use Rattle.bq_value.specs.Datum.{Datum, none}
 use Rattle.bq_builtin_machine.specs.Action.{Action, ◌>>=◌, pure}
 use Rattle.bq_eval_meaning_spec.specs.Primitives.{Primitives, stop, change}
-use Rattle.bq_eval_meaning_spec.specs.Statements.{Flow, next, leave, again, answer}
 use Rattle.bq_eval_language_spec.specs.Environment.{Scoping}
-use Rattle.bq_eval_language_spec.specs.Targets.{bind_variables, assign, augment_by}
+use Rattle.bq_eval_language_spec.specs.Targets.{bind_variables, assign, augment}
 use Rattle.bq_eval_language_spec.specs.Trees.{Eval, StmtLayer}
+
+-- what comes after a statement: the next one, or the end of a turn, a loop or the function
+pub data Flow : Type 0 where
+  next : Flow
+  leave : Flow
+  again : Flow
+  answer : Datum → Flow
 
 -- what a statement does in an environment: where the run goes on, and the environment then
 abbrev pub Exec : Type 0 → Type 0 → Type 0
@@ -42,29 +49,43 @@ steps_of _ = 1
 module _ {S R V : Type 0} (m : Primitives S) (scoping : Scoping R V) (eval : Eval S V) where
   -- ---- small statements
 
+  -- an expression as a statement
+  unfoldable pub expr_stmt : Expr → Exec S V
+  expr_stmt x env = eval x env >>= λ _. pure (next, env)
+
+  -- `t = x`: the right side first
+  unfoldable pub assign_stmt : TargetExpr → Expr → Exec S V
+  assign_stmt t x env = eval x env >>= λ v. assign m scoping eval t v env >>= λ new. pure (next, new)
+
+  -- `return`: without a value the answer is `None`
+  unfoldable pub return_stmt : Option Expr → Exec S V
+  return_stmt None env = pure (answer none, env)
+  return_stmt (Some x) env = eval x env >>= λ v. pure (answer v, env)
+
   -- a small statement, by its form
   abbrev pub small_by : SmallKind → Exec S V
-  -- an expression as a statement
-  small_by (small.Expr x) env = eval x env >>= λ _. pure (next, env)
-  -- the right side first
-  small_by (small.Assign t x) env = eval x env >>= λ v. assign m scoping eval t v env >>= λ new. pure (next, new)
-  small_by (small.Augment t op x) env = augment_by m scoping eval (out-TargetExpr t) op x env >>= λ new. pure (next, new)
-  -- without a value the answer is `None`
-  small_by (small.Return None) env = pure (answer none, env)
-  small_by (small.Return (Some x)) env = eval x env >>= λ v. pure (answer v, env)
+  small_by (small.Expr x) env = expr_stmt x env
+  small_by (small.Assign t x) env = assign_stmt t x env
+  small_by (small.Augment t op x) env = augment m scoping eval t op x env >>= λ new. pure (next, new)
+  small_by (small.Return x) env = return_stmt x env
   small_by small.Break env = pure (leave, env)
   small_by small.Continue env = pure (again, env)
   small_by small.Pass env = pure (next, env)
   -- the names of a load are bound before the file runs
   small_by (small.Load l) env = pure (next, env)
 
-  -- the statements of one line: of each its step, and what it does
+  -- a small statement: its step, and what it does
+  unfoldable pub small_stmt : SmallStmt → Exec S V
+  small_stmt x env = m.step (steps_of x.kind) >>= λ _. small_by x.kind env
+
+  -- the statements of one line
   unfoldable pub line : List SmallStmt → Exec S V
   line [] env = pure (next, env)
-  line (x ∷ xs) env = m.step (steps_of x.kind) >>= λ _. small_by x.kind env >>= λ r. go_on (line xs) r
+  line (x ∷ xs) env = small_stmt x env >>= λ r. go_on (line xs) r
 
   -- ---- statements: `run` does those inside
   module _ (run : Stmt → Exec S V) where
+    -- the statements of a block, in order
     unfoldable pub block : List Stmt → Exec S V
     block [] env = pure (next, env)
     block (x ∷ xs) env = run x env >>= λ r. go_on (block xs) r
@@ -75,25 +96,35 @@ module _ {S R V : Type 0} (m : Primitives S) (scoping : Scoping R V) (eval : Eva
     branches (b ∷ bs) otherwise env =
         eval (out-Branch b).condition env >>= λ t. λ s. (if m.truth t s then block (out-Branch b).block env else branches bs otherwise env) s
 
-    -- the turns of a loop over these elements: in each a step, its variables, its body
+    -- one turn of a loop: a step, its variables, its body
+    unfoldable pub turn : TargetExpr → List Stmt → Datum → Exec S V
+    turn t body v env = m.step 1 >>= λ _. bind_variables m scoping t v env >>= λ new. block body new
+
+    -- the turns over these elements
     unfoldable pub turns : TargetExpr → List Stmt → List Datum → Exec S V
     turns t body [] env = pure (next, env)
-    turns t body (v ∷ vs) env = m.step 1 >>= λ _. bind_variables m scoping t v env >>= λ new. block body new >>= λ r. turn_on (turns t body vs) r
+    turns t body (v ∷ vs) env = turn t body v env >>= λ r. turn_on (turns t body vs) r
+
+    -- `for t in x`: over the elements that there are when it begins
+    unfoldable pub for_loop : TargetExpr → Expr → List Stmt → Exec S V
+    for_loop t x body env = eval x env >>= λ v. m.begin_walk v >>= λ vs. turns t body vs env >>= λ r. change m (m.end_walk v) >>= λ _. pure r
 
     -- a statement, by its form
     abbrev pub stmt_by : StmtLayer → Exec S V
     stmt_by (Stmt-F.Simple xs) env = line xs env
     stmt_by (Stmt-F.If bs otherwise) env = m.step 1 >>= λ _. branches bs otherwise env
-    -- `for t in x`: over the elements that there are when it begins
-    stmt_by (Stmt-F.For t x body) env =
-        m.step 1 >>= λ _. eval x env >>= λ v. m.begin_walk v >>= λ vs. turns t body vs env >>= λ r. change m (m.end_walk v) >>= λ _. pure r
-    -- a `def` in a function is left out
+    stmt_by (Stmt-F.For t x body) env = m.step 1 >>= λ _. for_loop t x body env
+    -- the language leaves a `def` in a function out
     stmt_by (Stmt-F.Def n ps body) env = stop m f.LeftOut
+
+    -- a statement
+    unfoldable pub stmt : Stmt → Exec S V
+    stmt x env = stmt_by (out-Stmt x) env
 
 -- of statements that are at most this many layers deep; no tree that is parsed has a deeper one
 unfoldable pub run_to : {S R V : Type 0} → ℕ → Primitives S → Scoping R V → Eval S V → Stmt → Exec S V
 run_to zero m scoping eval x env = stop m f.Nesting
-run_to (suc depth) m scoping eval x env = stmt_by m scoping eval (run_to depth m scoping eval) (out-Stmt x) env
+run_to (suc depth) m scoping eval x env = stmt m scoping eval (run_to depth m scoping eval) x env
 
 -- what a statement means, where names mean what `scoping` says and expressions `eval`
 abbrev pub run_in : {S R V : Type 0} → Primitives S → Scoping R V → Eval S V → Stmt → Exec S V

@@ -10,10 +10,9 @@ ghost use Rattle.bq_builtin_machine.specs.Calls as machine;
 ghost use Rattle.bq_builtin_machine.specs.Calls.{enter};
 ghost use Rattle.bq_builtin_machine.specs.Parameters.{SignatureView};
 ghost use Rattle.bq_builtin_machine.specs.State.{State, Stop};
-ghost use Rattle.bq_eval_meaning_spec.specs.Calls as meaning;
-ghost use Rattle.bq_eval_meaning_spec.specs.Frame.{Frame};
+ghost use Rattle.bq_eval_language_spec.specs.Calls as meaning;
 ghost use Rattle.bq_builtin_refusal_laws.specs.Refusals.{IsRefusedForFirst};
-ghost use Rattle.bq_eval_laws.specs.Calls.Entered.{CodeCall, entered, activated, whole_call};
+ghost use Rattle.bq_eval_laws.specs.Calls.Entered.{FunctionCall, entered, activated, whole_call};
 ghost use Rattle.bq_eval_laws.specs.Calls.Misfits.{IsMisfit};
 ghost use Rattle.bq_eval_laws.specs.Calls.Orders.{entering};
 
@@ -34,9 +33,9 @@ pub fn functions_are_entered_in_order()
 /// A call whose arguments are refused (F52) is refused for nothing else: whether the function is active or not, and
 /// however many are. A function that may not become active (F50, F51) runs no statement.
 #[tactic(auto, using(crate::proofs::Calls::Entering::arguments_first, crate::proofs::Calls::Entering::activity_second))]
-pub fn arguments_come_before_activity<S>()
-    ensures arguments { (x : CodeCall S) (s : S) (why : Stop) → entered x s ≡ stopped why → whole_call x s ≡ stopped why }
-    ensures activity { (x : CodeCall S) (s t : S) (env : Frame) (why : Stop) → entered x s ≡ done env t → activated x t ≡ stopped why → whole_call x s ≡ stopped why }
+pub fn arguments_come_before_activity<S, R, V>()
+    ensures arguments { (x : FunctionCall S R V) (s : S) (why : Stop) → entered x s ≡ stopped why → whole_call x s ≡ stopped why }
+    ensures activity { (x : FunctionCall S R V) (s t : S) (env : V) (why : Stop) → entered x s ≡ done env t → activated x t ≡ stopped why → whole_call x s ≡ stopped why }
 {}
 
 /// At most 100 functions are active, for the machine and for what programs mean.

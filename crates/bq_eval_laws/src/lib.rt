@@ -1,5 +1,5 @@
 //! Laws of evaluation: of files, by the definitions of `bq_eval`, and of calls, by those of `bq_builtin_machine` and
-//! `bq_eval_meaning_spec`.
+//! `bq_eval_language_spec`.
 //!
 //! In: nothing; the functions do nothing, and their contracts are the laws. The promise: a file has a number of steps and an outcome of
 //! its own, which no limit changes, and a fault of it names the line of one of its statements; a cell of another module holds at a file's end what it held at its start; a rule holds the same

@@ -1,9 +1,19 @@
 -- Actions that run alike: a relation that respects the rules.
-use Rattle.std.proofs.Common.{◌≡◌, ◌∙◌, Bool, true, false, refl, ap}
+use Rattle.std.proofs.Common.{◌≡◌, ◌∙◌, Bool, true, false, List, [], ◌∷◌, Option, Some, None, refl, sym, ap}
 use Rattle.std.specs.Prelude.{if◌then◌else◌}
+use Rattle.bq_parse_grammar.specs.declared.tree.Argument.TheOpen.{Suffix-F}
+use Rattle.bq_parse_grammar.specs.declared.tree.Expr.{out-Expr}
+use Rattle.bq_parse_grammar.specs.declared.tree.Suffix.{Suffix, out-Suffix, roll-Suffix, roll-out-Suffix}
+use Rattle.bq_parse_grammar.specs.Targets.{SuffixLayer}
+use Rattle.bq_parse_grammar.specs.declared.tree.Argument.{Argument}
+use Rattle.bq_parse_grammar.specs.declared.tree.Identifier.{Identifier}
+use Rattle.bq_parse_grammar.specs.declared.tree.Suffix.TheVariants as suffix
+use Rattle.bq_resolve_predeclared.specs.declared.predeclared.Predeclared.{Predeclared}
 use Rattle.bq_builtin_machine.specs.Action.{Action, Run, done, stopped, following}
 use Rattle.bq_eval_meaning_spec.specs.Primitives.{Primitives}
-use Rattle.bq_eval_meaning_laws.specs.Depth.{ExpressionDepth, StatementDepth, BindingDepth, PlaceDepth}
+use Rattle.bq_eval_language_spec.specs.Environment.{NamespaceCall, Scoping}
+use Rattle.bq_eval_language_spec.specs.Slots.{member_at, called_by, called, by_slots}
+use Rattle.bq_eval_meaning_laws.specs.Depth.{MembersAreSuffixes, ExpressionDepth, StatementDepth, BindingDepth, PlaceDepth}
 use Rattle.bq_eval_meaning_laws.proofs.Respects.{Relation, Respects}
 use Rattle.bq_eval_meaning_laws.proofs.TargetRules.{bind_depths, places_depths}
 use Rattle.bq_eval_meaning_laws.proofs.ExpressionRules.{expr_depths}
@@ -56,15 +66,47 @@ alike m = record {
   of_leave = λ s. refl;
 }
 
-module _ {S : Type 0} (m : Primitives S) where
-  pub expression_depth : ExpressionDepth m
-  expression_depth call round n k x env s fits few = expr_depths m (RunAlike S) (alike m) call (λ v p t. refl) round n k few x fits env s
+module _ {S Round V : Type 0} (m : Primitives S) (scoping : Scoping Round V) where
+  pub expression_depth : ExpressionDepth m scoping
+  expression_depth call round n k x env s are fits few = expr_depths m scoping (RunAlike S) (alike m) call (λ v p t. refl) round are n k few x fits env s
 
-  pub statement_depth : StatementDepth m
-  statement_depth eval n k x env s fits few = run_depths m (RunAlike S) (alike m) eval (λ y e t. refl) n k few x fits env s
+  pub statement_depth : StatementDepth m scoping
+  statement_depth eval n k x env s fits few = run_depths m scoping (RunAlike S) (alike m) eval (λ y e t. refl) n k few x fits env s
 
-  pub binding_depth : BindingDepth m
-  binding_depth n k t v env ps s fits few = bind_depths m (RunAlike S) (alike m) n k few t fits v env ps s
+  pub binding_depth : BindingDepth m scoping
+  binding_depth n k t v env ps s fits few = bind_depths m scoping (RunAlike S) (alike m) n k few t fits v env ps s
 
-  pub place_depth : PlaceDepth m
-  place_depth eval n k t env ps s fits few = places_depths m (RunAlike S) (alike m) eval (λ y e t. refl) n k few t fits env ps s
+  pub place_depth : PlaceDepth m scoping
+  place_depth eval n k t env ps s fits few = places_depths m scoping (RunAlike S) (alike m) eval (λ y e t. refl) n k few t fits env ps s
+
+-- ---- by slots
+
+-- the parts of two calls that are one
+same_call : (a d : Option Predeclared) (b e : List Argument) (c f : List Suffix) → (let x : NamespaceCall = (a, b, c) in let y : NamespaceCall = (d, e, f) in Some x ≡ Some y) → (b ≡ e) × (c ≡ f)
+same_call a d b e c f h =
+    let x : NamespaceCall = (a, b, c) in
+    let y : NamespaceCall = (d, e, f) in
+    let same : x ≡ y = cc in
+    let second : NamespaceCall → List Argument = λ t. t.1 in
+    let third : NamespaceCall → List Suffix = λ t. t.2 in
+    (ap second same, ap third same)
+
+member_of_layer : (p : Option Predeclared) (s : Suffix) (ss : List Suffix) (o : SuffixLayer) → roll-Suffix o ≡ s → (found : Option Predeclared) (xs : List Argument) (rest : List Suffix)
+    → called_by p o ss ≡ Some (found, xs, rest) → (n : Identifier) × (s ∷ ss ≡ suffix.Method n xs ∷ rest)
+member_of_layer (Some p) s ss (Suffix-F.Method n ys) e found xs rest h =
+    let parts : (ys ≡ xs) × (ss ≡ rest) = same_call (Some p) found ys xs ss rest h in
+    let first : s ≡ suffix.Method n xs = sym e ∙ (suffix.rolls-Method n ys ∙ ap (λ zs. suffix.Method n zs) parts.0) in
+    (n, ap (λ z. z ∷ ss) first ∙ ap (λ zs. suffix.Method n xs ∷ zs) parts.1)
+member_of_layer (Some p) s ss (Suffix-F.Call ys) e found xs rest h = absurd (let no : ⊥ = cc in no)
+member_of_layer (Some p) s ss (Suffix-F.Attribute n) e found xs rest h = absurd (let no : ⊥ = cc in no)
+member_of_layer (Some p) s ss (Suffix-F.Suffix::Index i) e found xs rest h = absurd (let no : ⊥ = cc in no)
+member_of_layer (Some p) s ss (Suffix-F.Slice i j k) e found xs rest h = absurd (let no : ⊥ = cc in no)
+member_of_layer None s ss o e found xs rest h = absurd (let no : ⊥ = cc in no)
+
+member_of : (p : Option Predeclared) (ss : List Suffix) (found : Option Predeclared) (xs : List Argument) (rest : List Suffix) → called p ss ≡ Some (found, xs, rest)
+    → (n : Identifier) × (ss ≡ suffix.Method n xs ∷ rest)
+member_of p [] found xs rest h = absurd (let no : ⊥ = cc in no)
+member_of p (s ∷ ss) found xs rest h = member_of_layer p s ss (out-Suffix s) (roll-out-Suffix s) found xs rest h
+
+pub slot_members : MembersAreSuffixes by_slots
+slot_members round env x ss found xs rest h = member_of (member_at (out-Expr x)) ss found xs rest h

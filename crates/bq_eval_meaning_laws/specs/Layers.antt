@@ -1,109 +1,116 @@
--- How many layers a resolved tree has: an expression is at most n layers deep if the expressions in it are at most n -
+-- How many layers a tree has: an expression is at most n layers deep if the expressions in it are at most n -
 -- 1 layers deep; so are statements, and the targets of assignments.
 use Rattle.std.specs.Prelude.{ℕ, zero, suc, Option, Some, None}
 use Rattle.std.specs.List.{AllByRecursion}
-use Rattle.bq_resolve_scope.specs.declared.code.Code.{Code, out-Code}
-use Rattle.bq_resolve_scope.specs.declared.code.Code.TheOpen.{Code-F, CodeArgument-F, CodeClause-F, CodeSuffix-F, CodeTarget-F}
-use Rattle.bq_resolve_scope.specs.declared.code.CodeArgument.{CodeArgument, out-CodeArgument}
-use Rattle.bq_resolve_scope.specs.declared.code.CodeBranch.{CodeBranch, out-CodeBranch}
-use Rattle.bq_resolve_scope.specs.declared.code.CodeChoice.{CodeChoice, out-CodeChoice}
-use Rattle.bq_resolve_scope.specs.declared.code.CodeClause.{CodeClause, out-CodeClause}
-use Rattle.bq_resolve_scope.specs.declared.code.CodeOperation.{CodeOperation, out-CodeOperation}
-use Rattle.bq_resolve_scope.specs.declared.code.CodePair.{CodePair, out-CodePair}
-use Rattle.bq_resolve_scope.specs.declared.code.CodeStmt.{CodeStmt, out-CodeStmt}
-use Rattle.bq_resolve_scope.specs.declared.code.CodeStmt.TheOpen.{CodeStmt-F}
-use Rattle.bq_resolve_scope.specs.declared.code.CodeSuffix.{CodeSuffix, out-CodeSuffix}
-use Rattle.bq_resolve_scope.specs.declared.code.CodeTarget.{CodeTarget, out-CodeTarget}
-use Rattle.bq_eval_meaning_spec.specs.Trees.{CodeLayer, ArgumentLayer, ClauseLayer, SuffixLayer, TargetLayer, StmtLayer}
+use Rattle.bq_parse_grammar.specs.declared.tree.Expr.{Expr, out-Expr}
+use Rattle.bq_parse_grammar.specs.declared.tree.Argument.TheOpen.{Expr-F, Argument-F, Clause-F, Suffix-F, TargetExpr-F}
+use Rattle.bq_parse_grammar.specs.declared.tree.Argument.{Argument, out-Argument}
+use Rattle.bq_parse_grammar.specs.declared.tree.Branch.{Branch, out-Branch}
+use Rattle.bq_parse_grammar.specs.declared.tree.Choice.{Choice, out-Choice}
+use Rattle.bq_parse_grammar.specs.declared.tree.Clause.{Clause, out-Clause}
+use Rattle.bq_parse_grammar.specs.declared.tree.Operation.{Operation, out-Operation}
+use Rattle.bq_parse_grammar.specs.declared.tree.Pair.{Pair, out-Pair}
+use Rattle.bq_parse_grammar.specs.declared.tree.Stmt.{Stmt, out-Stmt}
+use Rattle.bq_parse_grammar.specs.declared.tree.Stmt.TheOpen.{Stmt-F}
+use Rattle.bq_parse_grammar.specs.declared.tree.Suffix.{Suffix, out-Suffix}
+use Rattle.bq_parse_grammar.specs.declared.tree.TargetExpr.{TargetExpr, out-TargetExpr}
+use Rattle.bq_parse_grammar.specs.Targets.{ExprLayer, SuffixLayer}
+use Rattle.bq_resolve_scope.specs.Names.{ClauseLayer, TargetLayer}
+use Rattle.bq_eval_language_spec.specs.Environment.{NamespaceCall}
+use Rattle.bq_eval_language_spec.specs.Trees.{ArgumentLayer, StmtLayer}
 
 -- ---- expressions: `P` holds of each expression that is a part
 
-module _ (P : Code → Type 0) where
-  abbrev pub PairParts : CodePair → Type 0
-  PairParts p = P (out-CodePair p).key × P (out-CodePair p).value
+module _ (P : Expr → Type 0) where
+  abbrev pub PairParts : Pair → Type 0
+  PairParts p = P (out-Pair p).key × P (out-Pair p).value
 
-  abbrev pub OperationParts : CodeOperation → Type 0
-  OperationParts o = P (out-CodeOperation o).operand
+  abbrev pub OperationParts : Operation → Type 0
+  OperationParts o = P (out-Operation o).operand
 
-  abbrev pub ChoiceParts : CodeChoice → Type 0
-  ChoiceParts c = P (out-CodeChoice c).condition × P (out-CodeChoice c).value
+  abbrev pub ChoiceParts : Choice → Type 0
+  ChoiceParts c = P (out-Choice c).condition × P (out-Choice c).value
 
   abbrev pub ArgumentLayerParts : ArgumentLayer → Type 0
-  ArgumentLayerParts (CodeArgument-F.Positional x) = P x
-  ArgumentLayerParts (CodeArgument-F.Named name x) = P x
-  ArgumentLayerParts (CodeArgument-F.Star x) = P x
-  ArgumentLayerParts (CodeArgument-F.StarStar x) = P x
+  ArgumentLayerParts (Argument-F.Positional x) = P x
+  ArgumentLayerParts (Argument-F.Named name x) = P x
+  ArgumentLayerParts (Argument-F.Star x) = P x
+  ArgumentLayerParts (Argument-F.StarStar x) = P x
 
-  abbrev pub ArgumentParts : CodeArgument → Type 0
-  ArgumentParts a = ArgumentLayerParts (out-CodeArgument a)
+  abbrev pub ArgumentParts : Argument → Type 0
+  ArgumentParts a = ArgumentLayerParts (out-Argument a)
 
-  abbrev pub OptionalParts : Option Code → Type 0
+  abbrev pub OptionalParts : Option Expr → Type 0
   OptionalParts None = Unit {0}
   OptionalParts (Some x) = P x
 
   abbrev pub SuffixLayerParts : SuffixLayer → Type 0
-  SuffixLayerParts (CodeSuffix-F.Call xs) = AllByRecursion ArgumentParts xs
-  SuffixLayerParts (CodeSuffix-F.Method name xs) = AllByRecursion ArgumentParts xs
-  SuffixLayerParts (CodeSuffix-F.Attribute name) = Unit {0}
-  SuffixLayerParts (CodeSuffix-F.CodeSuffix::Index i) = P i
-  SuffixLayerParts (CodeSuffix-F.Slice i j k) = OptionalParts i × OptionalParts j × OptionalParts k
+  SuffixLayerParts (Suffix-F.Call xs) = AllByRecursion ArgumentParts xs
+  SuffixLayerParts (Suffix-F.Method name xs) = AllByRecursion ArgumentParts xs
+  SuffixLayerParts (Suffix-F.Attribute name) = Unit {0}
+  SuffixLayerParts (Suffix-F.Suffix::Index i) = P i
+  SuffixLayerParts (Suffix-F.Slice i j k) = OptionalParts i × OptionalParts j × OptionalParts k
 
-  abbrev pub SuffixParts : CodeSuffix → Type 0
-  SuffixParts s = SuffixLayerParts (out-CodeSuffix s)
+  abbrev pub SuffixParts : Suffix → Type 0
+  SuffixParts s = SuffixLayerParts (out-Suffix s)
+
+  -- of a namespace's member that is called
+  abbrev pub MemberParts : Option NamespaceCall → Type 0
+  MemberParts None = Unit {0}
+  MemberParts (Some (found, xs, rest)) = AllByRecursion ArgumentParts xs × AllByRecursion SuffixParts rest
 
   abbrev pub ClauseLayerParts : ClauseLayer → Type 0
-  ClauseLayerParts (CodeClause-F.For t x) = P x
-  ClauseLayerParts (CodeClause-F.If x) = P x
+  ClauseLayerParts (Clause-F.For t x) = P x
+  ClauseLayerParts (Clause-F.If x) = P x
 
-  abbrev pub ClauseParts : CodeClause → Type 0
-  ClauseParts c = ClauseLayerParts (out-CodeClause c)
+  abbrev pub ClauseParts : Clause → Type 0
+  ClauseParts c = ClauseLayerParts (out-Clause c)
 
-  abbrev pub CodeParts : CodeLayer → Type 0
-  CodeParts (Code-F.Use x) = Unit {0}
-  CodeParts (Code-F.Member p) = Unit {0}
-  CodeParts (Code-F.Int n) = Unit {0}
-  CodeParts (Code-F.String t) = Unit {0}
-  CodeParts (Code-F.Code::List xs) = AllByRecursion P xs
-  CodeParts (Code-F.Code::Tuple xs) = AllByRecursion P xs
-  CodeParts (Code-F.Dict ps) = AllByRecursion PairParts ps
-  CodeParts (Code-F.ListComprehension x cs) = P x × AllByRecursion ClauseParts cs
-  CodeParts (Code-F.DictComprehension p cs) = PairParts p × AllByRecursion ClauseParts cs
-  CodeParts (Code-F.Framed slots x) = P x
-  CodeParts (Code-F.Primary x xs) = P x × AllByRecursion SuffixParts xs
-  CodeParts (Code-F.Unary os x) = P x
-  CodeParts (Code-F.Binary x os) = P x × AllByRecursion OperationParts os
-  CodeParts (Code-F.Compare x o y) = P x × P y
-  CodeParts (Code-F.Conditional cs x) = AllByRecursion ChoiceParts cs × P x
-  CodeParts Code-F.Lambda = Unit {0}
+  abbrev pub ExprParts : ExprLayer → Type 0
+  ExprParts (Expr-F.Expr::Name n) = Unit {0}
+  ExprParts (Expr-F.Int n) = Unit {0}
+  ExprParts (Expr-F.String t) = Unit {0}
+  ExprParts (Expr-F.Expr::List xs) = AllByRecursion P xs
+  ExprParts (Expr-F.Expr::Tuple xs) = AllByRecursion P xs
+  ExprParts (Expr-F.Dict ps) = AllByRecursion PairParts ps
+  ExprParts (Expr-F.ListComprehension x cs own) = P x × AllByRecursion ClauseParts cs
+  ExprParts (Expr-F.DictComprehension p cs own) = PairParts p × AllByRecursion ClauseParts cs
+  ExprParts (Expr-F.Primary x xs) = P x × AllByRecursion SuffixParts xs
+  ExprParts (Expr-F.Unary os x) = P x
+  ExprParts (Expr-F.Binary x os) = P x × AllByRecursion OperationParts os
+  ExprParts (Expr-F.Compare x o y) = P x × P y
+  ExprParts (Expr-F.Conditional cs x) = AllByRecursion ChoiceParts cs × P x
+  ExprParts Expr-F.Lambda = Unit {0}
 
 -- an expression is at most this many layers deep
-unfoldable pub IsWithin : ℕ → Code → Type 0
+unfoldable pub IsWithin : ℕ → Expr → Type 0
 IsWithin zero x = ⊥
-IsWithin (suc layers) x = CodeParts (IsWithin layers) (out-Code x)
+IsWithin (suc layers) x = ExprParts (IsWithin layers) (out-Expr x)
 
 -- ---- targets
 
-abbrev pub TargetParts : (CodeTarget → Type 0) → TargetLayer → Type 0
-TargetParts P (CodeTarget-F.CodeTarget::Tuple ts) = AllByRecursion P ts
-TargetParts P (CodeTarget-F.CodeTarget::List ts) = AllByRecursion P ts
+abbrev pub TargetParts : (TargetExpr → Type 0) → TargetLayer → Type 0
+TargetParts P (TargetExpr-F.TargetExpr::Tuple ts) = AllByRecursion P ts
+TargetParts P (TargetExpr-F.TargetExpr::List ts) = AllByRecursion P ts
 TargetParts P _ = Unit {0}
 
 -- a target is at most this many layers deep
-unfoldable pub TargetIsWithin : ℕ → CodeTarget → Type 0
+unfoldable pub TargetIsWithin : ℕ → TargetExpr → Type 0
 TargetIsWithin zero t = ⊥
-TargetIsWithin (suc layers) t = TargetParts (TargetIsWithin layers) (out-CodeTarget t)
+TargetIsWithin (suc layers) t = TargetParts (TargetIsWithin layers) (out-TargetExpr t)
 
 -- ---- statements
 
-abbrev pub BranchParts : (CodeStmt → Type 0) → CodeBranch → Type 0
-BranchParts P b = AllByRecursion P (out-CodeBranch b).block
+abbrev pub BranchParts : (Stmt → Type 0) → Branch → Type 0
+BranchParts P b = AllByRecursion P (out-Branch b).block
 
-abbrev pub StmtParts : (CodeStmt → Type 0) → StmtLayer → Type 0
-StmtParts P (CodeStmt-F.Simple xs) = Unit {0}
-StmtParts P (CodeStmt-F.If bs otherwise) = AllByRecursion (BranchParts P) bs × AllByRecursion P otherwise
-StmtParts P (CodeStmt-F.For t x body) = AllByRecursion P body
+abbrev pub StmtParts : (Stmt → Type 0) → StmtLayer → Type 0
+StmtParts P (Stmt-F.Simple xs) = Unit {0}
+StmtParts P (Stmt-F.If bs otherwise) = AllByRecursion (BranchParts P) bs × AllByRecursion P otherwise
+StmtParts P (Stmt-F.For t x body) = AllByRecursion P body
+StmtParts P (Stmt-F.Def n ps body) = Unit {0}
 
 -- a statement is at most this many layers deep
-unfoldable pub StmtIsWithin : ℕ → CodeStmt → Type 0
+unfoldable pub StmtIsWithin : ℕ → Stmt → Type 0
 StmtIsWithin zero x = ⊥
-StmtIsWithin (suc layers) x = StmtParts (StmtIsWithin layers) (out-CodeStmt x)
+StmtIsWithin (suc layers) x = StmtParts (StmtIsWithin layers) (out-Stmt x)

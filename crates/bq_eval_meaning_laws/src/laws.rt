@@ -1,24 +1,28 @@
 //! What holds of the meaning. The functions do nothing: their contracts are the laws.
 
 ghost use Rattle.bq_eval_meaning_spec.specs.Primitives.{Primitives};
-ghost use Rattle.bq_eval_meaning_laws.specs.Depth.{ExpressionDepth, StatementDepth, BindingDepth, PlaceDepth};
+ghost use Rattle.bq_eval_language_spec.specs.Environment.{Scoping};
+ghost use Rattle.bq_eval_language_spec.specs.Slots.{by_slots};
+ghost use Rattle.bq_eval_meaning_laws.specs.Depth.{MembersAreSuffixes, ExpressionDepth, StatementDepth, BindingDepth, PlaceDepth};
 ghost use Rattle.bq_eval_meaning_laws.specs.Frames.{ExpressionsBindNothing, FunctionsBeginWithParameters};
 ghost use Rattle.bq_eval_meaning_laws.specs.Order.{DisplaysInOrder, DisplaysStop, PairsInOrder, DictDisplaysInOrder, MadePairsInOrder, ChainsInOrder, OperatorsInOrder, OperandsInOrder, ComparesInOrder, IndexedInOrder, SlicedInOrder, ConditionsFirst, RightSidesFirst, PlacesInOrder, IterablesFirst};
-ghost use Rattle.bq_eval_meaning_laws.specs.Arguments.{ArgumentsInOrder, ArgumentsStop, OperandsOfSuffixesFirst, SuffixesInOrder};
+ghost use Rattle.bq_eval_meaning_laws.specs.Arguments.{ArgumentsInOrder, ArgumentsStop, OperandsOfSuffixesFirst, MembersInOrder, SuffixesInOrder};
 ghost use Rattle.bq_eval_meaning_laws.specs.Decides.{LeftSidesDecide, BranchConditionsFirst, FiltersFirst, VariablesFirst, ClausesFirst};
 ghost use Rattle.bq_eval_meaning_laws.specs.Updates.{NamesAugmentedInOrder, PlacesAugmentedInOrder};
 
-/// Where a depth suffices for an expression, a statement or a target, a greater one changes nothing.
-pub fn depth_changes_nothing<S>()
-    ensures expression { (m : Primitives S) → ExpressionDepth m }
-    ensures statement { (m : Primitives S) → StatementDepth m }
-    ensures binding { (m : Primitives S) → BindingDepth m }
-    ensures places { (m : Primitives S) → PlaceDepth m }
+/// Where a depth suffices for an expression, a statement or a target, a greater one changes nothing, whatever names mean. Of an
+/// expression that is so where the call of a namespace's member, if a name stands for a namespace, is the first suffix: by slots it is.
+pub fn depth_changes_nothing<S, R, V>()
+    ensures expression { (m : Primitives S) (scoping : Scoping R V) → ExpressionDepth m scoping }
+    ensures statement { (m : Primitives S) (scoping : Scoping R V) → StatementDepth m scoping }
+    ensures binding { (m : Primitives S) (scoping : Scoping R V) → BindingDepth m scoping }
+    ensures places { (m : Primitives S) (scoping : Scoping R V) → PlaceDepth m scoping }
+    ensures slots { MembersAreSuffixes by_slots }
 {}
 
-/// A call leaves the caller's frame as it was: an expression, whatever it calls, binds no name.
-pub fn expressions_bind_nothing<S>()
-    ensures { (m : Primitives S) → ExpressionsBindNothing m }
+/// A call leaves the caller's environment as it was: an expression, whatever it calls, binds no name.
+pub fn expressions_bind_nothing<S, R, V>()
+    ensures { (m : Primitives S) (scoping : Scoping R V) → ExpressionsBindNothing m scoping }
 {}
 
 /// A function begins with a frame that holds its parameters alone.
@@ -28,47 +32,48 @@ pub fn functions_begin_with_parameters<S>()
 
 /// The expressions in an expression are evaluated from left to right, each in the state that those before it leave, and what stops
 /// first ends it: elements of displays, keys and values, operands, indices and bounds.
-pub fn evaluation_is_from_left_to_right<S>()
-    ensures displays { (m : Primitives S) → DisplaysInOrder m }
-    ensures stops { (m : Primitives S) → DisplaysStop m }
-    ensures pairs { (m : Primitives S) → PairsInOrder m }
-    ensures dicts { (m : Primitives S) → DictDisplaysInOrder m }
-    ensures made { (m : Primitives S) → MadePairsInOrder m }
-    ensures chains { (m : Primitives S) → ChainsInOrder m }
-    ensures operators { (m : Primitives S) → OperatorsInOrder m }
-    ensures operands { (m : Primitives S) → OperandsInOrder m }
-    ensures comparisons { (m : Primitives S) → ComparesInOrder m }
-    ensures index { (m : Primitives S) → IndexedInOrder m }
-    ensures slice { (m : Primitives S) → SlicedInOrder m }
-    ensures places { (m : Primitives S) → PlacesInOrder m }
+pub fn evaluation_is_from_left_to_right<S, R, V>()
+    ensures displays { (m : Primitives S) (scoping : Scoping R V) → DisplaysInOrder m scoping }
+    ensures stops { (m : Primitives S) (scoping : Scoping R V) → DisplaysStop m scoping }
+    ensures pairs { (m : Primitives S) (scoping : Scoping R V) → PairsInOrder m scoping }
+    ensures dicts { (m : Primitives S) (scoping : Scoping R V) → DictDisplaysInOrder m scoping }
+    ensures made { (m : Primitives S) (scoping : Scoping R V) → MadePairsInOrder m scoping }
+    ensures chains { (m : Primitives S) (scoping : Scoping R V) → ChainsInOrder m scoping }
+    ensures operators { (m : Primitives S) (scoping : Scoping R V) → OperatorsInOrder m scoping }
+    ensures operands { (m : Primitives S) (scoping : Scoping R V) → OperandsInOrder m scoping }
+    ensures comparisons { (m : Primitives S) (scoping : Scoping R V) → ComparesInOrder m scoping }
+    ensures index { (m : Primitives S) (scoping : Scoping R V) → IndexedInOrder m scoping }
+    ensures slice { (m : Primitives S) (scoping : Scoping R V) → SlicedInOrder m scoping }
+    ensures places { (m : Primitives S) (scoping : Scoping R V) → PlacesInOrder m scoping }
 {}
 
 /// What is called is evaluated first, and then the arguments of a call from left to right, in the order in which they are written:
 /// positional and named ones, `*` and `**`. The argument that stops first ends the call, and nothing is called.
-pub fn arguments_are_evaluated_from_left_to_right<S>()
-    ensures arguments { (m : Primitives S) → ArgumentsInOrder m }
-    ensures stops { (m : Primitives S) → ArgumentsStop m }
-    ensures operands { (m : Primitives S) → OperandsOfSuffixesFirst m }
-    ensures suffixes { (m : Primitives S) → SuffixesInOrder m }
+pub fn arguments_are_evaluated_from_left_to_right<S, R, V>()
+    ensures arguments { (m : Primitives S) (scoping : Scoping R V) → ArgumentsInOrder m scoping }
+    ensures stops { (m : Primitives S) (scoping : Scoping R V) → ArgumentsStop m scoping }
+    ensures operands { (m : Primitives S) (scoping : Scoping R V) → OperandsOfSuffixesFirst m scoping }
+    ensures members { (m : Primitives S) (scoping : Scoping R V) → MembersInOrder m scoping }
+    ensures suffixes { (m : Primitives S) (scoping : Scoping R V) → SuffixesInOrder m scoping }
 {}
 
 /// `and` and `or` evaluate their right side only if the left one doesn't decide. A conditional and a branch evaluate
 /// their condition first, an assignment its right side, a comprehension its clauses: what its first clause goes over,
 /// and for each of its elements the variables and then what is inside that clause.
-pub fn what_decides_is_evaluated_first<S>()
-    ensures sides { (m : Primitives S) → LeftSidesDecide m }
-    ensures conditions { (m : Primitives S) → ConditionsFirst m }
-    ensures branches { (m : Primitives S) → BranchConditionsFirst m }
-    ensures assignments { (m : Primitives S) → RightSidesFirst m }
-    ensures comprehensions { (m : Primitives S) → IterablesFirst m }
-    ensures clauses { (m : Primitives S) → ClausesFirst m }
-    ensures variables { (m : Primitives S) → VariablesFirst m }
-    ensures filters { (m : Primitives S) → FiltersFirst m }
+pub fn what_decides_is_evaluated_first<S, R, V>()
+    ensures sides { (m : Primitives S) (scoping : Scoping R V) → LeftSidesDecide m scoping }
+    ensures conditions { (m : Primitives S) (scoping : Scoping R V) → ConditionsFirst m scoping }
+    ensures branches { (m : Primitives S) (scoping : Scoping R V) → BranchConditionsFirst m scoping }
+    ensures assignments { (m : Primitives S) (scoping : Scoping R V) → RightSidesFirst m scoping }
+    ensures comprehensions { (m : Primitives S) (scoping : Scoping R V) → IterablesFirst m scoping }
+    ensures clauses { (m : Primitives S) (scoping : Scoping R V) → ClausesFirst m scoping }
+    ensures variables { (m : Primitives S) (scoping : Scoping R V) → VariablesFirst m scoping }
+    ensures filters { (m : Primitives S) (scoping : Scoping R V) → FiltersFirst m scoping }
 {}
 
 /// An augmented assignment reads what its target holds, and then evaluates its right side; the operands of a target `x[i]` are
 /// evaluated once, before all of it.
-pub fn targets_are_read_before_they_are_augmented<S>()
-    ensures names { (m : Primitives S) → NamesAugmentedInOrder m }
-    ensures places { (m : Primitives S) → PlacesAugmentedInOrder m }
+pub fn targets_are_read_before_they_are_augmented<S, R, V>()
+    ensures names { (m : Primitives S) (scoping : Scoping R V) → NamesAugmentedInOrder m scoping }
+    ensures places { (m : Primitives S) (scoping : Scoping R V) → PlacesAugmentedInOrder m scoping }
 {}

@@ -1,8 +1,9 @@
-//! Laws of the meaning of programs, by the definition of `bq_eval_meaning_spec`.
+//! Laws of the meaning of programs, by the definition of `bq_eval_language_spec`.
 //!
-//! In: nothing; the functions do nothing, and their contracts are the laws. The promise: no number of layers is part of what a program
-//! means; a call leaves the frame of the caller as it was, and a function begins with one that holds its parameters alone; the parts of
-//! an expression, and the arguments of a call, are evaluated from left to right, and what decides is evaluated before what it chooses.
+//! In: nothing; the functions do nothing, and their contracts are the laws. The promise, whatever names mean: no number of
+//! layers is part of what a program means; a call leaves the environment of the caller as it was; the parts of an
+//! expression, and the arguments of a call, are evaluated from left to right, and what decides is evaluated before what it
+//! chooses. By slots a function begins with a frame that holds its parameters alone.
 //!
 //! `specs/Layers.antt` says how many layers a tree has. The proofs: `Respects` (`proofs/Respects.antt`) says that a
 //! relation between actions holds of what the rules ask for, and of actions made of others if it holds of these; such a

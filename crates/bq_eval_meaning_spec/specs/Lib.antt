@@ -1,10 +1,3 @@
 pub mod Frame
 pub mod Primitives
-pub mod Trees
-pub mod Targets
-pub mod Comprehensions
-pub mod Expressions
-pub mod Statements
-pub mod Calls
-pub mod Module
 pub mod Laws

@@ -7,20 +7,21 @@ use Rattle.bq_base.specs.Gives.{Gives}
 use Rattle.bq_value.specs.declared.error.EvalErr.{EvalErr}
 use Rattle.bq_value.specs.declared.error.EvalErr.TheVariants.{Bad, Memory}
 use Rattle.bq_value.specs.Datum.{Datum}
-use Rattle.bq_resolve_scope.specs.declared.code.CodeFunction.{CodeFunction}
-use Rattle.bq_resolve_scope.specs.declared.code.CodeStmt.{CodeStmt}
+use Rattle.bq_resolve_scope.specs.declared.file.Function.{Function}
+use Rattle.bq_parse_grammar.specs.declared.tree.Stmt.{Stmt}
 use Rattle.bq_builtin_machine.specs.Action.{done, stopped, following, pure}
 use Rattle.bq_builtin_machine.specs.Args.{Passed}
 use Rattle.bq_builtin_machine.specs.State.{stop_at}
-use Rattle.bq_eval_meaning_spec.specs.Frame.{Frame}
+use Rattle.bq_eval_meaning_spec.specs.Frame.{Frame, Surroundings}
 use Rattle.bq_eval_meaning_spec.specs.Primitives.{Primitives, given_by}
-use Rattle.bq_eval_meaning_spec.specs.Expressions.{eval_in}
-use Rattle.bq_eval_meaning_spec.specs.Statements.{Flow, block, run_in}
-use Rattle.bq_eval_meaning_spec.specs.Trees.{Calls}
-use Rattle.bq_eval_meaning_spec.specs.Calls.{CodeUnit, Units, answered, apply, body_of, call_at, call_function, calls, inner_calls, known, run_body}
+use Rattle.bq_eval_language_spec.specs.Expressions.{eval_in}
+use Rattle.bq_eval_language_spec.specs.Statements.{Flow, block, run_in}
+use Rattle.bq_eval_language_spec.specs.Slots.{by_slots}
+use Rattle.bq_eval_language_spec.specs.Trees.{Calls}
+use Rattle.bq_eval_language_spec.specs.Calls.{TreeUnit, Units, answered, apply, body_of, call_at, call_function, calls, inner_calls, known, run_body}
 use Rattle.bq_eval_rules.specs.Acts.{Acts}
 
-pub calls_step : {S : Type 0} (left : ℕ) (m : Primitives S) (units : Units) (v : Datum) (p : Passed) (s : S) → calls left m units v p s ≡ apply m units (inner_calls left m units) v p s
+pub calls_step : {S : Type 0} (left : ℕ) (m : Primitives S) (units : Units Surroundings) (v : Datum) (p : Passed) (s : S) → calls left m by_slots units v p s ≡ apply m by_slots units (inner_calls left m by_slots units) v p s
 unfolding calls inner_calls
 calls_step zero m units v p s = refl
 calls_step (suc left) m units v p s = refl
@@ -30,48 +31,48 @@ kind_in (Bad kind) = kind
 kind_in Memory = CallDepth
 
 -- a body that may not run any more (F51)
-pub no_body : {S : Type 0} (left : ℕ) (m : Primitives S) (units : Units) (u : CodeUnit) (d : CodeFunction) (env : Frame) (s : S) → left ≡ 0 → (why : FaultKind) → Bad CallDepth ≡ Bad why
-    → run_body m (inner_calls left m units) u d env s ≡ stopped (stop_at why (m.machine s))
+pub no_body : {S : Type 0} (left : ℕ) (m : Primitives S) (units : Units Surroundings) (u : TreeUnit Surroundings) (d : Function) (env : Frame) (s : S) → left ≡ 0 → (why : FaultKind) → Bad CallDepth ≡ Bad why
+    → run_body m by_slots (inner_calls left m by_slots units) u d env s ≡ stopped (stop_at why (m.machine s))
 unfolding inner_calls run_body
 no_body zero m units u d env s none why is = ap (λ k. stopped (stop_at k (m.machine s))) (ap kind_in is)
 no_body (suc left) m units u d env s none why is = absurd (omega (arith, none))
 
 -- a body that ran
-pub ran_body : {S : Type 0} (left : ℕ) (m : Primitives S) (units : Units) (u : CodeUnit) (d : CodeFunction) (env : Frame) (s : S) (f : Flow) (last : Frame) (after : S) (xs : List CodeStmt) → 0 < left → xs ≡ d.body
-    → block m (eval_in m (calls (left - 1) m units) u.round) (run_in m (eval_in m (calls (left - 1) m units) u.round)) xs env s ≡ done (f, last) after
-    → run_body m (inner_calls left m units) u d env s ≡ done (answered f) after
+pub ran_body : {S : Type 0} (left : ℕ) (m : Primitives S) (units : Units Surroundings) (u : TreeUnit Surroundings) (d : Function) (env : Frame) (s : S) (f : Flow) (last : Frame) (after : S) (xs : List Stmt) → 0 < left → xs ≡ d.body
+    → block m by_slots (eval_in m by_slots (calls (left - 1) m by_slots units) u.round) (run_in m by_slots (eval_in m by_slots (calls (left - 1) m by_slots units) u.round)) xs env s ≡ done (f, last) after
+    → run_body m by_slots (inner_calls left m by_slots units) u d env s ≡ done (answered f) after
 unfolding inner_calls run_body body_of
 ran_body zero m units u d env s f last after xs some all h = absurd (omega (arith, some))
 ran_body (suc left) m units u d env s f last after xs some all h =
     let e : suc left - 1 ≡ left = omega arith in
-    let P : ℕ → Type 0 = λ k. block m (eval_in m (calls k m units) u.round) (run_in m (eval_in m (calls k m units) u.round)) xs env s ≡ done (f, last) after in
-    let Q : List CodeStmt → Type 0 = λ ys. block m (eval_in m (calls left m units) u.round) (run_in m (eval_in m (calls left m units) u.round)) ys env s ≡ done (f, last) after in
+    let P : ℕ → Type 0 = λ k. block m by_slots (eval_in m by_slots (calls k m by_slots units) u.round) (run_in m by_slots (eval_in m by_slots (calls k m by_slots units) u.round)) xs env s ≡ done (f, last) after in
+    let Q : List Stmt → Type 0 = λ ys. block m by_slots (eval_in m by_slots (calls left m by_slots units) u.round) (run_in m by_slots (eval_in m by_slots (calls left m by_slots units) u.round)) ys env s ≡ done (f, last) after in
     ap (λ r. following r (λ r. pure (answered r.0))) (subst Q all (subst P e h))
 
-pub inner_left : {S : Type 0} (left : ℕ) (m : Primitives S) (units : Units) → 0 < left → inner_calls left m units ≡ Some (calls (left - 1) m units)
+pub inner_left : {S : Type 0} (left : ℕ) (m : Primitives S) (units : Units Surroundings) → 0 < left → inner_calls left m by_slots units ≡ Some (calls (left - 1) m by_slots units)
 unfolding inner_calls
 inner_left zero m units some = absurd (omega (arith, some))
 inner_left (suc left) m units some = let e : suc left - 1 ≡ left = omega arith in rw e refl
 
 -- the function of a module at a place
-module _ {S : Type 0} (m : Primitives S) (units : Units) (inner : Option (Calls S)) (home place : ℕ) (ds : List Datum) (p : Passed) (s : S) where
-  in_unit : (found : Option CodeUnit) → units home ≡ found
-      → call_at m units inner home place ds p s ≡ known m found (λ u. known m (slice_get u.functions place) (λ d. call_function m inner home place u d ds p)) s
+module _ {S : Type 0} (m : Primitives S) (units : Units Surroundings) (inner : Option (Calls S)) (home place : ℕ) (ds : List Datum) (p : Passed) (s : S) where
+  in_unit : (found : Option (TreeUnit Surroundings)) → units home ≡ found
+      → call_at m by_slots units inner home place ds p s ≡ known m found (λ u. known m (slice_get u.functions place) (λ d. call_function m by_slots inner home place u d ds p)) s
   unfolding call_at
-  in_unit found is = ap (λ x. known m x (λ u. known m (slice_get u.functions place) (λ d. call_function m inner home place u d ds p)) s) is
+  in_unit found is = ap (λ x. known m x (λ u. known m (slice_get u.functions place) (λ d. call_function m by_slots inner home place u d ds p)) s) is
 
-  pub no_unit : units home ≡ None → (why : FaultKind) → Bad WrongType ≡ Bad why → call_at m units inner home place ds p s ≡ stopped (stop_at why (m.machine s))
+  pub no_unit : units home ≡ None → (why : FaultKind) → Bad WrongType ≡ Bad why → call_at m by_slots units inner home place ds p s ≡ stopped (stop_at why (m.machine s))
   no_unit is why bad = in_unit None is ∙ ap (λ k. stopped (stop_at k (m.machine s))) (ap kind_in bad)
 
-  pub no_function : (u : CodeUnit) → units home ≡ Some u → length u.functions ≤ place → (why : FaultKind) → Bad WrongType ≡ Bad why → call_at m units inner home place ds p s ≡ stopped (stop_at why (m.machine s))
+  pub no_function : (u : TreeUnit Surroundings) → units home ≡ Some u → length u.functions ≤ place → (why : FaultKind) → Bad WrongType ≡ Bad why → call_at m by_slots units inner home place ds p s ≡ stopped (stop_at why (m.machine s))
   no_function u is past why bad =
-      in_unit (Some u) is ∙ (ap (λ x. known m x (λ d. call_function m inner home place u d ds p) s) (slice_get_past u.functions place past)
+      in_unit (Some u) is ∙ (ap (λ x. known m x (λ d. call_function m by_slots inner home place u d ds p) s) (slice_get_past u.functions place past)
       ∙ ap (λ k. stopped (stop_at k (m.machine s))) (ap kind_in bad))
 
-  pub known_function : (u : CodeUnit) (d : CodeFunction) → units home ≡ Some u → place < length u.functions → d ≡ get_or u.functions place d
-      → call_at m units inner home place ds p s ≡ call_function m inner home place u d ds p s
+  pub known_function : (u : TreeUnit Surroundings) (d : Function) → units home ≡ Some u → place < length u.functions → d ≡ get_or u.functions place d
+      → call_at m by_slots units inner home place ds p s ≡ call_function m by_slots inner home place u d ds p s
   known_function u d is within at =
-      in_unit (Some u) is ∙ ap (λ x. known m x (λ d. call_function m inner home place u d ds p) s) (slice_get_read u.functions (length u.functions) place d refl within at)
+      in_unit (Some u) is ∙ ap (λ x. known m x (λ d. call_function m by_slots inner home place u d ds p) s) (slice_get_read u.functions (length u.functions) place d refl within at)
 
 -- an answer that needs no state is an action
 pub given_acts : {S A B : Type 0} (m : Primitives S) (view : A → B) (result : Result A EvalErr) (s : S) (said : Result B FaultKind) → Gives view Bad result said → Acts m view result s (given_by m said s)

@@ -1,8 +1,7 @@
 pub mod Depth
-pub mod Codes
+-- nodes of a known form
+pub mod Forms
 pub mod Layers
-pub mod Nesting
-pub mod Mapped
 pub mod Reversed
 pub mod Following
 pub mod Deciding

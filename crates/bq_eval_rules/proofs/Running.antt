@@ -1,36 +1,35 @@
--- A statement runs by its layer.
-use Rattle.std.proofs.Common.{◌≡◌, ◌∙◌, List, [], sym, ap}
-use Rattle.bq_resolve_scope.specs.declared.code.Code.{Code}
-use Rattle.bq_resolve_scope.specs.declared.code.CodeBranch.{CodeBranch}
-use Rattle.bq_resolve_scope.specs.declared.code.CodeSmall.{CodeSmall}
-use Rattle.bq_resolve_scope.specs.declared.code.CodeStmt.{CodeStmt, out-CodeStmt}
-use Rattle.bq_resolve_scope.specs.declared.code.CodeStmt.TheOpen.{CodeStmt-F}
-use Rattle.bq_resolve_scope.specs.declared.code.CodeTarget.{CodeTarget}
-use Rattle.bq_builtin_machine.specs.Action.{done, following}
+-- A statement runs by its form.
+use Rattle.std.proofs.Common.{◌≡◌, ◌∙◌, List, ap}
+use Rattle.bq_base.specs.declared.fault.FaultKind.TheVariants as f
+use Rattle.bq_parse_grammar.specs.declared.tree.Branch.{Branch}
+use Rattle.bq_parse_grammar.specs.declared.tree.Expr.{Expr}
+use Rattle.bq_parse_grammar.specs.declared.tree.Identifier.{Identifier}
+use Rattle.bq_parse_grammar.specs.declared.tree.Parameter.{Parameter}
+use Rattle.bq_parse_grammar.specs.declared.tree.SmallStmt.{SmallStmt}
+use Rattle.bq_parse_grammar.specs.declared.tree.Stmt.{Stmt, out-Stmt}
+use Rattle.bq_parse_grammar.specs.declared.tree.Stmt.TheOpen.{Stmt-F}
+use Rattle.bq_parse_grammar.specs.declared.tree.Stmt.TheVariants as forms
+use Rattle.bq_parse_grammar.specs.declared.tree.TargetExpr.{TargetExpr}
+use Rattle.bq_builtin_machine.specs.Action.{following}
 use Rattle.bq_eval_meaning_spec.specs.Frame.{Frame}
-use Rattle.bq_eval_meaning_spec.specs.Primitives.{Primitives}
-use Rattle.bq_eval_meaning_spec.specs.Statements.{Exec, next, line, branches, for_loop, stmt, stmt_by}
-use Rattle.bq_eval_meaning_spec.specs.Trees.{Eval, StmtLayer}
+use Rattle.bq_eval_meaning_spec.specs.Primitives.{Primitives, stop}
+use Rattle.bq_eval_language_spec.specs.Statements.{Exec, branches, for_loop, line, stmt, stmt_by}
+use Rattle.bq_eval_language_spec.specs.Slots.{by_slots}
+use Rattle.bq_eval_language_spec.specs.Trees.{Eval, StmtLayer}
 
-module _ {S : Type 0} (m : Primitives S) (eval : Eval S) (run : CodeStmt → Exec S) (x : CodeStmt) (env : Frame) (s : S) where
-  run_in : (l : StmtLayer) → out-CodeStmt x ≡ l → stmt m eval run x env s ≡ stmt_by m eval run l env s
+module _ {S : Type 0} (m : Primitives S) (eval : Eval S Frame) (run : Stmt → Exec S Frame) (x : Stmt) (env : Frame) (s : S) where
+  run_in : (l : StmtLayer) → out-Stmt x ≡ l → stmt m by_slots eval run x env s ≡ stmt_by m by_slots eval run l env s
   unfolding stmt
-  run_in l is = ap (λ k. stmt_by m eval run k env s) is
+  run_in l is = ap (λ k. stmt_by m by_slots eval run k env s) is
 
-  pub line_runs : (xs ys : List CodeSmall) → out-CodeStmt x ≡ CodeStmt-F.Simple xs → ys ≡ xs → stmt m eval run x env s ≡ line m eval ys env s
-  line_runs xs ys is same = run_in (CodeStmt-F.Simple xs) is ∙ ap (λ zs. line m eval zs env s) (sym same)
+  pub line_runs : (xs : List SmallStmt) → x ≡ forms.Simple xs → stmt m by_slots eval run x env s ≡ line m by_slots eval xs env s
+  line_runs xs is = run_in (Stmt-F.Simple xs) (ap out-Stmt is ∙ forms.outs-Simple xs)
 
-  pub nothing_runs : out-CodeStmt x ≡ CodeStmt-F.Simple [] → stmt m eval run x env s ≡ done (next, env) s
-  unfolding line
-  nothing_runs is = run_in (CodeStmt-F.Simple []) is
+  pub branches_run : (bs : List Branch) (xs : List Stmt) → x ≡ forms.If bs xs → stmt m by_slots eval run x env s ≡ following (m.step 1 s) (λ _. branches m by_slots eval run bs xs env)
+  branches_run bs xs is = run_in (Stmt-F.If bs xs) (ap out-Stmt is ∙ forms.outs-If bs xs)
 
-  pub branches_run : (bs cs : List CodeBranch) (xs ys : List CodeStmt) → out-CodeStmt x ≡ CodeStmt-F.If bs xs → cs ≡ bs → ys ≡ xs
-      → stmt m eval run x env s ≡ following (m.step 1 s) (λ _. branches m eval run cs ys env)
-  branches_run bs cs xs ys is same_branches same_block =
-      run_in (CodeStmt-F.If bs xs) is
-      ∙ (ap (λ zs. following (m.step 1 s) (λ _. branches m eval run zs xs env)) (sym same_branches)
-      ∙ ap (λ zs. following (m.step 1 s) (λ _. branches m eval run cs zs env)) (sym same_block))
+  pub loop_runs : (t : TargetExpr) (y : Expr) (xs : List Stmt) → x ≡ forms.For t y xs → stmt m by_slots eval run x env s ≡ following (m.step 1 s) (λ _. for_loop m by_slots eval run t y xs env)
+  loop_runs t y xs is = run_in (Stmt-F.For t y xs) (ap out-Stmt is ∙ forms.outs-For t y xs)
 
-  pub loop_runs : (t : CodeTarget) (y : Code) (xs ys : List CodeStmt) → out-CodeStmt x ≡ CodeStmt-F.For t y xs → ys ≡ xs
-      → stmt m eval run x env s ≡ following (m.step 1 s) (λ _. for_loop m eval run t y ys env)
-  loop_runs t y xs ys is same = run_in (CodeStmt-F.For t y xs) is ∙ ap (λ zs. following (m.step 1 s) (λ _. for_loop m eval run t y zs env)) (sym same)
+  pub no_def_runs : (n : Identifier) (ps : List Parameter) (xs : List Stmt) → x ≡ forms.Def n ps xs → stmt m by_slots eval run x env s ≡ stop m f.LeftOut s
+  no_def_runs n ps xs is = run_in (Stmt-F.Def n ps xs) (ap out-Stmt is ∙ forms.outs-Def n ps xs)

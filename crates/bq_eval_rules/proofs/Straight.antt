@@ -1,45 +1,46 @@
 -- Positional arguments alone, as many as there are plain parameters, are bound as they are passed.
-use Rattle.std.proofs.Common.{◌≡◌, ◌∙◌, ℕ, zero, suc, ◌+◌, ◌<◌, ◌≤◌, nat_le, min, Bool, true, false, not, ◌||◌, ◌&&◌, cond, List, [], ◌∷◌, length, map, drop, slice_get, Option, Some, None, Ok, Err, refl, ap, sym, arith}
+use Rattle.std.proofs.Common.{◌≡◌, ◌∙◌, ℕ, zero, suc, ◌+◌, ◌<◌, ◌≤◌, nat_le, Bool, true, false, not, ◌||◌, ◌&&◌, cond, List, [], ◌∷◌, length, map, drop, Some, Ok, Err, refl, ap, sym, arith}
 use Rattle.std.proofs.lemmas.Bool.Decides.{nat_tests}
 use Rattle.bq_value.specs.Datum.{Datum, tuple, data_of, none}
-use Rattle.bq_resolve_scope.specs.declared.code.CodeFunction.{CodeFunction}
-use Rattle.bq_resolve_scope.specs.declared.code.CodeParameter.{CodeParameter}
-use Rattle.bq_resolve_scope.specs.declared.code.CodeParameter.TheVariants as parameter
+use Rattle.bq_resolve_scope.specs.declared.file.Function.{Function}
+use Rattle.bq_resolve_scope.specs.declared.file.Formal.{Formal}
+use Rattle.bq_resolve_scope.specs.declared.file.Formal.TheVariants as formal
 use Rattle.bq_builtin_machine.specs.Action.{done, following, pure}
 use Rattle.bq_builtin_machine.specs.Args.{Passed}
 use Rattle.bq_builtin_machine.specs.Parameters.{ParameterView, SignatureView, places}
-use Rattle.bq_builtin_machine.specs.Binding.{BoundView, Binding, and_bind, bind, complete_from, has_value, if_complete, is_complete, placed, placed_values, take_all_named, too_many}
+use Rattle.bq_builtin_machine.specs.Binding.{BoundView, Binding, bind, complete_from, has_value, if_complete, placed, placed_values, take_all_named}
 use Rattle.bq_base.specs.declared.fault.FaultKind.TheVariants as f
 use Rattle.bq_eval_meaning_spec.specs.Frame.{Frame, empty, fill}
 use Rattle.bq_eval_meaning_spec.specs.Primitives.{Primitives, given_by}
-use Rattle.bq_eval_meaning_spec.specs.Calls.{Filling, entry, fill_parameter, fill_parameters, has_star, has_star_star, keywords_of, placed_of, signature, singles}
+use Rattle.bq_eval_language_spec.specs.Calls.{entry, fill_parameter, fill_parameters, has_star_star, keywords_of, placed_of, signature, singles}
+use Rattle.bq_eval_language_spec.specs.Slots.{by_slots, slot_of}
 use Rattle.bq_eval_rules.specs.Direct.{are_plain, filled}
 
 -- ---- what plain parameters take
 
-all_single : (ps : List CodeParameter) → are_plain ps ≡ true → length (singles ps) ≡ length ps
+all_single : (ps : List Formal) → are_plain ps ≡ true → length (singles ps) ≡ length ps
 all_single [] plain = refl
-all_single (parameter.Plain name slot ∷ ps) plain = ap suc (all_single ps plain)
-all_single (parameter.Default name slot ∷ ps) plain = absurd (cc plain)
-all_single (parameter.BareStar ∷ ps) plain = absurd (cc plain)
-all_single (parameter.Star slot ∷ ps) plain = absurd (cc plain)
-all_single (parameter.StarStar slot ∷ ps) plain = absurd (cc plain)
+all_single (formal.Plain n ∷ ps) plain = ap suc (all_single ps plain)
+all_single (formal.Default n ∷ ps) plain = absurd (cc plain)
+all_single (formal.BareStar ∷ ps) plain = absurd (cc plain)
+all_single (formal.Star n ∷ ps) plain = absurd (cc plain)
+all_single (formal.StarStar n ∷ ps) plain = absurd (cc plain)
 
-all_placed : (ps : List CodeParameter) → are_plain ps ≡ true → placed_of ps ≡ length ps
+all_placed : (ps : List Formal) → are_plain ps ≡ true → placed_of ps ≡ length ps
 all_placed [] plain = refl
-all_placed (parameter.Plain name slot ∷ ps) plain = ap suc (all_placed ps plain)
-all_placed (parameter.Default name slot ∷ ps) plain = absurd (cc plain)
-all_placed (parameter.BareStar ∷ ps) plain = absurd (cc plain)
-all_placed (parameter.Star slot ∷ ps) plain = absurd (cc plain)
-all_placed (parameter.StarStar slot ∷ ps) plain = absurd (cc plain)
+all_placed (formal.Plain n ∷ ps) plain = ap suc (all_placed ps plain)
+all_placed (formal.Default n ∷ ps) plain = absurd (cc plain)
+all_placed (formal.BareStar ∷ ps) plain = absurd (cc plain)
+all_placed (formal.Star n ∷ ps) plain = absurd (cc plain)
+all_placed (formal.StarStar n ∷ ps) plain = absurd (cc plain)
 
-no_star_star : (ps : List CodeParameter) → are_plain ps ≡ true → has_star_star ps ≡ false
+no_star_star : (ps : List Formal) → are_plain ps ≡ true → has_star_star ps ≡ false
 no_star_star [] plain = refl
-no_star_star (parameter.Plain name slot ∷ ps) plain = no_star_star ps plain
-no_star_star (parameter.Default name slot ∷ ps) plain = absurd (cc plain)
-no_star_star (parameter.BareStar ∷ ps) plain = absurd (cc plain)
-no_star_star (parameter.Star slot ∷ ps) plain = absurd (cc plain)
-no_star_star (parameter.StarStar slot ∷ ps) plain = absurd (cc plain)
+no_star_star (formal.Plain n ∷ ps) plain = no_star_star ps plain
+no_star_star (formal.Default n ∷ ps) plain = absurd (cc plain)
+no_star_star (formal.BareStar ∷ ps) plain = absurd (cc plain)
+no_star_star (formal.Star n ∷ ps) plain = absurd (cc plain)
+no_star_star (formal.StarStar n ∷ ps) plain = absurd (cc plain)
 
 -- ---- as many values are bound in their order
 
@@ -88,35 +89,35 @@ positional_bound s vs all each =
 
 -- ---- and put into the frame
 
-fills : {S : Type 0} (m : Primitives S) (ps : List CodeParameter) (vs : List Datum) (ds : List Datum) (rest keywords : Datum) (frame : Frame) (s : S) → are_plain ps ≡ true → length vs ≡ length ps
-    → fill_parameters m ps (record { values = map Some vs; defaults = ds; rest = rest; keywords = keywords; frame = frame }) s
-    ≡ done (record { values = []; defaults = ds; rest = rest; keywords = keywords; frame = filled ps vs frame }) s
+fills : {S : Type 0} (m : Primitives S) (ps : List Formal) (vs : List Datum) (ds : List Datum) (rest keywords : Datum) (frame : Frame) (s : S) → are_plain ps ≡ true → length vs ≡ length ps
+    → fill_parameters m by_slots ps (record { values = map Some vs; defaults = ds; rest = rest; keywords = keywords; env = frame }) s
+    ≡ done (record { values = []; defaults = ds; rest = rest; keywords = keywords; env = filled ps vs frame }) s
 unfolding fill_parameters fill_parameter filled
 fills m [] [] ds rest keywords frame s plain same = refl
 fills m [] (v ∷ vs) ds rest keywords frame s plain same = absurd (omega (arith, same))
 fills m (p ∷ ps) [] ds rest keywords frame s plain same = absurd (omega (arith, same))
-fills m (parameter.Plain name slot ∷ ps) (v ∷ vs) ds rest keywords frame s plain same = fills m ps vs ds rest keywords (fill frame slot v) s plain (omega (arith, same))
-fills m (parameter.Default name slot ∷ ps) (v ∷ vs) ds rest keywords frame s plain same = absurd (cc plain)
-fills m (parameter.BareStar ∷ ps) (v ∷ vs) ds rest keywords frame s plain same = absurd (cc plain)
-fills m (parameter.Star slot ∷ ps) (v ∷ vs) ds rest keywords frame s plain same = absurd (cc plain)
-fills m (parameter.StarStar slot ∷ ps) (v ∷ vs) ds rest keywords frame s plain same = absurd (cc plain)
+fills m (formal.Plain n ∷ ps) (v ∷ vs) ds rest keywords frame s plain same = fills m ps vs ds rest keywords (fill frame (slot_of n.referent) v) s plain (omega (arith, same))
+fills m (formal.Default n ∷ ps) (v ∷ vs) ds rest keywords frame s plain same = absurd (cc plain)
+fills m (formal.BareStar ∷ ps) (v ∷ vs) ds rest keywords frame s plain same = absurd (cc plain)
+fills m (formal.Star n ∷ ps) (v ∷ vs) ds rest keywords frame s plain same = absurd (cc plain)
+fills m (formal.StarStar n ∷ ps) (v ∷ vs) ds rest keywords frame s plain same = absurd (cc plain)
 
-module _ {S : Type 0} (m : Primitives S) (d : CodeFunction) (ds : List Datum) where
+module _ {S : Type 0} (m : Primitives S) (d : Function) (ds : List Datum) where
   -- once the arguments are bound so
   then_filled : (b : BoundView) (vs : List Datum) (stars : Bool) (s : S) → b ≡ given_all vs → stars ≡ false → are_plain d.parameters ≡ true → length vs ≡ length d.parameters
-      → following (keywords_of m stars b.keywords s) (λ k. λ t. following (fill_parameters m d.parameters (record { values = b.values; defaults = ds; rest = tuple (data_of b.rest); keywords = k; frame = empty }) t) (λ x. pure x.frame))
+      → following (keywords_of m stars b.keywords s) (λ k. λ t. following (fill_parameters m by_slots d.parameters (record { values = b.values; defaults = ds; rest = tuple (data_of b.rest); keywords = k; env = empty }) t) (λ x. pure x.env))
       ≡ done (filled d.parameters vs empty) s
   unfolding keywords_of
   then_filled b vs stars s is none_named plain same =
       rw none_named rw is
-      (ap (λ r. following r (λ x. pure x.frame)) (fills m d.parameters vs ds (tuple (data_of [])) none empty s plain same))
+      (ap (λ r. following r (λ x. pure x.env)) (fills m d.parameters vs ds (tuple (data_of [])) none empty s plain same))
 
-  positional : (vs : List Datum) (s : S) → are_plain d.parameters ≡ true → length vs ≡ length d.parameters → entry m d ds (record { positional = vs; named = [] }) s ≡ done (filled d.parameters vs empty) s
+  positional : (vs : List Datum) (s : S) → are_plain d.parameters ≡ true → length vs ≡ length d.parameters → entry m by_slots d ds (record { positional = vs; named = [] }) s ≡ done (filled d.parameters vs empty) s
   unfolding entry signature
   positional vs s plain same =
-      ap (λ (b : Binding). following (given_by m b s) (λ b. λ t. following (keywords_of m (has_star_star d.parameters) b.keywords t) (λ k. λ t. following (fill_parameters m d.parameters (record { values = b.values; defaults = ds; rest = tuple (data_of b.rest); keywords = k; frame = empty }) t) (λ x. pure x.frame))))
+      ap (λ (b : Binding). following (given_by m b s) (λ b. λ t. following (keywords_of m (has_star_star d.parameters) b.keywords t) (λ k. λ t. following (fill_parameters m by_slots d.parameters (record { values = b.values; defaults = ds; rest = tuple (data_of b.rest); keywords = k; env = empty }) t) (λ x. pure x.env))))
       (positional_bound (signature d.parameters) vs (all_single d.parameters plain ∙ sym same) (all_placed d.parameters plain ∙ sym same))
       ∙ then_filled (given_all vs) vs (has_star_star d.parameters) s refl (no_star_star d.parameters plain) plain same
 
-  pub straight : (p : Passed) (s : S) → p.named ≡ [] → length p.positional ≡ length d.parameters → are_plain d.parameters ≡ true → entry m d ds p s ≡ done (filled d.parameters p.positional empty) s
-  straight p s unnamed same plain = ap (λ named. entry m d ds (record { positional = p.positional; named = named }) s) unnamed ∙ positional p.positional s plain same
+  pub straight : (p : Passed) (s : S) → p.named ≡ [] → length p.positional ≡ length d.parameters → are_plain d.parameters ≡ true → entry m by_slots d ds p s ≡ done (filled d.parameters p.positional empty) s
+  straight p s unnamed same plain = ap (λ named. entry m by_slots d ds (record { positional = p.positional; named = named }) s) unnamed ∙ positional p.positional s plain same

@@ -5,11 +5,11 @@ use Rattle.std.specs.Prelude.{Result}
 use Rattle.bq_value.specs.declared.error.EvalErr.{EvalErr}
 use Rattle.bq_value.specs.Contents.{Contents}
 use Rattle.bq_builtin_machine.specs.Action.{Action}
-use Rattle.bq_eval_meaning_spec.specs.Comprehensions.{Turn}
+use Rattle.bq_eval_language_spec.specs.Comprehensions.{Turn}
 use Rattle.bq_eval_meaning_spec.specs.Frame.{Frame}
 use Rattle.bq_eval_meaning_spec.specs.Primitives.{Primitives}
-use Rattle.bq_eval_meaning_spec.specs.Statements.{Exec}
-use Rattle.bq_eval_meaning_spec.specs.Targets.{Places}
+use Rattle.bq_eval_language_spec.specs.Statements.{Exec}
+use Rattle.bq_eval_language_spec.specs.Targets.{Places}
 use Rattle.bq_eval_frame.specs.Slots.{Slots, slots_of}
 use Rattle.bq_eval_rules.specs.declared.flow.Flow as flows
 use Rattle.bq_eval_rules.specs.Acts.{Acts}
@@ -30,7 +30,7 @@ module _ {R S : Type 0} (m : Primitives S) (seen : R → S) where
       Acts m (λ _. slots_of changed) result (seen new) (action (slots_of frame) (seen old))
 
   -- the call runs statements: it returns what comes after them, and leaves their frame
-  abbrev pub Executes : Exec S → Slots → R → Result flows.Flow EvalErr → Slots → R → Type 0
+  abbrev pub Executes : Exec S Frame → Slots → R → Result flows.Flow EvalErr → Slots → R → Type 0
   Executes exec frame old result changed new =
       Acts m (λ f. (flow_of f, slots_of changed)) result (seen new) (exec (slots_of frame) (seen old))
 
@@ -41,6 +41,6 @@ module _ {R S : Type 0} (m : Primitives S) (seen : R → S) where
       Acts m (λ _. (slots_of changed, left)) result (seen new) (action (slots_of frame) places (seen old))
 
   -- the call does a part of a comprehension: it changes the frame, and adds to the list or dict so far
-  abbrev pub Collects : {A : Type 0} → Turn S → Frame → Contents → R → Result A EvalErr → Frame → Contents → R → Type 0
+  abbrev pub Collects : {A : Type 0} → Turn S Frame → Frame → Contents → R → Result A EvalErr → Frame → Contents → R → Type 0
   Collects part frame content old result changed filled new =
       Acts m (λ _. (filled, changed)) result (seen new) (part frame content (seen old))

@@ -3,13 +3,12 @@
 use Rattle.std.specs.Prelude.{ℕ, Result}
 use denote.Ref.{Bor, MutBor}
 use Rattle.bq_parse_grammar.specs.declared.tree.Expr.{Expr}
-use Rattle.bq_resolve_scope.specs.Codes.{expr_code}
 use Rattle.bq_value.specs.declared.error.EvalErr.{EvalErr}
 use Rattle.bq_value.specs.Datum.{Datum}
 use Rattle.bq_builtin_machine.specs.Action.{Action}
 use Rattle.bq_eval_meaning_spec.specs.Frame.{Frame, Surroundings}
 use Rattle.bq_eval_meaning_spec.specs.Primitives.{Primitives}
-use Rattle.bq_eval_meaning_spec.specs.Trees.{Eval, Calls}
+use Rattle.bq_eval_language_spec.specs.Trees.{Eval, Calls}
 use Rattle.bq_eval_frame.specs.Slots.{Slots, slots_of}
 use Rattle.bq_eval_rules.specs.declared.context.Context.{Context}
 use Rattle.bq_eval_rules.specs.declared.evaluator.Evaluator.{Evaluator}
@@ -18,7 +17,7 @@ use Rattle.bq_eval_rules.specs.Round.{inside, round_of}
 
 module _ {R C F : Type 0} where
   -- what an expression inside means
-  abbrev pub evals_in : {S : Type 0} → Primitives S → Evaluator R C F → Eval S
+  abbrev pub evals_in : {S : Type 0} → Primitives S → Evaluator R C F → Eval S Frame
   evals_in m e = nested m e.depth e.context.now
 
   -- what calls mean
@@ -35,7 +34,7 @@ module _ {R C F : Type 0} where
 
   -- the evaluation of an expression inside
   abbrev pub value_inside : {S : Type 0} → Primitives S → Evaluator R C F → Expr → Action S Datum
-  value_inside m e x = evals_in m e (expr_code x) (frame_of e)
+  value_inside m e x = evals_in m e x (frame_of e)
 
   -- its function value evaluates expressions inside
   abbrev pub EvaluatesInside : {S : Type 0} → Primitives S → (R → S) → Evaluator R C F

@@ -1,5 +1,5 @@
 -- What comes after a statement of the code.
-use Rattle.bq_eval_meaning_spec.specs.Statements.{Flow, next, leave, again, answer}
+use Rattle.bq_eval_language_spec.specs.Statements.{Flow, next, leave, again, answer}
 use Rattle.bq_eval_rules.specs.declared.flow.Flow as flows
 use Rattle.bq_eval_rules.specs.declared.flow.Flow.TheVariants as variants
 

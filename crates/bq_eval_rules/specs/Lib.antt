@@ -1,5 +1,4 @@
 pub mod Acts
-pub mod Variables
 pub mod Round
 pub mod Operands
 pub mod Nests
@@ -12,6 +11,6 @@ pub mod Runs
 pub mod Readers
 pub mod Runners
 pub mod Fillings
-pub mod CodeUnits
+pub mod TreeUnits
 pub mod ContextCalls
 pub mod Direct

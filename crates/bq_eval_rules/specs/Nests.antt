@@ -2,21 +2,22 @@
 use Rattle.std.specs.Prelude.{ℕ, ◌≤◌, Result}
 use denote.Ref.{Bor, MutBor}
 use Rattle.bq_parse_grammar.specs.declared.tree.Expr.{Expr}
-use Rattle.bq_resolve_scope.specs.Codes.{expr_code}
 use Rattle.bq_value.specs.declared.error.EvalErr.{EvalErr}
 use Rattle.bq_value.specs.Datum.{Datum}
 use Rattle.bq_builtin_machine.specs.Args.{Passed}
+use Rattle.bq_eval_meaning_spec.specs.Frame.{Frame}
 use Rattle.bq_eval_meaning_spec.specs.Primitives.{Primitives}
-use Rattle.bq_eval_meaning_spec.specs.Trees.{Eval}
-use Rattle.bq_eval_meaning_spec.specs.Expressions.{expr_to}
+use Rattle.bq_eval_language_spec.specs.Trees.{Eval}
+use Rattle.bq_eval_language_spec.specs.Expressions.{expr_to}
+use Rattle.bq_eval_language_spec.specs.Slots.{by_slots}
 use Rattle.bq_eval_frame.specs.Slots.{Slots, slots_of}
 use Rattle.bq_eval_rules.specs.declared.context.Context.{Context}
 use Rattle.bq_eval_rules.specs.Acts.{Acts}
 use Rattle.bq_eval_rules.specs.Round.{round_of, inside}
 
 -- what an expression inside means, to a depth
-abbrev pub nested : {S : Type 0} → Primitives S → ℕ → Context → Eval S
-nested m depth c = expr_to depth m (inside m c) (round_of c)
+abbrev pub nested : {S : Type 0} → Primitives S → ℕ → Context → Eval S Frame
+nested m depth c = expr_to depth m by_slots (inside m c) (round_of c)
 
 -- `seen` is what contracts see of the runtime. It may be called where at most `bound` functions may still become active, for expressions that are
 -- at most `depth` layers deep.
@@ -25,7 +26,7 @@ pub record Nests {R S C : Type 0} (m : Primitives S) (seen : R → S) (bound dep
     (post : Bor Context → ℕ → C → Bor Slots → MutBor R → Bor Expr → Result Datum EvalErr → MutBor R → Type 0) : Type 0 where
   pub callable : (c : Bor Context) (d : ℕ) (f : Bor Slots) (r : MutBor R) (x : Bor Expr) → c.now.left ≤ bound → d ≤ depth → pre c d call f r x
   pub says : (c : Bor Context) (d : ℕ) (f : Bor Slots) (old new : MutBor R) (x : Bor Expr) (result : Result Datum EvalErr) → d ≤ depth → post c d call f old x result new
-      → Acts m (λ v. v) result (seen new.now) (nested m d c.now (expr_code x.now) (slots_of f.now) (seen old.now))
+      → Acts m (λ v. v) result (seen new.now) (nested m d c.now x.now (slots_of f.now) (seen old.now))
 
 -- A function value that calls. It may be called where at most `bound` functions may still become active.
 pub record Answers {R S : Type 0} (m : Primitives S) (seen : R → S) (bound : ℕ)

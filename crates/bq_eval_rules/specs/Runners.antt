@@ -2,14 +2,17 @@
 use Rattle.std.specs.Prelude.{ℕ, List, Result}
 use denote.Ref.{Bor, MutBor}
 use Rattle.bq_parse_grammar.specs.declared.tree.Stmt.{Stmt}
-use Rattle.bq_resolve_scope.specs.declared.code.CodeStmt.{CodeStmt}
-use Rattle.bq_resolve_scope.specs.declared.code.CodeTarget.{CodeTarget}
+use Rattle.bq_parse_grammar.specs.declared.tree.Stmt.{Stmt}
+use Rattle.bq_parse_grammar.specs.declared.tree.TargetExpr.{TargetExpr}
 use Rattle.bq_value.specs.Datum.{Datum}
 use Rattle.bq_value.specs.declared.error.EvalErr.{EvalErr}
 use Rattle.bq_builtin_machine.specs.Action.{done, ◌>>=◌}
+use Rattle.bq_eval_meaning_spec.specs.Frame.{Frame, Surroundings}
 use Rattle.bq_eval_meaning_spec.specs.Primitives.{Primitives}
-use Rattle.bq_eval_meaning_spec.specs.Statements.{Exec, run_to, turns}
-use Rattle.bq_eval_meaning_spec.specs.Trees.{Eval}
+use Rattle.bq_eval_language_spec.specs.Environment.{Scoping}
+use Rattle.bq_eval_language_spec.specs.Slots.{by_slots}
+use Rattle.bq_eval_language_spec.specs.Statements.{Exec, run_to, turns}
+use Rattle.bq_eval_language_spec.specs.Trees.{Eval}
 use Rattle.bq_eval_frame.specs.Slots.{Slots}
 use Rattle.bq_eval_rules.specs.declared.context.Context.{Context}
 use Rattle.bq_eval_rules.specs.declared.flow.Flow as flows
@@ -19,15 +22,15 @@ use Rattle.bq_eval_rules.specs.Runs.{Runs}
 
 module _ {R C G : Type 0} where
   -- what a statement inside means
-  abbrev pub execs_in : {S : Type 0} → Primitives S → Runner R C G → CodeStmt → Exec S
-  execs_in m r = run_to r.depth m (evals_of m r.reader)
+  abbrev pub execs_in : {S : Type 0} → Primitives S → Runner R C G → Stmt → Exec S Frame
+  execs_in m r = run_to r.depth m by_slots (evals_of m r.reader)
 
   -- a rule of the definition, with what the expressions and the statements inside mean
-  abbrev pub rule_in : {S A : Type 0} → Primitives S → Runner R C G → (Primitives S → Eval S → (CodeStmt → Exec S) → A) → A
-  rule_in m r rule = rule m (evals_of m r.reader) (execs_in m r)
+  abbrev pub rule_in : {S A : Type 0} → Primitives S → Runner R C G → (Primitives S → Scoping Surroundings Frame → Eval S Frame → (Stmt → Exec S Frame) → A) → A
+  rule_in m r rule = rule m by_slots (evals_of m r.reader) (execs_in m r)
 
   -- the turns of a `for` over the elements that this value has when it begins
-  abbrev pub walk : {S : Type 0} → Primitives S → Runner R C G → CodeTarget → Datum → List CodeStmt → Exec S
+  abbrev pub walk : {S : Type 0} → Primitives S → Runner R C G → TargetExpr → Datum → List Stmt → Exec S Frame
   walk m r t v body env =
       m.begin_walk v >>= λ vs. rule_in m r turns t body vs env >>= λ flow. λ s. done flow (m.end_walk v s)
 

@@ -2,10 +2,10 @@
 use Rattle.std.specs.Prelude.{ℕ, ◌≤◌, Result}
 use denote.Ref.{Bor, MutBor}
 use Rattle.bq_parse_grammar.specs.declared.tree.Stmt.{Stmt}
-use Rattle.bq_resolve_scope.specs.Codes.{stmt_code}
 use Rattle.bq_value.specs.declared.error.EvalErr.{EvalErr}
 use Rattle.bq_eval_meaning_spec.specs.Primitives.{Primitives}
-use Rattle.bq_eval_meaning_spec.specs.Statements.{run_to}
+use Rattle.bq_eval_language_spec.specs.Statements.{run_to}
+use Rattle.bq_eval_language_spec.specs.Slots.{by_slots}
 use Rattle.bq_eval_frame.specs.Slots.{Slots, slots_of}
 use Rattle.bq_eval_rules.specs.declared.context.Context.{Context}
 use Rattle.bq_eval_rules.specs.declared.flow.Flow as flows
@@ -18,4 +18,4 @@ pub record Runs {R S C : Type 0} (m : Primitives S) (seen : R → S) (bound dept
     (post : Bor Context → ℕ → C → MutBor Slots → MutBor R → Bor Stmt → Result flows.Flow EvalErr → MutBor Slots → MutBor R → Type 0) : Type 0 where
   pub callable : (c : Bor Context) (f : MutBor Slots) (r : MutBor R) (x : Bor Stmt) → c.now.left ≤ bound → pre c depth call f r x
   pub says : (c : Bor Context) (f g : MutBor Slots) (old new : MutBor R) (x : Bor Stmt) (result : Result flows.Flow EvalErr) → post c depth call f old x result g new
-      → Acts m (λ r. (flow_of r, slots_of g.now)) result (seen new.now) (run_to depth m (evals m c.now) (stmt_code x.now) (slots_of f.now) (seen old.now))
+      → Acts m (λ r. (flow_of r, slots_of g.now)) result (seen new.now) (run_to depth m by_slots (evals m c.now) x.now (slots_of f.now) (seen old.now))

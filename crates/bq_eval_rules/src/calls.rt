@@ -1,10 +1,11 @@
 //! Calls.
 
 ghost use Rattle.std.specs.Prelude.{◌≡◌};
-ghost use Rattle.bq_eval_meaning_spec.specs.Calls as meaning;
+ghost use Rattle.bq_eval_language_spec.specs.Calls as meaning;
+ghost use Rattle.bq_eval_language_spec.specs.Slots.{by_slots};
 ghost use Rattle.bq_eval_frame.specs.Slots.{slots_of};
 ghost use Rattle.bq_eval_rules.specs.Acts.{Acts};
-ghost use Rattle.bq_eval_rules.specs.CodeUnits.{unit_of};
+ghost use Rattle.bq_eval_rules.specs.TreeUnits.{unit_of};
 ghost use Rattle.bq_eval_rules.specs.Round.{inside};
 ghost use Rattle.bq_eval_rules.specs.Effects.{Returns};
 ghost use Rattle.bq_eval_rules.specs.ContextCalls.{body_here, call_here, call_place};
@@ -16,7 +17,7 @@ use crate::flow::answered;
 use crate::parameters::{bind_args, has_star_star, keywords_of};
 use crate::runtime::Runtime;
 use crate::statements::run_block;
-use crate::units::{CodeUnit, unit_at};
+use crate::units::{TreeUnit, unit_at};
 use bq_base::FaultKind;
 use bq_builtin_machine::{Args, Bound};
 use bq_eval_frame::Frame;
@@ -34,7 +35,7 @@ pub fn entry<'f, R: Runtime>(
     defaults: &[Value],
     args: Args,
 ) -> Result<Frame<'f>, EvalErr>
-    ensures { Acts R.means slots_of result (R.seen runtime.new) (meaning.entry R.means function.now defaults.now args (R.seen runtime.old)) }
+    ensures { Acts R.means slots_of result (R.seen runtime.new) (meaning.entry R.means by_slots function.now defaults.now args (R.seen runtime.old)) }
 {
     let parameters = function.parameters.as_slice();
     let is_straight = args.named.is_empty() && args.positional.len() == parameters.len();
@@ -46,7 +47,7 @@ pub fn entry<'f, R: Runtime>(
 }
 
 /// Returns the frame with which a function begins, by binding the arguments to its parameters.
-#[tactic(auto, using(crate::proofs::CallSteps::given_acts, bq_eval_frame::proofs::Slots::none_filled), unfolding(bq_eval_meaning_spec::specs::Calls::entry))]
+#[tactic(auto, using(crate::proofs::CallSteps::given_acts, bq_eval_frame::proofs::Slots::none_filled), unfolding(bq_eval_language_spec::specs::Calls::entry))]
 fn bound_entry<'f, R: Runtime>(
     alloc: Global,
     runtime: &mut R,
@@ -54,7 +55,7 @@ fn bound_entry<'f, R: Runtime>(
     defaults: &[Value],
     args: Args,
 ) -> Result<Frame<'f>, EvalErr>
-    ensures { Acts R.means slots_of result (R.seen runtime.new) (meaning.entry R.means function.now defaults.now args (R.seen runtime.old)) }
+    ensures { Acts R.means slots_of result (R.seen runtime.new) (meaning.entry R.means by_slots function.now defaults.now args (R.seen runtime.old)) }
 {
     let parameters = function.parameters.as_slice();
     let bound = bind_args(alloc, runtime.seed(), parameters, args)?;
@@ -77,11 +78,11 @@ fn bound_entry<'f, R: Runtime>(
 
 /// Runs the body of a function.
 #[cycle(calls)]
-#[tactic(auto, using(crate::proofs::CallSteps::inner_left), unfolding(bq_eval_meaning_spec::specs::Calls::run_body, bq_eval_meaning_spec::specs::Calls::body_of, crate::specs::Round::evals, crate::specs::Round::in_function, crate::specs::Round::inside, crate::specs::Round::round_of))]
+#[tactic(auto, using(crate::proofs::CallSteps::inner_left), unfolding(bq_eval_language_spec::specs::Calls::run_body, bq_eval_language_spec::specs::Calls::body_of, crate::specs::Round::evals, crate::specs::Round::in_function, crate::specs::Round::inside, crate::specs::Round::round_of))]
 pub fn run_body<R: Runtime>(
     context: &Context<'_>,
     runtime: &mut R,
-    unit: &CodeUnit<'_>,
+    unit: &TreeUnit<'_>,
     function: &FileFunction,
     frame: &mut Frame<'_>,
 ) -> Result<Value, EvalErr>
@@ -105,12 +106,12 @@ pub fn run_body<R: Runtime>(
 
 /// Calls a function of the program.
 #[cycle(calls)]
-#[tactic(auto, unfolding(bq_eval_meaning_spec::specs::Calls::call_function))]
+#[tactic(auto, unfolding(bq_eval_language_spec::specs::Calls::call_function))]
 pub fn call_function<R: Runtime>(
     context: &Context<'_>,
     runtime: &mut R,
     called: &Function,
-    unit: &CodeUnit<'_>,
+    unit: &TreeUnit<'_>,
     function: &FileFunction,
     args: Args,
 ) -> Result<Value, EvalErr>
@@ -131,7 +132,7 @@ pub fn call_function<R: Runtime>(
 
 /// Calls the function of a module whose `def` has this place.
 #[cycle(calls)]
-#[tactic(auto, unfolding(bq_eval_meaning_spec::specs::Calls::call_at))]
+#[tactic(auto, unfolding(bq_eval_language_spec::specs::Calls::call_at))]
 pub fn call_at<R: Runtime>(
     context: &Context<'_>,
     runtime: &mut R,
@@ -151,7 +152,7 @@ pub fn call_at<R: Runtime>(
 
 /// Calls a value.
 #[cycle(calls)]
-#[tactic(auto, using(crate::proofs::CallSteps::calls_step, bq_value_datum::specs::Datum::list_of_data_of), unfolding(crate::specs::Round::inside, bq_eval_meaning_spec::specs::Calls::apply))]
+#[tactic(auto, using(crate::proofs::CallSteps::calls_step, bq_value_datum::specs::Datum::list_of_data_of), unfolding(crate::specs::Round::inside, bq_eval_language_spec::specs::Calls::apply))]
 pub fn call<R: Runtime>(
     context: &Context<'_>,
     runtime: &mut R,

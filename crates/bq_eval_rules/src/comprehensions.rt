@@ -1,16 +1,16 @@
 //! Comprehensions.
 
-ghost use Rattle.std.specs.Prelude.{◌≡◌, [], map};
+ghost use Rattle.std.specs.Prelude.{◌≡◌, [], IfOk};
 ghost use Rattle.bq_value.specs.Contents.{items, pairs};
 ghost use Rattle.bq_builtin_machine.specs.Action.{pure, ◌>>=◌ as and_then};
-ghost use Rattle.bq_resolve_scope.specs.Codes.{clause_code, expr_code, pair_code};
-ghost use Rattle.bq_eval_meaning_spec.specs.Comprehensions as meaning;
+ghost use Rattle.bq_eval_language_spec.specs.Comprehensions as meaning;
+ghost use Rattle.bq_eval_language_spec.specs.Slots.{by_slots, opened};
 ghost use Rattle.bq_eval_frame.specs.Slots.{slots_of};
 ghost use Rattle.bq_eval_rules.specs.Acts.{Acts};
 ghost use Rattle.bq_eval_rules.specs.OpenLoops.{loop_of, opening};
 ghost use Rattle.bq_eval_rules.specs.Effects.{Returns, Produces, Collects};
 ghost use Rattle.bq_eval_rules.specs.Evaluators.{EvaluatesInside, evals_in, frame_of};
-ghost use Rattle.bq_eval_rules.specs.ComprehensionClauses.{comprehension_code, element_in, clauses_in, turns_left, ClausesReach, ClausesCount, TurnReaches, TurnCounts};
+ghost use Rattle.bq_eval_rules.specs.ComprehensionClauses.{element_in, clauses_in, all_clauses_in, comprehension_in, turns_left, ClausesReach, ClausesCount, TurnReaches, TurnCounts};
 
 use crate::context::Context;
 use crate::evaluator::Evaluator;
@@ -18,9 +18,19 @@ use crate::open_loop::{ForClause, OpenLoop};
 use crate::runtime::Runtime;
 use crate::targets::begin_turn;
 use bq_eval_frame::Frame;
-use bq_parse_grammar::{Clause, Expr, Pair};
+use bq_parse_grammar::{Clause, ComprehensionFrame, Expr, Pair};
 use bq_value::{Content, Dict, EvalErr, Value};
+use std::alloc::AllocError;
 use std::marker::PhantomData;
+
+/// What a comprehension collects, which stands before its clauses.
+#[derive(Clone, Copy)]
+pub enum ElementExpr<'a> {
+    /// An element of a list.
+    Item(&'a Expr),
+    /// A pair of a dict.
+    Pair(&'a Pair),
+}
 
 impl<
     'a,
@@ -29,17 +39,17 @@ impl<
     F: Copy + Fn(&Context<'_>, usize, C, &Frame<'_>, &mut R, &Expr) -> Result<Value, EvalErr>,
 > Evaluator<'a, R, C, F> {
     /// Appends an element.
-    #[tactic(auto, unfolding(bq_eval_meaning_spec::specs::Comprehensions::element))]
+    #[tactic(auto, unfolding(bq_eval_language_spec::specs::Comprehensions::element))]
     fn element(&self, runtime: &mut R, content: &mut Content, code: &Expr) -> Result<(), EvalErr>
         requires { EvaluatesInside R.means R.seen self.now F.pre F.post }
-        ensures { Collects R.means R.seen (meaning.element R.means (evals_in R.means self.now) (expr_code code.now)) (frame_of self.now) content.old runtime.old result (frame_of self.now) content.new runtime.new }
+        ensures { Collects R.means R.seen (meaning.element R.means (evals_in R.means self.now) code.now) (frame_of self.now) content.old runtime.old result (frame_of self.now) content.new runtime.new }
     {
         let value = self.value(runtime, code)?;
         runtime.add(content, value)
     }
 
     /// Adds a pair, or sets the value of a key that is there.
-    #[tactic(auto, unfolding(bq_eval_meaning_spec::specs::Comprehensions::pair_element), using(bq_resolve_scope::proofs::Codes::pair_out))]
+    #[tactic(auto, unfolding(bq_eval_language_spec::specs::Comprehensions::pair_element))]
     fn pair_element(
         &self,
         runtime: &mut R,
@@ -47,7 +57,7 @@ impl<
         pair: &Pair,
     ) -> Result<(), EvalErr>
         requires { EvaluatesInside R.means R.seen self.now F.pre F.post }
-        ensures { Collects R.means R.seen (meaning.pair_element R.means (evals_in R.means self.now) (pair_code pair.now)) (frame_of self.now) content.old runtime.old result (frame_of self.now) content.new runtime.new }
+        ensures { Collects R.means R.seen (meaning.pair_element R.means (evals_in R.means self.now) pair.now) (frame_of self.now) content.old runtime.old result (frame_of self.now) content.new runtime.new }
     {
         let key = self.value(runtime, &pair.key)?;
         let value = self.value(runtime, &pair.value)?;
@@ -55,20 +65,18 @@ impl<
     }
 
     /// Evaluates what is before the clauses of a comprehension, and adds it.
-    #[tactic(auto, unfolding(bq_eval_meaning_spec::specs::Comprehensions::body), using(crate::proofs::Codes::comprehension_out))]
     fn body(
         &self,
         runtime: &mut R,
         content: &mut Content,
-        comprehension: &Expr,
+        element: ElementExpr<'_>,
     ) -> Result<(), EvalErr>
         requires { EvaluatesInside R.means R.seen self.now F.pre F.post }
-        ensures { Collects R.means R.seen (element_in R.means self.now comprehension.now) (frame_of self.now) content.old runtime.old result (frame_of self.now) content.new runtime.new }
+        ensures { Collects R.means R.seen (element_in R.means self.now element.entry) (frame_of self.now) content.old runtime.old result (frame_of self.now) content.new runtime.new }
     {
-        match comprehension {
-            Expr::ListComprehension(code, _, _) => self.element(runtime, content, code.get()),
-            Expr::DictComprehension(pair, _, _) => self.pair_element(runtime, content, pair.get()),
-            _ => Ok(()),
+        match element {
+            ElementExpr::Item(code) => self.element(runtime, content, code),
+            ElementExpr::Pair(pair) => self.pair_element(runtime, content, pair),
         }
     }
 
@@ -78,11 +86,11 @@ impl<
         runtime: &mut R,
         content: &mut Content,
         clauses: &'c [Clause],
-        comprehension: &Expr,
+        element: ElementExpr<'_>,
     ) -> Result<Option<ForClause<'c>>, EvalErr>
         requires { EvaluatesInside R.means R.seen self.now F.pre F.post }
-        ensures leaves { ClausesReach R.means R.seen self.now comprehension.now clauses.now (frame_of self.now) content.old runtime.old result content.new runtime.new }
-        ensures counts { ClausesCount R.means R.seen self.now comprehension.now clauses.now (frame_of self.now) content.old runtime.old result content.new runtime.new }
+        ensures leaves { ClausesReach R.means R.seen self.now element.entry clauses.now (frame_of self.now) content.old runtime.old result content.new runtime.new }
+        ensures counts { ClausesCount R.means R.seen self.now element.entry clauses.now (frame_of self.now) content.old runtime.old result content.new runtime.new }
     {
         let mut rest = clauses;
         while let [clause, after @ ..] = rest {
@@ -102,7 +110,7 @@ impl<
             }
             rest = after;
         }
-        self.body(runtime, content, comprehension)?;
+        self.body(runtime, content, element)?;
         Ok(None)
     }
 }
@@ -111,7 +119,7 @@ impl<
 #[derive(Drop)]
 struct Comprehension<'a, R, C, F> {
     rules: &'a Evaluator<'a, R, C, F>,
-    code: &'a Expr,
+    element: ElementExpr<'a>,
 }
 
 impl<
@@ -129,8 +137,8 @@ impl<
         clauses: &'c [Clause],
     ) -> Result<Option<ForClause<'c>>, EvalErr>
         requires { EvaluatesInside R.means R.seen self.now.rules.now F.pre F.post }
-        ensures leaves { ClausesReach R.means R.seen self.now.rules.now self.now.code.now clauses.now (slots_of frame.now) content.old runtime.old result content.new runtime.new }
-        ensures counts { ClausesCount R.means R.seen self.now.rules.now self.now.code.now clauses.now (slots_of frame.now) content.old runtime.old result content.new runtime.new }
+        ensures leaves { ClausesReach R.means R.seen self.now.rules.now self.now.element clauses.now (slots_of frame.now) content.old runtime.old result content.new runtime.new }
+        ensures counts { ClausesCount R.means R.seen self.now.rules.now self.now.element clauses.now (slots_of frame.now) content.old runtime.old result content.new runtime.new }
     {
         Evaluator {
             context: self.rules.context,
@@ -140,7 +148,7 @@ impl<
             eval: self.rules.eval,
             of: PhantomData,
         }
-        .inward(runtime, content, clauses, self.code)
+        .inward(runtime, content, clauses, self.element)
     }
 
     /// Begins the walk of a loop, in a frame.
@@ -173,7 +181,7 @@ impl<
     }
 
     /// Begins a turn of a loop, and runs it up to the first loop inside it.
-    #[tactic(auto, unfolding(bq_eval_meaning_spec::specs::Comprehensions::turn, crate::specs::OpenLoops::turn_count))]
+    #[tactic(auto, unfolding(bq_eval_language_spec::specs::Comprehensions::turn, crate::specs::OpenLoops::turn_count))]
     fn turn<'c>(
         &self,
         frame: &mut Frame<'_>,
@@ -183,8 +191,8 @@ impl<
         value: Value,
     ) -> Result<Option<ForClause<'c>>, EvalErr>
         requires { EvaluatesInside R.means R.seen self.now.rules.now F.pre F.post }
-        ensures leaves { TurnReaches R.means R.seen self.now.rules.now self.now.code.now innermost.now value (slots_of frame.old) content.old runtime.old result (slots_of frame.new) content.new runtime.new }
-        ensures counts { TurnCounts R.means R.seen self.now.rules.now self.now.code.now innermost.now value (slots_of frame.old) content.old runtime.old result (slots_of frame.new) content.new runtime.new }
+        ensures leaves { TurnReaches R.means R.seen self.now.rules.now self.now.element innermost.now value (slots_of frame.old) content.old runtime.old result (slots_of frame.new) content.new runtime.new }
+        ensures counts { TurnCounts R.means R.seen self.now.rules.now self.now.element innermost.now value (slots_of frame.old) content.old runtime.old result (slots_of frame.new) content.new runtime.new }
     {
         begin_turn(
             self.rules.context.alloc,
@@ -205,7 +213,7 @@ impl<
         first: OpenLoop<'_>,
     ) -> Result<(), EvalErr>
         requires { EvaluatesInside R.means R.seen self.now.rules.now F.pre F.post }
-        ensures { Collects R.means R.seen (turns_left R.means self.now.rules.now self.now.code.now (loop_of first.entry)) (slots_of frame.old) content.old runtime.old result (slots_of frame.new) content.new runtime.new }
+        ensures { Collects R.means R.seen (turns_left R.means self.now.rules.now self.now.element (loop_of first.entry)) (slots_of frame.old) content.old runtime.old result (slots_of frame.new) content.new runtime.new }
     {
         let mut outer = Vec::new(self.rules.context.alloc);
         let mut innermost = first;
@@ -227,7 +235,7 @@ impl<
         }
     }
 
-    /// Runs the clauses in `frame`, which is their own.
+    /// Runs clauses in `frame`, which is their own.
     fn clauses(
         &self,
         frame: &mut Frame<'_>,
@@ -236,7 +244,7 @@ impl<
         clauses: &[Clause],
     ) -> Result<(), EvalErr>
         requires { EvaluatesInside R.means R.seen self.now.rules.now F.pre F.post }
-        ensures { Collects R.means R.seen (clauses_in R.means self.now.rules.now self.now.code.now clauses.now) (slots_of frame.old) content.old runtime.old result (slots_of frame.new) content.new runtime.new }
+        ensures { Collects R.means R.seen (clauses_in R.means self.now.rules.now self.now.element clauses.now) (slots_of frame.old) content.old runtime.old result (slots_of frame.new) content.new runtime.new }
     {
         match self.inward(&*frame, runtime, content, clauses)? {
             None => Ok(()),
@@ -244,6 +252,35 @@ impl<
                 let first = self.open(&*frame, runtime, clause)?;
                 self.turns(frame, runtime, content, first)
             }
+        }
+    }
+
+    /// Runs all clauses in `frame`, which is their own. The first iterable is evaluated in the frame around it.
+    #[tactic(auto, using(crate::proofs::Clauses::no_first))]
+    fn all_clauses(
+        &self,
+        frame: &mut Frame<'_>,
+        runtime: &mut R,
+        content: &mut Content,
+        clauses: &[Clause],
+    ) -> Result<(), EvalErr>
+        requires { EvaluatesInside R.means R.seen self.now.rules.now F.pre F.post }
+        ensures { Collects R.means R.seen (all_clauses_in R.means self.now.rules.now self.now.element clauses.now) (slots_of frame.old) content.old runtime.old result (slots_of frame.new) content.new runtime.new }
+    {
+        let [first, after @ ..] = clauses else {
+            return self.clauses(frame, runtime, content, clauses);
+        };
+        match first {
+            Clause::For(target, iterable) => {
+                let clause = ForClause {
+                    target,
+                    iterable,
+                    after,
+                };
+                let outermost = self.open(self.rules.frame, runtime, clause)?;
+                self.turns(frame, runtime, content, outermost)
+            }
+            Clause::If(_) => self.clauses(frame, runtime, content, clauses),
         }
     }
 }
@@ -254,40 +291,53 @@ impl<
     C: Copy,
     F: Copy + Fn(&Context<'_>, usize, C, &Frame<'_>, &mut R, &Expr) -> Result<Value, EvalErr>,
 > Evaluator<'a, R, C, F> {
+    /// Makes the frame of a comprehension: outside functions it has one of its own.
+    #[tactic(auto, using(bq_eval_frame::proofs::Slots::none_filled))]
+    fn opened(&self, own: ComprehensionFrame) -> Result<Frame<'a>, AllocError>
+        ensures { IfOk result (λ f. slots_of f ≡ opened (frame_of self.now) own) }
+    {
+        match own {
+            ComprehensionFrame::Shared => self.frame.inside(self.context.alloc),
+            ComprehensionFrame::Own(slots) => Frame::with_room(self.context.alloc, slots),
+        }
+    }
+
     /// Adds all elements of a comprehension, whose clauses bind their variables in a frame of their own.
     fn run_clauses(
         &self,
         runtime: &mut R,
         content: &mut Content,
-        comprehension: &Expr,
+        element: ElementExpr<'_>,
         clauses: &[Clause],
+        own: ComprehensionFrame,
     ) -> Result<(), EvalErr>
         requires { EvaluatesInside R.means R.seen self.now F.pre F.post }
-        ensures { Produces R.means R.seen content.new (and_then (clauses_in R.means self.now comprehension.now clauses.now (frame_of self.now) content.old) (λ made. pure made.0)) runtime.old result runtime.new }
+        ensures { Produces R.means R.seen content.new (and_then (all_clauses_in R.means self.now element.entry clauses.now (opened (frame_of self.now) own) content.old) (λ made. pure made.0)) runtime.old result runtime.new }
     {
-        let mut inner = self.frame.inside(self.context.alloc)?;
+        let mut inner = self.opened(own)?;
         Comprehension {
             rules: self,
-            code: comprehension,
+            element,
         }
-        .clauses(&mut inner, runtime, content, clauses)
+        .all_clauses(&mut inner, runtime, content, clauses)
     }
 
     /// Evaluates a comprehension, from an empty list or dict on.
-    #[tactic(auto, unfolding(bq_eval_meaning_spec::specs::Comprehensions::comprehension))]
+    #[tactic(auto, unfolding(bq_eval_language_spec::specs::Comprehensions::comprehension))]
     fn comprehension(
         &self,
         runtime: &mut R,
         empty: Content,
-        comprehension: &Expr,
+        element: ElementExpr<'_>,
         clauses: &[Clause],
+        own: ComprehensionFrame,
     ) -> Result<Value, EvalErr>
         requires { EvaluatesInside R.means R.seen self.now F.pre F.post }
-        ensures { Returns R.means R.seen (meaning.comprehension R.means (evals_in R.means self.now) empty (comprehension_code comprehension.now) (map clause_code clauses.now) (frame_of self.now)) runtime.old result runtime.new }
+        ensures { Returns R.means R.seen (comprehension_in R.means self.now element.entry empty clauses.now own) runtime.old result runtime.new }
     {
         runtime.step(1)?;
         let mut content = empty;
-        self.run_clauses(runtime, &mut content, comprehension, clauses)?;
+        self.run_clauses(runtime, &mut content, element, clauses, own)?;
         runtime.make(content)
     }
 
@@ -296,14 +346,15 @@ impl<
     pub fn list_comprehension(
         &self,
         runtime: &mut R,
-        comprehension: &Expr,
+        item: &Expr,
         clauses: &[Clause],
+        own: ComprehensionFrame,
     ) -> Result<Value, EvalErr>
         requires { EvaluatesInside R.means R.seen self.now F.pre F.post }
-        ensures { Returns R.means R.seen (meaning.comprehension R.means (evals_in R.means self.now) (items []) (comprehension_code comprehension.now) (map clause_code clauses.now) (frame_of self.now)) runtime.old result runtime.new }
+        ensures { Returns R.means R.seen (meaning.comprehension R.means by_slots (evals_in R.means self.now) (items []) (meaning.element R.means (evals_in R.means self.now) item.now) clauses.now own (frame_of self.now)) runtime.old result runtime.new }
     {
         let empty = Content::list(Vec::new(self.context.alloc));
-        self.comprehension(runtime, empty, comprehension, clauses)
+        self.comprehension(runtime, empty, ElementExpr::Item(item), clauses, own)
     }
 
     /// Evaluates `{key: value for ..}`.
@@ -311,13 +362,14 @@ impl<
     pub fn dict_comprehension(
         &self,
         runtime: &mut R,
-        comprehension: &Expr,
+        pair: &Pair,
         clauses: &[Clause],
+        own: ComprehensionFrame,
     ) -> Result<Value, EvalErr>
         requires { EvaluatesInside R.means R.seen self.now F.pre F.post }
-        ensures { Returns R.means R.seen (meaning.comprehension R.means (evals_in R.means self.now) (pairs []) (comprehension_code comprehension.now) (map clause_code clauses.now) (frame_of self.now)) runtime.old result runtime.new }
+        ensures { Returns R.means R.seen (meaning.comprehension R.means by_slots (evals_in R.means self.now) (pairs []) (meaning.pair_element R.means (evals_in R.means self.now) pair.now) clauses.now own (frame_of self.now)) runtime.old result runtime.new }
     {
         let empty = Content::dict(Dict::new(self.context.alloc, runtime.seed()));
-        self.comprehension(runtime, empty, comprehension, clauses)
+        self.comprehension(runtime, empty, ElementExpr::Pair(pair), clauses, own)
     }
 }

@@ -5,18 +5,19 @@ ghost use Rattle.bq_eval_meaning_spec.specs.Frame.{empty};
 ghost use Rattle.bq_eval_frame.specs.Slots.{slots_of};
 ghost use Rattle.bq_eval_rules.specs.Direct.{are_plain, filled};
 
+use crate::targets::slot_of;
 use bq_eval_frame::Frame;
-use bq_resolve_scope::CodeParameter;
+use bq_resolve_scope::Formal;
 use bq_value::Value;
 use std::alloc::{AllocError, Global};
 
 /// Returns whether no parameter has a default or a star.
-pub fn are_plain(parameters: &[CodeParameter]) -> bool
+pub fn are_plain(parameters: &[Formal]) -> bool
     ensures { result ≡ are_plain parameters.now }
 {
     for parameter in parameters {
         match parameter {
-            CodeParameter::Plain(_, _) => {}
+            Formal::Plain(_) => {}
             _ => return false,
         }
     }
@@ -28,7 +29,7 @@ pub fn are_plain(parameters: &[CodeParameter]) -> bool
 pub fn plain_frame<'f>(
     alloc: Global,
     slots: usize,
-    parameters: &[CodeParameter],
+    parameters: &[Formal],
     values: Vec<Value>,
 ) -> Result<Frame<'f>, AllocError>
     ensures { IfOk result (λ f. slots_of f ≡ filled parameters.now values.items empty) }
@@ -36,10 +37,10 @@ pub fn plain_frame<'f>(
     let mut frame = Frame::with_room(alloc, slots)?;
     let mut left = parameters;
     for value in values {
-        let [CodeParameter::Plain(_, slot), rest @ ..] = left else {
+        let [Formal::Plain(name), rest @ ..] = left else {
             return Ok(frame);
         };
-        frame.fill(*slot, value)?;
+        frame.fill(slot_of(name), value)?;
         left = rest;
     }
     Ok(frame)

@@ -58,7 +58,7 @@ impl<
     {
         if self.depth > 0 {
             if let Expr::Name(name) = code {
-                return use_of(self.context, self.frame, runtime, name.referent);
+                return use_of(self.context, self.frame, runtime, name);
             }
             if let Expr::Int(n) = code {
                 return int_operand(runtime, *n);

@@ -1,9 +1,9 @@
 //! The statements of a file.
 
-ghost use Rattle.std.specs.Prelude.{◌≡◌, [], map};
-ghost use Rattle.bq_resolve_scope.specs.Codes.{def_code, expr_code};
-ghost use Rattle.bq_eval_meaning_spec.specs.Expressions as expressions;
-ghost use Rattle.bq_eval_meaning_spec.specs.Module as meaning;
+ghost use Rattle.std.specs.Prelude.{◌≡◌, []};
+ghost use Rattle.bq_eval_language_spec.specs.Expressions as expressions;
+ghost use Rattle.bq_eval_language_spec.specs.Module as meaning;
+ghost use Rattle.bq_eval_language_spec.specs.Slots.{by_slots};
 ghost use Rattle.bq_eval_frame.specs.Slots.{slots_of};
 ghost use Rattle.bq_eval_rules.specs.Acts.{Acts};
 ghost use Rattle.bq_eval_rules.specs.Nests.{AnswersCalls};
@@ -16,7 +16,7 @@ use crate::context::Context;
 use crate::flow::Flow;
 use crate::reader::Reader;
 use crate::runtime::Runtime;
-use bq_base::Bytes;
+use crate::targets::slot_of;
 use bq_builtin_machine::Args;
 use bq_eval_frame::Frame;
 use bq_parse_grammar::Expr;
@@ -30,7 +30,7 @@ impl<
     C: Copy + Fn(&Context<'_>, &mut R, &Value, Args) -> Result<Value, EvalErr>,
 > Reader<'a, R, C> {
     /// Evaluates expressions, one after another.
-    #[tactic(auto, unfolding(bq_eval_meaning_spec::specs::Expressions::values))]
+    #[tactic(auto, unfolding(bq_eval_language_spec::specs::Expressions::values))]
     fn values(
         &self,
         frame: &Frame<'_>,
@@ -38,7 +38,7 @@ impl<
         codes: &[Expr],
     ) -> Result<Vec<Value>, EvalErr>
         requires { AnswersCalls R.means R.seen self.now.context.now self.now.call C.pre C.post }
-        ensures { Acts R.means (λ vs. vs.items) result (R.seen runtime.new) (expressions.values R.means (evals_of R.means self.now) (map expr_code codes.now) (slots_of frame.now) [] (R.seen runtime.old)) }
+        ensures { Acts R.means (λ vs. vs.items) result (R.seen runtime.new) (expressions.values R.means (evals_of R.means self.now) codes.now (slots_of frame.now) [] (R.seen runtime.old)) }
     {
         let mut all = Vec::with_capacity(self.context.alloc, codes.len())?;
         for code in codes {
@@ -48,10 +48,10 @@ impl<
     }
 
     /// Carries out a `def`.
-    #[tactic(auto, unfolding(bq_eval_meaning_spec::specs::Module::def_stmt))]
+    #[tactic(auto, unfolding(bq_eval_language_spec::specs::Module::def_stmt))]
     fn def_stmt(&self, frame: &mut Frame<'_>, runtime: &mut R, def: &Def) -> Result<Flow, EvalErr>
         requires { AnswersCalls R.means R.seen self.now.context.now self.now.call C.pre C.post }
-        ensures { Executes R.means R.seen (meaning.def_stmt R.means (own_of self.now.context.now.program.now) (evals_of R.means self.now) (def_code def.now)) frame.old runtime.old result frame.new runtime.new }
+        ensures { Executes R.means R.seen (meaning.def_stmt R.means by_slots (own_of self.now.context.now.program.now) (evals_of R.means self.now) def.now) frame.old runtime.old result frame.new runtime.new }
     {
         runtime.step(1)?;
         let defaults = self.values(frame, runtime, def.defaults.as_slice())?;
@@ -60,23 +60,19 @@ impl<
             return Err(EvalErr::Memory);
         }
         let place = def.function as u32;
-        let name = match self.context.program.functions.get(def.function) {
-            None => Bytes::empty(),
-            Some(function) => function.name.share()?,
-        };
         let function = Function {
             module: self.context.program.number,
             place,
-            name,
+            name: def.name.name.share()?,
             defaults,
         };
         let value = Value::function(self.context.alloc, function)?;
-        self.assign_name(frame, &*runtime, &def.name, value)?;
+        frame.fill(slot_of(&def.name), value)?;
         Ok(Flow::Next)
     }
 
     /// Carries out a top-level statement, whose line a fault names.
-    #[tactic(auto, unfolding(bq_eval_meaning_spec::specs::Module::top_level, bq_eval_meaning_spec::specs::Module::file_stmt))]
+    #[tactic(auto, unfolding(bq_eval_language_spec::specs::Module::top_level))]
     fn top_level(
         &self,
         frame: &mut Frame<'_>,
@@ -84,7 +80,7 @@ impl<
         stmt: &FileLine,
     ) -> Result<Flow, EvalErr>
         requires { AnswersCalls R.means R.seen self.now.context.now self.now.call C.pre C.post }
-        ensures { Executes R.means R.seen (meaning.top_level R.means (own_of self.now.context.now.program.now) (evals_of R.means self.now) stmt.now) frame.old runtime.old result frame.new runtime.new }
+        ensures { Executes R.means R.seen (meaning.top_level R.means by_slots (own_of self.now.context.now.program.now) (evals_of R.means self.now) stmt.now) frame.old runtime.old result frame.new runtime.new }
     {
         runtime.at_line(stmt.line);
         match &stmt.statement {
@@ -94,7 +90,7 @@ impl<
     }
 
     /// Carries out the statements of a file.
-    #[tactic(auto, unfolding(bq_eval_meaning_spec::specs::Module::top_levels))]
+    #[tactic(auto, unfolding(bq_eval_language_spec::specs::Module::top_levels))]
     pub fn top_levels(
         &self,
         frame: &mut Frame<'_>,
@@ -102,7 +98,7 @@ impl<
         stmts: &[FileLine],
     ) -> Result<Flow, EvalErr>
         requires { AnswersCalls R.means R.seen self.now.context.now self.now.call C.pre C.post }
-        ensures { Executes R.means R.seen (meaning.top_levels R.means (own_of self.now.context.now.program.now) (evals_of R.means self.now) stmts.now) frame.old runtime.old result frame.new runtime.new }
+        ensures { Executes R.means R.seen (meaning.top_levels R.means by_slots (own_of self.now.context.now.program.now) (evals_of R.means self.now) stmts.now) frame.old runtime.old result frame.new runtime.new }
     {
         for stmt in stmts {
             match self.top_level(frame, runtime, stmt)? {
@@ -123,7 +119,7 @@ pub fn run_file<R: Runtime>(
     runtime: &mut R,
     stmts: &[FileLine],
 ) -> Result<Flow, EvalErr>
-    ensures { Executes R.means R.seen (meaning.top_levels R.means (own_of context.now.program.now) (evals R.means context.now) stmts.now) frame.old runtime.old result frame.new runtime.new }
+    ensures { Executes R.means R.seen (meaning.top_levels R.means by_slots (own_of context.now.program.now) (evals R.means context.now) stmts.now) frame.old runtime.old result frame.new runtime.new }
 {
     let reader = Reader {
         context,

@@ -1,15 +1,18 @@
 //! Filling the frame of a function with its parameters.
 
 ghost use Rattle.std.specs.Prelude.{◌≡◌};
-ghost use Rattle.bq_eval_meaning_spec.specs.Calls as meaning;
+ghost use Rattle.bq_eval_language_spec.specs.Calls as meaning;
+ghost use Rattle.bq_eval_language_spec.specs.Slots.{by_slots};
 ghost use Rattle.bq_eval_frame.specs.Slots.{slots_of};
 ghost use Rattle.bq_eval_rules.specs.Fillings.{filling_of, FillsFrame};
 
 use crate::runtime::Runtime;
+use crate::targets::slot_of;
 use bq_base::FaultKind;
 use bq_builtin_machine::copies;
 use bq_eval_frame::Frame;
-use bq_resolve_scope::CodeParameter;
+use bq_parse_grammar::Identifier;
+use bq_resolve_scope::Formal;
 use bq_value::{EvalErr, Value};
 use std::alloc::Global;
 
@@ -29,14 +32,14 @@ fn fill_plain<'a, R: Runtime>(
     runtime: &R,
     filling: Filling<'a>,
     frame: &mut Frame<'_>,
-    slot: usize,
+    name: &Identifier,
 ) -> Result<Filling<'a>, EvalErr>
-    ensures { FillsFrame R.means R.seen (meaning.with_value R.means slot filling.entry.values.now (filling_of filling.entry (slots_of frame.old))) runtime.now result frame.new }
+    ensures { FillsFrame R.means R.seen (meaning.with_value R.means by_slots name.now filling.entry.values.now (filling_of filling.entry (slots_of frame.old))) runtime.now result frame.new }
 {
     let _ = runtime;
     match filling.values.split_first() {
         Some((Some(value), values)) => {
-            frame.fill(slot, value.share()?)?;
+            frame.fill(slot_of(name), value.share()?)?;
             Ok(Filling {
                 values,
                 defaults: filling.defaults,
@@ -54,9 +57,9 @@ fn fill_default<'a, R: Runtime>(
     runtime: &R,
     filling: Filling<'a>,
     frame: &mut Frame<'_>,
-    slot: usize,
+    name: &Identifier,
 ) -> Result<Filling<'a>, EvalErr>
-    ensures { FillsFrame R.means R.seen (meaning.with_default R.means slot filling.entry.values.now filling.entry.defaults.now (filling_of filling.entry (slots_of frame.old))) runtime.now result frame.new }
+    ensures { FillsFrame R.means R.seen (meaning.with_default R.means by_slots name.now filling.entry.values.now filling.entry.defaults.now (filling_of filling.entry (slots_of frame.old))) runtime.now result frame.new }
 {
     let _ = runtime;
     let Some((argument, values)) = filling.values.split_first() else {
@@ -66,8 +69,8 @@ fn fill_default<'a, R: Runtime>(
         return Err(EvalErr::Bad(FaultKind::Args));
     };
     match argument {
-        Some(value) => frame.fill(slot, value.share()?)?,
-        None => frame.fill(slot, default.share()?)?,
+        Some(value) => frame.fill(slot_of(name), value.share()?)?,
+        None => frame.fill(slot_of(name), default.share()?)?,
     }
     Ok(Filling {
         values,
@@ -78,42 +81,42 @@ fn fill_default<'a, R: Runtime>(
 }
 
 /// Fills the slot of one parameter.
-#[tactic(auto, unfolding(bq_eval_meaning_spec::specs::Calls::fill_parameter))]
+#[tactic(auto, unfolding(bq_eval_language_spec::specs::Calls::fill_parameter))]
 fn fill_parameter<'a, R: Runtime>(
     alloc: Global,
     runtime: &R,
     filling: Filling<'a>,
     frame: &mut Frame<'_>,
-    parameter: &CodeParameter,
+    parameter: &Formal,
 ) -> Result<Filling<'a>, EvalErr>
-    ensures { FillsFrame R.means R.seen (meaning.fill_parameter R.means parameter.now (filling_of filling.entry (slots_of frame.old))) runtime.now result frame.new }
+    ensures { FillsFrame R.means R.seen (meaning.fill_parameter R.means by_slots parameter.now (filling_of filling.entry (slots_of frame.old))) runtime.now result frame.new }
 {
     match parameter {
-        CodeParameter::Plain(_, slot) => fill_plain(runtime, filling, frame, *slot),
-        CodeParameter::Default(_, slot) => fill_default(runtime, filling, frame, *slot),
-        CodeParameter::BareStar => Ok(filling),
-        CodeParameter::Star(slot) => {
+        Formal::Plain(name) => fill_plain(runtime, filling, frame, name),
+        Formal::Default(name) => fill_default(runtime, filling, frame, name),
+        Formal::BareStar => Ok(filling),
+        Formal::Star(name) => {
             let rest = copies(alloc, filling.rest)?;
-            frame.fill(*slot, Value::tuple(alloc, rest)?)?;
+            frame.fill(slot_of(name), Value::tuple(alloc, rest)?)?;
             Ok(filling)
         }
-        CodeParameter::StarStar(slot) => {
-            frame.fill(*slot, filling.keywords.share()?)?;
+        Formal::StarStar(name) => {
+            frame.fill(slot_of(name), filling.keywords.share()?)?;
             Ok(filling)
         }
     }
 }
 
 /// Fills the slots of these parameters.
-#[tactic(auto, unfolding(bq_eval_meaning_spec::specs::Calls::fill_parameters))]
+#[tactic(auto, unfolding(bq_eval_language_spec::specs::Calls::fill_parameters))]
 pub fn fill_parameters<'a, R: Runtime>(
     alloc: Global,
     runtime: &R,
     filling: Filling<'a>,
     frame: &mut Frame<'_>,
-    parameters: &[CodeParameter],
+    parameters: &[Formal],
 ) -> Result<Filling<'a>, EvalErr>
-    ensures { FillsFrame R.means R.seen (meaning.fill_parameters R.means parameters.now (filling_of filling.entry (slots_of frame.old))) runtime.now result frame.new }
+    ensures { FillsFrame R.means R.seen (meaning.fill_parameters R.means by_slots parameters.now (filling_of filling.entry (slots_of frame.old))) runtime.now result frame.new }
 {
     let mut left = filling;
     for parameter in parameters {

@@ -1,7 +1,7 @@
 //! What comes after a statement.
 
 ghost use Rattle.std.specs.Prelude.{◌≡◌};
-ghost use Rattle.bq_eval_meaning_spec.specs.Calls.{answered};
+ghost use Rattle.bq_eval_language_spec.specs.Calls.{answered};
 ghost use Rattle.bq_eval_rules.specs.Flows.{flow_of};
 
 use bq_value::Value;

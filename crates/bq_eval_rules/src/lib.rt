@@ -1,9 +1,8 @@
-//! The evaluator: resolved trees to values, by the meaning of `bq_eval_meaning_spec`.
+//! The evaluator: resolved trees to values, by the meaning of `bq_eval_language_spec`, at slots.
 //!
 //! The promise: each rule does exactly what the definition of its name means (`specs/Acts.antt`): the value, and the
 //! state after it, or the fault where the definition has it, unless memory runs out. What is run is the tree that was
-//! parsed, with what its names refer to written into it; the definition is of the code that such a tree stands for
-//! (`Codes` of `bq_resolve_scope`).
+//! parsed, with what its names refer to written into it.
 //!
 //! The form. A rule takes what evaluates the expressions inside as a function value, a field of `Evaluator`, and what
 //! runs the statements inside as one of `Runner`; `specs/Nests.antt` and `specs/Runs.antt` say what these promise. So

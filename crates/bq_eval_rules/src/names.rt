@@ -1,6 +1,6 @@
 //! The names of a frame, which lends their values.
 
-ghost use Rattle.bq_eval_meaning_spec.specs.Targets.{bound};
+ghost use Rattle.bq_eval_language_spec.specs.Targets.{bound};
 ghost use Rattle.bq_eval_frame.specs.Slots.{slots_of};
 ghost use Rattle.bq_eval_rules.specs.Acts.{Acts};
 ghost use Rattle.bq_eval_rules.specs.Operands.{local_use};
@@ -11,7 +11,7 @@ use bq_eval_frame::Frame;
 use bq_value::{EvalErr, Value};
 
 /// Lends the value of a name, or fails with F49.
-#[tactic(auto, unfolding(bq_eval_meaning_spec::specs::Targets::bound))]
+#[tactic(auto, unfolding(bq_eval_language_spec::specs::Targets::bound))]
 #[inline(always)]
 pub fn bound<'f, R: Runtime>(
     frame: &'f Frame<'_>,

@@ -2,18 +2,19 @@
 
 ghost use Rattle.std.specs.Prelude.{◌≡◌, IfOk};
 ghost use Rattle.bq_value.specs.Datum.{int};
-ghost use Rattle.bq_eval_meaning_spec.specs.Expressions as meaning;
+ghost use Rattle.bq_eval_language_spec.specs.Expressions as meaning;
+ghost use Rattle.bq_eval_language_spec.specs.Slots.{by_slots};
 ghost use Rattle.bq_eval_frame.specs.Slots.{slots_of};
 ghost use Rattle.bq_eval_rules.specs.Acts.{Acts};
 ghost use Rattle.bq_eval_rules.specs.Effects.{Returns};
 ghost use Rattle.bq_eval_rules.specs.Round.{round_of};
-ghost use Rattle.bq_eval_rules.specs.Operands.{name_use, read_of};
+ghost use Rattle.bq_eval_rules.specs.Operands.{read_of};
 
 use crate::context::Context;
 use crate::runtime::Runtime;
 use bq_base::FaultKind;
 use bq_eval_frame::Frame;
-use bq_parse_grammar::Referent;
+use bq_parse_grammar::{Identifier, Referent};
 use bq_value::{EvalErr, Value};
 use std::alloc::AllocError;
 
@@ -46,39 +47,25 @@ impl<'f> Operand<'f> {
     }
 }
 
-/// Evaluates the use of a name: lends its value, or fails with F49. What a namespace holds takes no step.
-#[tactic(auto, unfolding(crate::specs::Operands::name_use, bq_eval_meaning_spec::specs::Expressions::use_of, bq_eval_meaning_spec::specs::Targets::bound, crate::specs::Round::round_of))]
+/// Evaluates the use of a name: lends its value, or fails with F49.
+#[tactic(auto, unfolding(bq_eval_language_spec::specs::Expressions::use_of, bq_eval_language_spec::specs::Targets::bound, crate::specs::Round::round_of))]
 #[inline(always)]
 pub fn use_of<'f, R: Runtime>(
     context: &'f Context<'_>,
     frame: &'f Frame<'_>,
     runtime: &mut R,
-    referent: Referent,
+    name: &Identifier,
 ) -> Result<Operand<'f>, EvalErr>
-    ensures { Acts R.means read_of result (R.seen runtime.new) (name_use R.means (round_of context.now) referent (slots_of frame.now) (R.seen runtime.old)) }
+    ensures { Acts R.means read_of result (R.seen runtime.new) (meaning.use_of R.means by_slots (round_of context.now) name.now (slots_of frame.now) (R.seen runtime.old)) }
 {
-    let value = match referent {
-        // of no tree that is evaluated; its code is the first slot
-        Referent::Unresolved(_) => {
-            runtime.step(1)?;
-            frame.get(0)
-        }
-        Referent::Local(slot) => {
-            runtime.step(1)?;
-            frame.get(slot)
-        }
-        Referent::Global(k) => {
-            runtime.step(1)?;
-            context.globals.get(k)
-        }
-        Referent::Loaded(k) => {
-            runtime.step(1)?;
-            context.loaded.get(k)
-        }
-        Referent::Predeclared(name) => {
-            runtime.step(1)?;
-            return Ok(Operand::Own(runtime.predeclared(name)?));
-        }
+    runtime.step(1)?;
+    let value = match name.referent {
+        // of no tree that is evaluated
+        Referent::Unresolved(_) => return Err(EvalErr::Bad(FaultKind::UnknownName)),
+        Referent::Local(slot) => frame.get(slot),
+        Referent::Global(k) => context.globals.get(k),
+        Referent::Loaded(k) => context.loaded.get(k),
+        Referent::Predeclared(name) => return Ok(Operand::Own(runtime.predeclared(name)?)),
         Referent::Member(name) => return Ok(Operand::Own(runtime.predeclared(name)?)),
     };
     match value {
@@ -88,7 +75,7 @@ pub fn use_of<'f, R: Runtime>(
 }
 
 /// Evaluates a literal.
-#[tactic(auto, unfolding(bq_eval_meaning_spec::specs::Expressions::literal))]
+#[tactic(auto, unfolding(bq_eval_language_spec::specs::Expressions::literal))]
 #[inline(always)]
 pub fn literal<R: Runtime>(runtime: &mut R, value: Value) -> Result<Value, EvalErr>
     ensures { Returns R.means R.seen (meaning.literal R.means value) runtime.old result runtime.new }

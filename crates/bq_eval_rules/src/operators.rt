@@ -1,10 +1,9 @@
 //! Operators, comparisons and conditionals.
 
-ghost use Rattle.std.specs.Prelude.{◌≡◌, map, reverse};
+ghost use Rattle.std.specs.Prelude.{◌≡◌, reverse};
 ghost use Rattle.bq_value.specs.Datum.{int};
 ghost use Rattle.bq_builtin_machine.specs.Action.{◌>>=◌ as and_then};
-ghost use Rattle.bq_resolve_scope.specs.Codes.{choice_code, expr_code, operation_code};
-ghost use Rattle.bq_eval_meaning_spec.specs.Expressions as meaning;
+ghost use Rattle.bq_eval_language_spec.specs.Expressions as meaning;
 ghost use Rattle.bq_eval_rules.specs.Effects.{Returns};
 ghost use Rattle.bq_eval_rules.specs.Evaluators.{EvaluatesInside, evals_in, frame_of, value_inside};
 
@@ -18,7 +17,7 @@ use bq_parse_grammar::{Choice, Comparison, Expr, Operation, Operator, Referent, 
 use bq_value::{EvalErr, Value};
 
 /// Applies these operators to a value, the last one first.
-#[tactic(auto, unfolding(bq_eval_meaning_spec::specs::Expressions::unary_each))]
+#[tactic(auto, unfolding(bq_eval_language_spec::specs::Expressions::unary_each))]
 fn unary_each<R: Runtime>(
     runtime: &mut R,
     operators: &[UnaryOperator],
@@ -57,7 +56,7 @@ impl<
 > Evaluator<'a, R, C, F> {
     /// Evaluates operators before an operand.
     #[inline(never)]
-    #[tactic(auto, unfolding(bq_eval_meaning_spec::specs::Expressions::unary))]
+    #[tactic(auto, unfolding(bq_eval_language_spec::specs::Expressions::unary))]
     pub fn unary(
         &self,
         runtime: &mut R,
@@ -65,7 +64,7 @@ impl<
         code: &Expr,
     ) -> Result<Value, EvalErr>
         requires { EvaluatesInside R.means R.seen self.now F.pre F.post }
-        ensures { Returns R.means R.seen (meaning.unary R.means (evals_in R.means self.now) operators.now (expr_code code.now) (frame_of self.now)) runtime.old result runtime.new }
+        ensures { Returns R.means R.seen (meaning.unary R.means (evals_in R.means self.now) operators.now code.now (frame_of self.now)) runtime.old result runtime.new }
     {
         runtime.step(operators.len() as u64)?;
         let value = self.value(runtime, code)?;
@@ -74,7 +73,7 @@ impl<
 
     /// Applies one operation to the value so far.
     #[inline(always)]
-    #[tactic(auto, unfolding(bq_eval_meaning_spec::specs::Expressions::operation), using(bq_resolve_scope::proofs::Codes::operation_out))]
+    #[tactic(auto, unfolding(bq_eval_language_spec::specs::Expressions::operation))]
     fn operation(
         &self,
         runtime: &mut R,
@@ -82,7 +81,7 @@ impl<
         left: &Value,
     ) -> Result<Value, EvalErr>
         requires { EvaluatesInside R.means R.seen self.now F.pre F.post }
-        ensures { Returns R.means R.seen (meaning.operation R.means (evals_in R.means self.now) (operation_code operation.now) (frame_of self.now) left.now) runtime.old result runtime.new }
+        ensures { Returns R.means R.seen (meaning.operation R.means (evals_in R.means self.now) operation.now (frame_of self.now) left.now) runtime.old result runtime.new }
     {
         match operation.operator {
             Operator::And => {
@@ -128,7 +127,7 @@ impl<
         runtime.binary(operator, left, &right)
     }
 
-    #[tactic(auto, unfolding(bq_eval_meaning_spec::specs::Expressions::operations))]
+    #[tactic(auto, unfolding(bq_eval_language_spec::specs::Expressions::operations))]
     fn operations(
         &self,
         runtime: &mut R,
@@ -136,7 +135,7 @@ impl<
         first: Value,
     ) -> Result<Value, EvalErr>
         requires { EvaluatesInside R.means R.seen self.now F.pre F.post }
-        ensures { Returns R.means R.seen (meaning.operations R.means (evals_in R.means self.now) (map operation_code operations.now) (frame_of self.now) first) runtime.old result runtime.new }
+        ensures { Returns R.means R.seen (meaning.operations R.means (evals_in R.means self.now) operations.now (frame_of self.now) first) runtime.old result runtime.new }
     {
         let mut value = first;
         for operation in operations {
@@ -146,7 +145,7 @@ impl<
     }
 
     /// Applies the operations of a chain to its first operand. Most often it is one.
-    #[tactic(auto, unfolding(bq_eval_meaning_spec::specs::Expressions::operations), using(crate::proofs::Mapped::map_only))]
+    #[tactic(auto, unfolding(bq_eval_language_spec::specs::Expressions::operations))]
     #[inline(always)]
     fn chain(
         &self,
@@ -155,7 +154,7 @@ impl<
         first: &Value,
     ) -> Result<Value, EvalErr>
         requires { EvaluatesInside R.means R.seen self.now F.pre F.post }
-        ensures { Returns R.means R.seen (meaning.operations R.means (evals_in R.means self.now) (map operation_code operations.now) (frame_of self.now) first.now) runtime.old result runtime.new }
+        ensures { Returns R.means R.seen (meaning.operations R.means (evals_in R.means self.now) operations.now (frame_of self.now) first.now) runtime.old result runtime.new }
     {
         match operations {
             [operation] => self.operation(runtime, operation, first),
@@ -164,7 +163,7 @@ impl<
     }
 
     /// Applies any number of operations.
-    #[tactic(auto, unfolding(bq_eval_meaning_spec::specs::Expressions::operations), using(crate::proofs::Mapped::map_none, crate::proofs::Mapped::map_first))]
+    #[tactic(auto, unfolding(bq_eval_language_spec::specs::Expressions::operations))]
     #[inline(never)]
     fn long_chain(
         &self,
@@ -173,7 +172,7 @@ impl<
         first: &Value,
     ) -> Result<Value, EvalErr>
         requires { EvaluatesInside R.means R.seen self.now F.pre F.post }
-        ensures { Returns R.means R.seen (meaning.operations R.means (evals_in R.means self.now) (map operation_code operations.now) (frame_of self.now) first.now) runtime.old result runtime.new }
+        ensures { Returns R.means R.seen (meaning.operations R.means (evals_in R.means self.now) operations.now (frame_of self.now) first.now) runtime.old result runtime.new }
     {
         match operations {
             [] => Ok(first.share()?),
@@ -193,7 +192,7 @@ impl<
         operations: &[Operation],
     ) -> Result<Value, EvalErr>
         requires { EvaluatesInside R.means R.seen self.now F.pre F.post }
-        ensures { Returns R.means R.seen (and_then (value_inside R.means self.now code.now) (meaning.operations R.means (evals_in R.means self.now) (map operation_code operations.now) (frame_of self.now))) runtime.old result runtime.new }
+        ensures { Returns R.means R.seen (and_then (value_inside R.means self.now code.now) (meaning.operations R.means (evals_in R.means self.now) operations.now (frame_of self.now))) runtime.old result runtime.new }
     {
         if self.depth > 0 {
             if let Expr::Name(name) = code {
@@ -208,7 +207,7 @@ impl<
     }
 
     /// Evaluates a chain of operators.
-    #[tactic(auto, unfolding(bq_eval_meaning_spec::specs::Expressions::binary))]
+    #[tactic(auto, unfolding(bq_eval_language_spec::specs::Expressions::binary))]
     pub fn binary(
         &self,
         runtime: &mut R,
@@ -216,13 +215,13 @@ impl<
         operations: &[Operation],
     ) -> Result<Value, EvalErr>
         requires { EvaluatesInside R.means R.seen self.now F.pre F.post }
-        ensures { Returns R.means R.seen (meaning.binary R.means (evals_in R.means self.now) (expr_code code.now) (map operation_code operations.now) (frame_of self.now)) runtime.old result runtime.new }
+        ensures { Returns R.means R.seen (meaning.binary R.means (evals_in R.means self.now) code.now operations.now (frame_of self.now)) runtime.old result runtime.new }
     {
         runtime.step(operations.len() as u64)?;
         self.chain_of(runtime, code, operations)
     }
 
-    #[tactic(auto, unfolding(bq_eval_meaning_spec::specs::Expressions::compare))]
+    #[tactic(auto, unfolding(bq_eval_language_spec::specs::Expressions::compare))]
     pub fn compare(
         &self,
         runtime: &mut R,
@@ -231,7 +230,7 @@ impl<
         right: &Expr,
     ) -> Result<Value, EvalErr>
         requires { EvaluatesInside R.means R.seen self.now F.pre F.post }
-        ensures { Returns R.means R.seen (meaning.compare R.means (evals_in R.means self.now) (expr_code left.now) operator (expr_code right.now) (frame_of self.now)) runtime.old result runtime.new }
+        ensures { Returns R.means R.seen (meaning.compare R.means (evals_in R.means self.now) left.now operator right.now (frame_of self.now)) runtime.old result runtime.new }
     {
         runtime.step(1)?;
         let left = self.operand(runtime, left)?;
@@ -240,10 +239,10 @@ impl<
     }
 
     /// Returns the value of a choice, if its condition holds.
-    #[tactic(auto, unfolding(bq_eval_meaning_spec::specs::Expressions::choice), using(bq_resolve_scope::proofs::Codes::choice_out))]
+    #[tactic(auto, unfolding(bq_eval_language_spec::specs::Expressions::choice))]
     fn choice(&self, runtime: &mut R, choice: &Choice) -> Result<Option<Value>, EvalErr>
         requires { EvaluatesInside R.means R.seen self.now F.pre F.post }
-        ensures { Returns R.means R.seen (meaning.choice R.means (evals_in R.means self.now) (choice_code choice.now) (frame_of self.now)) runtime.old result runtime.new }
+        ensures { Returns R.means R.seen (meaning.choice R.means (evals_in R.means self.now) choice.now (frame_of self.now)) runtime.old result runtime.new }
     {
         runtime.step(1)?;
         if self.holds(runtime, &choice.condition)? {
@@ -255,7 +254,7 @@ impl<
 
     /// Evaluates `x if y else ..`.
     #[inline(never)]
-    #[tactic(auto, unfolding(bq_eval_meaning_spec::specs::Expressions::conditional))]
+    #[tactic(auto, unfolding(bq_eval_language_spec::specs::Expressions::conditional))]
     pub fn conditional(
         &self,
         runtime: &mut R,
@@ -263,7 +262,7 @@ impl<
         otherwise: &Expr,
     ) -> Result<Value, EvalErr>
         requires { EvaluatesInside R.means R.seen self.now F.pre F.post }
-        ensures { Returns R.means R.seen (meaning.conditional R.means (evals_in R.means self.now) (map choice_code choices.now) (expr_code otherwise.now) (frame_of self.now)) runtime.old result runtime.new }
+        ensures { Returns R.means R.seen (meaning.conditional R.means (evals_in R.means self.now) choices.now otherwise.now (frame_of self.now)) runtime.old result runtime.new }
     {
         for choice in choices {
             if let Some(value) = self.choice(runtime, choice)? {

@@ -5,12 +5,12 @@ ghost use Rattle.bq_base.specs.Gives.{Gives};
 ghost use Rattle.bq_value.specs.declared.error.EvalErr.TheVariants.{Bad};
 ghost use Rattle.bq_builtin_machine.specs.Binding as binding;
 ghost use Rattle.bq_builtin_machine.specs.Parameters.{parameter_of};
-ghost use Rattle.bq_eval_meaning_spec.specs.Calls as meaning;
+ghost use Rattle.bq_eval_language_spec.specs.Calls as meaning;
 ghost use Rattle.bq_eval_rules.specs.Effects.{Returns};
 
 use crate::runtime::Runtime;
 use bq_builtin_machine::{Args, Bound, Signature, SingleParameter, bind};
-use bq_resolve_scope::CodeParameter;
+use bq_resolve_scope::Formal;
 use bq_value::{Content, Dict, EvalErr, Value};
 use bq_value_seed::Seed;
 use std::alloc::{AllocError, Global};
@@ -19,26 +19,26 @@ use std::alloc::{AllocError, Global};
 #[tactic(auto, using(crate::proofs::ParameterLists::one_more))]
 fn add_single<'a>(
     all: &mut Vec<SingleParameter<'a>>,
-    parameter: &'a CodeParameter,
+    parameter: &'a Formal,
 ) -> Result<(), AllocError>
     ensures { OnOk result (map parameter_of all.new.items ≡ map parameter_of all.old.items ++ meaning.singles (parameter.now ∷ [])) }
 {
     match parameter {
-        CodeParameter::Plain(name, _) => {
+        Formal::Plain(name) => {
             all.push(SingleParameter {
-                name: Some(name.as_slice()),
+                name: Some(name.name.as_slice()),
                 is_required: true,
             })?;
         }
-        CodeParameter::Default(name, _) => {
+        Formal::Default(name) => {
             all.push(SingleParameter {
-                name: Some(name.as_slice()),
+                name: Some(name.name.as_slice()),
                 is_required: false,
             })?;
         }
-        CodeParameter::BareStar => {}
-        CodeParameter::Star(_) => {}
-        CodeParameter::StarStar(_) => {}
+        Formal::BareStar => {}
+        Formal::Star(_) => {}
+        Formal::StarStar(_) => {}
     }
     Ok(())
 }
@@ -47,7 +47,7 @@ fn add_single<'a>(
 #[tactic(auto, using(crate::proofs::ParameterLists::singles_from))]
 fn singles<'a>(
     alloc: Global,
-    parameters: &'a [CodeParameter],
+    parameters: &'a [Formal],
 ) -> Result<Vec<SingleParameter<'a>>, AllocError>
     ensures { IfOk result (λ all. map parameter_of all.items ≡ meaning.singles parameters.now) }
 {
@@ -59,28 +59,28 @@ fn singles<'a>(
 }
 
 /// Returns how many of them are before a `*`.
-fn placed_of(parameters: &[CodeParameter]) -> usize
+fn placed_of(parameters: &[Formal]) -> usize
     ensures { result ≡ meaning.placed_of parameters.now }
 {
     let mut placed = 0;
     for parameter in parameters {
         match parameter {
-            CodeParameter::Plain(_, _) => placed += 1,
-            CodeParameter::Default(_, _) => placed += 1,
-            CodeParameter::BareStar => return placed,
-            CodeParameter::Star(_) => return placed,
-            CodeParameter::StarStar(_) => {}
+            Formal::Plain(_) => placed += 1,
+            Formal::Default(_) => placed += 1,
+            Formal::BareStar => return placed,
+            Formal::Star(_) => return placed,
+            Formal::StarStar(_) => {}
         }
     }
     placed
 }
 
 /// Returns whether there is a `*` that takes arguments.
-fn has_star(parameters: &[CodeParameter]) -> bool
+fn has_star(parameters: &[Formal]) -> bool
     ensures { result ≡ meaning.has_star parameters.now }
 {
     for parameter in parameters {
-        if let CodeParameter::Star(_) = parameter {
+        if let Formal::Star(_) = parameter {
             return true;
         }
     }
@@ -88,11 +88,11 @@ fn has_star(parameters: &[CodeParameter]) -> bool
 }
 
 /// Returns whether there is a `**`.
-pub fn has_star_star(parameters: &[CodeParameter]) -> bool
+pub fn has_star_star(parameters: &[Formal]) -> bool
     ensures { result ≡ meaning.has_star_star parameters.now }
 {
     for parameter in parameters {
-        if let CodeParameter::StarStar(_) = parameter {
+        if let Formal::StarStar(_) = parameter {
             return true;
         }
     }
@@ -100,11 +100,11 @@ pub fn has_star_star(parameters: &[CodeParameter]) -> bool
 }
 
 /// Binds the arguments of a call, or fails with F52.
-#[tactic(auto, unfolding(bq_eval_meaning_spec::specs::Calls::signature))]
+#[tactic(auto, unfolding(bq_eval_language_spec::specs::Calls::signature))]
 pub fn bind_args(
     alloc: Global,
     seed: Seed,
-    parameters: &[CodeParameter],
+    parameters: &[Formal],
     args: Args,
 ) -> Result<Bound, EvalErr>
     ensures { Gives (λ b. b) Bad result (binding.bind (meaning.signature parameters.now) args) }
@@ -120,7 +120,7 @@ pub fn bind_args(
 }
 
 /// Returns the dict for `**`, or `None` if there is no `**`.
-#[tactic(auto, unfolding(bq_eval_meaning_spec::specs::Calls::keywords_of))]
+#[tactic(auto, unfolding(bq_eval_language_spec::specs::Calls::keywords_of))]
 pub fn keywords_of<R: Runtime>(
     runtime: &mut R,
     takes: bool,

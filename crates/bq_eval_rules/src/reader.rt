@@ -1,9 +1,9 @@
 //! The expressions of statements, and assignments.
 
-ghost use Rattle.std.specs.Prelude.{◌≡◌, map};
+ghost use Rattle.std.specs.Prelude.{◌≡◌};
 ghost use Rattle.bq_builtin_machine.specs.Action.{done, ◌>>=◌ as and_then};
-ghost use Rattle.bq_resolve_scope.specs.Codes.{expr_code, target_code, variable_code};
-ghost use Rattle.bq_eval_meaning_spec.specs.Targets as meaning;
+ghost use Rattle.bq_eval_language_spec.specs.Targets as meaning;
+ghost use Rattle.bq_eval_language_spec.specs.Slots.{by_slots};
 ghost use Rattle.bq_eval_frame.specs.Slots.{slots_of};
 ghost use Rattle.bq_eval_rules.specs.Nests.{AnswersCalls};
 ghost use Rattle.bq_eval_rules.specs.Round.{outside_functions};
@@ -47,7 +47,7 @@ impl<
     #[tactic(auto, unfolding(crate::specs::Round::evals, crate::specs::Round::in_function, bq_resolve_scope::specs::Names::max_layers))]
     pub fn value(&self, frame: &Frame<'_>, runtime: &mut R, code: &Expr) -> Result<Value, EvalErr>
         requires { AnswersCalls R.means R.seen self.now.context.now self.now.call C.pre C.post }
-        ensures { Returns R.means R.seen (evals_of R.means self.now (expr_code code.now) (slots_of frame.now)) runtime.old result runtime.new }
+        ensures { Returns R.means R.seen (evals_of R.means self.now code.now (slots_of frame.now)) runtime.old result runtime.new }
     {
         if self.context.outside {
             return self.outside(frame, runtime, code);
@@ -60,7 +60,7 @@ impl<
     #[tactic(auto, using(bq_eval_frame::proofs::Slots::none_filled), unfolding(crate::specs::Round::outside_functions, crate::specs::Round::inside, crate::specs::Round::round_of, crate::specs::Round::globals_of, bq_resolve_scope::specs::Names::max_layers))]
     fn outside(&self, frame: &Frame<'_>, runtime: &mut R, code: &Expr) -> Result<Value, EvalErr>
         requires { AnswersCalls R.means R.seen self.now.context.now self.now.call C.pre C.post }
-        ensures { Returns R.means R.seen (outside_functions R.means self.now.context.now (expr_code code.now) (slots_of frame.now)) runtime.old result runtime.new }
+        ensures { Returns R.means R.seen (outside_functions R.means self.now.context.now code.now (slots_of frame.now)) runtime.old result runtime.new }
     {
         let inner = Context {
             alloc: self.context.alloc,
@@ -84,7 +84,7 @@ impl<
         condition: &Expr,
     ) -> Result<bool, EvalErr>
         requires { AnswersCalls R.means R.seen self.now.context.now self.now.call C.pre C.post }
-        ensures { Returns R.means R.seen (and_then (evals_of R.means self.now (expr_code condition.now) (slots_of frame.now)) (λ v s. done (R.means.truth v s) s)) runtime.old result runtime.new }
+        ensures { Returns R.means R.seen (and_then (evals_of R.means self.now condition.now (slots_of frame.now)) (λ v s. done (R.means.truth v s) s)) runtime.old result runtime.new }
     {
         let condition = self.value(frame, runtime, condition)?;
         Ok(runtime.truth(&condition))
@@ -93,7 +93,7 @@ impl<
     // ---- the places of a target
 
     /// Evaluates the operand and the index of `x[i]`, and appends them.
-    #[tactic(auto, unfolding(bq_eval_meaning_spec::specs::Targets::place))]
+    #[tactic(auto, unfolding(bq_eval_language_spec::specs::Targets::place))]
     fn place(
         &self,
         frame: &Frame<'_>,
@@ -103,7 +103,7 @@ impl<
         index: &Expr,
     ) -> Result<(), EvalErr>
         requires { AnswersCalls R.means R.seen self.now.context.now self.now.call C.pre C.post }
-        ensures { Produces R.means R.seen places.new.items (meaning.place R.means (evals_of R.means self.now) (expr_code operand.now) (expr_code index.now) (slots_of frame.now) places.old.items) runtime.old result runtime.new }
+        ensures { Produces R.means R.seen places.new.items (meaning.place R.means (evals_of R.means self.now) operand.now index.now (slots_of frame.now) places.old.items) runtime.old result runtime.new }
     {
         let operand = self.value(frame, runtime, operand)?;
         let index = self.value(frame, runtime, index)?;
@@ -112,7 +112,7 @@ impl<
     }
 
     #[cycle(places)]
-    #[tactic(auto, unfolding(bq_eval_meaning_spec::specs::Targets::places_each))]
+    #[tactic(auto, unfolding(bq_eval_language_spec::specs::Targets::places_each))]
     fn places_each(
         &self,
         frame: &Frame<'_>,
@@ -122,7 +122,7 @@ impl<
         targets: &[TargetExpr],
     ) -> Result<(), EvalErr>
         requires { AnswersCalls R.means R.seen self.now.context.now self.now.call C.pre C.post }
-        ensures { Produces R.means R.seen places.new.items (places_in_each R.means self.now depth (map target_code targets.now) (slots_of frame.now) places.old.items) runtime.old result runtime.new }
+        ensures { Produces R.means R.seen places.new.items (places_in_each R.means self.now depth targets.now (slots_of frame.now) places.old.items) runtime.old result runtime.new }
     {
         for target in targets {
             self.places_to(frame, runtime, places, depth, target)?;
@@ -131,7 +131,7 @@ impl<
     }
 
     #[cycle(places)]
-    #[tactic(auto, unfolding(bq_eval_meaning_spec::specs::Targets::places_of))]
+    #[tactic(auto, unfolding(bq_eval_language_spec::specs::Targets::places_of))]
     fn places_of(
         &self,
         frame: &Frame<'_>,
@@ -141,7 +141,7 @@ impl<
         target: &TargetExpr,
     ) -> Result<(), EvalErr>
         requires { AnswersCalls R.means R.seen self.now.context.now self.now.call C.pre C.post }
-        ensures { Produces R.means R.seen places.new.items (places_in_target R.means self.now depth (target_code target.now) (slots_of frame.now) places.old.items) runtime.old result runtime.new }
+        ensures { Produces R.means R.seen places.new.items (places_in_target R.means self.now depth target.now (slots_of frame.now) places.old.items) runtime.old result runtime.new }
     {
         match target {
             TargetExpr::Name(_) => Ok(()),
@@ -159,7 +159,7 @@ impl<
 
     /// Appends the places of a target that is at most `depth` layers deep.
     #[cycle(places)]
-    #[tactic(auto, unfolding(bq_eval_meaning_spec::specs::Targets::places_to))]
+    #[tactic(auto, unfolding(bq_eval_language_spec::specs::Targets::places_to))]
     fn places_to(
         &self,
         frame: &Frame<'_>,
@@ -169,7 +169,7 @@ impl<
         target: &TargetExpr,
     ) -> Result<(), EvalErr>
         requires { AnswersCalls R.means R.seen self.now.context.now self.now.call C.pre C.post }
-        ensures { Produces R.means R.seen places.new.items (meaning.places_to R.means (evals_of R.means self.now) depth (target_code target.now) (slots_of frame.now) places.old.items) runtime.old result runtime.new }
+        ensures { Produces R.means R.seen places.new.items (meaning.places_to R.means (evals_of R.means self.now) depth target.now (slots_of frame.now) places.old.items) runtime.old result runtime.new }
     {
         if depth == 0 {
             return Err(EvalErr::Bad(FaultKind::Nesting));
@@ -178,21 +178,6 @@ impl<
     }
 
     // ---- assignments
-
-    /// Carries out `name = value`.
-    #[inline(always)]
-    pub fn assign_name(
-        &self,
-        frame: &mut Frame<'_>,
-        runtime: &R,
-        name: &Identifier,
-        value: Value,
-    ) -> Result<(), EvalErr>
-        ensures { Rebinds R.means R.seen (meaning.assign R.means (evals_of R.means self.now) (variable_code name.now.referent) value) frame.old runtime.now result frame.new runtime.now }
-    {
-        let _ = runtime; // contracts alone speak of it
-        Ok(frame.fill(slot_of(name), value)?)
-    }
 
     /// Carries out `target = value`. A name has no operands, and is bound at once.
     #[inline(always)]
@@ -204,17 +189,17 @@ impl<
         value: Value,
     ) -> Result<(), EvalErr>
         requires { AnswersCalls R.means R.seen self.now.context.now self.now.call C.pre C.post }
-        ensures { Rebinds R.means R.seen (meaning.assign R.means (evals_of R.means self.now) (target_code target.now) value) frame.old runtime.old result frame.new runtime.new }
+        ensures { Rebinds R.means R.seen (meaning.assign R.means by_slots (evals_of R.means self.now) target.now value) frame.old runtime.old result frame.new runtime.new }
     {
         match target {
-            TargetExpr::Name(name) => self.assign_name(frame, &*runtime, name, value),
+            TargetExpr::Name(name) => Ok(frame.fill(slot_of(name), value)?),
             _ => self.assign_parts(frame, runtime, target, value),
         }
     }
 
     /// Carries out `target = value` for any target: its operands and indices are evaluated first.
     #[inline(never)]
-    #[tactic(auto, unfolding(bq_eval_meaning_spec::specs::Targets::assign, bq_resolve_scope::specs::Names::max_layers))]
+    #[tactic(auto, unfolding(bq_eval_language_spec::specs::Targets::assign, bq_resolve_scope::specs::Names::max_layers))]
     fn assign_parts(
         &self,
         frame: &mut Frame<'_>,
@@ -223,7 +208,7 @@ impl<
         value: Value,
     ) -> Result<(), EvalErr>
         requires { AnswersCalls R.means R.seen self.now.context.now self.now.call C.pre C.post }
-        ensures { Rebinds R.means R.seen (meaning.assign R.means (evals_of R.means self.now) (target_code target.now) value) frame.old runtime.old result frame.new runtime.new }
+        ensures { Rebinds R.means R.seen (meaning.assign R.means by_slots (evals_of R.means self.now) target.now value) frame.old runtime.old result frame.new runtime.new }
     {
         let mut places = Vec::new(self.context.alloc);
         self.places_to(frame, runtime, &mut places, MAX_LAYERS, target)?;
@@ -241,24 +226,25 @@ impl<
         op: Augmentation<'_>,
     ) -> Result<Value, EvalErr>
         requires { AnswersCalls R.means R.seen self.now.context.now self.now.call C.pre C.post }
-        ensures { Returns R.means R.seen (augmented R.means self.now op.entry.operator (expr_code op.entry.code.now) (slots_of frame.now) old.now) runtime.old result runtime.new }
+        ensures { Returns R.means R.seen (augmented R.means self.now op.entry.operator op.entry.code.now (slots_of frame.now) old.now) runtime.old result runtime.new }
     {
         let value = self.value(frame, runtime, op.code)?;
         runtime.augment(op.operator, old, &value)
     }
 
     /// Carries out `name op= x`.
-    #[tactic(auto, unfolding(bq_eval_meaning_spec::specs::Targets::augment_name))]
+    #[tactic(auto, unfolding(bq_eval_language_spec::specs::Targets::augment_name))]
     fn augment_name(
         &self,
         frame: &mut Frame<'_>,
         runtime: &mut R,
-        slot: usize,
+        name: &Identifier,
         op: Augmentation<'_>,
     ) -> Result<(), EvalErr>
         requires { AnswersCalls R.means R.seen self.now.context.now self.now.call C.pre C.post }
-        ensures { Rebinds R.means R.seen (meaning.augment_name R.means (evals_of R.means self.now) slot op.entry.operator (expr_code op.entry.code.now)) frame.old runtime.old result frame.new runtime.new }
+        ensures { Rebinds R.means R.seen (meaning.augment_name R.means by_slots (evals_of R.means self.now) name.now op.entry.operator op.entry.code.now) frame.old runtime.old result frame.new runtime.new }
     {
+        let slot = slot_of(name);
         let old = bound(frame, &*runtime, slot)?;
         let new = self.augmented(frame, runtime, old, op)?;
         frame.fill(slot, new)?;
@@ -275,7 +261,7 @@ impl<
         op: Augmentation<'_>,
     ) -> Result<(), EvalErr>
         requires { AnswersCalls R.means R.seen self.now.context.now self.now.call C.pre C.post }
-        ensures { Produces R.means R.seen tt (augment_at R.means self.now operand.now index.now op.entry.operator (expr_code op.entry.code.now) (slots_of frame.now)) runtime.old result runtime.new }
+        ensures { Produces R.means R.seen tt (augment_at R.means self.now operand.now index.now op.entry.operator op.entry.code.now (slots_of frame.now)) runtime.old result runtime.new }
     {
         let old = runtime.index(operand, index)?;
         let new = self.augmented(frame, runtime, &old, op)?;
@@ -284,7 +270,7 @@ impl<
 
     /// Carries out `y[i] op= x`.
     #[inline(never)]
-    #[tactic(auto, unfolding(bq_eval_meaning_spec::specs::Targets::augment_index))]
+    #[tactic(auto, unfolding(bq_eval_language_spec::specs::Targets::augment_index))]
     fn augment_index(
         &self,
         frame: &mut Frame<'_>,
@@ -294,7 +280,7 @@ impl<
         op: Augmentation<'_>,
     ) -> Result<(), EvalErr>
         requires { AnswersCalls R.means R.seen self.now.context.now self.now.call C.pre C.post }
-        ensures { Rebinds R.means R.seen (meaning.augment_index R.means (evals_of R.means self.now) (expr_code operand.now) (expr_code index.now) op.entry.operator (expr_code op.entry.code.now)) frame.old runtime.old result frame.new runtime.new }
+        ensures { Rebinds R.means R.seen (meaning.augment_index R.means (evals_of R.means self.now) operand.now index.now op.entry.operator op.entry.code.now) frame.old runtime.old result frame.new runtime.new }
     {
         let operand = self.value(frame, runtime, operand)?;
         let index = self.value(frame, runtime, index)?;
@@ -311,11 +297,11 @@ impl<
         code: &Expr,
     ) -> Result<(), EvalErr>
         requires { AnswersCalls R.means R.seen self.now.context.now self.now.call C.pre C.post }
-        ensures { Rebinds R.means R.seen (meaning.augment R.means (evals_of R.means self.now) (target_code target.now) operator (expr_code code.now)) frame.old runtime.old result frame.new runtime.new }
+        ensures { Rebinds R.means R.seen (meaning.augment R.means by_slots (evals_of R.means self.now) target.now operator code.now) frame.old runtime.old result frame.new runtime.new }
     {
         let op = Augmentation { operator, code };
         match target {
-            TargetExpr::Name(name) => self.augment_name(frame, runtime, slot_of(name), op),
+            TargetExpr::Name(name) => self.augment_name(frame, runtime, name, op),
             TargetExpr::Index(operand, index) => {
                 self.augment_index(frame, runtime, operand.get(), index.get(), op)
             }

@@ -1,8 +1,8 @@
 //! Small statements.
 
-ghost use Rattle.std.specs.Prelude.{◌≡◌, map};
-ghost use Rattle.bq_resolve_scope.specs.Codes.{expr_code, optional_code, target_code, small_code};
-ghost use Rattle.bq_eval_meaning_spec.specs.Statements as meaning;
+ghost use Rattle.std.specs.Prelude.{◌≡◌};
+ghost use Rattle.bq_eval_language_spec.specs.Statements as meaning;
+ghost use Rattle.bq_eval_language_spec.specs.Slots.{by_slots};
 ghost use Rattle.bq_eval_rules.specs.Nests.{AnswersCalls};
 ghost use Rattle.bq_eval_rules.specs.Effects.{Executes};
 ghost use Rattle.bq_eval_rules.specs.Readers.{evals_of};
@@ -17,9 +17,9 @@ use bq_parse_grammar::{Expr, SmallKind, SmallStmt, TargetExpr};
 use bq_value::{EvalErr, Value};
 
 /// Returns how many steps a small statement takes itself.
-#[tactic(auto, unfolding(bq_eval_meaning_spec::specs::Statements::steps_of))]
+#[tactic(auto, unfolding(bq_eval_language_spec::specs::Statements::steps_of))]
 fn steps_of(stmt: &SmallStmt) -> u64
-    ensures { result ≡ meaning.steps_of (small_code stmt.now) }
+    ensures { result ≡ meaning.steps_of stmt.now.kind }
 {
     match &stmt.kind {
         SmallKind::Load(_) => 0,
@@ -39,7 +39,7 @@ impl<
     C: Copy + Fn(&Context<'_>, &mut R, &Value, Args) -> Result<Value, EvalErr>,
 > Reader<'a, R, C> {
     /// Carries out `target = x`: the right side first.
-    #[tactic(auto, unfolding(bq_eval_meaning_spec::specs::Statements::assign_stmt))]
+    #[tactic(auto, unfolding(bq_eval_language_spec::specs::Statements::assign_stmt))]
     fn assign_stmt(
         &self,
         frame: &mut Frame<'_>,
@@ -48,7 +48,7 @@ impl<
         code: &Expr,
     ) -> Result<Flow, EvalErr>
         requires { AnswersCalls R.means R.seen self.now.context.now self.now.call C.pre C.post }
-        ensures { Executes R.means R.seen (meaning.assign_stmt R.means (evals_of R.means self.now) (target_code target.now) (expr_code code.now)) frame.old runtime.old result frame.new runtime.new }
+        ensures { Executes R.means R.seen (meaning.assign_stmt R.means by_slots (evals_of R.means self.now) target.now code.now) frame.old runtime.old result frame.new runtime.new }
     {
         let value = self.value(frame, runtime, code)?;
         self.assign(frame, runtime, target, value)?;
@@ -56,7 +56,7 @@ impl<
     }
 
     /// Carries out `return x`.
-    #[tactic(auto, unfolding(bq_eval_meaning_spec::specs::Statements::return_stmt))]
+    #[tactic(auto, unfolding(bq_eval_language_spec::specs::Statements::return_stmt))]
     fn return_stmt(
         &self,
         frame: &Frame<'_>,
@@ -64,7 +64,7 @@ impl<
         code: &Option<Expr>,
     ) -> Result<Flow, EvalErr>
         requires { AnswersCalls R.means R.seen self.now.context.now self.now.call C.pre C.post }
-        ensures { Executes R.means R.seen (meaning.return_stmt R.means (evals_of R.means self.now) (optional_code code.now)) frame.now runtime.old result frame.now runtime.new }
+        ensures { Executes R.means R.seen (meaning.return_stmt R.means by_slots (evals_of R.means self.now) code.now) frame.now runtime.old result frame.now runtime.new }
     {
         match code {
             None => Ok(Flow::Answer(Value::none())),
@@ -76,7 +76,7 @@ impl<
     }
 
     /// Carries out a small statement: all but a load take a step.
-    #[tactic(auto, unfolding(bq_eval_meaning_spec::specs::Statements::small_stmt, bq_eval_meaning_spec::specs::Statements::small_effect, bq_eval_meaning_spec::specs::Statements::expr_stmt))]
+    #[tactic(auto, unfolding(bq_eval_language_spec::specs::Statements::small_stmt, bq_eval_language_spec::specs::Statements::expr_stmt))]
     fn small_stmt(
         &self,
         frame: &mut Frame<'_>,
@@ -84,7 +84,7 @@ impl<
         stmt: &SmallStmt,
     ) -> Result<Flow, EvalErr>
         requires { AnswersCalls R.means R.seen self.now.context.now self.now.call C.pre C.post }
-        ensures { Executes R.means R.seen (meaning.small_stmt R.means (evals_of R.means self.now) (small_code stmt.now)) frame.old runtime.old result frame.new runtime.new }
+        ensures { Executes R.means R.seen (meaning.small_stmt R.means by_slots (evals_of R.means self.now) stmt.now) frame.old runtime.old result frame.new runtime.new }
     {
         runtime.step(steps_of(stmt))?;
         match &stmt.kind {
@@ -108,7 +108,7 @@ impl<
     }
 
     /// Carries out the statements of one line.
-    #[tactic(auto, unfolding(bq_eval_meaning_spec::specs::Statements::line))]
+    #[tactic(auto, unfolding(bq_eval_language_spec::specs::Statements::line))]
     pub fn line(
         &self,
         frame: &mut Frame<'_>,
@@ -116,7 +116,7 @@ impl<
         stmts: &[SmallStmt],
     ) -> Result<Flow, EvalErr>
         requires { AnswersCalls R.means R.seen self.now.context.now self.now.call C.pre C.post }
-        ensures { Executes R.means R.seen (meaning.line R.means (evals_of R.means self.now) (map small_code stmts.now)) frame.old runtime.old result frame.new runtime.new }
+        ensures { Executes R.means R.seen (meaning.line R.means by_slots (evals_of R.means self.now) stmts.now) frame.old runtime.old result frame.new runtime.new }
     {
         for stmt in stmts {
             match self.small_stmt(frame, runtime, stmt)? {

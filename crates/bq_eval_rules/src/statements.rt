@@ -1,8 +1,8 @@
 //! Statements of functions. Each rule takes what runs the statements inside, so that it is proved by itself.
 
-ghost use Rattle.std.specs.Prelude.{◌≡◌, map};
-ghost use Rattle.bq_resolve_scope.specs.Codes.{branch_code, expr_code, stmt_code, target_code};
-ghost use Rattle.bq_eval_meaning_spec.specs.Statements as meaning;
+ghost use Rattle.std.specs.Prelude.{◌≡◌};
+ghost use Rattle.bq_eval_language_spec.specs.Statements as meaning;
+ghost use Rattle.bq_eval_language_spec.specs.Slots.{by_slots};
 ghost use Rattle.bq_eval_rules.specs.Nests.{AnswersCalls};
 ghost use Rattle.bq_eval_rules.specs.Round.{evals, execs};
 ghost use Rattle.bq_eval_rules.specs.Effects.{Executes};
@@ -29,7 +29,7 @@ pub struct Runner<'a, R, C, G> {
 }
 
 /// Runs a statement that is at most `depth` layers deep.
-#[tactic(auto, unfolding(bq_eval_meaning_spec::specs::Statements::run_to))]
+#[tactic(auto, unfolding(bq_eval_language_spec::specs::Statements::run_to))]
 fn run_to<R: Runtime, C: Copy + Fn(&Context<'_>, &mut R, &Value, Args) -> Result<Value, EvalErr>>(
     context: &Context<'_>,
     depth: usize,
@@ -39,7 +39,7 @@ fn run_to<R: Runtime, C: Copy + Fn(&Context<'_>, &mut R, &Value, Args) -> Result
     stmt: &Stmt,
 ) -> Result<Flow, EvalErr>
     requires { AnswersCalls R.means R.seen context.now call C.pre C.post }
-    ensures { Executes R.means R.seen (meaning.run_to depth R.means (evals R.means context.now) (stmt_code stmt.now)) frame.old runtime.old result frame.new runtime.new }
+    ensures { Executes R.means R.seen (meaning.run_to depth R.means by_slots (evals R.means context.now) stmt.now) frame.old runtime.old result frame.new runtime.new }
 {
     if depth == 0 {
         return Err(EvalErr::Bad(FaultKind::Nesting));
@@ -70,7 +70,7 @@ pub fn run_block<
     stmts: &[Stmt],
 ) -> Result<Flow, EvalErr>
     requires { AnswersCalls R.means R.seen context.now call C.pre C.post }
-    ensures { Executes R.means R.seen (meaning.block R.means (evals R.means context.now) (execs R.means context.now) (map stmt_code stmts.now)) frame.old runtime.old result frame.new runtime.new }
+    ensures { Executes R.means R.seen (meaning.block R.means by_slots (evals R.means context.now) (execs R.means context.now) stmts.now) frame.old runtime.old result frame.new runtime.new }
 {
     Runner {
         depth: MAX_LAYERS,
@@ -91,10 +91,10 @@ impl<
     G: Fn(&Context<'_>, usize, C, &mut Frame<'_>, &mut R, &Stmt) -> Result<Flow, EvalErr>,
 > Runner<'a, R, C, G> {
     /// Runs statements in order.
-    #[tactic(auto, unfolding(bq_eval_meaning_spec::specs::Statements::block))]
+    #[tactic(auto, unfolding(bq_eval_language_spec::specs::Statements::block))]
     fn block(&self, frame: &mut Frame<'_>, runtime: &mut R, stmts: &[Stmt]) -> Result<Flow, EvalErr>
         requires { RunsInside R.means R.seen self.now G.pre G.post }
-        ensures { Executes R.means R.seen (rule_in R.means self.now meaning.block (map stmt_code stmts.now)) frame.old runtime.old result frame.new runtime.new }
+        ensures { Executes R.means R.seen (rule_in R.means self.now meaning.block stmts.now) frame.old runtime.old result frame.new runtime.new }
     {
         for stmt in stmts {
             let Reader { context, call, .. } = self.reader;
@@ -109,7 +109,7 @@ impl<
     }
 
     /// Runs the block of the first branch whose condition holds.
-    #[tactic(auto, using(bq_resolve_scope::proofs::Codes::branch_out), unfolding(bq_eval_meaning_spec::specs::Statements::branches))]
+    #[tactic(auto, unfolding(bq_eval_language_spec::specs::Statements::branches))]
     fn branches(
         &self,
         frame: &mut Frame<'_>,
@@ -119,7 +119,7 @@ impl<
     ) -> Result<Flow, EvalErr>
         requires runs { RunsInside R.means R.seen self.now G.pre G.post }
         requires answers { AnswersCalls R.means R.seen self.now.reader.context.now self.now.reader.call C.pre C.post }
-        ensures { Executes R.means R.seen (rule_in R.means self.now meaning.branches (map branch_code branches.now) (map stmt_code otherwise.now)) frame.old runtime.old result frame.new runtime.new }
+        ensures { Executes R.means R.seen (rule_in R.means self.now meaning.branches branches.now otherwise.now) frame.old runtime.old result frame.new runtime.new }
     {
         for branch in branches {
             if self.reader.holds(frame, runtime, &branch.condition)? {
@@ -129,7 +129,7 @@ impl<
         self.block(frame, runtime, otherwise)
     }
 
-    #[tactic(auto, unfolding(bq_eval_meaning_spec::specs::Statements::turn))]
+    #[tactic(auto, unfolding(bq_eval_language_spec::specs::Statements::turn))]
     fn turn(
         &self,
         frame: &mut Frame<'_>,
@@ -139,13 +139,13 @@ impl<
         value: Value,
     ) -> Result<Flow, EvalErr>
         requires { RunsInside R.means R.seen self.now G.pre G.post }
-        ensures { Executes R.means R.seen (rule_in R.means self.now meaning.turn (target_code target.now) (map stmt_code body.now) value) frame.old runtime.old result frame.new runtime.new }
+        ensures { Executes R.means R.seen (rule_in R.means self.now meaning.turn target.now body.now value) frame.old runtime.old result frame.new runtime.new }
     {
         begin_turn(self.reader.context.alloc, runtime, frame, target, value)?;
         self.block(frame, runtime, body)
     }
 
-    #[tactic(auto, unfolding(bq_eval_meaning_spec::specs::Statements::turns))]
+    #[tactic(auto, unfolding(bq_eval_language_spec::specs::Statements::turns))]
     fn turns(
         &self,
         frame: &mut Frame<'_>,
@@ -155,7 +155,7 @@ impl<
         elements: &mut Walk,
     ) -> Result<Flow, EvalErr>
         requires { RunsInside R.means R.seen self.now G.pre G.post }
-        ensures { Executes R.means R.seen (rule_in R.means self.now meaning.turns (target_code target.now) (map stmt_code body.now) elements.old) frame.old runtime.old result frame.new runtime.new }
+        ensures { Executes R.means R.seen (rule_in R.means self.now meaning.turns target.now body.now elements.old) frame.old runtime.old result frame.new runtime.new }
     {
         while let Some(value) = elements.next()? {
             match self.turn(frame, runtime, target, body, value)? {
@@ -178,7 +178,7 @@ impl<
         body: &[Stmt],
     ) -> Result<Flow, EvalErr>
         requires { RunsInside R.means R.seen self.now G.pre G.post }
-        ensures { Executes R.means R.seen (walk R.means self.now (target_code target.now) iterable.now (map stmt_code body.now)) frame.old runtime.old result frame.new runtime.new }
+        ensures { Executes R.means R.seen (walk R.means self.now target.now iterable.now body.now) frame.old runtime.old result frame.new runtime.new }
     {
         let mut elements = runtime.begin_walk(self.reader.context.alloc, iterable)?;
         let flow = self.turns(frame, runtime, target, body, &mut elements)?;
@@ -188,7 +188,7 @@ impl<
 
     /// Carries out `for target in iterable`.
     #[inline(never)]
-    #[tactic(auto, unfolding(bq_eval_meaning_spec::specs::Statements::for_loop))]
+    #[tactic(auto, unfolding(bq_eval_language_spec::specs::Statements::for_loop))]
     fn for_loop(
         &self,
         frame: &mut Frame<'_>,
@@ -199,7 +199,7 @@ impl<
     ) -> Result<Flow, EvalErr>
         requires runs { RunsInside R.means R.seen self.now G.pre G.post }
         requires answers { AnswersCalls R.means R.seen self.now.reader.context.now self.now.reader.call C.pre C.post }
-        ensures { Executes R.means R.seen (rule_in R.means self.now meaning.for_loop (target_code target.now) (expr_code iterable.now) (map stmt_code body.now)) frame.old runtime.old result frame.new runtime.new }
+        ensures { Executes R.means R.seen (rule_in R.means self.now meaning.for_loop target.now iterable.now body.now) frame.old runtime.old result frame.new runtime.new }
     {
         let iterable = self.reader.value(frame, runtime, iterable)?;
         self.walk(frame, runtime, target, &iterable, body)
@@ -209,7 +209,7 @@ impl<
     fn stmt(&self, frame: &mut Frame<'_>, runtime: &mut R, stmt: &Stmt) -> Result<Flow, EvalErr>
         requires runs { RunsInside R.means R.seen self.now G.pre G.post }
         requires answers { AnswersCalls R.means R.seen self.now.reader.context.now self.now.reader.call C.pre C.post }
-        ensures { Executes R.means R.seen (rule_in R.means self.now meaning.stmt (stmt_code stmt.now)) frame.old runtime.old result frame.new runtime.new }
+        ensures { Executes R.means R.seen (rule_in R.means self.now meaning.stmt stmt.now) frame.old runtime.old result frame.new runtime.new }
     {
         match stmt {
             Stmt::Simple(stmts) => self.reader.line(frame, runtime, stmts.as_slice()),
@@ -221,8 +221,7 @@ impl<
                 runtime.step(1)?;
                 self.for_loop(frame, runtime, target, iterable, body.as_slice())
             }
-            // No function holds a `def`.
-            Stmt::Def(_, _, _) => Ok(Flow::Next),
+            Stmt::Def(_, _, _) => Err(EvalErr::Bad(FaultKind::LeftOut)),
         }
     }
 }

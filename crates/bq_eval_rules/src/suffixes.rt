@@ -1,12 +1,11 @@
 //! Suffixes of operands: indices, slices and calls.
 
-ghost use Rattle.std.specs.Prelude.{◌≡◌, map};
-ghost use Rattle.bq_resolve_scope.specs.Codes.{argument_code, expr_code, optional_code, suffix_code};
-ghost use Rattle.bq_eval_meaning_spec.specs.Expressions as meaning;
-ghost use Rattle.bq_eval_rules.specs.Operands.{is_member};
+ghost use Rattle.std.specs.Prelude.{◌≡◌, Some};
+ghost use Rattle.bq_eval_language_spec.specs.Expressions as meaning;
+ghost use Rattle.bq_eval_language_spec.specs.Slots.{by_slots};
 ghost use Rattle.bq_eval_rules.specs.Nests.{AnswersCalls};
 ghost use Rattle.bq_eval_rules.specs.Effects.{Returns, Produces};
-ghost use Rattle.bq_eval_rules.specs.Evaluators.{EvaluatesInside, evals_in, calls_in, frame_of};
+ghost use Rattle.bq_eval_rules.specs.Evaluators.{EvaluatesInside, evals_in, calls_in, round_in, frame_of};
 
 use crate::context::Context;
 use crate::evaluator::Evaluator;
@@ -15,23 +14,9 @@ use bq_base::{Bytes, FaultKind};
 use bq_builtin_machine::Args;
 use bq_eval_frame::Frame;
 use bq_parse_grammar::{Argument, Expr, Referent, Suffix};
+use bq_resolve_predeclared::Predeclared;
 use bq_tree_items::Boxed;
 use bq_value::{EvalErr, Value};
-
-/// Returns whether a name refers to what a namespace holds.
-#[inline(always)]
-fn is_member(referent: Referent) -> bool
-    ensures { result ≡ is_member referent }
-{
-    match referent {
-        Referent::Unresolved(_) => false,
-        Referent::Local(_) => false,
-        Referent::Global(_) => false,
-        Referent::Loaded(_) => false,
-        Referent::Predeclared(_) => false,
-        Referent::Member(_) => true,
-    }
-}
 
 impl<
     'a,
@@ -40,20 +25,20 @@ impl<
     F: Copy + Fn(&Context<'_>, usize, C, &Frame<'_>, &mut R, &Expr) -> Result<Value, EvalErr>,
 > Evaluator<'a, R, C, F> {
     /// Applies `value[index]`.
-    #[tactic(auto, unfolding(bq_eval_meaning_spec::specs::Expressions::index))]
+    #[tactic(auto, unfolding(bq_eval_language_spec::specs::Expressions::index))]
     pub fn index(&self, runtime: &mut R, index: &Expr, value: &Value) -> Result<Value, EvalErr>
         requires { EvaluatesInside R.means R.seen self.now F.pre F.post }
-        ensures { Returns R.means R.seen (meaning.index R.means (evals_in R.means self.now) (expr_code index.now) (frame_of self.now) value.now) runtime.old result runtime.new }
+        ensures { Returns R.means R.seen (meaning.index R.means (evals_in R.means self.now) index.now (frame_of self.now) value.now) runtime.old result runtime.new }
     {
         let index = self.operand(runtime, index)?;
         runtime.index(value, index.get())
     }
 
     /// Evaluates a part of a slice.
-    #[tactic(auto, unfolding(bq_eval_meaning_spec::specs::Expressions::part))]
+    #[tactic(auto, unfolding(bq_eval_language_spec::specs::Expressions::part))]
     fn part(&self, runtime: &mut R, part: &Option<Boxed<Expr>>) -> Result<Value, EvalErr>
         requires { EvaluatesInside R.means R.seen self.now F.pre F.post }
-        ensures { Returns R.means R.seen (meaning.part R.means (evals_in R.means self.now) (optional_code part.now) (frame_of self.now)) runtime.old result runtime.new }
+        ensures { Returns R.means R.seen (meaning.part R.means (evals_in R.means self.now) part.now (frame_of self.now)) runtime.old result runtime.new }
     {
         match part {
             None => Ok(Value::none()),
@@ -63,7 +48,7 @@ impl<
 
     /// Applies `value[start:stop:step]`.
     #[inline(never)]
-    #[tactic(auto, unfolding(bq_eval_meaning_spec::specs::Expressions::slice))]
+    #[tactic(auto, unfolding(bq_eval_language_spec::specs::Expressions::slice))]
     pub fn slice(
         &self,
         runtime: &mut R,
@@ -73,7 +58,7 @@ impl<
         value: &Value,
     ) -> Result<Value, EvalErr>
         requires { EvaluatesInside R.means R.seen self.now F.pre F.post }
-        ensures { Returns R.means R.seen (meaning.slice R.means (evals_in R.means self.now) (optional_code start.now) (optional_code stop.now) (optional_code step.now) (frame_of self.now) value.now) runtime.old result runtime.new }
+        ensures { Returns R.means R.seen (meaning.slice R.means (evals_in R.means self.now) start.now stop.now step.now (frame_of self.now) value.now) runtime.old result runtime.new }
     {
         let start = self.part(runtime, start)?;
         let stop = self.part(runtime, stop)?;
@@ -82,10 +67,10 @@ impl<
     }
 
     /// Evaluates and passes an argument.
-    #[tactic(auto, unfolding(bq_eval_meaning_spec::specs::Expressions::argument), using(bq_resolve_scope::proofs::Codes::argument_out))]
+    #[tactic(auto, unfolding(bq_eval_language_spec::specs::Expressions::argument))]
     fn argument(&self, runtime: &mut R, args: &mut Args, argument: &Argument) -> Result<(), EvalErr>
         requires { EvaluatesInside R.means R.seen self.now F.pre F.post }
-        ensures { Produces R.means R.seen args.new (meaning.argument R.means (evals_in R.means self.now) (argument_code argument.now) (frame_of self.now) args.old) runtime.old result runtime.new }
+        ensures { Produces R.means R.seen args.new (meaning.argument R.means (evals_in R.means self.now) argument.now (frame_of self.now) args.old) runtime.old result runtime.new }
     {
         match argument {
             Argument::Positional(code) => {
@@ -108,7 +93,7 @@ impl<
     }
 
     /// Evaluates and passes all these arguments, after those so far.
-    #[tactic(auto, unfolding(bq_eval_meaning_spec::specs::Expressions::arguments))]
+    #[tactic(auto, unfolding(bq_eval_language_spec::specs::Expressions::arguments))]
     fn arguments(
         &self,
         runtime: &mut R,
@@ -116,7 +101,7 @@ impl<
         arguments: &[Argument],
     ) -> Result<(), EvalErr>
         requires { EvaluatesInside R.means R.seen self.now F.pre F.post }
-        ensures { Produces R.means R.seen args.new (meaning.arguments R.means (evals_in R.means self.now) (map argument_code arguments.now) (frame_of self.now) args.old) runtime.old result runtime.new }
+        ensures { Produces R.means R.seen args.new (meaning.arguments R.means (evals_in R.means self.now) arguments.now (frame_of self.now) args.old) runtime.old result runtime.new }
     {
         for argument in arguments {
             self.argument(runtime, args, argument)?;
@@ -126,7 +111,7 @@ impl<
 
     /// Applies `value.name(..)`.
     #[inline(never)]
-    #[tactic(auto, unfolding(bq_eval_meaning_spec::specs::Expressions::method))]
+    #[tactic(auto, unfolding(bq_eval_language_spec::specs::Expressions::method))]
     fn method(
         &self,
         runtime: &mut R,
@@ -135,7 +120,7 @@ impl<
         value: &Value,
     ) -> Result<Value, EvalErr>
         requires { EvaluatesInside R.means R.seen self.now F.pre F.post }
-        ensures { Returns R.means R.seen (meaning.method R.means (evals_in R.means self.now) name.now (map argument_code arguments.now) (frame_of self.now) value.now) runtime.old result runtime.new }
+        ensures { Returns R.means R.seen (meaning.method R.means (evals_in R.means self.now) name.now arguments.now (frame_of self.now) value.now) runtime.old result runtime.new }
     {
         let mut args = Args::new(self.context.alloc);
         self.arguments(runtime, &mut args, arguments)?;
@@ -151,7 +136,7 @@ impl<
 > Evaluator<'a, R, C, F> {
     /// Applies `value(..)`.
     #[inline(never)]
-    #[tactic(auto, unfolding(bq_eval_meaning_spec::specs::Expressions::call_of))]
+    #[tactic(auto, unfolding(bq_eval_language_spec::specs::Expressions::call_of))]
     fn call_of(
         &self,
         runtime: &mut R,
@@ -160,7 +145,7 @@ impl<
     ) -> Result<Value, EvalErr>
         requires nests { EvaluatesInside R.means R.seen self.now F.pre F.post }
         requires answers { AnswersCalls R.means R.seen self.now.context.now self.now.call C.pre C.post }
-        ensures { Returns R.means R.seen (meaning.call_of R.means (evals_in R.means self.now) (calls_in R.means self.now) (map argument_code arguments.now) (frame_of self.now) value.now) runtime.old result runtime.new }
+        ensures { Returns R.means R.seen (meaning.call_of R.means (evals_in R.means self.now) (calls_in R.means self.now) arguments.now (frame_of self.now) value.now) runtime.old result runtime.new }
     {
         let mut args = Args::new(self.context.alloc);
         self.arguments(runtime, &mut args, arguments)?;
@@ -168,18 +153,15 @@ impl<
     }
 
     /// Applies a suffix to a value.
-    #[tactic(auto, unfolding(bq_eval_meaning_spec::specs::Expressions::suffix), using(bq_resolve_scope::proofs::Codes::suffix_out, crate::proofs::Codes::called, crate::proofs::Codes::not_called))]
+    #[tactic(auto, unfolding(bq_eval_language_spec::specs::Expressions::suffix))]
     fn suffix(&self, runtime: &mut R, suffix: &Suffix, value: &Value) -> Result<Value, EvalErr>
         requires nests { EvaluatesInside R.means R.seen self.now F.pre F.post }
         requires answers { AnswersCalls R.means R.seen self.now.context.now self.now.call C.pre C.post }
-        ensures { Returns R.means R.seen (meaning.suffix R.means (evals_in R.means self.now) (calls_in R.means self.now) (suffix_code suffix.now) (frame_of self.now) value.now) runtime.old result runtime.new }
+        ensures { Returns R.means R.seen (meaning.suffix R.means (evals_in R.means self.now) (calls_in R.means self.now) suffix.now (frame_of self.now) value.now) runtime.old result runtime.new }
     {
         match suffix {
             Suffix::Call(arguments) => self.call_of(runtime, arguments.as_slice(), value),
             Suffix::Method(name, arguments) => {
-                if is_member(name.referent) {
-                    return self.call_of(runtime, arguments.as_slice(), value);
-                }
                 self.method(runtime, &name.name, arguments.as_slice(), value)
             }
             Suffix::Attribute(_) => Err(EvalErr::Bad(FaultKind::LeftOut)),
@@ -188,11 +170,11 @@ impl<
         }
     }
 
-    #[tactic(auto, unfolding(bq_eval_meaning_spec::specs::Expressions::suffixes))]
+    #[tactic(auto, unfolding(bq_eval_language_spec::specs::Expressions::suffixes))]
     fn suffixes(&self, runtime: &mut R, suffixes: &[Suffix], first: Value) -> Result<Value, EvalErr>
         requires nests { EvaluatesInside R.means R.seen self.now F.pre F.post }
         requires answers { AnswersCalls R.means R.seen self.now.context.now self.now.call C.pre C.post }
-        ensures { Returns R.means R.seen (meaning.suffixes R.means (evals_in R.means self.now) (calls_in R.means self.now) (map suffix_code suffixes.now) (frame_of self.now) first) runtime.old result runtime.new }
+        ensures { Returns R.means R.seen (meaning.suffixes R.means (evals_in R.means self.now) (calls_in R.means self.now) suffixes.now (frame_of self.now) first) runtime.old result runtime.new }
     {
         let mut value = first;
         for suffix in suffixes {
@@ -203,7 +185,7 @@ impl<
 
     /// Applies any number of suffixes to an operand.
     #[inline(never)]
-    #[tactic(auto, unfolding(bq_eval_meaning_spec::specs::Expressions::suffixes), using(crate::proofs::Mapped::map_none, crate::proofs::Mapped::map_first))]
+    #[tactic(auto, unfolding(bq_eval_language_spec::specs::Expressions::suffixes))]
     fn long_suffixed(
         &self,
         runtime: &mut R,
@@ -212,7 +194,7 @@ impl<
     ) -> Result<Value, EvalErr>
         requires nests { EvaluatesInside R.means R.seen self.now F.pre F.post }
         requires answers { AnswersCalls R.means R.seen self.now.context.now self.now.call C.pre C.post }
-        ensures { Returns R.means R.seen (meaning.suffixes R.means (evals_in R.means self.now) (calls_in R.means self.now) (map suffix_code suffixes.now) (frame_of self.now) operand.now) runtime.old result runtime.new }
+        ensures { Returns R.means R.seen (meaning.suffixes R.means (evals_in R.means self.now) (calls_in R.means self.now) suffixes.now (frame_of self.now) operand.now) runtime.old result runtime.new }
     {
         match suffixes {
             [] => Ok(operand.share()?),
@@ -224,7 +206,42 @@ impl<
     }
 
     /// Evaluates an operand, which is only read, and its suffixes. Most often it is one.
-    #[tactic(auto, unfolding(bq_eval_meaning_spec::specs::Expressions::primary, bq_eval_meaning_spec::specs::Expressions::suffixes), using(crate::proofs::Mapped::map_only))]
+    #[tactic(auto, unfolding(bq_eval_language_spec::specs::Expressions::operand, bq_eval_language_spec::specs::Expressions::suffixes))]
+    fn suffixed(&self, runtime: &mut R, code: &Expr, suffixes: &[Suffix]) -> Result<Value, EvalErr>
+        requires nests { EvaluatesInside R.means R.seen self.now F.pre F.post }
+        requires answers { AnswersCalls R.means R.seen self.now.context.now self.now.call C.pre C.post }
+        ensures { Returns R.means R.seen (meaning.operand R.means (evals_in R.means self.now) (calls_in R.means self.now) code.now suffixes.now (frame_of self.now)) runtime.old result runtime.new }
+    {
+        runtime.step(suffixes.len() as u64)?;
+        let operand = self.operand(runtime, code)?;
+        match suffixes {
+            [suffix] => self.suffix(runtime, suffix, operand.get()),
+            _ => self.long_suffixed(runtime, suffixes, operand.get()),
+        }
+    }
+
+    /// Calls a member of a namespace, and applies these suffixes to the result.
+    #[inline(never)]
+    #[tactic(auto, unfolding(bq_eval_language_spec::specs::Expressions::call_member))]
+    fn call_member(
+        &self,
+        runtime: &mut R,
+        member: Predeclared,
+        arguments: &[Argument],
+        suffixes: &[Suffix],
+    ) -> Result<Value, EvalErr>
+        requires nests { EvaluatesInside R.means R.seen self.now F.pre F.post }
+        requires answers { AnswersCalls R.means R.seen self.now.context.now self.now.call C.pre C.post }
+        ensures { Returns R.means R.seen (meaning.call_member R.means (evals_in R.means self.now) (calls_in R.means self.now) (Some member) arguments.now suffixes.now (frame_of self.now)) runtime.old result runtime.new }
+    {
+        runtime.step(suffixes.len() as u64 + 1)?;
+        let function = runtime.predeclared(member)?;
+        let value = self.call_of(runtime, arguments, &function)?;
+        self.suffixes(runtime, suffixes, value)
+    }
+
+    /// Evaluates an operand with suffixes: a call of a namespace's member is one.
+    #[tactic(auto, unfolding(bq_eval_language_spec::specs::Expressions::primary))]
     pub fn primary(
         &self,
         runtime: &mut R,
@@ -233,13 +250,17 @@ impl<
     ) -> Result<Value, EvalErr>
         requires nests { EvaluatesInside R.means R.seen self.now F.pre F.post }
         requires answers { AnswersCalls R.means R.seen self.now.context.now self.now.call C.pre C.post }
-        ensures { Returns R.means R.seen (meaning.primary R.means (evals_in R.means self.now) (calls_in R.means self.now) (expr_code code.now) (map suffix_code suffixes.now) (frame_of self.now)) runtime.old result runtime.new }
+        ensures { Returns R.means R.seen (meaning.primary R.means by_slots (evals_in R.means self.now) (calls_in R.means self.now) (round_in self.now) code.now suffixes.now (frame_of self.now)) runtime.old result runtime.new }
     {
-        runtime.step(suffixes.len() as u64)?;
-        let operand = self.operand(runtime, code)?;
-        match suffixes {
-            [suffix] => self.suffix(runtime, suffix, operand.get()),
-            _ => self.long_suffixed(runtime, suffixes, operand.get()),
+        if let Expr::Name(name) = code {
+            if let Referent::Member(member) = name.referent {
+                if let [first, rest @ ..] = suffixes {
+                    if let Suffix::Method(_, arguments) = first {
+                        return self.call_member(runtime, member, arguments.as_slice(), rest);
+                    }
+                }
+            }
         }
+        self.suffixed(runtime, code, suffixes)
     }
 }

@@ -1,12 +1,11 @@
 //! Binding the parts of targets.
 
-ghost use Rattle.std.specs.Prelude.{◌≡◌, map};
+ghost use Rattle.std.specs.Prelude.{◌≡◌};
 ghost use Rattle.bq_builtin_machine.specs.Action.{◌>>=◌ as and_then};
-ghost use Rattle.bq_resolve_scope.specs.Codes.{target_code};
-ghost use Rattle.bq_eval_meaning_spec.specs.Targets as meaning;
+ghost use Rattle.bq_eval_language_spec.specs.Targets as meaning;
+ghost use Rattle.bq_eval_language_spec.specs.Slots.{by_slots, slot_of};
 ghost use Rattle.bq_eval_frame.specs.Slots.{slots_of};
 ghost use Rattle.bq_eval_rules.specs.Effects.{Produces, Rebinds, BindsParts};
-ghost use Rattle.bq_eval_rules.specs.Variables.{slot_of};
 
 use crate::places::IndexedOperands;
 use crate::runtime::Runtime;
@@ -36,7 +35,7 @@ pub fn slot_of(name: &Identifier) -> usize
 }
 
 /// Carries out `x[i] = value`.
-#[tactic(auto, unfolding(bq_eval_meaning_spec::specs::Targets::bind_place))]
+#[tactic(auto, unfolding(bq_eval_language_spec::specs::Targets::bind_place))]
 fn bind_place<R: Runtime>(
     runtime: &mut R,
     frame: &Frame<'_>,
@@ -53,7 +52,7 @@ fn bind_place<R: Runtime>(
 
 /// Binds each of these targets to one of the elements.
 #[cycle(targets)]
-#[tactic(auto, unfolding(bq_eval_meaning_spec::specs::Targets::bind_each))]
+#[tactic(auto, unfolding(bq_eval_language_spec::specs::Targets::bind_each))]
 fn bind_each<R: Runtime>(
     runtime: &mut R,
     frame: &mut Frame<'_>,
@@ -62,7 +61,7 @@ fn bind_each<R: Runtime>(
     targets: &[TargetExpr],
     elements: &mut Elements,
 ) -> Result<(), EvalErr>
-    ensures { BindsParts R.means R.seen (meaning.bind_each R.means (meaning.bind_to R.means depth) (map target_code targets.now) elements.old) frame.old places.old runtime.old result frame.new places.new runtime.new }
+    ensures { BindsParts R.means R.seen (meaning.bind_each R.means (meaning.bind_to R.means by_slots depth) targets.now elements.old) frame.old places.old runtime.old result frame.new places.new runtime.new }
 {
     for target in targets {
         match elements.next() {
@@ -76,7 +75,7 @@ fn bind_each<R: Runtime>(
 /// Unpacks a value.
 #[cycle(targets)]
 #[inline(never)]
-#[tactic(auto, unfolding(bq_eval_meaning_spec::specs::Targets::unpack))]
+#[tactic(auto, unfolding(bq_eval_language_spec::specs::Targets::unpack))]
 fn unpack<R: Runtime>(
     runtime: &mut R,
     frame: &mut Frame<'_>,
@@ -85,7 +84,7 @@ fn unpack<R: Runtime>(
     targets: &[TargetExpr],
     value: Value,
 ) -> Result<(), EvalErr>
-    ensures { BindsParts R.means R.seen (meaning.unpack R.means (meaning.bind_to R.means depth) (map target_code targets.now) value) frame.old places.old runtime.old result frame.new places.new runtime.new }
+    ensures { BindsParts R.means R.seen (meaning.unpack R.means (meaning.bind_to R.means by_slots depth) targets.now value) frame.old places.old runtime.old result frame.new places.new runtime.new }
 {
     let mut elements = runtime.parts(places.alloc(), targets.len(), &value)?;
     bind_each(runtime, frame, places, depth, targets, &mut elements)
@@ -100,7 +99,7 @@ fn bind_target<R: Runtime>(
     target: &TargetExpr,
     value: Value,
 ) -> Result<(), EvalErr>
-    ensures { BindsParts R.means R.seen (meaning.bind_target R.means (meaning.bind_to R.means depth) (target_code target.now) value) frame.old places.old runtime.old result frame.new places.new runtime.new }
+    ensures { BindsParts R.means R.seen (meaning.bind_target R.means by_slots (meaning.bind_to R.means by_slots depth) target.now value) frame.old places.old runtime.old result frame.new places.new runtime.new }
 {
     match target {
         TargetExpr::Name(name) => Ok(frame.fill(slot_of(name), value)?),
@@ -116,7 +115,7 @@ fn bind_target<R: Runtime>(
 
 /// Binds the parts of a target that is at most `depth` layers deep.
 #[cycle(targets)]
-#[tactic(auto, unfolding(bq_eval_meaning_spec::specs::Targets::bind_to))]
+#[tactic(auto, unfolding(bq_eval_language_spec::specs::Targets::bind_to))]
 pub fn bind_to<R: Runtime>(
     runtime: &mut R,
     frame: &mut Frame<'_>,
@@ -125,7 +124,7 @@ pub fn bind_to<R: Runtime>(
     target: &TargetExpr,
     value: Value,
 ) -> Result<(), EvalErr>
-    ensures { BindsParts R.means R.seen (meaning.bind_to R.means depth (target_code target.now) value) frame.old places.old runtime.old result frame.new places.new runtime.new }
+    ensures { BindsParts R.means R.seen (meaning.bind_to R.means by_slots depth target.now value) frame.old places.old runtime.old result frame.new places.new runtime.new }
 {
     if depth == 0 {
         return Err(EvalErr::Bad(FaultKind::Nesting));
@@ -142,7 +141,7 @@ pub fn bind_variables<R: Runtime>(
     target: &TargetExpr,
     value: Value,
 ) -> Result<(), EvalErr>
-    ensures { Rebinds R.means R.seen (meaning.bind_variables R.means (target_code target.now) value) frame.old runtime.old result frame.new runtime.new }
+    ensures { Rebinds R.means R.seen (meaning.bind_variables R.means by_slots target.now value) frame.old runtime.old result frame.new runtime.new }
 {
     match target {
         TargetExpr::Name(name) => Ok(frame.fill(slot_of(name), value)?),
@@ -152,7 +151,7 @@ pub fn bind_variables<R: Runtime>(
 
 /// Binds the variables of a `for`, whatever target they are.
 #[inline(never)]
-#[tactic(auto, unfolding(bq_eval_meaning_spec::specs::Targets::bind_variables, bq_resolve_scope::specs::Names::max_layers))]
+#[tactic(auto, unfolding(bq_eval_language_spec::specs::Targets::bind_variables, bq_resolve_scope::specs::Names::max_layers))]
 fn bind_parts<R: Runtime>(
     alloc: Global,
     runtime: &mut R,
@@ -160,7 +159,7 @@ fn bind_parts<R: Runtime>(
     target: &TargetExpr,
     value: Value,
 ) -> Result<(), EvalErr>
-    ensures { Rebinds R.means R.seen (meaning.bind_variables R.means (target_code target.now) value) frame.old runtime.old result frame.new runtime.new }
+    ensures { Rebinds R.means R.seen (meaning.bind_variables R.means by_slots target.now value) frame.old runtime.old result frame.new runtime.new }
 {
     let mut places = IndexedOperands::new(alloc);
     bind_to(runtime, frame, &mut places, MAX_LAYERS, target, value)
@@ -175,7 +174,7 @@ pub fn begin_turn<R: Runtime>(
     target: &TargetExpr,
     value: Value,
 ) -> Result<(), EvalErr>
-    ensures { Produces R.means R.seen (slots_of frame.new) (and_then (R.means.step 1) (λ _. meaning.bind_variables R.means (target_code target.now) value (slots_of frame.old))) runtime.old result runtime.new }
+    ensures { Produces R.means R.seen (slots_of frame.new) (and_then (R.means.step 1) (λ _. meaning.bind_variables R.means by_slots target.now value (slots_of frame.old))) runtime.old result runtime.new }
 {
     runtime.step(1)?;
     bind_variables(alloc, runtime, frame, target, value)

@@ -1,17 +1,10 @@
--- how much a tree weighs, by what it is made of, and how much of it is left out
-pub mod Weights
-pub mod Steps
-pub mod Opened
-pub mod Counts
--- how much the trees of each phrase weigh
-pub mod Below
+-- what is measured of a tree: what the language leaves out, and what is where it may not be
+pub mod LeftOut
+pub mod Misplaced
+-- nothing is misplaced in what the grammar gives
 pub mod ParsedExpressions
 pub mod ParsedStatements
 pub mod ParsedFiles
--- what they resolve to
-pub mod Gives
-pub mod Made
-pub mod ResolvedExpressions
-pub mod ResolvedStatements
-pub mod ResolvedFiles
+-- trees in which nothing is are sound
+pub mod Soundness
 pub mod Sound

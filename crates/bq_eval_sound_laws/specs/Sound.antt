@@ -3,101 +3,108 @@
 -- to a tuple or list.
 use Rattle.std.specs.Prelude.{ℕ, zero, suc}
 use Rattle.std.specs.List.{AllByRecursion}
-use Rattle.bq_resolve_scope.specs.declared.code.Code.{Code, out-Code}
-use Rattle.bq_resolve_scope.specs.declared.code.Code.TheOpen.{Code-F, CodeSuffix-F, CodeTarget-F}
-use Rattle.bq_resolve_scope.specs.declared.code.CodeBranch.{CodeBranch, out-CodeBranch}
-use Rattle.bq_resolve_scope.specs.declared.code.CodeFunction.{CodeFunction}
-use Rattle.bq_resolve_scope.specs.declared.code.CodeSmall.{CodeSmall}
-use Rattle.bq_resolve_scope.specs.declared.code.CodeSmall.TheVariants as small
-use Rattle.bq_resolve_scope.specs.declared.code.CodeStmt.{CodeStmt, out-CodeStmt}
-use Rattle.bq_resolve_scope.specs.declared.code.CodeStmt.TheOpen.{CodeStmt-F}
-use Rattle.bq_resolve_scope.specs.declared.code.CodeSuffix.{CodeSuffix, out-CodeSuffix}
-use Rattle.bq_resolve_scope.specs.declared.code.CodeTarget.{CodeTarget, out-CodeTarget}
-use Rattle.bq_resolve_scope.specs.declared.code.CodeTopLevel.{CodeTopLevel}
-use Rattle.bq_resolve_scope.specs.declared.code.FileStmt.{FileStmt}
-use Rattle.bq_resolve_scope.specs.declared.code.FileStmt.TheVariants as s
-use Rattle.bq_resolve_scope.specs.declared.code.Resolved.{Resolved}
-use Rattle.bq_resolve_scope.specs.Names.{max_layers}
-use Rattle.bq_eval_meaning_spec.specs.Trees.{CodeLayer, SuffixLayer, TargetLayer, StmtLayer}
-use Rattle.bq_eval_meaning_laws.specs.Layers.{OptionalParts, CodeParts}
+use Rattle.bq_parse_grammar.specs.declared.tree.Argument.TheOpen.{Expr-F, Suffix-F, TargetExpr-F}
+use Rattle.bq_parse_grammar.specs.declared.tree.Branch.{Branch, out-Branch}
+use Rattle.bq_parse_grammar.specs.declared.tree.Expr.{Expr, out-Expr}
+use Rattle.bq_parse_grammar.specs.declared.tree.SmallKind.{SmallKind}
+use Rattle.bq_parse_grammar.specs.declared.tree.SmallKind.TheVariants as small
+use Rattle.bq_parse_grammar.specs.declared.tree.SmallStmt.{SmallStmt}
+use Rattle.bq_parse_grammar.specs.declared.tree.Stmt.{Stmt, out-Stmt}
+use Rattle.bq_parse_grammar.specs.declared.tree.Stmt.TheOpen.{Stmt-F}
+use Rattle.bq_parse_grammar.specs.declared.tree.Suffix.{Suffix, out-Suffix}
+use Rattle.bq_parse_grammar.specs.declared.tree.TargetExpr.{TargetExpr, out-TargetExpr}
+use Rattle.bq_parse_grammar.specs.Targets.{ExprLayer, SuffixLayer}
+use Rattle.bq_resolve_scope.specs.declared.file.FileLine.{FileLine}
+use Rattle.bq_resolve_scope.specs.declared.file.Function.{Function}
+use Rattle.bq_resolve_scope.specs.declared.file.Outside.{Outside}
+use Rattle.bq_resolve_scope.specs.declared.file.Outside.TheVariants as outside
+use Rattle.bq_resolve_scope.specs.declared.file.ResolvedFile.{ResolvedFile}
+use Rattle.bq_resolve_scope.specs.Names.{TargetLayer, max_layers}
+use Rattle.bq_eval_language_spec.specs.Trees.{StmtLayer}
+use Rattle.bq_eval_meaning_laws.specs.Layers.{OptionalParts, ExprParts}
 use Rattle.bq_eval_depth_laws.specs.Fits.{TargetFits, VariableParts}
 
 -- ---- targets
 
 -- the variables of a `for` are names: no part of them has an expression
-abbrev pub NoExpr : Code → Type 0
+abbrev pub NoExpr : Expr → Type 0
 NoExpr x = ⊥
 
-abbrev pub AreNames : CodeTarget → Type 0
+abbrev pub AreNames : TargetExpr → Type 0
 AreNames t = TargetFits NoExpr max_layers t
 
 -- what is augmented is a name or `x[i]`
 abbrev pub IsOneLayer : TargetLayer → Type 0
-IsOneLayer (CodeTarget-F.CodeTarget::Tuple ts) = ⊥
-IsOneLayer (CodeTarget-F.CodeTarget::List ts) = ⊥
+IsOneLayer (TargetExpr-F.TargetExpr::Tuple ts) = ⊥
+IsOneLayer (TargetExpr-F.TargetExpr::List ts) = ⊥
 IsOneLayer _ = Unit {0}
 
-abbrev pub IsOne : CodeTarget → Type 0
-IsOne t = IsOneLayer (out-CodeTarget t)
+abbrev pub IsOne : TargetExpr → Type 0
+IsOne t = IsOneLayer (out-TargetExpr t)
 
 -- ---- expressions
 
 -- `.name` occurs only before a call
 abbrev pub SuffixIsKeptLayer : SuffixLayer → Type 0
-SuffixIsKeptLayer (CodeSuffix-F.Attribute name) = ⊥
+SuffixIsKeptLayer (Suffix-F.Attribute name) = ⊥
 SuffixIsKeptLayer _ = Unit {0}
 
-abbrev pub SuffixIsKept : CodeSuffix → Type 0
-SuffixIsKept x = SuffixIsKeptLayer (out-CodeSuffix x)
+abbrev pub SuffixIsKept : Suffix → Type 0
+SuffixIsKept x = SuffixIsKeptLayer (out-Suffix x)
 
-abbrev pub IsKept : CodeLayer → Type 0
-IsKept Code-F.Lambda = ⊥
-IsKept (Code-F.Primary x xs) = AllByRecursion SuffixIsKept xs
+abbrev pub IsKept : ExprLayer → Type 0
+IsKept Expr-F.Lambda = ⊥
+IsKept (Expr-F.Primary x xs) = AllByRecursion SuffixIsKept xs
 IsKept _ = Unit {0}
 
-unfoldable pub CodeIsSound : ℕ → Code → Type 0
-CodeIsSound zero x = ⊥
-CodeIsSound (suc layers) x = CodeParts (CodeIsSound layers) (out-Code x) × VariableParts AreNames (out-Code x) × IsKept (out-Code x)
+unfoldable pub ExprIsSoundTo : ℕ → Expr → Type 0
+ExprIsSoundTo zero x = ⊥
+ExprIsSoundTo (suc layers) x = ExprParts (ExprIsSoundTo layers) (out-Expr x) × VariableParts AreNames (out-Expr x) × IsKept (out-Expr x)
 
-abbrev pub ExprIsSound : Code → Type 0
-ExprIsSound x = CodeIsSound max_layers x
+abbrev pub ExprIsSound : Expr → Type 0
+ExprIsSound x = ExprIsSoundTo max_layers x
 
-abbrev pub PlaceIsSound : CodeTarget → Type 0
+abbrev pub PlaceIsSound : TargetExpr → Type 0
 PlaceIsSound t = TargetFits ExprIsSound max_layers t
 
 -- ---- statements
 
-abbrev pub SmallIsSound : CodeSmall → Type 0
-SmallIsSound (small.Expr x) = ExprIsSound x
-SmallIsSound (small.Assign t x) = PlaceIsSound t × ExprIsSound x
-SmallIsSound (small.Augment t o x) = PlaceIsSound t × IsOne t × ExprIsSound x
-SmallIsSound (small.Return x) = OptionalParts ExprIsSound x
-SmallIsSound _ = Unit {0}
+abbrev pub KindIsSound : SmallKind → Type 0
+KindIsSound (small.Expr x) = ExprIsSound x
+KindIsSound (small.Assign t x) = PlaceIsSound t × ExprIsSound x
+KindIsSound (small.Augment t o x) = PlaceIsSound t × IsOne t × ExprIsSound x
+KindIsSound (small.Return x) = OptionalParts ExprIsSound x
+KindIsSound _ = Unit {0}
 
-abbrev pub BranchIsSound : (CodeStmt → Type 0) → CodeBranch → Type 0
-BranchIsSound inner b = ExprIsSound (out-CodeBranch b).condition × AllByRecursion inner (out-CodeBranch b).block
+abbrev pub SmallIsSound : SmallStmt → Type 0
+SmallIsSound x = KindIsSound x.kind
 
-abbrev pub StmtLayerIsSound : (CodeStmt → Type 0) → StmtLayer → Type 0
-StmtLayerIsSound inner (CodeStmt-F.Simple xs) = AllByRecursion SmallIsSound xs
-StmtLayerIsSound inner (CodeStmt-F.If bs otherwise) = AllByRecursion (BranchIsSound inner) bs × AllByRecursion inner otherwise
-StmtLayerIsSound inner (CodeStmt-F.For t x body) = AreNames t × ExprIsSound x × AllByRecursion inner body
+abbrev pub BranchIsSound : (Stmt → Type 0) → Branch → Type 0
+BranchIsSound inner b = ExprIsSound (out-Branch b).condition × AllByRecursion inner (out-Branch b).block
 
-unfoldable pub StmtIsSound : ℕ → CodeStmt → Type 0
+-- in a function there is no `def`
+abbrev pub StmtLayerIsSound : (Stmt → Type 0) → StmtLayer → Type 0
+StmtLayerIsSound inner (Stmt-F.Simple xs) = AllByRecursion SmallIsSound xs
+StmtLayerIsSound inner (Stmt-F.If bs otherwise) = AllByRecursion (BranchIsSound inner) bs × AllByRecursion inner otherwise
+StmtLayerIsSound inner (Stmt-F.For t x body) = AreNames t × ExprIsSound x × AllByRecursion inner body
+StmtLayerIsSound inner (Stmt-F.Def n ps body) = ⊥
+
+unfoldable pub StmtIsSound : ℕ → Stmt → Type 0
 StmtIsSound zero x = ⊥
-StmtIsSound (suc layers) x = StmtLayerIsSound (StmtIsSound layers) (out-CodeStmt x)
+StmtIsSound (suc layers) x = StmtLayerIsSound (StmtIsSound layers) (out-Stmt x)
 
 -- ---- files
 
-unfoldable pub FunctionIsSound : CodeFunction → Type 0
+unfoldable pub FunctionIsSound : Function → Type 0
 FunctionIsSound d = AllByRecursion (StmtIsSound max_layers) d.body
 
-abbrev pub FileStmtIsSound : FileStmt → Type 0
-FileStmtIsSound (s.Simple xs) = AllByRecursion SmallIsSound xs
-FileStmtIsSound (s.Def d) = PlaceIsSound d.target × AllByRecursion ExprIsSound d.defaults
+abbrev pub OutsideIsSound : Outside → Type 0
+OutsideIsSound (outside.Simple xs) = AllByRecursion SmallIsSound xs
+OutsideIsSound (outside.Def d) = AllByRecursion ExprIsSound d.defaults
 
-abbrev pub TopLevelIsSound : CodeTopLevel → Type 0
-TopLevelIsSound t = FileStmtIsSound t.statement
+abbrev pub LineIsSound : FileLine → Type 0
+LineIsSound l = OutsideIsSound l.statement
 
 -- all trees of a file
-abbrev pub FileIsSound : Resolved → Type 0
-FileIsSound file = AllByRecursion TopLevelIsSound file.statements × AllByRecursion FunctionIsSound file.functions
+abbrev pub FileIsSound : ResolvedFile → Type 0
+FileIsSound file = AllByRecursion LineIsSound file.statements × AllByRecursion FunctionIsSound file.functions

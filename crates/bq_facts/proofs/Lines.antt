@@ -13,8 +13,8 @@ use Rattle.bq_package_target.specs.declared.target.Target.{Target}
 use Rattle.bq_package_target.specs.declared.target.TargetKind.{TargetKind}
 use Rattle.bq_package_target.specs.declared.target.TargetKind.TheVariants as k
 use Rattle.bq_package_target.specs.declared.value.GivenAttribute.{GivenAttribute}
-use Rattle.bq_resolve_scope.specs.declared.code.LoadStmt.{LoadStmt}
-use Rattle.bq_resolve_scope.specs.declared.code.LoadedSymbol.{LoadedSymbol}
+use Rattle.bq_resolve_scope.specs.declared.loads.LoadStmt.{LoadStmt}
+use Rattle.bq_resolve_scope.specs.declared.loads.LoadedSymbol.{LoadedSymbol}
 use Rattle.bq_facts.specs.Attributes.{attribute_member, json_attributes, json_value}
 use Rattle.bq_facts.specs.FaultObject.{fault_object}
 use Rattle.bq_facts.specs.Labels.{json_label, json_labels}

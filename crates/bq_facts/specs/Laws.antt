@@ -7,7 +7,7 @@ use Rattle.bq_label.specs.Packages.{label_path}
 use Rattle.bq_base_fault_line.specs.declared.fault_line.FaultLine.{FaultLine}
 use Rattle.bq_facts_json.specs.Json.{value_text}
 use Rattle.bq_package_target.specs.declared.target.Target.{Target}
-use Rattle.bq_resolve_scope.specs.declared.code.LoadStmt.{LoadStmt}
+use Rattle.bq_resolve_scope.specs.declared.loads.LoadStmt.{LoadStmt}
 use Rattle.bq_facts.specs.Deps.{AreDirect}
 use Rattle.bq_facts.specs.FaultObject.{fault_object, file_labelled}
 use Rattle.bq_facts.specs.ModuleLine.{module_line}

@@ -6,8 +6,8 @@ use Rattle.std.specs.List.{zip}
 use Rattle.bq_facts_json.specs.Values.{Member, comma, json_array, json_object}
 use Rattle.bq_label.specs.Label.{LabelParts, full_form}
 use Rattle.bq_label.specs.Packages.{label_path}
-use Rattle.bq_resolve_scope.specs.declared.code.LoadStmt.{LoadStmt}
-use Rattle.bq_resolve_scope.specs.declared.code.LoadedSymbol.{LoadedSymbol}
+use Rattle.bq_resolve_scope.specs.declared.loads.LoadStmt.{LoadStmt}
+use Rattle.bq_resolve_scope.specs.declared.loads.LoadedSymbol.{LoadedSymbol}
 use Rattle.bq_facts.specs.Members.{string_member}
 
 -- the name that is bound, and the symbol of the other file

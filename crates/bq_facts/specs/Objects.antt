@@ -13,8 +13,8 @@ use Rattle.bq_package_target.specs.declared.target.TargetKind.{TargetKind}
 use Rattle.bq_package_target.specs.declared.target.TargetKind.TheVariants as k
 use Rattle.bq_package_target.specs.declared.value.GivenAttribute.{GivenAttribute}
 use Rattle.bq_query_target_sets.specs.Texts.{kind_text}
-use Rattle.bq_resolve_scope.specs.declared.code.LoadStmt.{LoadStmt}
-use Rattle.bq_resolve_scope.specs.declared.code.LoadedSymbol.{LoadedSymbol}
+use Rattle.bq_resolve_scope.specs.declared.loads.LoadStmt.{LoadStmt}
+use Rattle.bq_resolve_scope.specs.declared.loads.LoadedSymbol.{LoadedSymbol}
 use Rattle.bq_facts.specs.FaultObject.{fault_code, file_labelled}
 
 abbrev pub labelled : List ℕ → LabelParts → Named

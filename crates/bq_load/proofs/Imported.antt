@@ -10,7 +10,7 @@ use Rattle.bq_label.specs.Label.{LabelParts}
 use Rattle.bq_label_set.specs.Labels.{with_labels}
 use Rattle.bq_label_set.proofs.Added.{each_label_once, the_labels_added}
 use Rattle.bq_label_set.proofs.Numbers.{the_number}
-use Rattle.bq_resolve_scope.specs.declared.code.LoadStmt.{LoadStmt}
+use Rattle.bq_resolve_scope.specs.declared.loads.LoadStmt.{LoadStmt}
 use Rattle.bq_value.specs.Datum.{Datum}
 use Rattle.bq_load_front.specs.Code.{◌>>=◌}
 use Rattle.bq_load_front.specs.NamedFiles.{place_named}

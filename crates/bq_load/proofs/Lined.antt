@@ -4,7 +4,7 @@ use Rattle.std.specs.Prelude.{bytes_eq, if◌then◌else◌}
 use Rattle.std.proofs.lemmas.List.{drop_more}
 use Rattle.std.proofs.Math.ListN.{drop_of_length-le}
 use Rattle.bq_label.specs.Label.{LabelParts, full_form}
-use Rattle.bq_resolve_scope.specs.declared.code.LoadStmt.{LoadStmt}
+use Rattle.bq_resolve_scope.specs.declared.loads.LoadStmt.{LoadStmt}
 use Rattle.bq_load_discover.proofs.Steps.{none_further}
 use Rattle.bq_load.specs.Results.{line_of_load}
 use Rattle.bq_load.proofs.Imported.{drop_at}

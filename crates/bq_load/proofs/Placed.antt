@@ -4,7 +4,7 @@ use Rattle.std.specs.Prelude.{IfSome}
 use Rattle.std.specs.declared.alloc.Global.{Global}
 use Rattle.std.specs.declared.sync.Arc.{Arc}
 use Rattle.bq_resolve_scope.specs.Names.{Name}
-use Rattle.bq_resolve_scope.specs.declared.code.Resolved.{Resolved}
+use Rattle.bq_resolve_scope.specs.declared.file.ResolvedFile.{ResolvedFile}
 use Rattle.bq_load_module.specs.declared.outcome.LoadedModule.{LoadedModule}
 use Rattle.bq_load.specs.Views.{module_view, module_views}
 use Rattle.bq_load.specs.Places.{Places, HasPlaces, AllPlaced}
@@ -21,7 +21,7 @@ module _ {M : Type 0} (names : M → List Name) where
   next_placed (n ∷ ms) (suc i) m (q ∷ ps) p below is wide has all = (all.0, next_placed ms i m ps p (omega (arith, below)) is (omega (arith, wide)) has all.1)
 
 -- a module that has a map has its places there
-module _ (code : List (Option Resolved)) where
+module _ (code : List (Option ResolvedFile)) where
   pub placed_at : (ms : List (Arc LoadedModule Global)) (ps : List (Option Places)) (i : ℕ) (p : Places) → AllPlaced (names_of code ms) ps → slice_get ps i ≡ Some (Some p)
       → HasPlaces 0 (names_by code (slice_get (module_views ms) i)) p
   placed_at [] [] i p all has = absurd (cc)

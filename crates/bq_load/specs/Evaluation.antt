@@ -8,7 +8,7 @@ use Rattle.bq_parse_grammar.specs.declared.tree.FileKind.{FileKind}
 use Rattle.bq_parse_grammar.specs.declared.tree.FileKind.TheVariants as kinds
 use Rattle.bq_label.specs.Label.{LabelParts, package_of}
 use Rattle.bq_label_set.specs.Labels.{with_labels}
-use Rattle.bq_resolve_scope.specs.declared.code.Resolved.{Resolved}
+use Rattle.bq_resolve_scope.specs.declared.file.ResolvedFile.{ResolvedFile}
 use Rattle.bq_value.specs.Datum.{Datum}
 use Rattle.bq_builtin_machine.specs.Action.{Run}
 use Rattle.bq_builtin_machine.specs.State.{State}
@@ -40,7 +40,7 @@ abbrev pub kept_first : LoadingParts → LabelParts → HeldPackage
 kept_first x l = kept_by x l (kind_of l)
 
 -- the statements of a file run as the module of this number, with these modules loaded and a value for each clause of its loads
-unfoldable pub evaluation : LoadingParts → ℕ → LabelParts → Resolved → List ModuleView → List Datum → Run (State × HeldPackage) Frame
+unfoldable pub evaluation : LoadingParts → ℕ → LabelParts → ResolvedFile → List ModuleView → List Datum → Run (State × HeldPackage) Frame
 evaluation x m l file modules values = module_run x.names meaning (codes_of x.modules) m file (map (λ v. v.frozen) modules) values x.limit (kept_first x l)
 
 -- the statements of this module's file run, where the host begins as for the file of this label
@@ -48,7 +48,7 @@ abbrev pub hosted_run : Loading → LabelParts → ResolvedModule → Run (State
 hosted_run l label m = run_of l.built_ins meaning m l.limit (kept_first (loading_of l) label)
 
 -- what a file evaluates to as the module of this number, with these modules loaded and a value for each clause of its loads
-abbrev pub file_after : LoadingParts → ℕ → LabelParts → Resolved → List ModuleView → List Datum → Result ModuleView FailedView
+abbrev pub file_after : LoadingParts → ℕ → LabelParts → ResolvedFile → List ModuleView → List Datum → Result ModuleView FailedView
 file_after x m l file modules values = module_after file values (evaluation x m l file modules values)
 
 -- ---- a module
@@ -56,7 +56,7 @@ file_after x m l file modules values = module_after file values (evaluation x m 
 abbrev pub loaded_parts : LoadingParts → Front → List ModuleView → LoadedParts
 loaded_parts x front modules = record { files = with_labels [] front.loads; modules = modules; code = codes_of x.modules }
 
-abbrev pub by_imports : LoadingParts → ℕ → LabelParts → Resolved → List ModuleView → Result (List Datum) Fault → Result ModuleView FailedView
+abbrev pub by_imports : LoadingParts → ℕ → LabelParts → ResolvedFile → List ModuleView → Result (List Datum) Fault → Result ModuleView FailedView
 by_imports x m l file modules (Err why) = Err (not_evaluated why)
 by_imports x m l file modules (Ok values) = file_after x m l file modules values
 

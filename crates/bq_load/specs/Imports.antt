@@ -10,9 +10,9 @@ use Rattle.bq_base.specs.declared.fault.FaultKind.TheVariants as f
 use Rattle.bq_label.specs.Label.{LabelParts}
 use Rattle.bq_label_set.specs.Labels.{with_labels}
 use Rattle.bq_resolve_scope.specs.Names.{Name}
-use Rattle.bq_resolve_scope.specs.declared.code.LoadStmt.{LoadStmt}
-use Rattle.bq_resolve_scope.specs.declared.code.LoadedSymbol.{LoadedSymbol}
-use Rattle.bq_resolve_scope.specs.declared.code.Resolved.{Resolved}
+use Rattle.bq_resolve_scope.specs.declared.loads.LoadStmt.{LoadStmt}
+use Rattle.bq_resolve_scope.specs.declared.loads.LoadedSymbol.{LoadedSymbol}
+use Rattle.bq_resolve_scope.specs.declared.file.ResolvedFile.{ResolvedFile}
 use Rattle.bq_value.specs.Datum.{Datum}
 use Rattle.bq_load_front.specs.Code.{◌>>=◌}
 use Rattle.bq_load_discover.specs.Edges.{number_in}
@@ -26,7 +26,7 @@ use Rattle.bq_load.specs.Views.{ModuleView, module_view, module_views}
 pub record LoadedParts : Type 0 where
   pub files : List LabelParts
   pub modules : List ModuleView
-  pub code : List (Option Resolved)
+  pub code : List (Option ResolvedFile)
 
 abbrev pub loaded_of : LoadedFiles → LoadedParts
 loaded_of x = record { files = with_labels [] x.named.now; modules = module_views x.modules.now; code = lent_files x.code.now }
@@ -43,27 +43,27 @@ value_named name [] vs = None
 value_named name (n ∷ ns) [] = None
 value_named name (n ∷ ns) (v ∷ vs) = if bytes_eq name n then Some v else value_named name ns vs
 
-abbrev pub globals_by : Option (Option Resolved) → List Name
+abbrev pub globals_by : Option (Option ResolvedFile) → List Name
 globals_by None = []
 globals_by (Some None) = []
 globals_by (Some (Some file)) = file.globals
 
 -- the names of a module's globals
-abbrev pub names_in : List (Option Resolved) → ModuleView → List Name
+abbrev pub names_in : List (Option ResolvedFile) → ModuleView → List Name
 names_in code m = globals_by (slice_get code m.frozen.own)
 
-abbrev pub names_by : List (Option Resolved) → Option ModuleView → List Name
+abbrev pub names_by : List (Option ResolvedFile) → Option ModuleView → List Name
 names_by code None = []
 names_by code (Some m) = names_in code m
 
-abbrev pub names_of : List (Option Resolved) → List (Arc LoadedModule Global) → List (List Name)
+abbrev pub names_of : List (Option ResolvedFile) → List (Arc LoadedModule Global) → List (List Name)
 names_of code ms = map (λ m. names_in code (module_view m.value)) ms
 
 -- the value of a module's global
-abbrev pub global_of : List (Option Resolved) → ModuleView → Name → Option Datum
+abbrev pub global_of : List (Option ResolvedFile) → ModuleView → Name → Option Datum
 global_of code m name = value_named name (globals_by (slice_get code m.frozen.own)) m.frozen.cells.globals
 
-abbrev pub global_by : List (Option Resolved) → Option ModuleView → Name → Option Datum
+abbrev pub global_by : List (Option ResolvedFile) → Option ModuleView → Name → Option Datum
 global_by code None name = None
 global_by code (Some m) name = global_of code m name
 
@@ -77,7 +77,7 @@ or_no_symbol None = Err f.NoSymbol
 or_no_symbol (Some v) = Ok v
 
 -- what a module exports by this name: F34 where it is private, else F33 where the module has no such global
-unfoldable pub exported : List (Option Resolved) → Option ModuleView → Name → Result Datum FaultKind
+unfoldable pub exported : List (Option ResolvedFile) → Option ModuleView → Name → Result Datum FaultKind
 exported code m name = if is_private name then Err f.PrivateSymbol else or_no_symbol (global_by code m name)
 
 -- ---- loads
@@ -88,7 +88,7 @@ at_symbol line name (Ok v) = Ok v
 at_symbol line name (Err kind) = Err (record { kind = kind; line = line; detail = name })
 
 -- the values so far, and one for each of these clauses; or the fault of the first bad one
-unfoldable pub clause_values : List (Option Resolved) → Option ModuleView → ℕ → List Datum → List LoadedSymbol → Result (List Datum) Fault
+unfoldable pub clause_values : List (Option ResolvedFile) → Option ModuleView → ℕ → List Datum → List LoadedSymbol → Result (List Datum) Fault
 clause_values code m line done [] = Ok done
 clause_values code m line done (c ∷ cs) = at_symbol line c.symbol (exported code m c.symbol) >>= λ v. clause_values code m line (done ++ v ∷ []) cs
 

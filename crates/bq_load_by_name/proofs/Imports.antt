@@ -4,9 +4,9 @@ use Rattle.std.specs.Prelude.{if◌then◌else◌}
 use Rattle.bq_base.specs.declared.fault.FaultKind.TheVariants as f
 use Rattle.bq_label.specs.Label.{LabelParts}
 use Rattle.bq_resolve_scope.specs.Names.{Name}
-use Rattle.bq_resolve_scope.specs.declared.code.LoadStmt.{LoadStmt}
-use Rattle.bq_resolve_scope.specs.declared.code.LoadedSymbol.{LoadedSymbol}
-use Rattle.bq_resolve_scope.specs.declared.code.Resolved.{Resolved}
+use Rattle.bq_resolve_scope.specs.declared.loads.LoadStmt.{LoadStmt}
+use Rattle.bq_resolve_scope.specs.declared.loads.LoadedSymbol.{LoadedSymbol}
+use Rattle.bq_resolve_scope.specs.declared.file.ResolvedFile.{ResolvedFile}
 use Rattle.bq_resolve_by_name.specs.Files.{ParsedFile, IsCodeOf}
 use Rattle.bq_resolve_by_name.specs.Loads.{written_load}
 use Rattle.bq_resolve_by_name.specs.Resolution.{Maybe}
@@ -21,7 +21,7 @@ use Rattle.bq_eval_by_name.proofs.Units.{in_place}
 use Rattle.bq_load_by_name.specs.Imports.{LoadedParts, module_named, global_by, exported, symbol_values, imports}
 use Rattle.bq_load_by_name.proofs.Cases.{globals_by}
 
-globals_same : (x : Option (Option ParsedFile)) (c : Option (Option Resolved)) → Maybe (Maybe IsCodeOf) x c → globals_by x ≡ slots.globals_by c
+globals_same : (x : Option (Option ParsedFile)) (c : Option (Option ResolvedFile)) → Maybe (Maybe IsCodeOf) x c → globals_by x ≡ slots.globals_by c
 globals_same None None h = refl
 globals_same None (Some c) h = absurd h
 globals_same (Some x) None h = absurd h
@@ -30,7 +30,7 @@ globals_same (Some None) (Some (Some c)) h = absurd h
 globals_same (Some (Some x)) (Some None) h = absurd h
 globals_same (Some (Some x)) (Some (Some c)) h = sym (globals_kept x c h)
 
-module _ (parsed : List (Option ParsedFile)) (codes : List (Option Resolved)) (are : AreCodesOf parsed codes) where
+module _ (parsed : List (Option ParsedFile)) (codes : List (Option ResolvedFile)) (are : AreCodesOf parsed codes) where
   global_same : (m : Option ModuleView) (name : Name) → global_by parsed m name ≡ slots.global_by codes m name
   global_same None name = refl
   global_same (Some m) name =

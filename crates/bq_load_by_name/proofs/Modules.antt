@@ -5,7 +5,7 @@ use Rattle.bq_parse_grammar.specs.declared.tree.FileKind.{FileKind}
 use Rattle.bq_parse_grammar.specs.declared.tree.FileKind.TheVariants as kinds
 use Rattle.bq_label.specs.Label.{LabelParts}
 use Rattle.bq_label_set.specs.Labels.{with_labels}
-use Rattle.bq_resolve_scope.specs.declared.code.Resolved.{Resolved}
+use Rattle.bq_resolve_scope.specs.declared.file.ResolvedFile.{ResolvedFile}
 use Rattle.bq_resolve_by_name.specs.Files.{IsCodeOf}
 use Rattle.bq_resolve_by_name.specs.Resolution.{Maybe}
 use Rattle.bq_resolve_by_name.proofs.Loads.{loads_kept}
@@ -36,7 +36,7 @@ module _ (x : LoadingParts) (all : List ParsedModule) (are : AreReadAs all x.mod
   abbrev named : ParsedParts
   named = with_modules x all
 
-  abbrev codes : List (Option Resolved)
+  abbrev codes : List (Option ResolvedFile)
   codes = codes_of x.modules
 
   kept_same : (l : LabelParts) (kind : FileKind) → kept_by named l kind ≡ slots.kept_by x l kind

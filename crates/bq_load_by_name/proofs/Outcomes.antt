@@ -7,7 +7,7 @@ use Rattle.bq_base.specs.declared.fault.FaultKind.TheVariants as f
 use Rattle.bq_label.specs.declared.workspace.File.{File}
 use Rattle.bq_label.specs.Label.{LabelParts, full_form}
 use Rattle.bq_label.specs.Packages.{packages_of}
-use Rattle.bq_resolve_scope.specs.declared.code.LoadStmt.{LoadStmt}
+use Rattle.bq_resolve_scope.specs.declared.loads.LoadStmt.{LoadStmt}
 use Rattle.bq_resolve_by_name.specs.Loads.{written_load}
 use Rattle.bq_resolve_by_name.specs.Resolution.{Maybe}
 use Rattle.bq_resolve_by_name.proofs.Loads.{loads_kept}

@@ -1,4 +1,4 @@
--- The modules of a load graph are read by the code as what their files are.
+-- The modules of a load graph are read as what their files are.
 use Rattle.std.proofs.Common.{List, [], ◌∷◌, map, Result, Ok, Err, refl, sym, subst}
 use Rattle.bq_base.specs.declared.fault.Fault.{Fault}
 use Rattle.bq_label.specs.Label.{LabelParts}
@@ -28,7 +28,7 @@ modules_are_read files rules g is =
     let inputs = inputs_of files rules in
     subst (λ (ms : List Module). AreReadAs (map (parsed_module (parsed_of inputs)) g.labels) ms) (sym is.read) (all_read inputs g.labels)
 
--- ---- so they have the code of their files
+-- ---- so they are resolved as their files are
 
 code_same : (x : Result ParsedFront Fault) (r : Result Front Fault) → IsFrontOf x r → Maybe IsCodeOf (file_by x) (code_by r)
 code_same (Ok x) (Ok front) h = h.0

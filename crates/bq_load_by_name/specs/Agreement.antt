@@ -18,14 +18,14 @@ use Rattle.bq_load_by_name.specs.Evaluation.{means}
 use Rattle.bq_load_by_name.specs.Parsed.{ParsedModule, ParsedParts, parsed_module, parsed_in}
 use Rattle.bq_load_by_name.specs.Results.{outcomes, LoadsByNames}
 
--- the code reads a module as what its file is: with the same loads and the code that the file resolves to, or the same fault
+-- a module is read as what its file is: with the same loads and what the file resolves to, or the same fault
 abbrev pub IsReadAs : ParsedModule → Module → Type 0
 IsReadAs s m = (m.label ≡ s.label) × IsFrontOf s.front m.front
 
 abbrev pub AreReadAs : List ParsedModule → List Module → Type 0
 AreReadAs ss ms = InOrder IsReadAs ss ms
 
--- what is read of a load graph, with these modules in place of those that the code has read
+-- what is read of a load graph, with these modules in place of those that were read
 abbrev pub with_modules : LoadingParts → List ParsedModule → ParsedParts
 with_modules x modules = record { modules = modules; files = x.files; packages = x.packages; rules = x.rules; names = x.names; limit = x.limit }
 

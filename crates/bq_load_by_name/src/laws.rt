@@ -2,8 +2,8 @@
 
 ghost use Rattle.bq_load_by_name.specs.Agreement.{ModulesAreRead, ModulesAgree, OutcomesAgree, WorkspacesAgree};
 
-/// The modules of a load graph are read by the code as what their files are: the same loads and the code that the file
-/// resolves to, or the same fault.
+/// The modules of a load graph are read as what their files are: the same loads and what the file resolves to, or the same
+/// fault.
 pub fn modules_are_read()
     ensures { ModulesAreRead }
 {}

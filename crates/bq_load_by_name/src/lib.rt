@@ -1,4 +1,4 @@
-//! What a workspace loads to by names, which is what a run is defined by; the laws that it is what the code gives, by slots.
+//! What a workspace loads to by names, which is what a run is defined by; the laws that it is what bq_load gives, by slots.
 //!
 //! In: nothing; the functions do nothing, and their contracts are the laws. The promise: for every workspace, schema,
 //! limit and load graph each module has by names the outcome that it has in bq_load: the same globals and cells,
@@ -6,7 +6,7 @@
 //!
 //! The definitions say by names what bq_load says by slots: `specs/Parsed.antt` (each module with what its file is),
 //! `Imports` (what a file gets of what it loads), `Evaluation` (what a module evaluates to) and `Results` (the recursion
-//! along loads). The proofs: the code reads each module as what its file is (`proofs/Read.antt`), so a file gets the same
+//! along loads). The proofs: each module is read as what its file is (`proofs/Read.antt`), so a file gets the same
 //! values by its loads (`proofs/Imports.antt`) and each module evaluates to the same, whatever it loads
 //! (`proofs/Modules.antt`). The recursion along loads is one definition over what modules evaluate to, so the
 //! outcomes are the same (`proofs/Outcomes.antt`).

@@ -32,14 +32,14 @@ impl Drop for LoadGraph {
 
 impl Model for LoadGraph {
     ghost use Rattle.bq_load_discover.specs.LoadGraph.{GraphParts, IsNumbered};
-    ghost use Rattle.bq_resolve_scope.specs.contracts.code.Code as code;
-    ghost use Rattle.bq_resolve_scope.specs.contracts.code.CodeStmt as block;
-    ghost use Rattle.bq_resolve_scope.specs.contracts.code.CodeTarget as target;
+    ghost use Rattle.bq_parse_grammar.specs.contracts.tree.Expr as expr;
+    ghost use Rattle.bq_parse_grammar.specs.contracts.tree.Stmt as stmt;
+    ghost use Rattle.bq_parse_grammar.specs.contracts.tree.TargetExpr as target;
     ghost use Rattle.std.specs.Coded.{codes};
 
     ghost Value = { GraphParts };
 
-    ghost coded = { Prim.hlevel (codes, code.the_row.coded, block.the_row.coded, target.the_row.coded) };
+    ghost coded = { Prim.hlevel (codes, expr.the_row.coded, stmt.the_row.coded, target.the_row.coded) };
 
     ghost view = { λ g. record { labels = g.labels.items; modules = g.modules.items; edges = g.edges; packages = g.packages } };
 

@@ -1,4 +1,4 @@
--- What the code gives for a file is what the file is: the fault of its names is the first rule that it breaks, and its code has its loads.
+-- What is made of a file is what the file is: the fault of its names is the first rule that it breaks, and what it resolves to has its loads.
 use Rattle.std.proofs.Common.{◌≡◌, ◌∙◌, ℕ, List, [], ◌∷◌, ◌++◌, map, Option, None, Some, Result, Ok, Err, refl, sym, ap, subst}
 use Rattle.bq_base.specs.declared.fault.Fault.{Fault}
 use Rattle.bq_source.specs.declared.token.Token.{Token}
@@ -9,8 +9,8 @@ use Rattle.bq_parse_grammar.specs.Parses.{Parses, statements_of}
 use Rattle.bq_parse_statement_laws.proofs.Verdicts.{file_reads}
 use Rattle.bq_resolve_scope.specs.Files.{resolved}
 use Rattle.bq_resolve_scope.specs.Universe.{UniverseParts}
-use Rattle.bq_resolve_scope.specs.declared.code.LoadStmt.{LoadStmt}
-use Rattle.bq_resolve_scope.specs.declared.code.Resolved.{Resolved}
+use Rattle.bq_resolve_scope.specs.declared.loads.LoadStmt.{LoadStmt}
+use Rattle.bq_resolve_scope.specs.declared.file.ResolvedFile.{ResolvedFile}
 use Rattle.bq_resolve_by_name.specs.Files.{ParsedFile, IsCodeOf}
 use Rattle.bq_resolve_by_name.specs.Loads.{written_load, file_loads}
 use Rattle.bq_resolve_by_name.specs.Violations.{first, violations}
@@ -30,8 +30,8 @@ use Rattle.bq_load_front.proofs.Cases.{parsed_at, unless_broken}
 
 -- ---- the text
 
--- the code of the file, or the same fault
-abbrev IsCode : Result ParsedFile Fault → Result Resolved Fault → Type 0
+-- what the file resolves to, or the same fault
+abbrev IsCode : Result ParsedFile Fault → Result ResolvedFile Fault → Type 0
 IsCode (Ok file) (Ok code) = IsCodeOf file code
 IsCode (Err why) (Err told) = told ≡ why
 IsCode _ _ = ⊥
@@ -56,7 +56,7 @@ module _ (universe : UniverseParts) where
   parsed_file trees = record { universe = universe; statements = trees }
 
   by_names : (ts : List Lexeme) (trees : List TopLevel) → Parses universe.kind ts (Ok trees) → (vs : List Fault) → violations universe trees ≡ vs
-      → (r : Result Resolved Fault) → resolved universe trees ≡ r → IsCode (unless_broken (parsed_file trees) vs) r
+      → (r : Result ResolvedFile Fault) → resolved universe trees ≡ r → IsCode (unless_broken (parsed_file trees) vs) r
   by_names ts trees p [] is (Ok code) e = record { lexemes = ts; parses = p; names = e }
   by_names ts trees p [] is (Err told) e = absurd (no_first told (violations universe trees) is ((first_violation universe trees told).0 e))
   by_names ts trees p (v ∷ more) is (Ok code) e = absurd (not_none v more (violations universe trees) is ((without_violations universe trees).0 (code, e)))
@@ -84,21 +84,21 @@ module _ (inputs : InputParts) (own : PackageParts) where
   as_written done (x ∷ xs) = λ i. file_named inputs own (written_load x) >>= λ l. as_written (done ++ l ∷ []) xs i
 
 module _ (inputs : InputParts) (l : LabelParts) where
-  abbrev front_with : Resolved → Result (List LabelParts) Fault → Result Front Fault
+  abbrev front_with : ResolvedFile → Result (List LabelParts) Fault → Result Front Fault
   front_with code r = r >>= λ ls. Ok (record { code = code; loads = ls })
 
   abbrev parsed_with : ParsedFile → Result (List LabelParts) Fault → Result ParsedFront Fault
   parsed_with file r = r >>= λ ls. Ok (record { file = file; loads = ls })
 
-  by_labels : (file : ParsedFile) (code : Resolved) → IsCodeOf file code → (r : Result (List LabelParts) Fault) → IsFrontOf (parsed_with file r) (front_with code r)
+  by_labels : (file : ParsedFile) (code : ResolvedFile) → IsCodeOf file code → (r : Result (List LabelParts) Fault) → IsFrontOf (parsed_with file r) (front_with code r)
   by_labels file code is (Ok ls) = (is, refl)
   by_labels file code is (Err why) = refl
 
-  same_labels : (file : ParsedFile) (code : Resolved) → IsCodeOf file code
+  same_labels : (file : ParsedFile) (code : ResolvedFile) → IsCodeOf file code
       → labels_of (load_of inputs (package_of l)) [] code.loads ≡ labels_of (file_named inputs (package_of l)) [] (file_loads file.statements)
   same_labels file code is = as_written inputs (package_of l) [] code.loads ∙ ap (labels_of (file_named inputs (package_of l)) []) (loads_kept file code is)
 
-  by_file : (x : Result ParsedFile Fault) (r : Result Resolved Fault) → IsCode x r → IsFrontOf (x >>= front_from inputs l) (r >>= λ code. front_with code (labels_of (load_of inputs (package_of l)) [] code.loads))
+  by_file : (x : Result ParsedFile Fault) (r : Result ResolvedFile Fault) → IsCode x r → IsFrontOf (x >>= front_from inputs l) (r >>= λ code. front_with code (labels_of (load_of inputs (package_of l)) [] code.loads))
   by_file (Ok file) (Ok code) is =
       let ls : Result (List LabelParts) Fault = labels_of (file_named inputs (package_of l)) [] (file_loads file.statements) in
       subst (λ (z : Result (List LabelParts) Fault). IsFrontOf (parsed_with file ls) (front_with code z)) (sym (same_labels file code is)) (by_labels file code is ls)

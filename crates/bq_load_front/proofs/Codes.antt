@@ -9,27 +9,27 @@ use Rattle.bq_source_lexer.proofs.Unique.{one_reading}
 use Rattle.bq_parse_grammar.specs.declared.tree.TopLevel.{TopLevel}
 use Rattle.bq_parse_grammar.specs.Lexeme.{lexemes}
 use Rattle.bq_parse_grammar.specs.Parses.{Parses, statements_of}
-use Rattle.bq_resolve_scope.specs.declared.code.Resolved.{Resolved}
+use Rattle.bq_resolve_scope.specs.declared.file.ResolvedFile.{ResolvedFile}
 use Rattle.bq_resolve_scope.specs.Universe.{UniverseParts}
 use Rattle.bq_resolve_scope.specs.Files.{resolved}
 use Rattle.bq_parse_statement_laws.proofs.Verdicts.{file_reads, file_only}
 use Rattle.bq_load_front.specs.Code.{code_of, ◌>>=◌}
 use Rattle.bq_load_front.specs.Laws.{HasCode, HasFault, CodesOfFiles, FaultsOfFiles}
 
-no_code : (why : Fault) (code : Resolved) → Err why ≡ Ok code → ⊥
+no_code : (why : Fault) (code : ResolvedFile) → Err why ≡ Ok code → ⊥
 no_code why code e = cc
 
-abbrev no_file : Fault → Result Resolved Fault
+abbrev no_file : Fault → Result ResolvedFile Fault
 no_file why = Err why
 
 same_fault : (a b : Fault) → no_file a ≡ no_file b → a ≡ b
 same_fault a b e = cc
 
 module _ (universe : UniverseParts) (text : List ℕ) where
-  abbrev of_trees : Result (List TopLevel) Fault → Result Resolved Fault
+  abbrev of_trees : Result (List TopLevel) Fault → Result ResolvedFile Fault
   of_trees r = r >>= λ trees. resolved universe trees
 
-  abbrev of_tokens : Result (List Token) Fault → Result Resolved Fault
+  abbrev of_tokens : Result (List Token) Fault → Result ResolvedFile Fault
   of_tokens r = r >>= λ ts. of_trees (statements_of universe.kind (lexemes text ts))
 
   tokens_are : (r : Result (List Token) Fault) → Lexes text r → tokens_of text ≡ r
@@ -41,11 +41,11 @@ module _ (universe : UniverseParts) (text : List ℕ) where
   -- ---- the code
 
   code_by_trees : (tokens : List Token) → Lexes text (Ok tokens) → (r : Result (List TopLevel) Fault) → Parses universe.kind (lexemes text tokens) r
-      → (code : Resolved) → of_trees r ≡ Ok code → HasCode universe text code
+      → (code : ResolvedFile) → of_trees r ≡ Ok code → HasCode universe text code
   code_by_trees tokens l (Ok trees) p code e = record { tokens = tokens; reads = l; trees = trees; parses = p; names = e }
   code_by_trees tokens l (Err why) p code e = absurd (no_code why code e)
 
-  code_by_tokens : (r : Result (List Token) Fault) → Lexes text r → (code : Resolved) → of_tokens r ≡ Ok code → HasCode universe text code
+  code_by_tokens : (r : Result (List Token) Fault) → Lexes text r → (code : ResolvedFile) → of_tokens r ≡ Ok code → HasCode universe text code
   code_by_tokens (Ok tokens) l code e = code_by_trees tokens l (statements_of universe.kind (lexemes text tokens)) (file_reads universe.kind (lexemes text tokens)) code e
   code_by_tokens (Err why) l code e = absurd (no_code why code e)
 

@@ -1,4 +1,4 @@
--- What the code gives for a file is what the file is: names and slots agree.
+-- What is made of a file is what the file is: names and slots agree.
 use Rattle.std.specs.Prelude.{◌≡◌, Result, Ok, Err}
 use Rattle.bq_base.specs.declared.fault.Fault.{Fault}
 use Rattle.bq_label.specs.Label.{LabelParts}
@@ -9,7 +9,7 @@ use Rattle.bq_load_front.specs.Inputs.{InputParts}
 use Rattle.bq_load_front.specs.Parsed.{ParsedFront}
 use Rattle.bq_load_front.specs.Reading.{parsed_of, loads_of}
 
--- the code of the file and the same loads, or the same fault
+-- the file that it resolves to and the same loads, or the same fault
 abbrev pub IsFrontOf : Result ParsedFront Fault → Result Front Fault → Type 0
 IsFrontOf (Ok x) (Ok front) = IsCodeOf x.file front.code × (front.loads ≡ x.loads)
 IsFrontOf (Err why) (Err told) = told ≡ why
@@ -18,6 +18,6 @@ IsFrontOf _ _ = ⊥
 abbrev pub FrontsAgree : Type 0
 FrontsAgree = (inputs : InputParts) (l : LabelParts) → IsFrontOf (parsed_of inputs l) (front_of inputs l)
 
--- so a module loads by its code what it loads
+-- so a module loads, once it is resolved, what it loads
 abbrev pub LoadsAgree : Type 0
 LoadsAgree = (inputs : InputParts) (l : LabelParts) → loads_by (front_of inputs l) ≡ loads_of inputs l

@@ -5,7 +5,7 @@ use Rattle.bq_base.specs.declared.fault.Fault.{Fault}
 use Rattle.bq_source_lexer.specs.Tokens.{tokens_of}
 use Rattle.bq_parse_grammar.specs.Lexeme.{lexemes}
 use Rattle.bq_parse_grammar.specs.Parses.{statements_of}
-use Rattle.bq_resolve_scope.specs.declared.code.Resolved.{Resolved}
+use Rattle.bq_resolve_scope.specs.declared.file.ResolvedFile.{ResolvedFile}
 use Rattle.bq_resolve_scope.specs.Universe.{UniverseParts}
 use Rattle.bq_resolve_scope.specs.Files.{resolved}
 
@@ -16,7 +16,7 @@ abbrev pub ◌>>=◌ : {A B : Type 0} → Result A Fault → (A → Result B Fau
 (Ok x) >>= go = go x
 
 -- its tokens, the trees of its statements, and what their names stand for
-unfoldable pub code_of : UniverseParts → List ℕ → Result Resolved Fault
+unfoldable pub code_of : UniverseParts → List ℕ → Result ResolvedFile Fault
 code_of universe text = tokens_of text >>= λ ts. statements_of universe.kind (lexemes text ts) >>= λ trees. resolved universe trees
 
 -- the views of what functions return, under which `Gives` relates it to a definition

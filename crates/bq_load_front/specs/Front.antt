@@ -1,5 +1,5 @@
--- What the code gives for the file of a module: its code, by slots, and the files that it loads, or its first fault. `Agreement` says that it is
--- what the file is (`Parsed`).
+-- What the resolver makes of the file of a module: its resolved file and the files that it loads, or its first fault. `Agreement` says that it
+-- is what the file is (`Parsed`).
 use Rattle.std.specs.Prelude.{ℕ, List, [], Option, None, Some, Result, Ok, Err}
 use Rattle.bq_base.specs.declared.fault.Fault.{Fault}
 use Rattle.bq_base.specs.declared.fault.FaultKind.TheVariants as f
@@ -8,7 +8,7 @@ use Rattle.bq_label.specs.declared.workspace.File.{File}
 use Rattle.bq_label.specs.Label.{PackageParts, LabelParts, package_of}
 use Rattle.bq_label.specs.Packages.{label_file}
 use Rattle.bq_resolve_by_name.specs.Loads.{written_load}
-use Rattle.bq_resolve_scope.specs.declared.code.LoadStmt.{LoadStmt}
+use Rattle.bq_resolve_scope.specs.declared.loads.LoadStmt.{LoadStmt}
 use Rattle.bq_load_front.specs.declared.front.Front.{Front}
 use Rattle.bq_load_front.specs.Code.{code_of, ◌>>=◌}
 use Rattle.bq_load_front.specs.Inputs.{InputParts, universe_of}

@@ -8,7 +8,7 @@ use Rattle.bq_parse_grammar.specs.declared.tree.TopLevel.{TopLevel}
 use Rattle.bq_parse_grammar.specs.Lexeme.{lexemes}
 use Rattle.bq_parse_grammar.specs.Parses.{Parses}
 use Rattle.bq_label.specs.Label.{PackageParts, LabelParts, package_of}
-use Rattle.bq_resolve_scope.specs.declared.code.Resolved.{Resolved}
+use Rattle.bq_resolve_scope.specs.declared.file.ResolvedFile.{ResolvedFile}
 use Rattle.bq_resolve_scope.specs.Universe.{UniverseParts}
 use Rattle.bq_resolve_scope.specs.Files.{resolved}
 use Rattle.bq_resolve_by_name.specs.Files.{ParsedFile}
@@ -18,8 +18,8 @@ use Rattle.bq_load_front.specs.Inputs.{InputParts}
 use Rattle.bq_load_front.specs.Parsed.{ParsedFront, ReadsAsFile, IsFront, file_named, labels_of}
 use Rattle.bq_load_front.specs.Reading.{file_of_text, parsed_of, loads_of}
 
--- the text reads as tokens, these as statements, and the names of these stand for what the code says
-pub record HasCode (universe : UniverseParts) (text : List ℕ) (code : Resolved) : Type 0 where
+-- the text reads as tokens, these as statements, and the statements resolve to this file
+pub record HasCode (universe : UniverseParts) (text : List ℕ) (code : ResolvedFile) : Type 0 where
   pub tokens : List Token
   pub reads : Lexes text (Ok tokens)
   pub trees : List TopLevel
@@ -40,7 +40,7 @@ abbrev pub FrontsOfLabels : Type 0
 FrontsOfLabels = (inputs : InputParts) (l : LabelParts) (r : Result ParsedFront Fault) → (parsed_of inputs l ≡ r) ↔ IsFront inputs l r
 
 abbrev pub CodesOfFiles : Type 0
-CodesOfFiles = (universe : UniverseParts) (text : List ℕ) (code : Resolved) → (code_of universe text ≡ Ok code) ↔ HasCode universe text code
+CodesOfFiles = (universe : UniverseParts) (text : List ℕ) (code : ResolvedFile) → (code_of universe text ≡ Ok code) ↔ HasCode universe text code
 
 abbrev pub FaultsOfFiles : Type 0
 FaultsOfFiles = (universe : UniverseParts) (text : List ℕ) (why : Fault) → (code_of universe text ≡ Err why) ↔ HasFault universe text why

@@ -18,7 +18,7 @@ use bq_resolve_scope::{LoadStmt, ResolvedFile};
 use sqlite_items::Items;
 use std::alloc::Global;
 
-/// The code of a file, and the files that its loads name.
+/// What a file resolves to, and the files that its loads name.
 #[derive(Drop)]
 pub struct Front {
     pub code: ResolvedFile,
@@ -61,7 +61,7 @@ pub fn kind_of(label: &Label) -> FileKind
     }
 }
 
-/// Returns the code and the loads of the file of this label, or its first fault: of its text (F1 to F24), then of its
+/// Returns what the file of this label resolves to and its loads, or its first fault: of its text (F1 to F24), then of its
 /// first bad load. A label that names no file is F31; no module has such a label.
 #[tactic(auto, unfolding(crate::specs::Front::front_of))]
 pub fn front_of(alloc: Global, inputs: &Inputs<'_>, label: &Label) -> Result<Front, SourceErr>

@@ -15,8 +15,8 @@ pub fn fronts_of_labels()
     ensures { FrontsOfLabels }
 {}
 
-/// A file has a code exactly if its text reads as tokens, these as statements, and the names of these stand for
-/// something; the code is what they resolve to.
+/// A text has a resolved file exactly if it reads as tokens, these as statements, and the names of these stand for
+/// something; the file is what they resolve to.
 pub fn codes_of_files()
     ensures { CodesOfFiles }
 {}
@@ -37,8 +37,8 @@ pub fn loaded_files()
     ensures { LoadedFiles }
 {}
 
-/// What the code gives for a file is what the file is, said by names: its statements' code and the files that its loads
-/// name, or the same fault.
+/// What the resolver makes of a file is what the file is, said by names: what its statements resolve to and the files that
+/// its loads name, or the same fault.
 pub fn fronts_agree()
     ensures fronts { FrontsAgree }
     ensures loads { LoadsAgree }

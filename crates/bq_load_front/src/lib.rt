@@ -1,10 +1,10 @@
-//! A module of a workspace comes in, by its label; what its file is on its own goes out: its code and the files that it
-//! loads, or the first fault of its text (F1 to F24) or of its loads (F30, F31, F32, F37).
+//! A module of a workspace comes in, by its label; what its file is on its own goes out: what it resolves to and the
+//! files that it loads, or the first fault of its text (F1 to F24) or of its loads (F30, F31, F32, F37).
 //!
 //! The promise: [`front_of`] returns exactly what its definition says of the file: its tokens, the trees of its
 //! statements, what their names stand for, and then its loads in the order in which they are written. `specs/Parsed.antt`
 //! says by the grammar, and by names, what the file of a module is; `specs/Reading.antt` has the functions that read it
-//! ([`fronts_of_labels`]), `specs/Front.antt` the code's part, by slots; they agree ([`fronts_agree`]).
+//! ([`fronts_of_labels`]), `specs/Front.antt` what the resolver makes of it, by slots; they agree ([`fronts_agree`]).
 //!
 //! In reading order:
 //!

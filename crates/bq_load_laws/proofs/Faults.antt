@@ -1,4 +1,4 @@
--- what is read of a file is its code, or a fault of one of its parts
+-- what is read of a file is what it resolves to, or a fault of one of its parts
 pub mod Texts
 -- so is the outcome of each module
 pub mod Outcomes

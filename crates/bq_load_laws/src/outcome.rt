@@ -5,7 +5,7 @@ ghost use Rattle.bq_base.specs.declared.fault.Fault.{Fault};
 ghost use Rattle.bq_board.specs.Graph.{Loads};
 ghost use Rattle.bq_load_outcome_spec.specs.Outcome.{outcome};
 ghost use Rattle.bq_resolve_scope.specs.Names.{Name};
-ghost use Rattle.bq_resolve_scope.specs.declared.code.Resolved.{Resolved};
+ghost use Rattle.bq_resolve_scope.specs.declared.file.ResolvedFile.{ResolvedFile};
 ghost use Rattle.bq_load_front.specs.declared.front.Front.{Front};
 ghost use Rattle.bq_load.specs.Evaluation.{means};
 ghost use Rattle.bq_load.specs.Imports.{exported};
@@ -20,7 +20,7 @@ ghost use Rattle.bq_load_laws.specs.Outcomes.Prints.{PrintsAreKept};
 
 /// A private symbol is F34 whether the module has it or not; another one that it doesn't have is F33.
 pub fn symbols_are_refused_in_order()
-    ensures { (code : List (Option Resolved)) (m : Option ModuleView) (name : Name) → FailsForFirst (exported code m name) (exporting code m name) }
+    ensures { (code : List (Option ResolvedFile)) (m : Option ModuleView) (name : Name) → FailsForFirst (exported code m name) (exporting code m name) }
 {}
 
 /// A module fails for the first of the reasons that are listed, and for nothing else: F35, F38, F36, and then its own

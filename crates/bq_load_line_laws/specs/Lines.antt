@@ -10,7 +10,7 @@ use Rattle.bq_parse_grammar.specs.declared.tree.FileKind.{FileKind}
 use Rattle.bq_parse_grammar.specs.declared.tree.TopLevel.{TopLevel}
 use Rattle.bq_resolve_scope.specs.Files.{resolved}
 use Rattle.bq_resolve_scope.specs.Universe.{UniverseParts}
-use Rattle.bq_resolve_scope.specs.declared.code.Resolved.{Resolved}
+use Rattle.bq_resolve_scope.specs.declared.file.ResolvedFile.{ResolvedFile}
 
 -- the statements of a text; and its fault, where its tokens are no statements
 abbrev pub StatementsStand : Type 0
@@ -28,10 +28,10 @@ NameFaultsStand =
 
 abbrev pub LoadsStand : Type 0
 LoadsStand =
-    (universe : UniverseParts) (kind : FileKind) (text : List ℕ) (ts : List Token) (xs : List TopLevel) (code : Resolved)
+    (universe : UniverseParts) (kind : FileKind) (text : List ℕ) (ts : List Token) (xs : List TopLevel) (code : ResolvedFile)
     → Lexes text (Ok ts) → Parses kind (lexemes text ts) (Ok xs) → resolved universe xs ≡ Ok code → AllByRecursion (λ l. 1 ≤ l.line) code.loads
 
 abbrev pub CodeStands : Type 0
 CodeStands =
-    (universe : UniverseParts) (kind : FileKind) (text : List ℕ) (ts : List Token) (xs : List TopLevel) (code : Resolved)
+    (universe : UniverseParts) (kind : FileKind) (text : List ℕ) (ts : List Token) (xs : List TopLevel) (code : ResolvedFile)
     → Lexes text (Ok ts) → Parses kind (lexemes text ts) (Ok xs) → resolved universe xs ≡ Ok code → AllByRecursion (λ x. 1 ≤ x.line) code.statements

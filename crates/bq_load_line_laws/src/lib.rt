@@ -7,7 +7,7 @@
 //! empty, so its first line is a token's (`Pieces`). A tree writes its tokens (bq_parse_tree_laws), so by induction on what is written each
 //! name in it has the line of a token: whatever is around a part, and however many layers of it are looked at, the rules of names that it
 //! breaks are at such lines (`proofs/Names/Parts.antt` says so of each kind of part, `proofs/Names/Written.antt` has the induction). The fault of a file
-//! is the first of these (bq_resolve_by_name), and its code has the lines of its trees (`proofs/Names/Files.antt`).
+//! is the first of these (bq_resolve_by_name), and what it resolves to has the lines of its trees (`proofs/Names/Files.antt`).
 #![tactic(auto)]
 
 mod laws;

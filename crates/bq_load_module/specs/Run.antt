@@ -1,7 +1,7 @@
 -- What the run of a file ends in: its module, or why it failed. The host has the package of the file. What a BUILD file made is given up
 -- once its package is finished: nobody loads one.
 use Rattle.std.specs.Prelude.{ℕ, List, [], Option, Some, None, Result, Ok, Err, option_map}
-use Rattle.bq_resolve_scope.specs.declared.code.Resolved.{Resolved}
+use Rattle.bq_resolve_scope.specs.declared.file.ResolvedFile.{ResolvedFile}
 use Rattle.bq_value.specs.Cells.{FrozenView, frozen}
 use Rattle.bq_value.specs.Datum.{Datum}
 use Rattle.bq_builtin_machine.specs.Action.{Run}
@@ -30,5 +30,5 @@ abbrev pub package_left : Option HeldPackage → Option PackageTargets
 package_left None = None
 package_left (Some kept) = package_in kept
 
-unfoldable pub module_after : Resolved → List Datum → Run (State × HeldPackage) Frame → Result ModuleView FailedView
+unfoldable pub module_after : ResolvedFile → List Datum → Run (State × HeldPackage) Frame → Result ModuleView FailedView
 module_after file values run = module_by (ended file values run) (package_left (kept_after run))

@@ -6,7 +6,6 @@ use Rattle.bq_base.specs.declared.fault.SourceErr.{SourceErr}
 use Rattle.bq_base.specs.declared.fault.SourceErr.TheVariants.{Bad}
 use Rattle.bq_base.specs.Fault.{fault_at}
 use Rattle.bq_parse_grammar.specs.declared.tree.Stmt.{Stmt, out-Stmt}
-use Rattle.bq_resolve_scope.specs.declared.code.CodeStmt.{CodeStmt}
 use Rattle.bq_resolve_scope.specs.Scope.{BlockParts, FileParts}
 use Rattle.bq_resolve_scope.specs.Visit.{Passed}
 use Rattle.bq_resolve_scope.specs.Statements.{stmt_by, stmt_to}
@@ -19,10 +18,10 @@ stmt_layer file zero blocks looping x s some = absurd (some refl)
 stmt_layer file (suc layers) blocks looping x s some = let e : suc layers - 1 ≡ layers = omega arith in rw e refl
 
 -- a resolver of one layer more
-pub writes_layer : (file : FileParts) (layers : ℕ) (blocks : List BlockParts) (looping : Bool) (x : Stmt) (s new : Passed) (code : CodeStmt) (r : Result (Unit {0}) SourceErr) → layers ≢ 0
-    → Writes (stmt_by file (stmt_to file (layers - 1) blocks) blocks looping (out-Stmt x) s) r code new → Writes (stmt_to file layers blocks looping x s) r code new
-writes_layer file layers blocks looping x s new code r some writes =
-    let P : Result (CodeStmt × Passed) Fault → Type 0 = λ found. Writes found r code new in subst P (sym (stmt_layer file layers blocks looping x s some)) writes
+pub writes_layer : (file : FileParts) (layers : ℕ) (blocks : List BlockParts) (looping : Bool) (x : Stmt) (s new : Passed) (tree : Stmt) (r : Result (Unit {0}) SourceErr) → layers ≢ 0
+    → Writes (stmt_by file (stmt_to file (layers - 1) blocks) blocks looping (out-Stmt x) s) r tree new → Writes (stmt_to file layers blocks looping x s) r tree new
+writes_layer file layers blocks looping x s new tree r some writes =
+    let P : Result (Stmt × Passed) Fault → Type 0 = λ found. Writes found r tree new in subst P (sym (stmt_layer file layers blocks looping x s some)) writes
 
 no_layer : (file : FileParts) (layers : ℕ) (blocks : List BlockParts) (looping : Bool) (x : Stmt) (s : Passed) → layers ≡ 0
     → stmt_to file layers blocks looping x s ≡ Err (fault_at f.Nesting 0)

@@ -3,15 +3,13 @@ use Rattle.std.specs.Prelude.{ℕ, Bool, Result}
 use denote.Ref.{Bor, MutBor}
 use Rattle.bq_base.specs.declared.fault.SourceErr.{SourceErr}
 use Rattle.bq_parse_grammar.specs.declared.tree.Stmt.{Stmt}
-use Rattle.bq_resolve_scope.specs.declared.code.CodeStmt.{CodeStmt}
-use Rattle.bq_resolve_scope.specs.Codes.{stmt_code}
 use Rattle.bq_resolve_scope.specs.Visit.{Passed, Visit}
 use Rattle.bq_resolve_scope.specs.Statements.{stmt_to}
 use Rattle.bq_resolve_expression.specs.declared.scope.Scope.{Scope}
 use Rattle.bq_resolve_expression.specs.Walks.{Writes}
 
 -- what a statement inside resolves to in a scope, if it is at most `layers` layers deep
-abbrev pub inner : Scope → ℕ → Bool → Stmt → Visit CodeStmt
+abbrev pub inner : Scope → ℕ → Bool → Stmt → Visit Stmt
 inner scope layers = stmt_to scope.file.now layers scope.blocks.now
 
 -- statements that are at most `layers` layers deep
@@ -19,4 +17,4 @@ pub record WritesStatement (layers : ℕ) (pre : Bor Scope → ℕ → Bool → 
     (post : Bor Scope → ℕ → Bool → MutBor Passed → MutBor Stmt → Result (Unit {0}) SourceErr → MutBor Passed → MutBor Stmt → Type 0) : Type 0 where
   pub callable : (scope : Bor Scope) (looping : Bool) (old : MutBor Passed) (x : MutBor Stmt) → pre scope layers looping old x
   pub writes : (scope : Bor Scope) (looping : Bool) (old new : MutBor Passed) (x y : MutBor Stmt) (r : Result (Unit {0}) SourceErr)
-      → post scope layers looping old x r new y → Writes (stmt_to scope.now.file.now layers scope.now.blocks.now looping x.now old.now) r (stmt_code y.now) new.now
+      → post scope layers looping old x r new y → Writes (stmt_to scope.now.file.now layers scope.now.blocks.now looping x.now old.now) r y.now new.now

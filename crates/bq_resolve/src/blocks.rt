@@ -1,9 +1,8 @@
 //! Statements with blocks, over the resolver of the statements in them.
 
-ghost use Rattle.std.specs.Prelude.{[], map, true};
+ghost use Rattle.std.specs.Prelude.{[], true};
 ghost use Rattle.bq_parse_grammar.specs.declared.tree.Stmt.{out-Stmt};
-ghost use Rattle.bq_resolve_scope.specs.declared.code.CodeStmt.TheVariants as code;
-ghost use Rattle.bq_resolve_scope.specs.Codes.{branch_code, expr_code, stmt_code, target_code};
+ghost use Rattle.bq_parse_grammar.specs.declared.tree.Stmt.TheVariants as form;
 ghost use Rattle.bq_resolve_scope.specs.Visit as visit;
 ghost use Rattle.bq_resolve_scope.specs.Statements as spec;
 ghost use Rattle.bq_resolve_expression.specs.Walks.{Writes};
@@ -37,7 +36,7 @@ impl<
         statement: &mut Stmt,
     ) -> Result<(), SourceErr>
         requires { WritesStatement self.now.layers (F.pre self.now.inner) (F.post self.now.inner) }
-        ensures { Writes (inner self.now.scope self.now.layers looping statement.old walk.old) result (stmt_code statement.new) walk.new }
+        ensures { Writes (inner self.now.scope self.now.layers looping statement.old walk.old) result statement.new walk.new }
     {
         (self.inner)(&self.scope, self.layers, looping, walk, statement)
     }
@@ -50,7 +49,7 @@ impl<
         statements: &mut Items<Stmt>,
     ) -> Result<(), SourceErr>
         requires { WritesStatement self.now.layers (F.pre self.now.inner) (F.post self.now.inner) }
-        ensures { Writes (visit.each (inner self.now.scope self.now.layers looping) [] statements.old walk.old) result (map stmt_code statements.new) walk.new }
+        ensures { Writes (visit.each (inner self.now.scope self.now.layers looping) [] statements.old walk.old) result statements.new walk.new }
     {
         for at in 0..statements.len() {
             self.statement(looping, walk, statements.item_mut(at))?;
@@ -67,7 +66,7 @@ impl<
         branch: &mut Branch,
     ) -> Result<(), SourceErr>
         requires { WritesStatement self.now.layers (F.pre self.now.inner) (F.post self.now.inner) }
-        ensures { Writes (spec.branch self.now.scope.file.now (inner self.now.scope self.now.layers looping) self.now.scope.blocks.now branch.old walk.old) result (branch_code branch.new) walk.new }
+        ensures { Writes (spec.branch self.now.scope.file.now (inner self.now.scope self.now.layers looping) self.now.scope.blocks.now branch.old walk.old) result branch.new walk.new }
     {
         expr(&self.scope, walk, &mut branch.condition)?;
         self.block(looping, walk, &mut branch.block)
@@ -80,7 +79,7 @@ impl<
         branches: &mut Items<Branch>,
     ) -> Result<(), SourceErr>
         requires { WritesStatement self.now.layers (F.pre self.now.inner) (F.post self.now.inner) }
-        ensures { Writes (visit.each (spec.branch self.now.scope.file.now (inner self.now.scope self.now.layers looping) self.now.scope.blocks.now) [] branches.old walk.old) result (map branch_code branches.new) walk.new }
+        ensures { Writes (visit.each (spec.branch self.now.scope.file.now (inner self.now.scope self.now.layers looping) self.now.scope.blocks.now) [] branches.old walk.old) result branches.new walk.new }
     {
         for at in 0..branches.len() {
             self.if_branch(looping, walk, branches.item_mut(at))?;
@@ -98,7 +97,7 @@ impl<
         otherwise: &mut Items<Stmt>,
     ) -> Result<(), SourceErr>
         requires { WritesStatement self.now.layers (F.pre self.now.inner) (F.post self.now.inner) }
-        ensures { Writes (spec.if_stmt self.now.scope.file.now (inner self.now.scope self.now.layers looping) self.now.scope.blocks.now branches.old otherwise.old walk.old) result (code.If (map branch_code branches.new) (map stmt_code otherwise.new)) walk.new }
+        ensures { Writes (spec.if_stmt self.now.scope.file.now (inner self.now.scope self.now.layers looping) self.now.scope.blocks.now branches.old otherwise.old walk.old) result (form.If branches.new otherwise.new) walk.new }
     {
         self.branches(looping, walk, branches)?;
         self.block(looping, walk, otherwise)
@@ -114,7 +113,7 @@ impl<
         body: &mut Items<Stmt>,
     ) -> Result<(), SourceErr>
         requires { WritesStatement self.now.layers (F.pre self.now.inner) (F.post self.now.inner) }
-        ensures { Writes (spec.for_stmt self.now.scope.file.now (inner self.now.scope self.now.layers true) self.now.scope.blocks.now variables.old iterable.old body.old walk.old) result (code.For (target_code variables.new) (expr_code iterable.new) (map stmt_code body.new)) walk.new }
+        ensures { Writes (spec.for_stmt self.now.scope.file.now (inner self.now.scope self.now.layers true) self.now.scope.blocks.now variables.old iterable.old body.old walk.old) result (form.For variables.new iterable.new body.new) walk.new }
     {
         target(&self.scope, walk, variables)?;
         expr(&self.scope, walk, iterable)?;
@@ -129,7 +128,7 @@ impl<
         statement: &mut Stmt,
     ) -> Result<(), SourceErr>
         requires { WritesStatement self.now.layers (F.pre self.now.inner) (F.post self.now.inner) }
-        ensures { Writes (spec.stmt_by self.now.scope.file.now (inner self.now.scope self.now.layers) self.now.scope.blocks.now looping (out-Stmt statement.old) walk.old) result (stmt_code statement.new) walk.new }
+        ensures { Writes (spec.stmt_by self.now.scope.file.now (inner self.now.scope self.now.layers) self.now.scope.blocks.now looping (out-Stmt statement.old) walk.old) result statement.new walk.new }
     {
         match statement {
             Stmt::Simple(small) => line(&self.scope, looping, walk, small),

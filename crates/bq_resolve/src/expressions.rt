@@ -1,6 +1,5 @@
 //! The expressions and the targets of statements.
 
-ghost use Rattle.bq_resolve_scope.specs.Codes.{expr_code, target_code};
 ghost use Rattle.bq_resolve_scope.specs.Expressions as expressions;
 ghost use Rattle.bq_resolve_scope.specs.Statements as spec;
 ghost use Rattle.bq_resolve_expression.specs.Walks.{Writes};
@@ -17,21 +16,21 @@ fn nested(
     walk: &mut Walk,
     expr: &mut Expr,
 ) -> Result<(), SourceErr>
-    ensures { Writes (expressions.expr_to depth scope.now.file.now scope.now.blocks.now expr.old walk.old) result (expr_code expr.new) walk.new }
+    ensures { Writes (expressions.expr_to depth scope.now.file.now scope.now.blocks.now expr.old walk.old) result expr.new walk.new }
 {
     expr_to(scope, depth, walk, expr)
 }
 
 #[tactic(auto, unfolding(bq_resolve_scope::specs::Statements::expr, bq_resolve_scope::specs::Names::max_layers))]
 pub fn expr(scope: &Scope<'_>, walk: &mut Walk, expr: &mut Expr) -> Result<(), SourceErr>
-    ensures { Writes (spec.expr scope.now.file.now scope.now.blocks.now expr.old walk.old) result (expr_code expr.new) walk.new }
+    ensures { Writes (spec.expr scope.now.file.now scope.now.blocks.now expr.old walk.old) result expr.new walk.new }
 {
     expr_to(scope, MAX_LAYERS, walk, expr)
 }
 
 #[tactic(auto, unfolding(bq_resolve_scope::specs::Statements::target, bq_resolve_scope::specs::Names::max_layers))]
 pub fn target(scope: &Scope<'_>, walk: &mut Walk, target: &mut TargetExpr) -> Result<(), SourceErr>
-    ensures { Writes (spec.target scope.now.file.now scope.now.blocks.now target.old walk.old) result (target_code target.new) walk.new }
+    ensures { Writes (spec.target scope.now.file.now scope.now.blocks.now target.old walk.old) result target.new walk.new }
 {
     let rules = Rules {
         scope: *scope,

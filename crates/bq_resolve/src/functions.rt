@@ -2,8 +2,7 @@
 
 ghost use Rattle.bq_base.specs.Gives.{Gives};
 ghost use Rattle.bq_base.specs.declared.fault.SourceErr.TheVariants.{Bad};
-ghost use Rattle.bq_resolve_scope.specs.declared.code.FileStmt.TheVariants as top;
-ghost use Rattle.bq_resolve_scope.specs.Codes.{def_code};
+ghost use Rattle.bq_resolve_scope.specs.declared.file.Outside.TheVariants as line;
 ghost use Rattle.bq_resolve_scope.specs.Files as files;
 ghost use Rattle.bq_resolve_scope.specs.Statements as spec;
 ghost use Rattle.bq_resolve_expression.specs.Walks.{Walks};
@@ -13,9 +12,9 @@ use crate::parameters::{ParameterList, parameters};
 use crate::statements::stmt_to;
 use bq_base::{Bytes, SourceErr};
 use bq_parse_grammar::{Identifier, Parameter, Stmt};
-use bq_resolve_expression::{Scope, Walk, name_target};
+use bq_resolve_expression::{Scope, Walk, bound_at};
 use bq_resolve_scope::{
-    Block, CodeParameter, Def, FileNames, Function, MAX_LAYERS, Names, function_names, inside,
+    Block, Def, FileNames, Formal, Function, MAX_LAYERS, Names, function_names, inside,
 };
 use bq_tree_items::Items as Trees;
 use sqlite_items::Items;
@@ -27,7 +26,7 @@ fn function(
     outside: &Scope<'_>,
     walk: &mut Walk,
     name: Bytes,
-    parameters: Items<CodeParameter>,
+    parameters: Items<Formal>,
     names: Names,
     body: Trees<Stmt>,
 ) -> Result<usize, SourceErr>
@@ -62,11 +61,11 @@ pub fn def_stmt(
     listed: Trees<Parameter>,
     body: Trees<Stmt>,
 ) -> Result<Def, SourceErr>
-    ensures { Gives (λ d. (top.Def (def_code d), walk.new)) Bad result (files.def_stmt file.now name listed body walk.old) }
+    ensures { Gives (λ d. (line.Def d, walk.new)) Bad result (files.def_stmt file.now name listed body walk.old) }
 {
     let mut name = name;
     let outside = Scope::outside(alloc, file);
-    name_target(&outside, walk, &mut name)?;
+    bound_at(&outside, walk, &mut name)?;
     let names = function_names(alloc, listed.as_slice(), body.as_slice())?;
     let ParameterList {
         names: _,

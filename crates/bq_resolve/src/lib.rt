@@ -1,9 +1,9 @@
 //! Files: a parsed file comes in, by value; the same trees go out as a resolved file, with what each name refers to written into them,
 //! or the first fault of its names in the order of the text, F20 to F24.
 //!
-//! The promise: [`resolve`] answers just what `resolved` of `bq_resolve_scope` (`specs/Files.antt`) gives, out of memory aside: the code
-//! that its trees stand for is what contracts see of a resolved file. The head of `bq_resolve_scope` says what scopes are, and that of
-//! `bq_resolve_expression` what is written into a tree, and what a contract sees of the walk along a file.
+//! The promise: [`resolve`] answers just what `resolved` of `bq_resolve_scope` (`specs/Files.antt`) gives, out of memory aside. The head of
+//! `bq_resolve_scope` says what scopes are, and that of `bq_resolve_expression` what is written into a tree, and what a contract sees of the
+//! walk along a file.
 //!
 //! No tree is copied: the statements of functions are resolved where they stand, and then their function takes them, as it takes the
 //! defaults of its parameters and as a line of the file takes its small statements.

@@ -1,6 +1,6 @@
 //! Loads: what a file takes from other files.
 
-ghost use Rattle.bq_resolve_scope.specs.declared.code.CodeSmall.TheVariants as small;
+ghost use Rattle.bq_parse_grammar.specs.declared.tree.SmallKind.TheVariants as small;
 ghost use Rattle.bq_resolve_scope.specs.Statements as spec;
 ghost use Rattle.bq_resolve_expression.specs.Walks.{Writes};
 
@@ -21,7 +21,7 @@ pub fn load(
     line: u32,
     load: &Load,
 ) -> Result<(), SourceErr>
-    ensures { Writes (spec.load file.now line load.now walk.old) result small.Load walk.new }
+    ensures { Writes (spec.load file.now line load.now walk.old) result (small.Load load.now) walk.new }
 {
     let mut clauses = Items::from_vec(Vec::with_capacity(alloc, load.clauses.len())?);
     for clause in load.clauses.as_slice() {

@@ -2,59 +2,58 @@
 
 ghost use Rattle.bq_base.specs.Gives.{Gives};
 ghost use Rattle.bq_base.specs.declared.fault.SourceErr.TheVariants.{Bad};
-ghost use Rattle.bq_resolve_scope.specs.Scope.{FileParts};
-ghost use Rattle.bq_resolve_scope.specs.Visit.{Passed};
 ghost use Rattle.bq_resolve_scope.specs.Statements as spec;
 ghost use Rattle.bq_resolve_expression.specs.Walks.{Walks};
+ghost use Rattle.bq_resolve.specs.Parameters.{slotted};
 
 use crate::expressions::expr;
 use bq_base::{FaultKind, SourceErr};
-use bq_parse_grammar::{Expr, Identifier, Parameter};
+use bq_parse_grammar::{Expr, Identifier, Parameter, Referent};
 use bq_resolve_expression::{Scope, Walk, fault_of};
-use bq_resolve_scope::{CodeParameter, FileNames, Names};
+use bq_resolve_scope::{FileNames, Formal, Names};
 use bq_tree_items::Items as Trees;
 use sqlite_items::Items;
 use std::alloc::Global;
 use std::marker::Model;
 
-/// The parameters so far. Contracts see their names, what they resolve to, and the code of their defaults.
+/// The parameters so far. Contracts see their names, what they resolve to, and their defaults.
 #[derive(Drop)]
 pub struct ParameterList {
     pub names: Names,
-    pub parameters: Items<CodeParameter>,
+    pub parameters: Items<Formal>,
     pub defaults: Items<Expr>,
 }
 
 impl Model for ParameterList {
-    ghost use Rattle.std.specs.Prelude.{map};
-    ghost use Rattle.bq_resolve_scope.specs.Codes.{expr_code};
     ghost use Rattle.bq_resolve_scope.specs.Statements.{ParameterParts};
-    ghost use Rattle.bq_resolve_scope.specs.contracts.code.Code as code;
+    ghost use Rattle.bq_parse_grammar.specs.contracts.tree.Expr as tree;
     ghost use Rattle.std.specs.Coded.{codes};
 
     ghost Value = { ParameterParts };
 
-    ghost coded = { Prim.hlevel (codes, code.the_row.coded) };
+    ghost coded = { Prim.hlevel (codes, tree.the_row.coded) };
 
-    ghost view = { λ p. record { names = p.names; parameters = p.parameters; defaults = map expr_code p.defaults } };
+    ghost view = { λ p. record { names = p.names; parameters = p.parameters; defaults = p.defaults } };
 }
 
 impl ParameterList {
-    /// Adds a parameter of a name, which no other has: else F24.
-    #[tactic(auto, unfolding(bq_resolve_scope::specs::Statements::named_parameter, bq_resolve_scope::specs::Names::with_name))]
-    fn add_named(&mut self, name: &Identifier, parameter: CodeParameter) -> Result<(), SourceErr>
-        ensures { (file : FileParts) (s : Passed) → Gives (λ _. (self.new, s)) Bad result (spec.named_parameter file self.old name.now parameter s) }
+    /// Gives a parameter's name the next slot. No other has the name: else F24.
+    #[tactic(auto, unfolding(bq_resolve_scope::specs::Names::with_name))]
+    fn slotted(&mut self, name: Identifier) -> Result<Identifier, SourceErr>
+        ensures { Gives (λ n. (n, self.new)) Bad result (slotted self.old name) }
     {
-        self.parameters.push(parameter)?;
         if self.names.has(&name.name) {
-            return Err(SourceErr::Bad(fault_of(FaultKind::DoubleParameter, name)?));
+            return Err(SourceErr::Bad(fault_of(FaultKind::DoubleParameter, &name)?));
         }
+        let slot = self.names.len();
         self.names.add(&name.name)?;
-        Ok(())
+        let mut name = name;
+        name.referent = Referent::Local(slot);
+        Ok(name)
     }
 
     /// Adds a parameter. Its default lies outside the function.
-    #[tactic(auto, unfolding(bq_resolve_scope::specs::Statements::next_parameter, bq_resolve_scope::specs::Statements::default_parameter))]
+    #[tactic(auto, unfolding(bq_resolve_scope::specs::Statements::next_parameter, bq_resolve_scope::specs::Statements::default_parameter, bq_resolve_scope::specs::Statements::named_parameter))]
     fn add(
         &mut self,
         alloc: Global,
@@ -64,25 +63,34 @@ impl ParameterList {
     ) -> Result<(), SourceErr>
         ensures { Gives (λ _. (self.new, walk.new)) Bad result (spec.next_parameter file.now self.old parameter walk.old) }
     {
-        let slot = self.names.len();
         match parameter {
             Parameter::Plain(name) => {
-                self.add_named(&name, CodeParameter::Plain(name.name.share()?, slot))?;
+                let name = self.slotted(name)?;
+                self.parameters.push(Formal::Plain(name))?;
                 Ok(())
             }
             Parameter::Default(name, default) => {
-                self.add_named(&name, CodeParameter::Default(name.name.share()?, slot))?;
+                let name = self.slotted(name)?;
+                self.parameters.push(Formal::Default(name))?;
                 let mut default = default;
                 expr(&Scope::outside(alloc, file), walk, &mut default)?;
                 self.defaults.push(default)?;
                 Ok(())
             }
             Parameter::BareStar => {
-                self.parameters.push(CodeParameter::BareStar)?;
+                self.parameters.push(Formal::BareStar)?;
                 Ok(())
             }
-            Parameter::Star(name) => self.add_named(&name, CodeParameter::Star(slot)),
-            Parameter::StarStar(name) => self.add_named(&name, CodeParameter::StarStar(slot)),
+            Parameter::Star(name) => {
+                let name = self.slotted(name)?;
+                self.parameters.push(Formal::Star(name))?;
+                Ok(())
+            }
+            Parameter::StarStar(name) => {
+                let name = self.slotted(name)?;
+                self.parameters.push(Formal::StarStar(name))?;
+                Ok(())
+            }
         }
     }
 }

@@ -1,12 +1,11 @@
 //! Statements without a block.
 
-ghost use Rattle.std.specs.Prelude.{◌≡◌, [], map, Ok, Err, if◌then◌else◌};
+ghost use Rattle.std.specs.Prelude.{◌≡◌, [], Ok, Err, if◌then◌else◌};
 ghost use Rattle.bq_base.specs.declared.fault.FaultKind.TheVariants as f;
 ghost use Rattle.bq_base.specs.declared.fault.SourceErr.TheVariants.{Bad};
 ghost use Rattle.bq_base.specs.Fault.{fault_at};
+ghost use Rattle.bq_parse_grammar.specs.declared.tree.SmallKind.TheVariants as small;
 ghost use Rattle.bq_resolve_scope.specs.Visit as visit;
-ghost use Rattle.bq_resolve_scope.specs.declared.code.CodeSmall.TheVariants as small;
-ghost use Rattle.bq_resolve_scope.specs.Codes.{expr_code, optional_code, small_code, target_code};
 ghost use Rattle.bq_resolve_scope.specs.Statements as spec;
 ghost use Rattle.bq_resolve_expression.specs.Walks.{Writes};
 
@@ -42,7 +41,7 @@ fn assign(
     left: &mut TargetExpr,
     value: &mut Expr,
 ) -> Result<(), SourceErr>
-    ensures { Writes (spec.assign scope.now.file.now scope.now.blocks.now left.old value.old walk.old) result (small.Assign (target_code left.new) (expr_code value.new)) walk.new }
+    ensures { Writes (spec.assign scope.now.file.now scope.now.blocks.now left.old value.old walk.old) result (small.Assign left.new value.new) walk.new }
 {
     target(scope, walk, left)?;
     expr(scope, walk, value)
@@ -57,7 +56,7 @@ fn augment(
     operator: Operator,
     value: &mut Expr,
 ) -> Result<(), SourceErr>
-    ensures { Writes (spec.augment scope.now.file.now scope.now.blocks.now left.old operator value.old walk.old) result (small.Augment (target_code left.new) operator (expr_code value.new)) walk.new }
+    ensures { Writes (spec.augment scope.now.file.now scope.now.blocks.now left.old operator value.old walk.old) result (small.Augment left.new operator value.new) walk.new }
 {
     target(scope, walk, left)?;
     expr(scope, walk, value)
@@ -71,7 +70,7 @@ fn returned(
     line: u32,
     value: &mut Option<Expr>,
 ) -> Result<(), SourceErr>
-    ensures { Writes (spec.returned scope.now.file.now scope.now.blocks.now line value.old walk.old) result (small.Return (optional_code value.new)) walk.new }
+    ensures { Writes (spec.returned scope.now.file.now scope.now.blocks.now line value.old walk.old) result (small.Return value.new) walk.new }
 {
     if scope.blocks.is_empty() {
         return misplaced(line);
@@ -90,7 +89,7 @@ fn small_stmt(
     walk: &mut Walk,
     statement: &mut SmallStmt,
 ) -> Result<(), SourceErr>
-    ensures { Writes (spec.small_stmt scope.now.file.now scope.now.blocks.now looping statement.old walk.old) result (small_code statement.new) walk.new }
+    ensures { Writes (spec.small_stmt scope.now.file.now scope.now.blocks.now looping statement.old walk.old) result statement.new walk.new }
 {
     let line = statement.line;
     match &mut statement.kind {
@@ -120,7 +119,7 @@ pub fn line(
     walk: &mut Walk,
     statements: &mut Items<SmallStmt>,
 ) -> Result<(), SourceErr>
-    ensures { Writes (visit.each (spec.small_stmt scope.now.file.now scope.now.blocks.now looping) [] statements.old walk.old) result (map small_code statements.new) walk.new }
+    ensures { Writes (visit.each (spec.small_stmt scope.now.file.now scope.now.blocks.now looping) [] statements.old walk.old) result statements.new walk.new }
 {
     for at in 0..statements.len() {
         small_stmt(scope, looping, walk, statements.item_mut(at))?;

@@ -1,6 +1,5 @@
 //! Statements of functions, with the resolver of those in blocks.
 
-ghost use Rattle.bq_resolve_scope.specs.Codes.{stmt_code};
 ghost use Rattle.bq_resolve_scope.specs.Statements as spec;
 ghost use Rattle.bq_resolve_expression.specs.Walks.{Writes};
 
@@ -17,7 +16,7 @@ pub fn stmt_to(
     walk: &mut Walk,
     statement: &mut Stmt,
 ) -> Result<(), SourceErr>
-    ensures { Writes (spec.stmt_to scope.now.file.now layers scope.now.blocks.now looping statement.old walk.old) result (stmt_code statement.new) walk.new }
+    ensures { Writes (spec.stmt_to scope.now.file.now layers scope.now.blocks.now looping statement.old walk.old) result statement.new walk.new }
 {
     if layers == 0 {
         return Err(SourceErr::Bad(Fault::at(FaultKind::Nesting, 0)));

@@ -1,7 +1,7 @@
 -- Uses of what is bound.
 use Rattle.std.proofs.Common.{◌≡◌, ◌<◌, ℕ, suc, ◌+◌, Bool, true, false, cond, List, [], ◌∷◌, length, Option, Some, refl, ap, ◌∙◌, ◌||◌, zero-add, bytes_eq}
 use Rattle.std.specs.Option.{option_map}
-use Rattle.bq_resolve_scope.specs.declared.code.Binding.TheVariants as b
+use Rattle.bq_parse_grammar.specs.declared.tree.Referent.TheVariants as b
 use Rattle.bq_resolve_scope.specs.Names.{Name, has, place_among, comprehension_names, function_names, global_names, loaded_names}
 use Rattle.bq_resolve_scope.specs.Scope.{BlockParts, FileParts, slot_in, slot_of, file_has, use_of}
 use Rattle.bq_resolve_scope.specs.Files.{file_names}

@@ -20,24 +20,20 @@ use Rattle.bq_parse_grammar.specs.declared.tree.Stmt.{Stmt, out-Stmt}
 use Rattle.bq_parse_grammar.specs.declared.tree.Stmt.TheOpen.{Stmt-F}
 use Rattle.bq_parse_grammar.specs.declared.tree.TargetExpr.{TargetExpr, out-TargetExpr}
 use Rattle.bq_parse_grammar.specs.declared.tree.TopLevel.{TopLevel}
-use Rattle.bq_resolve_scope.specs.declared.code.Code.{Code}
-use Rattle.bq_resolve_scope.specs.declared.code.CodeParameter.{CodeParameter}
-use Rattle.bq_resolve_scope.specs.declared.code.CodeParameter.TheVariants as slot
-use Rattle.bq_resolve_scope.specs.declared.code.CodeSmall.{CodeSmall}
-use Rattle.bq_resolve_scope.specs.declared.code.CodeSmall.TheVariants as c
-use Rattle.bq_resolve_scope.specs.declared.code.CodeStmt.{CodeStmt}
-use Rattle.bq_resolve_scope.specs.declared.code.CodeTarget.{CodeTarget}
-use Rattle.bq_resolve_scope.specs.declared.code.CodeTarget.TheVariants as t
-use Rattle.bq_resolve_scope.specs.declared.code.CodeTopLevel.{CodeTopLevel}
-use Rattle.bq_resolve_scope.specs.declared.code.FileStmt.TheVariants as s
-use Rattle.bq_resolve_scope.specs.declared.code.LoadedSymbol.{LoadedSymbol}
-use Rattle.bq_resolve_scope.specs.declared.code.Resolved.{Resolved}
+use Rattle.bq_parse_grammar.specs.declared.tree.Referent.TheVariants as b
+use Rattle.bq_resolve_scope.specs.declared.file.Formal.{Formal}
+use Rattle.bq_resolve_scope.specs.declared.file.Formal.TheVariants as formal
+use Rattle.bq_parse_grammar.specs.declared.tree.TargetExpr.TheVariants as t
+use Rattle.bq_resolve_scope.specs.declared.file.FileLine.{FileLine}
+use Rattle.bq_resolve_scope.specs.declared.file.Outside.TheVariants as s
+use Rattle.bq_resolve_scope.specs.declared.loads.LoadedSymbol.{LoadedSymbol}
+use Rattle.bq_resolve_scope.specs.declared.file.ResolvedFile.{ResolvedFile}
 use Rattle.bq_resolve_scope.specs.Universe.{UniverseParts}
 use Rattle.bq_resolve_scope.specs.Names.{Name, TargetLayer, max_layers, has, place_among, with_name, with_each, with_target_by, with_target_to, with_target, with_small, with_load, with_load_clause, with_parameter, function_names}
 use Rattle.bq_resolve_scope.proofs.Cases.{with_small_by, with_load_by}
 use Rattle.bq_resolve_scope.specs.Scope.{BlockParts, FileParts}
 use Rattle.bq_resolve_scope.specs.Visit.{Passed, Visit, following, ◌>>=◌, pure, stop, fault_of, each, nothing_passed}
-use Rattle.bq_resolve_scope.specs.Expressions.{is_bzl, name_target, target_by, target_to, expr_to}
+use Rattle.bq_resolve_scope.specs.Expressions.{refer, is_bzl, bound_at, target_by, target_to, expr_to}
 use Rattle.bq_resolve_scope.specs.Statements as st
 use Rattle.bq_resolve_scope.specs.Statements.{ParameterParts, no_parameters, expr, target, load_clause, load, assign, augment, returned, load_in, small_by, small_stmt, stmt_to, named_parameter, default_parameter, next_parameter, parameters, statements_in, with_function, function}
 use Rattle.bq_resolve_scope.specs.Files.{file_names, def_stmt, file_stmt, top_level, resolved_by, resolved}
@@ -68,12 +64,13 @@ all_small b (x ∷ xs) = all_small (after_small b x) xs
 module _ (file : FileParts) where
   -- ---- targets outside functions
 
-  target_by_tells : (go : TargetExpr → Visit CodeTarget) (F : Before → TargetExpr → List Fault) (add : List Name → TargetExpr → List Name) (P : Name → TargetExpr → Type 0)
+  target_by_tells : (go : TargetExpr → Visit TargetExpr) (F : Before → TargetExpr → List Fault) (add : List Name → TargetExpr → List Name) (P : Name → TargetExpr → Type 0)
       → ((u : TargetExpr) → Holds file.globals (λ name. P name u) → Tells (λ b. F b u) (λ b. record b { bound = add b.bound u }) (go u)) → (o : TargetLayer)
       → Holds file.globals (λ name. target_binds_by (P name) name o)
       → Tells (λ b. in_file_target_by file F add b o) (λ b. record b { bound = with_target_by add b.bound o }) (target_by file (expr_to max_layers file) go [] o)
   unfolding in_expr
-  target_by_tells go F add P goes (TargetExpr-F.TargetExpr::Name n) held = global_tells file n (held n.name refl)
+  target_by_tells go F add P goes (TargetExpr-F.TargetExpr::Name n) held =
+      tells_map (bound_at file [] n) (λ m. t.Name m) (λ b. in_binding file b n) (λ b. record b { bound = with_name b.bound n.name }) (global_tells file n (held n.name refl))
   target_by_tells go F add P goes (TargetExpr-F.TargetExpr::Index x i) held =
       finds_two (expr_to max_layers file [] x) (expr_to max_layers file [] i) (λ y j. t.Index y j) (in_expr_to file max_layers [] x) (in_expr_to file max_layers [] i)
       (expr_finds max_layers file [] x) (expr_finds max_layers file [] i)
@@ -118,7 +115,7 @@ module _ (file : FileParts) where
       (one_kind file.universe.kind) (clause_by (has u.loaded x.local.name) (is_bzl file.universe.kind && before_it) twice rebound y names u)
 
   loaded_by : (line : ℕ) (l : Load) (r : Result (List LoadedSymbol × Passed) Fault) (faults : List Fault) (b : Before) → Finding {A = List LoadedSymbol} faults b r
-      → Finding {A = CodeSmall} faults b (following r (λ xs. st.with_load file line l xs >>= λ _. pure c.Load))
+      → Finding {A = SmallKind} faults b (following r (λ xs. st.with_load file line l xs >>= λ _. pure (small.Load l)))
   loaded_by line l (Err why) faults b h = h
   loaded_by line l (Ok p) faults b h = h
 
@@ -139,31 +136,33 @@ module _ (file : FileParts) where
       → Tells (λ b. in_file_target file b u ++ in_expr file [] x) (λ b. record b { bound = with_target b.bound u }) (assign file [] u x)
   unfolding assign
   assign_tells u x held =
-      tells_two (target file [] u) (expr file [] x) (λ v y. c.Assign v y) (λ b. in_file_target file b u) (λ b. record b { bound = with_target b.bound u }) (in_expr file [] x)
+      tells_two (target file [] u) (expr file [] x) (λ v y. small.Assign v y) (λ b. in_file_target file b u) (λ b. record b { bound = with_target b.bound u }) (in_expr file [] x)
       (a_target_tells u held) (an_expr_finds file [] x)
 
   augment_tells : (u : TargetExpr) (o : Operator) (x : Expr) → Holds file.globals (λ name. TargetBinds name u)
       → Tells (λ b. in_file_target file b u ++ in_expr file [] x) (λ b. record b { bound = with_target b.bound u }) (augment file [] u o x)
   unfolding augment
   augment_tells u o x held =
-      tells_two (target file [] u) (expr file [] x) (λ v y. c.Augment v o y) (λ b. in_file_target file b u) (λ b. record b { bound = with_target b.bound u }) (in_expr file [] x)
+      tells_two (target file [] u) (expr file [] x) (λ v y. small.Augment v o y) (λ b. in_file_target file b u) (λ b. record b { bound = with_target b.bound u }) (in_expr file [] x)
       (a_target_tells u held) (an_expr_finds file [] x)
 
   small_by_tells : (line : ℕ) (k : SmallKind) → Holds file.globals (λ name. kind_binds name k)
       → Tells (λ b. in_file_small_by file b line k) (λ b. record { bound = with_small_by b.bound k; loaded = with_load_by b.loaded k }) (small_by file [] false line k)
   unfolding returned load_in
-  small_by_tells line (small.Expr x) held = finds_map (expr file [] x) (λ y. c.Expr y) (in_expr file [] x) (an_expr_finds file [] x)
+  small_by_tells line (small.Expr x) held = finds_map (expr file [] x) (λ y. small.Expr y) (in_expr file [] x) (an_expr_finds file [] x)
   small_by_tells line (small.Assign u x) held = assign_tells u x held
   small_by_tells line (small.Augment u o x) held = augment_tells u o x held
   small_by_tells line (small.Return x) held = λ u. refl
-  small_by_tells line small.Break held = in_loop_finds file false line c.Break
-  small_by_tells line small.Continue held = in_loop_finds file false line c.Continue
+  small_by_tells line small.Break held = in_loop_finds file false line small.Break
+  small_by_tells line small.Continue held = in_loop_finds file false line small.Continue
   small_by_tells line small.Pass held = λ u. (refl, refl)
   small_by_tells line (small.Load l) held = load_tells line l
 
   small_tells : (x : SmallStmt) → Holds file.globals (λ name. SmallBinds name x) → Tells (λ b. in_file_small file b x) (λ b. after_small b x) (small_stmt file [] false x)
   unfolding in_file_small small_stmt with_small with_load SmallBinds
-  small_tells x held = small_by_tells x.line x.kind held
+  small_tells x held =
+      tells_map (small_by file [] false x.line x.kind) (λ k. record x { kind = k }) (λ b. in_file_small_by file b x.line x.kind)
+      (λ b. record { bound = with_small_by b.bound x.kind; loaded = with_load_by b.loaded x.kind }) (small_by_tells x.line x.kind held)
 
   -- ---- parameters, and the names of those so far
 
@@ -171,17 +170,17 @@ module _ (file : FileParts) where
   Naming faults b names (Err why) = first faults ≡ Some why
   Naming faults b names (Ok p) = (faults ≡ []) × (before p.1 ≡ b) × (p.0.names ≡ names)
 
-  named_by : (t : Bool) (why : Fault) (l : ParameterParts) (n : Identifier) (x : CodeParameter) (u : Passed)
+  named_by : (t : Bool) (why : Fault) (l : ParameterParts) (n : Identifier) (x : Formal) (u : Passed)
       → Naming (when t why) (before u) (if t then l.names else l.names ++ n.name ∷ [])
       (let go : Visit ParameterParts = if t then stop why else pure (record l { names = l.names ++ n.name ∷ []; parameters = l.parameters ++ x ∷ [] }) in go u)
   named_by true why l n x u = refl
   named_by false why l n x u = (refl, refl, refl)
 
-  named_finds : (l : ParameterParts) (n : Identifier) (x : CodeParameter) (u : Passed) → Naming (in_parameter_name file l.names n) (before u) (with_name l.names n.name) (named_parameter file l n x u)
+  named_finds : (l : ParameterParts) (n : Identifier) (x : Formal) (u : Passed) → Naming (in_parameter_name file l.names n) (before u) (with_name l.names n.name) (named_parameter file l n x u)
   unfolding named_parameter with_name
   named_finds l n x u = named_by (has l.names n.name) (fault_of f.DoubleParameter n) l n x u
 
-  default_made : (m : ParameterParts) (q : Result (Code × Passed) Fault) (faults : List Fault) (a b : Before) (names : List Name) → a ≡ b → m.names ≡ names → Finding {A = Code} faults a q
+  default_made : (m : ParameterParts) (q : Result (Expr × Passed) Fault) (faults : List Fault) (a b : Before) (names : List Name) → a ≡ b → m.names ≡ names → Finding {A = Expr} faults a q
       → Naming faults b names (following q (λ y. pure (record m { defaults = m.defaults ++ y ∷ [] })))
   default_made m (Err why) faults a b names same named h = h
   default_made m (Ok p) faults a b names same named h = (h.0, h.1 ∙ same, named)
@@ -197,16 +196,16 @@ module _ (file : FileParts) where
       → Naming (in_parameter_name file l.names n ++ in_expr file [] x) (before u) (with_name l.names n.name) (default_parameter file l n x u)
   unfolding default_parameter
   default_finds l n x u =
-      default_by x (named_parameter file l n (slot.Default n.name (length l.names)) u) (in_parameter_name file l.names n) (before u) (with_name l.names n.name)
-      (named_finds l n (slot.Default n.name (length l.names)) u)
+      default_by x (named_parameter file l n (formal.Default (refer n (b.Local (length l.names)))) u) (in_parameter_name file l.names n) (before u) (with_name l.names n.name)
+      (named_finds l n (formal.Default (refer n (b.Local (length l.names)))) u)
 
   next_finds : (l : ParameterParts) (q : Parameter) (u : Passed) → Naming (in_parameter file l.names q) (before u) (with_parameter l.names q) (next_parameter file l q u)
   unfolding in_parameter next_parameter
-  next_finds l (parameter.Plain n) u = named_finds l n (slot.Plain n.name (length l.names)) u
+  next_finds l (parameter.Plain n) u = named_finds l n (formal.Plain (refer n (b.Local (length l.names)))) u
   next_finds l (parameter.Default n x) u = default_finds l n x u
   next_finds l parameter.BareStar u = (refl, refl, refl)
-  next_finds l (parameter.Star n) u = named_finds l n (slot.Star (length l.names)) u
-  next_finds l (parameter.StarStar n) u = named_finds l n (slot.StarStar (length l.names)) u
+  next_finds l (parameter.Star n) u = named_finds l n (formal.Star (refer n (b.Local (length l.names)))) u
+  next_finds l (parameter.StarStar n) u = named_finds l n (formal.StarStar (refer n (b.Local (length l.names)))) u
 
   abbrev in_parameters : List Name → List Parameter → List Fault
   in_parameters names ps = in_turn (in_parameter file) with_parameter names ps
@@ -228,7 +227,7 @@ module _ (file : FileParts) where
 
   -- ---- functions
 
-  function_by : (name : Name) (ps : List CodeParameter) (slots : ℕ) (r : Result (List CodeStmt × Passed) Fault) (faults : List Fault) (b : Before) → Finding {A = List CodeStmt} faults b r
+  function_by : (name : Name) (ps : List Formal) (slots : ℕ) (r : Result (List Stmt × Passed) Fault) (faults : List Fault) (b : Before) → Finding {A = List Stmt} faults b r
       → Finding {A = ℕ} faults b (with_function file name ps slots r)
   function_by name ps slots (Err why) faults b h = h
   function_by name ps slots (Ok p) faults b h = h
@@ -242,7 +241,7 @@ module _ (file : FileParts) where
       let block : BlockParts = record { base = 0; names = names } in
       finds_held names (stmt_to file max_layers (block ∷ []) false) (in_stmt_to file max_layers (names ∷ []) false) (StmtBindsTo max_layers) (stmt_finds file max_layers block [] false) [] body held
 
-  function_finds : (name : Name) (ps : List CodeParameter) (names : List Name) (body : List Stmt) → Holds names (λ name. AnyOf (StmtBinds name) body) → Finds (in_body names body) (function file name ps names body)
+  function_finds : (name : Name) (ps : List Formal) (names : List Name) (body : List Stmt) → Holds names (λ name. AnyOf (StmtBinds name) body) → Finds (in_body names body) (function file name ps names body)
   unfolding function
   function_finds name ps names body held u =
       function_by name ps u.slots (statements_in file names body (record u { slots = length names })) (in_body names body) (before u) (body_finds names body held (record u { slots = length names }))
@@ -254,11 +253,11 @@ module _ (file : FileParts) where
   unfolding in_function def_stmt
   def_tells n ps body held =
       let names : List Name = function_names ps body in
-      tells_bind (name_target file [] n) (λ t. parameters file no_parameters ps >>= λ l. function file n.name l.parameters names body >>= λ k. pure (s.Def (record { target = t; function = k; defaults = l.defaults })))
+      tells_bind (bound_at file [] n) (λ m. parameters file no_parameters ps >>= λ l. function file n.name l.parameters names body >>= λ k. pure (s.Def (record { name = m; function = k; defaults = l.defaults })))
       (λ b. in_binding file b n) (λ b. record b { bound = with_name b.bound n.name }) (λ b. in_parameters [] ps ++ in_body names body) (λ b. b) (global_tells file n held)
-      (λ t. finds_bind (parameters file no_parameters ps) (λ l. function file n.name l.parameters names body >>= λ k. pure (s.Def (record { target = t; function = k; defaults = l.defaults })))
+      (λ m. finds_bind (parameters file no_parameters ps) (λ l. function file n.name l.parameters names body >>= λ k. pure (s.Def (record { name = m; function = k; defaults = l.defaults })))
       (in_parameters [] ps) (in_body names body) (parameters_find ps no_parameters)
-      (λ l. finds_map (function file n.name l.parameters names body) (λ k. s.Def (record { target = t; function = k; defaults = l.defaults })) (in_body names body)
+      (λ l. finds_map (function file n.name l.parameters names body) (λ k. s.Def (record { name = m; function = k; defaults = l.defaults })) (in_body names body)
       (function_finds n.name l.parameters names body (λ name p. (function_binds ps body name).1 (inr p)))))
 
   file_stmt_tells : (line layers : ℕ) (o : Stmt-F Stmt Branch) → Holds file.globals (λ name. stmt_binds_by (StmtBindsTo layers name) name o)
@@ -285,11 +284,11 @@ module _ (file : FileParts) where
 -- ---- files
 
 file_finds : (universe : UniverseParts) (ts : List TopLevel)
-    → Finding {A = List CodeTopLevel} (violations universe ts) (all_on after nothing_before ts) (each (top_level (file_names universe ts)) [] ts nothing_passed)
+    → Finding {A = List FileLine} (violations universe ts) (all_on after nothing_before ts) (each (top_level (file_names universe ts)) [] ts nothing_passed)
 unfolding violations file_names
 file_finds universe ts = all_tell (file_names universe ts) ts (λ name p. (file_binds ts name).1 p) nothing_passed
 
-first_by : (file : FileParts) (r : Result (List CodeTopLevel × Passed) Fault) (faults : List Fault) (b : Before) (why : Fault) → Finding {A = List CodeTopLevel} faults b r
+first_by : (file : FileParts) (r : Result (List FileLine × Passed) Fault) (faults : List Fault) (b : Before) (why : Fault) → Finding {A = List FileLine} faults b r
     → (resolved_by file r ≡ Err why) ↔ (first faults ≡ Some why)
 first_by file (Err w) faults b why h = (λ e. let same : w ≡ why = cc in h ∙ ap (λ z. Some z) same, λ e. let same : Some w ≡ Some why = sym h ∙ e in cc)
 first_by file (Ok p) faults b why h = (λ e. absurd (let no : ⊥ = cc in no), λ e. let none : None ≡ Some why = sym (ap (λ xs. first xs) h.0) ∙ e in absurd (let no : ⊥ = cc in no))
@@ -300,8 +299,8 @@ first_violation universe ts why =
     let file : FileParts = file_names universe ts in
     first_by file (each (top_level file) [] ts nothing_passed) (violations universe ts) (all_on after nothing_before ts) why (file_finds universe ts)
 
-none_by : (file : FileParts) (r : Result (List CodeTopLevel × Passed) Fault) (faults : List Fault) (b : Before) → Finding {A = List CodeTopLevel} faults b r
-    → ((x : Resolved) × (resolved_by file r ≡ Ok x)) ↔ (faults ≡ [])
+none_by : (file : FileParts) (r : Result (List FileLine × Passed) Fault) (faults : List Fault) (b : Before) → Finding {A = List FileLine} faults b r
+    → ((x : ResolvedFile) × (resolved_by file r ≡ Ok x)) ↔ (faults ≡ [])
 none_by file (Err w) faults b h = (λ e. let wrong : Err w ≡ Ok e.0 = e.1 in absurd (let no : ⊥ = cc in no), λ e. let none : None ≡ Some w = sym (ap (λ xs. first xs) e) ∙ h in absurd (let no : ⊥ = cc in no))
 none_by file (Ok p) faults b h = (λ e. h.0, λ e. (record { statements = p.0; functions = p.1.functions; globals = file.globals; loads = p.1.loads }, refl))
 

@@ -4,7 +4,7 @@ use Rattle.std.proofs.Common.{ℕ, zero, suc, Bool, true, false, List, [], ◌�
 use Rattle.bq_base.specs.declared.fault.Fault.{Fault}
 use Rattle.bq_base.specs.declared.fault.FaultKind.TheVariants as f
 use Rattle.bq_base.specs.Fault.{fault_at}
-use Rattle.bq_parse_grammar.specs.declared.tree.Branch.{Branch, out-Branch}
+use Rattle.bq_parse_grammar.specs.declared.tree.Branch.{Branch, out-Branch, roll-Branch}
 use Rattle.bq_parse_grammar.specs.declared.tree.Expr.{Expr}
 use Rattle.bq_parse_grammar.specs.declared.tree.Operator.{Operator}
 use Rattle.bq_parse_grammar.specs.declared.tree.SmallKind.{SmallKind}
@@ -13,11 +13,7 @@ use Rattle.bq_parse_grammar.specs.declared.tree.SmallStmt.{SmallStmt}
 use Rattle.bq_parse_grammar.specs.declared.tree.Stmt.{Stmt, out-Stmt}
 use Rattle.bq_parse_grammar.specs.declared.tree.Stmt.TheOpen.{Stmt-F}
 use Rattle.bq_parse_grammar.specs.declared.tree.TargetExpr.{TargetExpr}
-use Rattle.bq_resolve_scope.specs.declared.code.CodeBranch.{roll-CodeBranch}
-use Rattle.bq_resolve_scope.specs.declared.code.CodeSmall.{CodeSmall}
-use Rattle.bq_resolve_scope.specs.declared.code.CodeSmall.TheVariants as c
-use Rattle.bq_resolve_scope.specs.declared.code.CodeStmt.{CodeStmt}
-use Rattle.bq_resolve_scope.specs.declared.code.CodeStmt.TheVariants as s
+use Rattle.bq_parse_grammar.specs.declared.tree.Stmt.TheVariants as s
 use Rattle.bq_resolve_scope.specs.Names.{Name, max_layers}
 use Rattle.bq_resolve_scope.specs.Scope.{BlockParts, FileParts}
 use Rattle.bq_resolve_scope.specs.Visit.{Visit, each, optional}
@@ -45,23 +41,23 @@ module _ (file : FileParts) where
       → Finds (in_target file (around_of (block ∷ blocks)) t ++ in_expr file (around_of (block ∷ blocks)) x) (assign file (block ∷ blocks) t x)
   unfolding assign
   assign_finds block blocks t x held =
-      finds_two (target file (block ∷ blocks) t) (expr file (block ∷ blocks) x) (λ u y. c.Assign u y) (in_target file (around_of (block ∷ blocks)) t) (in_expr file (around_of (block ∷ blocks)) x)
+      finds_two (target file (block ∷ blocks) t) (expr file (block ∷ blocks) x) (λ u y. small.Assign u y) (in_target file (around_of (block ∷ blocks)) t) (in_expr file (around_of (block ∷ blocks)) x)
       (a_target_finds block blocks t held) (an_expr_finds (block ∷ blocks) x)
 
   augment_finds : (block : BlockParts) (blocks : List BlockParts) (t : TargetExpr) (o : Operator) (x : Expr) → Holds block.names (λ name. TargetBinds name t)
       → Finds (in_target file (around_of (block ∷ blocks)) t ++ in_expr file (around_of (block ∷ blocks)) x) (augment file (block ∷ blocks) t o x)
   unfolding augment
   augment_finds block blocks t o x held =
-      finds_two (target file (block ∷ blocks) t) (expr file (block ∷ blocks) x) (λ u y. c.Augment u o y) (in_target file (around_of (block ∷ blocks)) t) (in_expr file (around_of (block ∷ blocks)) x)
+      finds_two (target file (block ∷ blocks) t) (expr file (block ∷ blocks) x) (λ u y. small.Augment u o y) (in_target file (around_of (block ∷ blocks)) t) (in_expr file (around_of (block ∷ blocks)) x)
       (a_target_finds block blocks t held) (an_expr_finds (block ∷ blocks) x)
 
   returned_finds : (block : BlockParts) (blocks : List BlockParts) (line : ℕ) (x : Option Expr) → Finds (of_part (in_expr file (around_of (block ∷ blocks))) x) (returned file (block ∷ blocks) line x)
   unfolding returned
   returned_finds block blocks line x =
-      finds_map (optional (expr file (block ∷ blocks)) x) (λ y. c.Return y) (of_part (in_expr file (around_of (block ∷ blocks))) x)
+      finds_map (optional (expr file (block ∷ blocks)) x) (λ y. small.Return y) (of_part (in_expr file (around_of (block ∷ blocks))) x)
       (finds_optional (expr file (block ∷ blocks)) (in_expr file (around_of (block ∷ blocks))) (an_expr_finds (block ∷ blocks)) x)
 
-  pub in_loop_finds : (looping : Bool) (line : ℕ) (x : CodeSmall) → Finds (unless looping (fault_at f.BadFlow line)) (in_loop file looping line x)
+  pub in_loop_finds : (looping : Bool) (line : ℕ) (x : SmallKind) → Finds (unless looping (fault_at f.BadFlow line)) (in_loop file looping line x)
   unfolding in_loop
   in_loop_finds true line x = λ u. (refl, refl)
   in_loop_finds false line x = λ u. refl
@@ -70,32 +66,34 @@ module _ (file : FileParts) where
       → Finds (in_small_by file (around_of (block ∷ blocks)) looping line k) (small_by file (block ∷ blocks) looping line k)
   unfolding load_in
   small_by_finds block blocks looping line (small.Expr x) held =
-      finds_map (expr file (block ∷ blocks) x) (λ y. c.Expr y) (in_expr file (around_of (block ∷ blocks)) x) (an_expr_finds (block ∷ blocks) x)
+      finds_map (expr file (block ∷ blocks) x) (λ y. small.Expr y) (in_expr file (around_of (block ∷ blocks)) x) (an_expr_finds (block ∷ blocks) x)
   small_by_finds block blocks looping line (small.Assign t x) held = assign_finds block blocks t x held
   small_by_finds block blocks looping line (small.Augment t o x) held = augment_finds block blocks t o x held
   small_by_finds block blocks looping line (small.Return x) held = returned_finds block blocks line x
-  small_by_finds block blocks looping line small.Break held = in_loop_finds looping line c.Break
-  small_by_finds block blocks looping line small.Continue held = in_loop_finds looping line c.Continue
+  small_by_finds block blocks looping line small.Break held = in_loop_finds looping line small.Break
+  small_by_finds block blocks looping line small.Continue held = in_loop_finds looping line small.Continue
   small_by_finds block blocks looping line small.Pass held = λ u. (refl, refl)
   small_by_finds block blocks looping line (small.Load l) held = λ u. refl
 
   small_finds : (block : BlockParts) (blocks : List BlockParts) (looping : Bool) (x : SmallStmt) → Holds block.names (λ name. SmallBinds name x)
       → Finds (in_small file (around_of (block ∷ blocks)) looping x) (small_stmt file (block ∷ blocks) looping x)
   unfolding in_small small_stmt SmallBinds
-  small_finds block blocks looping x held = small_by_finds block blocks looping x.line x.kind held
+  small_finds block blocks looping x held =
+      finds_map (small_by file (block ∷ blocks) looping x.line x.kind) (λ k. record x { kind = k }) (in_small_by file (around_of (block ∷ blocks)) looping x.line x.kind)
+      (small_by_finds block blocks looping x.line x.kind held)
 
   -- ---- statements with blocks, in the block of their function
 
   module _ (block : BlockParts) (blocks : List BlockParts) (P : Name → Stmt → Type 0) where
-    branch_finds : (go : Stmt → Visit CodeStmt) (F : Stmt → List Fault) → ((x : Stmt) → Holds block.names (λ name. P name x) → Finds (F x) (go x)) → (b : Branch)
+    branch_finds : (go : Stmt → Visit Stmt) (F : Stmt → List Fault) → ((x : Stmt) → Holds block.names (λ name. P name x) → Finds (F x) (go x)) → (b : Branch)
         → Holds block.names (λ name. AnyOf (P name) (out-Branch b).block) → Finds (in_branch file F (around_of (block ∷ blocks)) b) (branch file go (block ∷ blocks) b)
     unfolding in_branch branch
     branch_finds go F goes b held =
-        finds_two (expr file (block ∷ blocks) (out-Branch b).condition) (each go [] (out-Branch b).block) (λ x ys. roll-CodeBranch (record { condition = x; block = ys }))
+        finds_two (expr file (block ∷ blocks) (out-Branch b).condition) (each go [] (out-Branch b).block) (λ x ys. roll-Branch (record { condition = x; block = ys }))
         (in_expr file (around_of (block ∷ blocks)) (out-Branch b).condition) (flat_map F (out-Branch b).block)
         (an_expr_finds (block ∷ blocks) (out-Branch b).condition) (finds_held block.names go F P goes [] (out-Branch b).block held)
 
-    if_finds : (go : Stmt → Visit CodeStmt) (F : Stmt → List Fault) → ((x : Stmt) → Holds block.names (λ name. P name x) → Finds (F x) (go x)) → (bs : List Branch) (zs : List Stmt)
+    if_finds : (go : Stmt → Visit Stmt) (F : Stmt → List Fault) → ((x : Stmt) → Holds block.names (λ name. P name x) → Finds (F x) (go x)) → (bs : List Branch) (zs : List Stmt)
         → Holds block.names (λ name. AnyOf (λ b. AnyOf (P name) (out-Branch b).block) bs) → Holds block.names (λ name. AnyOf (P name) zs)
         → Finds (flat_map (in_branch file F (around_of (block ∷ blocks))) bs ++ flat_map F zs) (if_stmt file go (block ∷ blocks) bs zs)
     unfolding if_stmt
@@ -104,7 +102,7 @@ module _ (file : FileParts) where
         (finds_held block.names (branch file go (block ∷ blocks)) (in_branch file F (around_of (block ∷ blocks))) (λ name b. AnyOf (P name) (out-Branch b).block) (branch_finds go F goes) [] bs held)
         (finds_held block.names go F P goes [] zs other)
 
-    for_finds : (go : Stmt → Visit CodeStmt) (F : Stmt → List Fault) → ((x : Stmt) → Holds block.names (λ name. P name x) → Finds (F x) (go x)) → (t : TargetExpr) (x : Expr) (body : List Stmt)
+    for_finds : (go : Stmt → Visit Stmt) (F : Stmt → List Fault) → ((x : Stmt) → Holds block.names (λ name. P name x) → Finds (F x) (go x)) → (t : TargetExpr) (x : Expr) (body : List Stmt)
         → Holds block.names (λ name. TargetBinds name t) → Holds block.names (λ name. AnyOf (P name) body)
         → Finds (in_target file (around_of (block ∷ blocks)) t ++ (in_expr file (around_of (block ∷ blocks)) x ++ flat_map F body)) (for_stmt file go (block ∷ blocks) t x body)
     unfolding for_stmt
@@ -113,7 +111,7 @@ module _ (file : FileParts) where
         (in_target file (around_of (block ∷ blocks)) t) (in_expr file (around_of (block ∷ blocks)) x) (flat_map F body)
         (a_target_finds block blocks t held) (an_expr_finds (block ∷ blocks) x) (finds_held block.names go F P goes [] body other)
 
-    stmt_by_finds : (go : Bool → Stmt → Visit CodeStmt) (F : Bool → Stmt → List Fault) → ((l : Bool) (x : Stmt) → Holds block.names (λ name. P name x) → Finds (F l x) (go l x))
+    stmt_by_finds : (go : Bool → Stmt → Visit Stmt) (F : Bool → Stmt → List Fault) → ((l : Bool) (x : Stmt) → Holds block.names (λ name. P name x) → Finds (F l x) (go l x))
         → (looping : Bool) (o : Stmt-F Stmt Branch) → Holds block.names (λ name. stmt_binds_by (P name) name o)
         → Finds (in_stmt_by file F (around_of (block ∷ blocks)) looping o) (stmt_by file go (block ∷ blocks) looping o)
     stmt_by_finds go F goes looping (Stmt-F.Simple xs) held =

@@ -3,8 +3,8 @@
 -- of functions. `Growth`: what is bound stays bound. `Files`: functions, and what stands outside them. `Bound`: uses of what is bound.
 -- `Finds`: walks whose fault is the first of given ones. `UnknownNames`, `FaultyExpressions`, `FaultyStatements`, `FaultyFiles`: the fault
 -- of each rule is the first rule of names and flow that is broken. `Makes`: what walks make. `ResolvedExpressions`, `ResolvedStatements`,
--- `ResolvedFiles`: what each rule makes is what the relation says. `KindNames`: what files have without binding it. `Loads`: the code of a
--- file has its loads.
+-- `ResolvedFiles`: what each rule makes is what the relation says. `KindNames`: what files have without binding it. `Loads`: what a
+-- file resolves to has its loads.
 pub mod Binds
 mod Steps
 mod Needs

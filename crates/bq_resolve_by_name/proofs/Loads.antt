@@ -1,4 +1,4 @@
--- The code of a file has the loads of the file, in their order, and its globals.
+-- What a file resolves to has the loads of the file, in their order, and its globals.
 use Rattle.std.proofs.Common.{◌≡◌, ℕ, ◌+◌, List, [], ◌∷◌, ◌++◌, map, length, refl, ap, ◌∙◌}
 use Rattle.bq_parse_grammar.specs.declared.tree.Branch.{Branch}
 use Rattle.bq_parse_grammar.specs.declared.tree.Load.{Load}
@@ -9,12 +9,11 @@ use Rattle.bq_parse_grammar.specs.declared.tree.SmallStmt.{SmallStmt}
 use Rattle.bq_parse_grammar.specs.declared.tree.Stmt.{Stmt, out-Stmt}
 use Rattle.bq_parse_grammar.specs.declared.tree.Stmt.TheOpen.{Stmt-F}
 use Rattle.bq_parse_grammar.specs.declared.tree.TopLevel.{TopLevel}
-use Rattle.bq_resolve_scope.specs.declared.code.CodeFunction.{CodeFunction}
-use Rattle.bq_resolve_scope.specs.declared.code.CodeSmall.{CodeSmall}
-use Rattle.bq_resolve_scope.specs.declared.code.CodeTopLevel.{CodeTopLevel}
-use Rattle.bq_resolve_scope.specs.declared.code.FileStmt.{FileStmt}
-use Rattle.bq_resolve_scope.specs.declared.code.LoadStmt.{LoadStmt}
-use Rattle.bq_resolve_scope.specs.declared.code.LoadedSymbol.{LoadedSymbol}
+use Rattle.bq_resolve_scope.specs.declared.file.Function.{Function}
+use Rattle.bq_resolve_scope.specs.declared.file.FileLine.{FileLine}
+use Rattle.bq_resolve_scope.specs.declared.file.Outside.{Outside}
+use Rattle.bq_resolve_scope.specs.declared.loads.LoadStmt.{LoadStmt}
+use Rattle.bq_resolve_scope.specs.declared.loads.LoadedSymbol.{LoadedSymbol}
 use Rattle.bq_resolve_scope.specs.Files.{file_names}
 use Rattle.bq_resolve_scope.specs.Names.{Name}
 use Rattle.bq_resolve_scope.specs.Scope.{FileParts}
@@ -61,19 +60,19 @@ module _ (file : FileParts) where
   kind_same line small.Continue ls h = none_same ls h
   kind_same line small.Pass ls h = none_same ls h
 
-  line_same : (k : ℕ) (xs : List SmallStmt) (ys : List CodeSmall) (fs : List CodeFunction) (ls : List LoadStmt) → InTurn (OuterIs file) k xs ys fs ls → lines ls ≡ line_loads xs
+  line_same : (k : ℕ) (xs : List SmallStmt) (ys : List SmallStmt) (fs : List Function) (ls : List LoadStmt) → InTurn (OuterIs file) k xs ys fs ls → lines ls ≡ line_loads xs
   unfolding OuterIs
   line_same k [] ys fs ls h = none_same ls h.2
   line_same k (x ∷ xs) ys fs ls h =
       joined h.4 h.5 ls (loads_by x.line x.kind) (line_loads xs) (kind_same x.line x.kind h.4 h.6.2) (line_same (k + length h.2) xs h.1 h.3 h.5 h.7) h.10
 
-  stmt_same : (k : ℕ) (o : Stmt-F Stmt Branch) (z : FileStmt) (fs : List CodeFunction) (ls : List LoadStmt) → file_stmt_is file k o z fs ls → lines ls ≡ stmt_loads o
+  stmt_same : (k : ℕ) (o : Stmt-F Stmt Branch) (z : Outside) (fs : List Function) (ls : List LoadStmt) → file_stmt_is file k o z fs ls → lines ls ≡ stmt_loads o
   stmt_same k (Stmt-F.Simple xs) z fs ls h = line_same k xs h.0 fs ls h.1
   stmt_same k (Stmt-F.If bs zs) z fs ls h = absurd h
   stmt_same k (Stmt-F.For t x body) z fs ls h = absurd h
   stmt_same k (Stmt-F.Def n ps body) z fs ls h = none_same ls h.8
 
-  all_same : (k : ℕ) (ts : List TopLevel) (ys : List CodeTopLevel) (fs : List CodeFunction) (ls : List LoadStmt) → InTurn (TopLevelIs file) k ts ys fs ls → lines ls ≡ file_loads ts
+  all_same : (k : ℕ) (ts : List TopLevel) (ys : List FileLine) (fs : List Function) (ls : List LoadStmt) → InTurn (TopLevelIs file) k ts ys fs ls → lines ls ≡ file_loads ts
   unfolding TopLevelIs file_loads
   all_same k [] ys fs ls h = none_same ls h.2
   all_same k (t ∷ ts) ys fs ls h =

@@ -10,7 +10,7 @@ abbrev pub Within : List BlockParts → ℕ → Type 0
 Within [] n = Unit {0}
 Within (b ∷ bs) n = (b.base + length b.names ≤ n) × Within bs n
 
--- what code among these blocks may need of a frame with this many slots: nothing outside all blocks
+-- what a tree among these blocks may need of a frame with this many slots: nothing outside all blocks
 abbrev pub room : List BlockParts → ℕ → ℕ
 room [] n = 0
 room (b ∷ bs) n = n
@@ -83,6 +83,22 @@ bind_by blocks m f g v go first next s t y w h (Ok p) d e =
 pub needs_bind : {A B : Type 0} (blocks : List BlockParts) (m : ℕ) (f : A → ℕ) (g : B → ℕ) (v : Visit A) (go : A → Visit B)
     → Needs blocks m f v → ((x : A) → Needs blocks (max m (f x)) g (go x)) → Needs blocks m g (v >>= go)
 needs_bind blocks m f g v go first next s t y w h e = bind_by blocks m f g v go first next s t y w h (v s) refl e
+
+-- ---- where a walk ended
+
+split_by : {A B : Type 0} (go : A → Visit B) (t : Passed) (y : B) (r : Result (A × Passed) Fault) → following r go ≡ Ok (y, t) → (p : A × Passed) × (r ≡ Ok p) × (go p.0 p.1 ≡ Ok (y, t))
+split_by go t y (Err why) h = absurd (let no : ⊥ = cc in no)
+split_by go t y (Ok p) h = (p, refl, h)
+
+-- a walk after another: where the first ended
+pub split : {A B : Type 0} (v : Visit A) (go : A → Visit B) (s t : Passed) (y : B) → (v >>= go) s ≡ Ok (y, t) → (p : A × Passed) × (v s ≡ Ok p) × (go p.0 p.1 ≡ Ok (y, t))
+split v go s t y h = split_by go t y (v s) h
+
+-- where a walk that only makes something ends
+pub pure_is : {A : Type 0} (x y : A) (s t : Passed) → pure x s ≡ Ok (y, t) → (x ≡ y) × (s ≡ t)
+pure_is {A = A} x y s t h =
+    let a : A × Passed = (x, s) in let b : A × Passed = (y, t) in
+    let p : a ≡ b = ended a b (Ok a) (Ok b) refl refl h in (ap (λ z. z.0) p, ap (λ z. z.1) p)
 
 -- ---- walks in a row, and something made of what they make
 

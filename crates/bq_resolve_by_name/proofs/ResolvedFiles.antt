@@ -16,24 +16,21 @@ use Rattle.bq_parse_grammar.specs.declared.tree.SmallStmt.{SmallStmt}
 use Rattle.bq_parse_grammar.specs.declared.tree.Stmt.{Stmt, out-Stmt}
 use Rattle.bq_parse_grammar.specs.declared.tree.Stmt.TheOpen.{Stmt-F}
 use Rattle.bq_parse_grammar.specs.declared.tree.TopLevel.{TopLevel}
-use Rattle.bq_resolve_scope.specs.declared.code.Code.{Code}
-use Rattle.bq_resolve_scope.specs.declared.code.CodeFunction.{CodeFunction}
-use Rattle.bq_resolve_scope.specs.declared.code.CodeParameter.{CodeParameter}
-use Rattle.bq_resolve_scope.specs.declared.code.CodeParameter.TheVariants as slot
-use Rattle.bq_resolve_scope.specs.declared.code.CodeSmall.{CodeSmall}
-use Rattle.bq_resolve_scope.specs.declared.code.CodeSmall.TheVariants as c
-use Rattle.bq_resolve_scope.specs.declared.code.CodeStmt.{CodeStmt}
-use Rattle.bq_resolve_scope.specs.declared.code.CodeTarget.{CodeTarget}
-use Rattle.bq_resolve_scope.specs.declared.code.CodeTopLevel.{CodeTopLevel}
-use Rattle.bq_resolve_scope.specs.declared.code.FileStmt.{FileStmt}
-use Rattle.bq_resolve_scope.specs.declared.code.FileStmt.TheVariants as s
-use Rattle.bq_resolve_scope.specs.declared.code.LoadStmt.{LoadStmt}
-use Rattle.bq_resolve_scope.specs.declared.code.LoadedSymbol.{LoadedSymbol}
-use Rattle.bq_resolve_scope.specs.declared.code.Resolved.{Resolved}
+use Rattle.bq_resolve_scope.specs.declared.file.Function.{Function}
+use Rattle.bq_parse_grammar.specs.declared.tree.Referent.{Referent}
+use Rattle.bq_parse_grammar.specs.declared.tree.Referent.TheVariants as b
+use Rattle.bq_resolve_scope.specs.declared.file.Formal.{Formal}
+use Rattle.bq_resolve_scope.specs.declared.file.Formal.TheVariants as formal
+use Rattle.bq_resolve_scope.specs.declared.file.FileLine.{FileLine}
+use Rattle.bq_resolve_scope.specs.declared.file.Outside.{Outside}
+use Rattle.bq_resolve_scope.specs.declared.file.Outside.TheVariants as s
+use Rattle.bq_resolve_scope.specs.declared.loads.LoadStmt.{LoadStmt}
+use Rattle.bq_resolve_scope.specs.declared.loads.LoadedSymbol.{LoadedSymbol}
+use Rattle.bq_resolve_scope.specs.declared.file.ResolvedFile.{ResolvedFile}
 use Rattle.bq_resolve_scope.specs.Names.{Name, max_layers, has, place_among, with_name, function_names}
 use Rattle.bq_resolve_scope.specs.Scope.{BlockParts, FileParts, use_of}
 use Rattle.bq_resolve_scope.specs.Visit.{Passed, Visit, following, ◌>>=◌, pure, stop, fault_of, each, nothing_passed}
-use Rattle.bq_resolve_scope.specs.Expressions.{place_of, is_bzl, name_target}
+use Rattle.bq_resolve_scope.specs.Expressions.{refer, place_of, is_bzl, bound_at}
 use Rattle.bq_resolve_scope.specs.Statements as st
 use Rattle.bq_resolve_scope.specs.Statements.{ParameterParts, no_parameters, expr, load_clause, load, load_in, returned, small_by, small_stmt, stmt_to, named_parameter, default_parameter, next_parameter, parameters, statements_in, with_function, function}
 use Rattle.bq_resolve_scope.specs.Files.{file_names, def_stmt, file_stmt, top_level, resolved_by, resolved}
@@ -57,11 +54,11 @@ module _ (file : FileParts) where
       clause_by (has u.loaded x.local.name) (is_bzl file.universe.kind && has u.bound x.local.name) (fault_of f.BoundTwice x.local) (fault_of f.Rebound x.local)
       (record { local = x.local.name; symbol = x.symbol; global = place_among x.local.name file.globals }) (with_name u.loaded x.local.name) u
 
-  abbrev outer : ℕ → SmallKind → ℕ → CodeSmall → List CodeFunction → List LoadStmt → Type 0
+  abbrev outer : ℕ → SmallKind → ℕ → SmallKind → List Function → List LoadStmt → Type 0
   outer line k n z fs ls = kind_is file [] k z × (fs ≡ []) × loads_are file line k ls
 
   load_by : (line : ℕ) (l : Load) (u : Passed) (r : Result (List LoadedSymbol × Passed) Fault) → Making {A = List LoadedSymbol} (λ ys. InOrder (SymbolIs file) l.clauses ys) u r
-      → Gaining {A = CodeSmall} (outer line (small.Load l)) u (following r (λ xs. st.with_load file line l xs >>= λ _. pure c.Load))
+      → Gaining {A = SmallKind} (outer line (small.Load l)) u (following r (λ xs. st.with_load file line l xs >>= λ _. pure (small.Load l)))
   unfolding LoadIs
   load_by line l u (Err why) h = tt
   load_by line l u (Ok p) h =
@@ -74,64 +71,67 @@ module _ (file : FileParts) where
 
   -- ---- small statements
 
-  none : (line : ℕ) (k : SmallKind) (v : Visit CodeSmall) → loads_are file line k [] → Makes (kind_is file [] k) v → Gains (outer line k) v
+  none : (line : ℕ) (k : SmallKind) (v : Visit SmallKind) → loads_are file line k [] → Makes (kind_is file [] k) v → Gains (outer line k) v
   none line k v e makes = gains_none (kind_is file [] k) (outer line k) v (λ n z p. (p, refl, e)) makes
 
   outer_by : (line : ℕ) (k : SmallKind) → Gains (outer line k) (small_by file [] false line k)
   unfolding load_in
-  outer_by line (small.Expr x) = none line (small.Expr x) (expr file [] x >>= λ y. pure (c.Expr y)) refl (makes_map (ExprIs file [] x) (expr file [] x) (λ y. c.Expr y) (an_expr_makes file [] x))
+  outer_by line (small.Expr x) = none line (small.Expr x) (expr file [] x >>= λ y. pure (small.Expr y)) refl (makes_map (ExprIs file [] x) (expr file [] x) (λ y. small.Expr y) (an_expr_makes file [] x))
   outer_by line (small.Assign t x) = none line (small.Assign t x) (st.assign file [] t x) refl (assign_makes file [] t x)
   outer_by line (small.Augment t o x) = none line (small.Augment t o x) (st.augment file [] t o x) refl (augment_makes file [] t o x)
   outer_by line (small.Return x) = none line (small.Return x) (returned file [] line x) refl (returned_makes file [] line x)
-  outer_by line small.Break = none line small.Break (st.in_loop file false line c.Break) refl (in_loop_makes file false line c.Break)
-  outer_by line small.Continue = none line small.Continue (st.in_loop file false line c.Continue) refl (in_loop_makes file false line c.Continue)
-  outer_by line small.Pass = none line small.Pass (pure c.Pass) refl (λ u. (refl, refl, refl))
+  outer_by line small.Break = none line small.Break (st.in_loop file false line small.Break) refl (in_loop_makes file false line small.Break)
+  outer_by line small.Continue = none line small.Continue (st.in_loop file false line small.Continue) refl (in_loop_makes file false line small.Continue)
+  outer_by line small.Pass = none line small.Pass (pure small.Pass) refl (λ u. (refl, refl, refl))
   outer_by line (small.Load l) = load_gains line l
 
   outer_gains : (x : SmallStmt) → Gains (λ n z fs ls. OuterIs file n x z fs ls) (small_stmt file [] false x)
   unfolding OuterIs SmallIs small_stmt
-  outer_gains x = outer_by x.line x.kind
+  outer_gains x u =
+      gains_weaker (λ n z fs ls. (k : SmallKind) × outer x.line x.kind n k fs ls × (z ≡ record x { kind = k })) (λ n z fs ls. OuterIs file n x z fs ls) u
+      (following (small_by file [] false x.line x.kind u) (λ k. pure (record x { kind = k }))) (λ n z fs ls h. ((h.0, h.1.0, h.2), h.1.1, h.1.2))
+      (gains_map (outer x.line x.kind) (small_by file [] false x.line x.kind) (λ k. record x { kind = k }) (outer_by x.line x.kind) u)
 
   -- ---- parameters
 
-  abbrev Row : ParameterParts → CodeParameter → ParameterParts → Type 0
+  abbrev Row : ParameterParts → Formal → ParameterParts → Type 0
   Row l x m = (length m.names ≡ length l.names + 1) × (m.parameters ≡ l.parameters ++ x ∷ []) × (m.defaults ≡ l.defaults)
 
   abbrev Step : ParameterParts → Parameter → ParameterParts → Type 0
-  Step l (parameter.Plain n) m = Row l (slot.Plain n.name (length l.names)) m
+  Step l (parameter.Plain n) m = Row l (formal.Plain (refer n (b.Local (length l.names)))) m
   Step l (parameter.Default n x) m =
-      (y : Code) × ExprIs file [] x y × (length m.names ≡ length l.names + 1) × (m.parameters ≡ l.parameters ++ slot.Default n.name (length l.names) ∷ []) × (m.defaults ≡ l.defaults ++ y ∷ [])
-  Step l parameter.BareStar m = (length m.names ≡ length l.names) × (m.parameters ≡ l.parameters ++ slot.BareStar ∷ []) × (m.defaults ≡ l.defaults)
-  Step l (parameter.Star n) m = Row l (slot.Star (length l.names)) m
-  Step l (parameter.StarStar n) m = Row l (slot.StarStar (length l.names)) m
+      (y : Expr) × ExprIs file [] x y × (length m.names ≡ length l.names + 1) × (m.parameters ≡ l.parameters ++ formal.Default (refer n (b.Local (length l.names))) ∷ []) × (m.defaults ≡ l.defaults ++ y ∷ [])
+  Step l parameter.BareStar m = (length m.names ≡ length l.names) × (m.parameters ≡ l.parameters ++ formal.BareStar ∷ []) × (m.defaults ≡ l.defaults)
+  Step l (parameter.Star n) m = Row l (formal.Star (refer n (b.Local (length l.names)))) m
+  Step l (parameter.StarStar n) m = Row l (formal.StarStar (refer n (b.Local (length l.names)))) m
 
   abbrev Rows : ParameterParts → List Parameter → ParameterParts → Type 0
-  Rows l ps m = (ys : List CodeParameter) × (ds : List Code) × ParametersAre file (length l.names) ps ys × DefaultsAre file ps ds × (m.parameters ≡ l.parameters ++ ys) × (m.defaults ≡ l.defaults ++ ds)
+  Rows l ps m = (ys : List Formal) × (ds : List Expr) × ParametersAre file (length l.names) ps ys × DefaultsAre file ps ds × (m.parameters ≡ l.parameters ++ ys) × (m.defaults ≡ l.defaults ++ ds)
 
-  named_by : (t : Bool) (why : Fault) (l : ParameterParts) (n : Identifier) (x : CodeParameter) (u : Passed)
+  named_by : (t : Bool) (why : Fault) (l : ParameterParts) (n : Identifier) (x : Formal) (u : Passed)
       → Making {A = ParameterParts} (Row l x) u (let go : Visit ParameterParts = if t then stop why else pure (record l { names = l.names ++ n.name ∷ []; parameters = l.parameters ++ x ∷ [] }) in go u)
   named_by true why l n x u = tt
   named_by false why l n x u = ((omega (arith, length-append l.names (n.name ∷ [])), refl, refl), refl, refl)
 
-  named_makes : (l : ParameterParts) (n : Identifier) (x : CodeParameter) → Makes (Row l x) (named_parameter file l n x)
+  named_makes : (l : ParameterParts) (n : Identifier) (x : Formal) → Makes (Row l x) (named_parameter file l n x)
   unfolding named_parameter
   named_makes l n x u = named_by (has l.names n.name) (fault_of f.DoubleParameter n) l n x u
 
   default_makes : (l : ParameterParts) (n : Identifier) (x : Expr) → Makes (Step l (parameter.Default n x)) (default_parameter file l n x)
   unfolding default_parameter
   default_makes l n x =
-      makes_bind (Row l (slot.Default n.name (length l.names))) (Step l (parameter.Default n x)) (named_parameter file l n (slot.Default n.name (length l.names)))
-      (λ m. expr file [] x >>= λ y. pure (record m { defaults = m.defaults ++ y ∷ [] })) (named_makes l n (slot.Default n.name (length l.names)))
+      makes_bind (Row l (formal.Default (refer n (b.Local (length l.names))))) (Step l (parameter.Default n x)) (named_parameter file l n (formal.Default (refer n (b.Local (length l.names)))))
+      (λ m. expr file [] x >>= λ y. pure (record m { defaults = m.defaults ++ y ∷ [] })) (named_makes l n (formal.Default (refer n (b.Local (length l.names)))))
       (λ m h. makes_bind (ExprIs file [] x) (Step l (parameter.Default n x)) (expr file [] x) (λ y. pure (record m { defaults = m.defaults ++ y ∷ [] })) (an_expr_makes file [] x)
       (λ y e u. ((y, e, h.0, h.1, ap (λ ds. ds ++ y ∷ []) h.2), refl, refl)))
 
   next_makes : (l : ParameterParts) (q : Parameter) → Makes (Step l q) (next_parameter file l q)
   unfolding next_parameter
-  next_makes l (parameter.Plain n) = named_makes l n (slot.Plain n.name (length l.names))
+  next_makes l (parameter.Plain n) = named_makes l n (formal.Plain (refer n (b.Local (length l.names))))
   next_makes l (parameter.Default n x) = default_makes l n x
   next_makes l parameter.BareStar = λ u. ((refl, refl, refl), refl, refl)
-  next_makes l (parameter.Star n) = named_makes l n (slot.Star (length l.names))
-  next_makes l (parameter.StarStar n) = named_makes l n (slot.StarStar (length l.names))
+  next_makes l (parameter.Star n) = named_makes l n (formal.Star (refer n (b.Local (length l.names))))
+  next_makes l (parameter.StarStar n) = named_makes l n (formal.StarStar (refer n (b.Local (length l.names))))
 
   added : {A : Type 0} (l m z : List A) (x : A) (ys : List A) → z ≡ m ++ ys → m ≡ l ++ x ∷ [] → z ≡ l ++ x ∷ ys
   added l m z x ys e g = e ∙ ap (λ w. w ++ ys) g ∙ append_one l x ys
@@ -139,16 +139,16 @@ module _ (file : FileParts) where
   kept : {A : Type 0} (l m z : List A) (ys : List A) → z ≡ m ++ ys → m ≡ l → z ≡ l ++ ys
   kept l m z ys e g = e ∙ ap (λ w. w ++ ys) g
 
-  row_first : (l m z : ParameterParts) (x : CodeParameter) (qs : List Parameter) (rows : Rows m qs z) → Row l x m
+  row_first : (l m z : ParameterParts) (x : Formal) (qs : List Parameter) (rows : Rows m qs z) → Row l x m
       → ParametersAre file (length l.names + 1) qs rows.0 × (z.parameters ≡ l.parameters ++ x ∷ rows.0) × (z.defaults ≡ l.defaults ++ rows.1)
   row_first l m z x qs rows h =
       (subst (λ k. ParametersAre file k qs rows.0) h.0 rows.2, added l.parameters m.parameters z.parameters x rows.0 rows.4 h.1, kept l.defaults m.defaults z.defaults rows.1 rows.5 h.2)
 
   joined : (l m z : ParameterParts) (q : Parameter) (qs : List Parameter) → Step l q m → Rows m qs z → Rows l (q ∷ qs) z
   joined l m z (parameter.Plain n) qs h rows =
-      let x : CodeParameter = slot.Plain n.name (length l.names) in let g = row_first l m z x qs rows h in (x ∷ rows.0, rows.1, (rows.0, g.0, refl), rows.3, g.1, g.2)
+      let x : Formal = formal.Plain (refer n (b.Local (length l.names))) in let g = row_first l m z x qs rows h in (x ∷ rows.0, rows.1, (rows.0, g.0, refl), rows.3, g.1, g.2)
   joined l m z (parameter.Default n e) qs h rows =
-      let x : CodeParameter = slot.Default n.name (length l.names) in (
+      let x : Formal = formal.Default (refer n (b.Local (length l.names))) in (
         x ∷ rows.0,
         h.0 ∷ rows.1,
         (rows.0, subst (λ k. ParametersAre file k qs rows.0) h.2 rows.2, refl),
@@ -157,17 +157,17 @@ module _ (file : FileParts) where
         added l.defaults m.defaults z.defaults h.0 rows.1 rows.5 h.4,
       )
   joined l m z parameter.BareStar qs h rows = (
-    slot.BareStar ∷ rows.0,
+    formal.BareStar ∷ rows.0,
     rows.1,
     (rows.0, subst (λ k. ParametersAre file k qs rows.0) h.0 rows.2, refl),
     rows.3,
-    added l.parameters m.parameters z.parameters slot.BareStar rows.0 rows.4 h.1,
+    added l.parameters m.parameters z.parameters formal.BareStar rows.0 rows.4 h.1,
     kept l.defaults m.defaults z.defaults rows.1 rows.5 h.2,
   )
   joined l m z (parameter.Star n) qs h rows =
-      let x : CodeParameter = slot.Star (length l.names) in let g = row_first l m z x qs rows h in (x ∷ rows.0, rows.1, (rows.0, g.0, refl), rows.3, g.1, g.2)
+      let x : Formal = formal.Star (refer n (b.Local (length l.names))) in let g = row_first l m z x qs rows h in (x ∷ rows.0, rows.1, (rows.0, g.0, refl), rows.3, g.1, g.2)
   joined l m z (parameter.StarStar n) qs h rows =
-      let x : CodeParameter = slot.StarStar (length l.names) in let g = row_first l m z x qs rows h in (x ∷ rows.0, rows.1, (rows.0, g.0, refl), rows.3, g.1, g.2)
+      let x : Formal = formal.StarStar (refer n (b.Local (length l.names))) in let g = row_first l m z x qs rows h in (x ∷ rows.0, rows.1, (rows.0, g.0, refl), rows.3, g.1, g.2)
 
   parameters_make : (ps : List Parameter) (l : ParameterParts) → Makes (Rows l ps) (parameters file l ps)
   unfolding parameters
@@ -178,20 +178,20 @@ module _ (file : FileParts) where
 
   -- ---- functions
 
-  abbrev Counted : Identifier → List Parameter → List Stmt → ℕ → ℕ → List CodeFunction → List LoadStmt → Type 0
-  Counted n ps body k z fs ls = (z ≡ k) × ((g : CodeFunction) × FunctionIs file n ps body g × (fs ≡ g ∷ [])) × (ls ≡ [])
+  abbrev Counted : Identifier → List Parameter → List Stmt → ℕ → ℕ → List Function → List LoadStmt → Type 0
+  Counted n ps body k z fs ls = (z ≡ k) × ((g : Function) × FunctionIs file n ps body g × (fs ≡ g ∷ [])) × (ls ≡ [])
 
-  function_by : (n : Identifier) (ps : List Parameter) (rows : List CodeParameter) (body : List Stmt) (u old : Passed) (r : Result (List CodeStmt × Passed) Fault) → u.functions ≡ old.functions → u.loads ≡ old.loads
-      → ParametersAre file 0 ps rows → Making {A = List CodeStmt} (λ ys. InOrder (StmtTo file max_layers (record { base = 0; names = function_names ps body } ∷ [])) body ys) u r
+  function_by : (n : Identifier) (ps : List Parameter) (rows : List Formal) (body : List Stmt) (u old : Passed) (r : Result (List Stmt × Passed) Fault) → u.functions ≡ old.functions → u.loads ≡ old.loads
+      → ParametersAre file 0 ps rows → Making {A = List Stmt} (λ ys. InOrder (StmtTo file max_layers (record { base = 0; names = function_names ps body } ∷ [])) body ys) u r
       → Gaining {A = ℕ} (Counted n ps body) old (with_function file n.name rows old.slots r)
   unfolding FunctionIs
   function_by n ps rows body u old (Err why) ef el are h = tt
   function_by n ps rows body u old (Ok p) ef el are h =
-      let g : CodeFunction = record { name = n.name; parameters = rows; slots = p.1.slots; body = p.0 } in
+      let g : Function = record { name = n.name; parameters = rows; slots = p.1.slots; body = p.0 } in
       let same : p.1.functions ≡ old.functions = h.1 ∙ ef in
       (g ∷ [], [], (ap length same, (g, (rows, p.1.slots, p.0, are, h.0, refl), refl), refl), ap (λ z. z ++ g ∷ []) same, (h.2 ∙ el) ∙ append_none old.loads)
 
-  function_gains : (n : Identifier) (ps : List Parameter) (rows : List CodeParameter) (body : List Stmt) → ParametersAre file 0 ps rows
+  function_gains : (n : Identifier) (ps : List Parameter) (rows : List Formal) (body : List Stmt) → ParametersAre file 0 ps rows
       → Gains (Counted n ps body) (function file n.name rows (function_names ps body) body)
   unfolding function
   function_gains n ps rows body are old =
@@ -203,33 +203,45 @@ module _ (file : FileParts) where
 
   -- ---- what stands outside functions
 
-  abbrev defined : Identifier → List Parameter → List Stmt → ℕ → FileStmt → List CodeFunction → List LoadStmt → Type 0
+  abbrev defined : Identifier → List Parameter → List Stmt → ℕ → Outside → List Function → List LoadStmt → Type 0
   defined n ps body k z fs ls = file_stmt_is file k (Stmt-F.Def n ps body) z fs ls
 
-  made : (n : Identifier) (ps : List Parameter) (body : List Stmt) (t : CodeTarget) (l : ParameterParts) → place_of (use_of file [] n.name) ≡ Some t → DefaultsAre file ps l.defaults
-      → (k : ℕ) (z : FileStmt) (fs : List CodeFunction) (ls : List LoadStmt) → ((x : ℕ) × Counted n ps body k x fs ls × (z ≡ s.Def (record { target = t; function = x; defaults = l.defaults })))
+  abbrev Bound : Identifier → Identifier → Type 0
+  Bound n m = (x : Referent) × (place_of (use_of file [] n.name) ≡ Some x) × (m ≡ refer n x)
+
+  made : (n : Identifier) (ps : List Parameter) (body : List Stmt) (m : Identifier) (l : ParameterParts) → Bound n m → DefaultsAre file ps l.defaults
+      → (k : ℕ) (z : Outside) (fs : List Function) (ls : List LoadStmt) → ((x : ℕ) × Counted n ps body k x fs ls × (z ≡ s.Def (record { name = m; function = x; defaults = l.defaults })))
       → defined n ps body k z fs ls
-  made n ps body t l e are k z fs ls h =
-      (t, l.defaults, h.1.1.0, e, are, h.1.1.1, h.2 ∙ ap (λ w. s.Def (record { target = t; function = w; defaults = l.defaults })) h.1.0, h.1.1.2, h.1.2)
+  made n ps body m l e are k z fs ls h = (
+    e.0,
+    l.defaults,
+    h.1.1.0,
+    e.1,
+    are,
+    h.1.1.1,
+    h.2 ∙ ap (λ w. s.Def (record { name = m; function = w; defaults = l.defaults })) h.1.0 ∙ ap (λ w. s.Def (record { name = w; function = k; defaults = l.defaults })) e.2,
+    h.1.1.2,
+    h.1.2,
+  )
 
   def_gains : (n : Identifier) (ps : List Parameter) (body : List Stmt) → Gains (defined n ps body) (def_stmt file n ps body)
   unfolding def_stmt
   def_gains n ps body =
       let names : List Name = function_names ps body in
-      gains_bind (λ t. place_of (use_of file [] n.name) ≡ Some t) (defined n ps body) (name_target file [] n)
-      (λ t. parameters file no_parameters ps >>= λ l. function file n.name l.parameters names body >>= λ k. pure (s.Def (record { target = t; function = k; defaults = l.defaults })))
+      gains_bind (Bound n) (defined n ps body) (bound_at file [] n)
+      (λ m. parameters file no_parameters ps >>= λ l. function file n.name l.parameters names body >>= λ k. pure (s.Def (record { name = m; function = k; defaults = l.defaults })))
       (name_makes file [] n)
-      (λ t e. gains_bind (Rows no_parameters ps) (defined n ps body) (parameters file no_parameters ps)
-      (λ l. function file n.name l.parameters names body >>= λ k. pure (s.Def (record { target = t; function = k; defaults = l.defaults }))) (parameters_make ps no_parameters)
-      (λ l rows u. gains_weaker (λ k z fs ls. (x : ℕ) × Counted n ps body k x fs ls × (z ≡ s.Def (record { target = t; function = x; defaults = l.defaults }))) (defined n ps body) u
-      (following (function file n.name l.parameters names body u) (λ k. pure (s.Def (record { target = t; function = k; defaults = l.defaults }))))
-      (made n ps body t l e (subst (λ ds. DefaultsAre file ps ds) (sym rows.5) rows.3))
-      (gains_map (Counted n ps body) (function file n.name l.parameters names body) (λ k. s.Def (record { target = t; function = k; defaults = l.defaults }))
+      (λ m e. gains_bind (Rows no_parameters ps) (defined n ps body) (parameters file no_parameters ps)
+      (λ l. function file n.name l.parameters names body >>= λ k. pure (s.Def (record { name = m; function = k; defaults = l.defaults }))) (parameters_make ps no_parameters)
+      (λ l rows u. gains_weaker (λ k z fs ls. (x : ℕ) × Counted n ps body k x fs ls × (z ≡ s.Def (record { name = m; function = x; defaults = l.defaults }))) (defined n ps body) u
+      (following (function file n.name l.parameters names body u) (λ k. pure (s.Def (record { name = m; function = k; defaults = l.defaults }))))
+      (made n ps body m l e (subst (λ ds. DefaultsAre file ps ds) (sym rows.5) rows.3))
+      (gains_map (Counted n ps body) (function file n.name l.parameters names body) (λ k. s.Def (record { name = m; function = k; defaults = l.defaults }))
       (function_gains n ps l.parameters body (subst (λ ys. ParametersAre file 0 ps ys) (sym rows.4) rows.2)) u)))
 
-  line_gains : (xs : List SmallStmt) → Gains (λ k z fs ls. (ys : List CodeSmall) × InTurn (OuterIs file) k xs ys fs ls × (z ≡ s.Simple ys)) (each (small_stmt file [] false) [] xs >>= λ ys. pure (s.Simple ys))
+  line_gains : (xs : List SmallStmt) → Gains (λ k z fs ls. (ys : List SmallStmt) × InTurn (OuterIs file) k xs ys fs ls × (z ≡ s.Simple ys)) (each (small_stmt file [] false) [] xs >>= λ ys. pure (s.Simple ys))
   line_gains xs u =
-      gains_weaker (λ k z fs ls. (w : List CodeSmall) × Turns (OuterIs file) [] xs k w fs ls × (z ≡ s.Simple w)) (λ k z fs ls. (ys : List CodeSmall) × InTurn (OuterIs file) k xs ys fs ls × (z ≡ s.Simple ys)) u
+      gains_weaker (λ k z fs ls. (w : List SmallStmt) × Turns (OuterIs file) [] xs k w fs ls × (z ≡ s.Simple w)) (λ k z fs ls. (ys : List SmallStmt) × InTurn (OuterIs file) k xs ys fs ls × (z ≡ s.Simple ys)) u
       (following (each (small_stmt file [] false) [] xs u) (λ ys. pure (s.Simple ys))) (λ k z fs ls g. (g.1.0, g.1.1, g.2 ∙ ap (λ w. s.Simple w) g.1.2))
       (gains_map (Turns (OuterIs file) [] xs) (each (small_stmt file [] false) [] xs) (λ ys. s.Simple ys) (gains_each (OuterIs file) (small_stmt file [] false) outer_gains [] xs) u)
 
@@ -244,11 +256,11 @@ module _ (file : FileParts) where
   top_level_gains i =
       gains_map (λ k z fs ls. file_stmt_is file k (out-Stmt i.statement) z fs ls) (file_stmt file i.line (out-Stmt i.statement)) (λ x. record { line = i.line; statement = x }) (file_stmt_gains i.line (out-Stmt i.statement))
 
-file_by : (file : FileParts) (ts : List TopLevel) (r : Result (List CodeTopLevel × Passed) Fault) (x : Resolved) → Gaining {A = List CodeTopLevel} (Turns (TopLevelIs file) [] ts) nothing_passed r
+file_by : (file : FileParts) (ts : List TopLevel) (r : Result (List FileLine × Passed) Fault) (x : ResolvedFile) → Gaining {A = List FileLine} (Turns (TopLevelIs file) [] ts) nothing_passed r
     → resolved_by file r ≡ Ok x → InTurn (TopLevelIs file) 0 ts x.statements x.functions x.loads × (x.globals ≡ file.globals)
 file_by file ts (Err why) x h e = absurd (let no : ⊥ = cc in no)
 file_by file ts (Ok p) x h e =
-    let z : Resolved = record { statements = p.0; functions = p.1.functions; globals = file.globals; loads = p.1.loads } in
+    let z : ResolvedFile = record { statements = p.0; functions = p.1.functions; globals = file.globals; loads = p.1.loads } in
     let same : z ≡ x = cc in
     let one : InTurn (TopLevelIs file) 0 ts p.0 h.0 h.1 = subst (λ ys. InTurn (TopLevelIs file) 0 ts ys h.0 h.1) (sym h.2.2) h.2.1 in
     let two : InTurn (TopLevelIs file) 0 ts p.0 p.1.functions h.1 = subst (λ fs. InTurn (TopLevelIs file) 0 ts p.0 fs h.1) (sym h.3) one in

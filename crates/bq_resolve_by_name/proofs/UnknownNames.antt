@@ -10,16 +10,15 @@ use Rattle.bq_parse_grammar.specs.declared.tree.FileKind.TheVariants as kinds
 use Rattle.bq_parse_grammar.specs.declared.tree.Argument.TheOpen.{Expr-F}
 use Rattle.bq_parse_grammar.specs.declared.tree.Identifier.{Identifier}
 use Rattle.bq_parse_grammar.specs.Targets.{ExprLayer}
-use Rattle.bq_resolve_scope.specs.declared.code.Binding.{Binding}
-use Rattle.bq_resolve_scope.specs.declared.code.Binding.TheVariants as b
-use Rattle.bq_resolve_scope.specs.declared.code.CodeTarget.{CodeTarget}
-use Rattle.bq_resolve_scope.specs.declared.code.CodeTarget.TheVariants as target
+use Rattle.bq_parse_grammar.specs.declared.tree.Referent.{Referent}
+use Rattle.bq_parse_grammar.specs.declared.tree.Referent.TheVariants as b
+use Rattle.bq_resolve_scope.specs.declared.universe.Namespace.{Namespace}
 use Rattle.bq_resolve_scope.specs.Universe.{in_bzl, namespace_named, universe_has}
 use Rattle.bq_resolve_scope.proofs.Cases.{rule}
 use Rattle.bq_resolve_scope.specs.Names.{Name, has, with_name, place_among, global_names, loaded_names}
 use Rattle.bq_resolve_scope.specs.Scope.{BlockParts, FileParts, or_else, slot_in, slot_of, file_has, use_of}
-use Rattle.bq_resolve_scope.specs.Visit.{Passed, following, given, fault_of}
-use Rattle.bq_resolve_scope.specs.Expressions.{place_of, is_bzl, bind_global, is_unbound, namespace_at, use_at, name_target}
+use Rattle.bq_resolve_scope.specs.Visit.{Passed, following, ◌>>=◌, pure, given, fault_of}
+use Rattle.bq_resolve_scope.specs.Expressions.{refer, place_of, is_bzl, bind_global, NamedSpace, is_unbound, space_of, with_space, namespace_at, use_at, bound_at}
 use Rattle.bq_resolve_by_name.specs.Violations.{Around, Before, unless, when, no_double, is_known, in_use, in_binding, as_namespace}
 use Rattle.bq_resolve_by_name.proofs.Binds.{loads_bind}
 use Rattle.bq_resolve_by_name.proofs.Bound.{there, local_at, global_at}
@@ -31,7 +30,7 @@ use Rattle.bq_resolve_predeclared.specs.declared.predeclared.Predeclared.TheVari
 use Rattle.bq_resolve_predeclared.specs.declared.rule_function.RuleFunction.TheVariants as function
 use Rattle.bq_resolve_predeclared.specs.Predeclared.{predeclared_named}
 use Rattle.bq_resolve_scope.specs.Files.{file_names}
-use Rattle.bq_resolve_by_name.proofs.Finds.{before, Finding, Tells, Finds, finds_given}
+use Rattle.bq_resolve_by_name.proofs.Finds.{before, Finding, Tells, Finds, finds_map, finds_given}
 
 -- the names of blocks
 abbrev pub around_of : List BlockParts → Around
@@ -69,8 +68,8 @@ in_slots (block ∷ blocks) name =
 in_file : (file : FileParts) (name : Name) → is_some (file_has file name) ≡ (has file.globals name || (has file.loaded name || is_some (universe_has file.universe name)))
 unfolding file_has
 in_file file name =
-    let loads : Option Binding = option_map b.Loaded (place_among name file.loaded) in
-    let all : Option Binding = option_map b.Predeclared (universe_has file.universe name) in
+    let loads : Option Referent = option_map b.Loaded (place_among name file.loaded) in
+    let all : Option Referent = option_map b.Predeclared (universe_has file.universe name) in
     either (option_map b.Global (place_among name file.globals)) (or_else loads all)
     ∙ ap (λ t. t || is_some (or_else loads all)) (mapped b.Global (place_among name file.globals) ∙ placed name file.globals)
     ∙ ap (λ t. has file.globals name || t) (either loads all ∙ ap (λ t. t || is_some all) (mapped b.Loaded (place_among name file.loaded) ∙ placed name file.loaded)
@@ -86,8 +85,9 @@ known file blocks name =
 pub use_finds : (file : FileParts) (blocks : List BlockParts) (n : Identifier) → Finds (in_use file (around_of blocks) n) (use_at file blocks n)
 unfolding in_use use_at
 use_finds file blocks n =
-    subst (λ t. Finds (unless t (fault_of f.UnknownName n)) (given (fault_of f.UnknownName n) (use_of file blocks n.name))) (known file blocks n.name)
-    (finds_given (fault_of f.UnknownName n) (use_of file blocks n.name))
+    subst (λ t. Finds (unless t (fault_of f.UnknownName n)) (given (fault_of f.UnknownName n) (use_of file blocks n.name) >>= λ x. pure (refer n x))) (known file blocks n.name)
+    (finds_map (given (fault_of f.UnknownName n) (use_of file blocks n.name)) (λ x. refer n x) (unless (is_some (use_of file blocks n.name)) (fault_of f.UnknownName n))
+    (finds_given (fault_of f.UnknownName n) (use_of file blocks n.name)))
 
 -- ---- `native` and `attr`
 
@@ -95,7 +95,7 @@ pub one_kind : (kind : FileKind) → is_bzl kind ≡ no_double kind
 one_kind kinds.Build = refl
 one_kind kinds.Bzl = refl
 
-unbound : (o : Option Binding) → is_unbound o ≡ not (is_some o)
+unbound : (o : Option Referent) → is_unbound o ≡ not (is_some o)
 unbound None = refl
 unbound (Some x) = refl
 
@@ -105,8 +105,21 @@ one_test file blocks name =
     ap (λ t. t && is_unbound (use_of file blocks name)) (one_kind file.universe.kind)
     ∙ ap (λ t. no_double file.universe.kind && t) (unbound (use_of file blocks name) ∙ ap not (known file blocks name))
 
-pub namespace_of : (file : FileParts) (blocks : List BlockParts) (o : ExprLayer) → namespace_at file blocks o ≡ as_namespace file (around_of blocks) o
-namespace_of file blocks (Expr-F.Expr::Name n) = ap (λ (t : Bool). if t then namespace_named n.name else None) (one_test file blocks n.name)
+-- the namespace, without the name that stands for it
+abbrev pub the_space : Option NamedSpace → Option Namespace
+the_space None = None
+the_space (Some space) = Some space.0
+
+spaced : (n : Identifier) (o : Option Namespace) → the_space (with_space n o) ≡ o
+spaced n None = refl
+spaced n (Some space) = refl
+
+space_named : (file : FileParts) (blocks : List BlockParts) (n : Identifier) → space_of file blocks n ≡ as_namespace file (around_of blocks) (Expr-F.Expr::Name n)
+unfolding space_of
+space_named file blocks n = ap (λ (t : Bool). if t then namespace_named n.name else None) (one_test file blocks n.name)
+
+pub namespace_of : (file : FileParts) (blocks : List BlockParts) (o : ExprLayer) → the_space (namespace_at file blocks o) ≡ as_namespace file (around_of blocks) o
+namespace_of file blocks (Expr-F.Expr::Name n) = spaced n (space_of file blocks n) ∙ space_named file blocks n
 namespace_of file blocks (Expr-F.Int i) = refl
 namespace_of file blocks (Expr-F.String s) = refl
 namespace_of file blocks (Expr-F.Expr::List xs) = refl
@@ -124,11 +137,11 @@ namespace_of file blocks Expr-F.Lambda = refl
 -- ---- names that are bound
 
 -- in a block that holds the name
-pub local_finds : (file : FileParts) (block : BlockParts) (blocks : List BlockParts) (n : Identifier) → has block.names n.name ≡ true → Finds [] (name_target file (block ∷ blocks) n)
-unfolding name_target
+pub local_finds : (file : FileParts) (block : BlockParts) (blocks : List BlockParts) (n : Identifier) → has block.names n.name ≡ true → Finds [] (bound_at file (block ∷ blocks) n)
+unfolding bound_at
 local_finds file block blocks n h s =
     let l = local_at file block blocks n.name h in
-    subst (λ o. Finding {A = CodeTarget} [] (before s) (given (fault_of f.UnknownName n) (place_of o) s)) (sym l.2) (refl, refl)
+    subst (λ o. Finding {A = Identifier} [] (before s) (following (given (fault_of f.UnknownName n) (place_of o) s) (λ x. pure (refer n x)))) (sym l.2) (refl, refl)
 
 bound_by : (t : Bool) (why : Fault) (names : List Name) (s : Passed) → Finding {A = Unit {0}} (when t why) (record (before s) { bound = names }) (if t then Err why else Ok (tt, record s { bound = names }))
 bound_by true why names s = refl
@@ -143,17 +156,17 @@ bind_tells file n s =
     subst (λ t. Finding {A = Unit {0}} (when (t && twice) why) (record (before s) { bound = with_name s.bound n.name }) (if is_bzl file.universe.kind && twice then Err why else Ok (tt, record s { bound = with_name s.bound n.name })))
     (one_kind file.universe.kind) (bound_by (is_bzl file.universe.kind && twice) why (with_name s.bound n.name) s)
 
-given_by : (r : Result (Unit {0} × Passed) Fault) (why : Fault) (t : CodeTarget) (o : Option CodeTarget) (faults : List Fault) (after : Before) → o ≡ Some t → Finding {A = Unit {0}} faults after r
-    → Finding {A = CodeTarget} faults after (following r (λ _. given why o))
-given_by (Err w) why t o faults after e h = h
-given_by (Ok p) why t o faults after e h = subst (λ q. Finding {A = CodeTarget} faults after (given why q p.1)) (sym e) h
+given_by : (r : Result (Unit {0} × Passed) Fault) (why : Fault) (n : Identifier) (t : Referent) (o : Option Referent) (faults : List Fault) (after : Before) → o ≡ Some t → Finding {A = Unit {0}} faults after r
+    → Finding {A = Identifier} faults after (following r (λ _. given why o >>= λ x. pure (refer n x)))
+given_by (Err w) why n t o faults after e h = h
+given_by (Ok p) why n t o faults after e h = subst (λ q. Finding {A = Identifier} faults after (following (given why q p.1) (λ x. pure (refer n x)))) (sym e) h
 
 pub global_tells : (file : FileParts) (n : Identifier) → has file.globals n.name ≡ true
-    → Tells (λ b. in_binding file b n) (λ b. record b { bound = with_name b.bound n.name }) (name_target file [] n)
-unfolding name_target
+    → Tells (λ b. in_binding file b n) (λ b. record b { bound = with_name b.bound n.name }) (bound_at file [] n)
+unfolding bound_at
 global_tells file n h s =
     let g = global_at file n.name h in
-    given_by (bind_global file.universe.kind n s) (fault_of f.UnknownName n) (target.Global g.0) (place_of (use_of file [] n.name)) (in_binding file (before s) n)
+    given_by (bind_global file.universe.kind n s) (fault_of f.UnknownName n) n (b.Global g.0) (place_of (use_of file [] n.name)) (in_binding file (before s) n)
     (record (before s) { bound = with_name s.bound n.name }) (ap place_of g.2) (bind_tells file n s)
 
 -- ---- names that are loaded, and names of all files

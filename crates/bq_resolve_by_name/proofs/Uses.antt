@@ -7,18 +7,15 @@ use Rattle.bq_base.specs.declared.fault.FaultKind.TheVariants as f
 use Rattle.bq_parse_grammar.specs.declared.tree.FileKind.{FileKind}
 use Rattle.bq_parse_grammar.specs.declared.tree.Identifier.{Identifier}
 use Rattle.bq_resolve_predeclared.specs.declared.predeclared.Predeclared.{Predeclared}
-use Rattle.bq_resolve_scope.specs.declared.code.Binding.{Binding}
-use Rattle.bq_resolve_scope.specs.declared.code.Binding.TheVariants as b
-use Rattle.bq_resolve_scope.specs.declared.code.CodeTarget.{CodeTarget}
-use Rattle.bq_resolve_scope.specs.declared.code.CodeTarget.TheVariants as t
+use Rattle.bq_parse_grammar.specs.declared.tree.Referent.{Referent}
+use Rattle.bq_parse_grammar.specs.declared.tree.Referent.TheVariants as b
 use Rattle.bq_resolve_scope.specs.Names.{Name, place_among, with_name}
 use Rattle.bq_resolve_scope.specs.Scope.{BlockParts, FileParts, or_else, slot_in, slot_of, file_has, use_of}
 use Rattle.bq_resolve_scope.specs.Universe.{universe_has}
-use Rattle.bq_resolve_scope.specs.Visit.{Passed, fault_of, given}
-use Rattle.bq_resolve_scope.specs.Expressions.{place_of, bind_global, bind_in, use_at, name_target}
-use Rattle.bq_resolve_by_name.specs.Slots.{binding_slots, target_slots}
-use Rattle.bq_resolve_by_name.proofs.Steps.{slots-target_Local, slots-target_Global}
-use Rattle.bq_resolve_by_name.proofs.Needs.{Within, room, Made, Needs, ends, moved, needs_pure, needs_given, needs_bind}
+use Rattle.bq_resolve_scope.specs.Visit.{Passed, ◌>>=◌, pure, fault_of, given}
+use Rattle.bq_resolve_scope.specs.Expressions.{refer, place_of, bind_global, bind_in, use_at, bound_at}
+use Rattle.bq_resolve_by_name.specs.Slots.{referent_slots}
+use Rattle.bq_resolve_by_name.proofs.Needs.{Within, room, Made, Needs, ends, moved, needs_pure, needs_given, needs_bind, needs_map}
 
 place_by : (t : Bool) (o : Option ℕ) (n i : ℕ) → cond t (Some 0) (option_map suc o) ≡ Some i → ((j : ℕ) → o ≡ Some j → j < n) → i < suc n
 place_by true o n i h inner = let z : 0 ≡ i = cc in omega arith
@@ -43,46 +40,52 @@ slot_within [] name slot n w h = absurd (let no : ⊥ = cc in no)
 slot_within (block ∷ blocks) name slot n w h =
     slot_by block (place_among name block.names) (slot_of blocks name) slot n w.0 (place_within name block.names) (slot_within blocks name slot n w.1) h
 
-file_by : (g l : Option ℕ) (u : Option Predeclared) (x : Binding) → or_else (option_map b.Global g) (or_else (option_map b.Loaded l) (option_map b.Predeclared u)) ≡ Some x → binding_slots x ≡ 0
-file_by (Some k) l u x h = let e : b.Global k ≡ x = cc in sym (ap binding_slots e)
-file_by None (Some k) u x h = let e : b.Loaded k ≡ x = cc in sym (ap binding_slots e)
-file_by None None (Some p) x h = let e : b.Predeclared p ≡ x = cc in sym (ap binding_slots e)
+file_by : (g l : Option ℕ) (u : Option Predeclared) (x : Referent) → or_else (option_map b.Global g) (or_else (option_map b.Loaded l) (option_map b.Predeclared u)) ≡ Some x → referent_slots x ≡ 0
+file_by (Some k) l u x h = let e : b.Global k ≡ x = cc in sym (ap referent_slots e)
+file_by None (Some k) u x h = let e : b.Loaded k ≡ x = cc in sym (ap referent_slots e)
+file_by None None (Some p) x h = let e : b.Predeclared p ≡ x = cc in sym (ap referent_slots e)
 file_by None None None x h = absurd (let no : ⊥ = cc in no)
 
-file_slots : (file : FileParts) (name : Name) (x : Binding) → file_has file name ≡ Some x → binding_slots x ≡ 0
+file_slots : (file : FileParts) (name : Name) (x : Referent) → file_has file name ≡ Some x → referent_slots x ≡ 0
 unfolding file_has
 file_slots file name x h = file_by (place_among name file.globals) (place_among name file.loaded) (universe_has file.universe name) x h
 
-use_by : (file : FileParts) (name : Name) (o : Option ℕ) (x : Binding) (n : ℕ) → ((slot : ℕ) → o ≡ Some slot → slot < n)
-    → or_else (option_map b.Local o) (file_has file name) ≡ Some x → binding_slots x ≤ n
-use_by file name None x n own h = let e : binding_slots x ≡ 0 = file_slots file name x h in omega arith
+use_by : (file : FileParts) (name : Name) (o : Option ℕ) (x : Referent) (n : ℕ) → ((slot : ℕ) → o ≡ Some slot → slot < n)
+    → or_else (option_map b.Local o) (file_has file name) ≡ Some x → referent_slots x ≤ n
+use_by file name None x n own h = let e : referent_slots x ≡ 0 = file_slots file name x h in omega arith
 use_by file name (Some slot) x n own h =
-    let e : b.Local slot ≡ x = cc in let k : slot + 1 ≡ binding_slots x = ap binding_slots e in let l : slot < n = own slot refl in omega arith
+    let e : b.Local slot ≡ x = cc in let k : slot + 1 ≡ referent_slots x = ap referent_slots e in let l : slot < n = own slot refl in omega arith
 
 -- what a use stands for needs no slot that the blocks don't have
-pub use_slots : (file : FileParts) (blocks : List BlockParts) (name : Name) (x : Binding) (n : ℕ) → Within blocks n → use_of file blocks name ≡ Some x
-    → binding_slots x ≤ room blocks n
+pub use_slots : (file : FileParts) (blocks : List BlockParts) (name : Name) (x : Referent) (n : ℕ) → Within blocks n → use_of file blocks name ≡ Some x
+    → referent_slots x ≤ room blocks n
 unfolding use_of slot_of
-use_slots file [] name x n w h = let e : binding_slots x ≡ 0 = file_slots file name x h in omega arith
+use_slots file [] name x n w h = let e : referent_slots x ≡ 0 = file_slots file name x h in omega arith
 use_slots file (block ∷ blocks) name x n w h =
     use_by file name (slot_of (block ∷ blocks) name) x n (λ slot g. slot_within (block ∷ blocks) name slot n w g) h
 
-place_slots : (o : Option Binding) (u : CodeTarget) (m : ℕ) → ((x : Binding) → o ≡ Some x → binding_slots x ≤ m) → place_of o ≡ Some u → target_slots u ≤ m
-place_slots None u m known h = absurd (let no : ⊥ = cc in no)
-place_slots (Some (b.Local slot)) u m known h =
-    let e : t.Local slot ≡ u = cc in let k : target_slots (t.Local slot) ≡ target_slots u = ap target_slots e in
-    let l : slot + 1 ≤ m = known (b.Local slot) refl in let n : target_slots (t.Local slot) ≡ slot + 1 = slots-target_Local slot in omega arith
-place_slots (Some (b.Global g)) u m known h =
-    let e : t.Global g ≡ u = cc in let k : target_slots (t.Global g) ≡ target_slots u = ap target_slots e in
-    let n : target_slots (t.Global g) ≡ 0 = slots-target_Global g in omega arith
-place_slots (Some (b.Loaded g)) u m known h = absurd (let no : ⊥ = cc in no)
-place_slots (Some (b.Predeclared p)) u m known h = absurd (let no : ⊥ = cc in no)
+place_slots : (o : Option Referent) (y : Referent) (m : ℕ) → ((x : Referent) → o ≡ Some x → referent_slots x ≤ m) → place_of o ≡ Some y → referent_slots y ≤ m
+place_slots None y m known h = absurd (let no : ⊥ = cc in no)
+place_slots (Some (b.Local slot)) y m known h = known y h
+place_slots (Some (b.Global g)) y m known h = known y h
+place_slots (Some (b.Loaded g)) y m known h = absurd (let no : ⊥ = cc in no)
+place_slots (Some (b.Predeclared p)) y m known h = absurd (let no : ⊥ = cc in no)
+place_slots (Some (b.Member p)) y m known h = absurd (let no : ⊥ = cc in no)
+place_slots (Some (b.Unresolved l)) y m known h = absurd (let no : ⊥ = cc in no)
 
 -- ---- uses and bindings
 
-pub use_needs : (file : FileParts) (blocks : List BlockParts) (n : Identifier) → Needs blocks 0 binding_slots (use_at file blocks n)
+-- a name needs the slot that it refers to
+abbrev pub name_slots : Identifier → ℕ
+name_slots n = referent_slots n.referent
+
+referred_needs : (blocks : List BlockParts) (m : ℕ) (why : Fault) (n : Identifier) (o : Option Referent) → ((k : ℕ) (x : Referent) → Within blocks k → o ≡ Some x → referent_slots x ≤ room blocks k)
+    → Needs blocks m name_slots (given why o >>= λ x. pure (refer n x))
+referred_needs blocks m why n o known = needs_map blocks m referent_slots name_slots (given why o) (λ x. refer n x) (needs_given blocks m referent_slots why o known) (λ x. omega arith)
+
+pub use_needs : (file : FileParts) (blocks : List BlockParts) (n : Identifier) → Needs blocks 0 name_slots (use_at file blocks n)
 unfolding use_at
-use_needs file blocks n = needs_given blocks 0 binding_slots (fault_of f.UnknownName n) (use_of file blocks n.name) (λ k x w h. use_slots file blocks n.name x k w h)
+use_needs file blocks n = referred_needs blocks 0 (fault_of f.UnknownName n) n (use_of file blocks n.name) (λ k x w h. use_slots file blocks n.name x k w h)
 
 none_needed : Unit {0} → ℕ
 none_needed u = 0
@@ -97,10 +100,10 @@ unfolding bind_global none_needed
 bind_needs kind [] n s t u w h e = bound_by _ (fault_of f.Rebound n) (with_name s.bound n.name) s t u e
 bind_needs kind (block ∷ blocks) n s t u w h e = needs_pure (block ∷ blocks) 0 none_needed tt (omega arith) s t u w h e
 
-pub name_needs : (file : FileParts) (blocks : List BlockParts) (n : Identifier) → Needs blocks 0 target_slots (name_target file blocks n)
-unfolding name_target
+pub name_needs : (file : FileParts) (blocks : List BlockParts) (n : Identifier) → Needs blocks 0 name_slots (bound_at file blocks n)
+unfolding bound_at
 name_needs file blocks n =
-    needs_bind blocks 0 none_needed target_slots (bind_in file.universe.kind blocks n)
-    (λ _. given (fault_of f.UnknownName n) (place_of (use_of file blocks n.name))) (bind_needs file.universe.kind blocks n)
-    (λ u. needs_given blocks (max 0 (none_needed u)) target_slots (fault_of f.UnknownName n) (place_of (use_of file blocks n.name))
+    needs_bind blocks 0 none_needed name_slots (bind_in file.universe.kind blocks n)
+    (λ _. given (fault_of f.UnknownName n) (place_of (use_of file blocks n.name)) >>= λ x. pure (refer n x)) (bind_needs file.universe.kind blocks n)
+    (λ u. referred_needs blocks (max 0 (none_needed u)) (fault_of f.UnknownName n) n (place_of (use_of file blocks n.name))
     (λ k x w h. place_slots (use_of file blocks n.name) x (room blocks k) (λ y g. use_slots file blocks n.name y k w g) h))

@@ -1,19 +1,19 @@
--- Files as they are parsed, and their code.
+-- Files as they are parsed, and what they resolve to.
 use Rattle.std.specs.Prelude.{◌≡◌, List, Ok}
 use Rattle.bq_parse_grammar.specs.Lexeme.{Lexeme}
 use Rattle.bq_parse_grammar.specs.Parses.{Parses}
 use Rattle.bq_parse_grammar.specs.declared.tree.TopLevel.{TopLevel}
 use Rattle.bq_resolve_scope.specs.Files.{resolved}
 use Rattle.bq_resolve_scope.specs.Universe.{UniverseParts}
-use Rattle.bq_resolve_scope.specs.declared.code.Resolved.{Resolved}
+use Rattle.bq_resolve_scope.specs.declared.file.ResolvedFile.{ResolvedFile}
 
 -- a file as it is parsed: the names that every file of its kind has, and its statements
 pub record ParsedFile : Type 0 where
   pub universe : UniverseParts
   pub statements : List TopLevel
 
--- the code is what the file resolves to, which some tokens read as
-pub record IsCodeOf (file : ParsedFile) (code : Resolved) : Type 0 where
+-- what the file resolves to, which some tokens read as
+pub record IsCodeOf (file : ParsedFile) (code : ResolvedFile) : Type 0 where
   pub lexemes : List Lexeme
   pub parses : Parses file.universe.kind lexemes (Ok file.statements)
   pub names : resolved file.universe file.statements ≡ Ok code

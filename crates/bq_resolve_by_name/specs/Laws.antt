@@ -5,7 +5,7 @@ use Rattle.bq_parse_grammar.specs.declared.tree.TopLevel.{TopLevel}
 use Rattle.bq_resolve_scope.specs.Files.{resolved}
 use Rattle.bq_resolve_scope.specs.Names.{global_names}
 use Rattle.bq_resolve_scope.specs.Universe.{UniverseParts}
-use Rattle.bq_resolve_scope.specs.declared.code.Resolved.{Resolved}
+use Rattle.bq_resolve_scope.specs.declared.file.ResolvedFile.{ResolvedFile}
 use Rattle.bq_resolve_by_name.specs.Files.{ParsedFile, IsCodeOf}
 use Rattle.bq_resolve_by_name.specs.Loads.{written_load, file_loads}
 use Rattle.bq_resolve_by_name.specs.Violations.{first, violations}
@@ -16,12 +16,12 @@ FaultsAreFirstViolations = (universe : UniverseParts) (ts : List TopLevel) (why 
 
 -- .. and a file resolves exactly where it breaks none.
 abbrev pub FilesWithoutViolationsResolve : Type 0
-FilesWithoutViolationsResolve = (universe : UniverseParts) (ts : List TopLevel) → ((r : Resolved) × (resolved universe ts ≡ Ok r)) ↔ (violations universe ts ≡ [])
+FilesWithoutViolationsResolve = (universe : UniverseParts) (ts : List TopLevel) → ((r : ResolvedFile) × (resolved universe ts ≡ Ok r)) ↔ (violations universe ts ≡ [])
 
--- the code of a file has the loads of the file ..
+-- what a file resolves to has the loads of the file ..
 abbrev pub LoadsAreKept : Type 0
-LoadsAreKept = (file : ParsedFile) (code : Resolved) → IsCodeOf file code → map written_load code.loads ≡ file_loads file.statements
+LoadsAreKept = (file : ParsedFile) (code : ResolvedFile) → IsCodeOf file code → map written_load code.loads ≡ file_loads file.statements
 
 -- .. and its globals
 abbrev pub GlobalsAreKept : Type 0
-GlobalsAreKept = (file : ParsedFile) (code : Resolved) → IsCodeOf file code → code.globals ≡ global_names file.statements
+GlobalsAreKept = (file : ParsedFile) (code : ResolvedFile) → IsCodeOf file code → code.globals ≡ global_names file.statements

@@ -1,18 +1,18 @@
--- What a tree resolves to, as a relation between it and the resolved tree: a case for each form. A use of a name is what the name
--- stands for among the blocks around it (`use_of`; `StandsFor` of bq_resolve_scope says it in words); all else of the resolved tree is that
--- of the tree, in its order. The slots of a block begin anywhere; that they fit, and are a block's own, is said by other laws.
+-- What a tree resolves to, as a relation between it and the resolved tree: a case for each form. A use of a name refers to what the
+-- name stands for among the blocks around it (`use_of`; `StandsFor` of bq_resolve_scope says it in words); all else of the resolved tree is
+-- that of the tree, in its order. The slots of a block begin anywhere; that they fit, and are a block's own, is said by other laws.
 use Rattle.std.specs.Prelude.{◌≡◌, ℕ, zero, suc, ◌+◌, List, [], ◌∷◌, ◌++◌, length, Option, Some, None, Ok}
 use Rattle.bq_parse_grammar.specs.declared.tree.Argument.TheOpen.{Expr-F, Suffix-F, Argument-F, Clause-F, TargetExpr-F}
 use Rattle.bq_parse_grammar.specs.declared.tree.Argument.{Argument, out-Argument}
-use Rattle.bq_parse_grammar.specs.declared.tree.Branch.{Branch, out-Branch}
-use Rattle.bq_parse_grammar.specs.declared.tree.Choice.{Choice, out-Choice}
+use Rattle.bq_parse_grammar.specs.declared.tree.Branch.{Branch, out-Branch, roll-Branch}
+use Rattle.bq_parse_grammar.specs.declared.tree.Choice.{Choice, out-Choice, roll-Choice}
 use Rattle.bq_parse_grammar.specs.declared.tree.Clause.{Clause, out-Clause}
 use Rattle.bq_parse_grammar.specs.declared.tree.Expr.{Expr, out-Expr}
 use Rattle.bq_parse_grammar.specs.declared.tree.Identifier.{Identifier}
 use Rattle.bq_parse_grammar.specs.declared.tree.Load.{Load}
 use Rattle.bq_parse_grammar.specs.declared.tree.LoadClause.{LoadClause}
-use Rattle.bq_parse_grammar.specs.declared.tree.Operation.{Operation, out-Operation}
-use Rattle.bq_parse_grammar.specs.declared.tree.Pair.{Pair, out-Pair}
+use Rattle.bq_parse_grammar.specs.declared.tree.Operation.{Operation, out-Operation, roll-Operation}
+use Rattle.bq_parse_grammar.specs.declared.tree.Pair.{Pair, out-Pair, roll-Pair}
 use Rattle.bq_parse_grammar.specs.declared.tree.Parameter.{Parameter}
 use Rattle.bq_parse_grammar.specs.declared.tree.Parameter.TheVariants as parameter
 use Rattle.bq_parse_grammar.specs.declared.tree.SmallKind.{SmallKind}
@@ -24,39 +24,30 @@ use Rattle.bq_parse_grammar.specs.declared.tree.Suffix.{Suffix, out-Suffix}
 use Rattle.bq_parse_grammar.specs.declared.tree.TargetExpr.{TargetExpr, out-TargetExpr}
 use Rattle.bq_parse_grammar.specs.declared.tree.TopLevel.{TopLevel}
 use Rattle.bq_parse_grammar.specs.Targets.{ExprLayer, SuffixLayer}
-use Rattle.bq_resolve_scope.specs.declared.code.Binding.{Binding}
-use Rattle.bq_resolve_scope.specs.declared.code.Code.{Code}
-use Rattle.bq_resolve_scope.specs.declared.code.Code.TheVariants as c
-use Rattle.bq_resolve_scope.specs.declared.code.CodeArgument.{CodeArgument}
-use Rattle.bq_resolve_scope.specs.declared.code.CodeArgument.TheVariants as argument
-use Rattle.bq_resolve_scope.specs.declared.code.CodeBranch.{CodeBranch, roll-CodeBranch}
-use Rattle.bq_resolve_scope.specs.declared.code.CodeChoice.{CodeChoice, roll-CodeChoice}
-use Rattle.bq_resolve_scope.specs.declared.code.CodeClause.{CodeClause}
-use Rattle.bq_resolve_scope.specs.declared.code.CodeClause.TheVariants as clause
-use Rattle.bq_resolve_scope.specs.declared.code.CodeFunction.{CodeFunction}
-use Rattle.bq_resolve_scope.specs.declared.code.CodeOperation.{CodeOperation, roll-CodeOperation}
-use Rattle.bq_resolve_scope.specs.declared.code.CodePair.{CodePair, roll-CodePair}
-use Rattle.bq_resolve_scope.specs.declared.code.CodeParameter.{CodeParameter}
-use Rattle.bq_resolve_scope.specs.declared.code.CodeParameter.TheVariants as slot
-use Rattle.bq_resolve_scope.specs.declared.code.CodeSmall.{CodeSmall}
-use Rattle.bq_resolve_scope.specs.declared.code.CodeSmall.TheVariants as cs
-use Rattle.bq_resolve_scope.specs.declared.code.CodeStmt.{CodeStmt}
-use Rattle.bq_resolve_scope.specs.declared.code.CodeStmt.TheVariants as stmt
-use Rattle.bq_resolve_scope.specs.declared.code.CodeSuffix.{CodeSuffix}
-use Rattle.bq_resolve_scope.specs.declared.code.CodeSuffix.TheVariants as suffix
-use Rattle.bq_resolve_scope.specs.declared.code.CodeTarget.{CodeTarget}
-use Rattle.bq_resolve_scope.specs.declared.code.CodeTarget.TheVariants as target
-use Rattle.bq_resolve_scope.specs.declared.code.CodeTopLevel.{CodeTopLevel}
-use Rattle.bq_resolve_scope.specs.declared.code.FileStmt.{FileStmt}
-use Rattle.bq_resolve_scope.specs.declared.code.FileStmt.TheVariants as top
-use Rattle.bq_resolve_scope.specs.declared.code.LoadStmt.{LoadStmt}
-use Rattle.bq_resolve_scope.specs.declared.code.LoadedSymbol.{LoadedSymbol}
-use Rattle.bq_resolve_scope.specs.declared.code.Resolved.{Resolved}
+use Rattle.bq_parse_grammar.specs.declared.tree.Referent.{Referent}
+use Rattle.bq_parse_grammar.specs.declared.tree.Referent.TheVariants as b
+use Rattle.bq_parse_grammar.specs.declared.tree.ComprehensionFrame.{ComprehensionFrame}
+use Rattle.bq_parse_grammar.specs.declared.tree.ComprehensionFrame.TheVariants as frame
+use Rattle.bq_parse_grammar.specs.declared.tree.Expr.TheVariants as e
+use Rattle.bq_parse_grammar.specs.declared.tree.Argument.TheVariants as argument
+use Rattle.bq_parse_grammar.specs.declared.tree.Clause.TheVariants as clause
+use Rattle.bq_resolve_scope.specs.declared.file.Function.{Function}
+use Rattle.bq_resolve_scope.specs.declared.file.Formal.{Formal}
+use Rattle.bq_resolve_scope.specs.declared.file.Formal.TheVariants as formal
+use Rattle.bq_parse_grammar.specs.declared.tree.Stmt.TheVariants as stmt
+use Rattle.bq_parse_grammar.specs.declared.tree.Suffix.TheVariants as suffix
+use Rattle.bq_parse_grammar.specs.declared.tree.TargetExpr.TheVariants as target
+use Rattle.bq_resolve_scope.specs.declared.file.FileLine.{FileLine}
+use Rattle.bq_resolve_scope.specs.declared.file.Outside.{Outside}
+use Rattle.bq_resolve_scope.specs.declared.file.Outside.TheVariants as top
+use Rattle.bq_resolve_scope.specs.declared.loads.LoadStmt.{LoadStmt}
+use Rattle.bq_resolve_scope.specs.declared.loads.LoadedSymbol.{LoadedSymbol}
+use Rattle.bq_resolve_scope.specs.declared.file.ResolvedFile.{ResolvedFile}
 use Rattle.bq_resolve_predeclared.specs.declared.predeclared.Predeclared.{Predeclared}
 use Rattle.bq_resolve_scope.specs.Universe.{UniverseParts, member_named}
 use Rattle.bq_resolve_scope.specs.Names.{TargetLayer, ClauseLayer, max_layers, place_among, comprehension_names, function_names, global_names}
 use Rattle.bq_resolve_scope.specs.Scope.{BlockParts, FileParts, use_of}
-use Rattle.bq_resolve_scope.specs.Expressions.{place_of, MemberCall, member_call, namespace_at}
+use Rattle.bq_resolve_scope.specs.Expressions.{refer, place_of, MemberCall, member_call, namespace_at}
 use Rattle.bq_resolve_scope.specs.Files.{file_names, resolved}
 
 -- the one to the other, in their order
@@ -70,159 +61,164 @@ Maybe R None None = Unit {0}
 Maybe R (Some x) (Some y) = R x y
 Maybe R _ _ = ⊥
 
+-- a comprehension, before it is said which frame has its slots
+abbrev pub Unframed : Type 0
+Unframed = ComprehensionFrame → Expr
+
 module _ (file : FileParts) where
   -- ---- expressions: `Is` relates those inside
 
-  module _ (Is : List BlockParts → Expr → Code → Type 0) where
-    abbrev pub target_is_by : (TargetExpr → CodeTarget → Type 0) → List BlockParts → TargetLayer → CodeTarget → Type 0
-    target_is_by inner blocks (TargetExpr-F.TargetExpr::Name n) z = place_of (use_of file blocks n.name) ≡ Some z
-    target_is_by inner blocks (TargetExpr-F.TargetExpr::Index x i) z = (y : Code) × (j : Code) × Is blocks x y × Is blocks i j × (z ≡ target.Index y j)
-    target_is_by inner blocks (TargetExpr-F.TargetExpr::Tuple ts) z = (us : List CodeTarget) × InOrder inner ts us × (z ≡ target.Tuple us)
-    target_is_by inner blocks (TargetExpr-F.TargetExpr::List ts) z = (us : List CodeTarget) × InOrder inner ts us × (z ≡ target.List us)
+  module _ (Is : List BlockParts → Expr → Expr → Type 0) where
+    abbrev pub target_is_by : (TargetExpr → TargetExpr → Type 0) → List BlockParts → TargetLayer → TargetExpr → Type 0
+    target_is_by inner blocks (TargetExpr-F.TargetExpr::Name n) z = (x : Referent) × (place_of (use_of file blocks n.name) ≡ Some x) × (z ≡ target.Name (refer n x))
+    target_is_by inner blocks (TargetExpr-F.TargetExpr::Index x i) z = (y : Expr) × (j : Expr) × Is blocks x y × Is blocks i j × (z ≡ target.Index y j)
+    target_is_by inner blocks (TargetExpr-F.TargetExpr::Tuple ts) z = (us : List TargetExpr) × InOrder inner ts us × (z ≡ target.Tuple us)
+    target_is_by inner blocks (TargetExpr-F.TargetExpr::List ts) z = (us : List TargetExpr) × InOrder inner ts us × (z ≡ target.List us)
 
-    unfoldable pub TargetTo : ℕ → List BlockParts → TargetExpr → CodeTarget → Type 0
+    unfoldable pub TargetTo : ℕ → List BlockParts → TargetExpr → TargetExpr → Type 0
     TargetTo zero blocks t z = ⊥
     TargetTo (suc layers) blocks t z = target_is_by (TargetTo layers blocks) blocks (out-TargetExpr t) z
 
-    abbrev pub PairIs : List BlockParts → Pair → CodePair → Type 0
-    PairIs blocks p z = (k : Code) × (v : Code) × Is blocks (out-Pair p).key k × Is blocks (out-Pair p).value v × (z ≡ roll-CodePair (record { key = k; value = v }))
+    abbrev pub PairIs : List BlockParts → Pair → Pair → Type 0
+    PairIs blocks p z = (k : Expr) × (v : Expr) × Is blocks (out-Pair p).key k × Is blocks (out-Pair p).value v × (z ≡ roll-Pair (record { key = k; value = v }))
 
-    abbrev pub OperationIs : List BlockParts → Operation → CodeOperation → Type 0
-    OperationIs blocks o z = (x : Code) × Is blocks (out-Operation o).operand x × (z ≡ roll-CodeOperation (record { operator = (out-Operation o).operator; operand = x }))
+    abbrev pub OperationIs : List BlockParts → Operation → Operation → Type 0
+    OperationIs blocks o z = (x : Expr) × Is blocks (out-Operation o).operand x × (z ≡ roll-Operation (record { operator = (out-Operation o).operator; operand = x }))
 
-    abbrev pub ChoiceIs : List BlockParts → Choice → CodeChoice → Type 0
+    abbrev pub ChoiceIs : List BlockParts → Choice → Choice → Type 0
     ChoiceIs blocks o z =
-        (v : Code) × (x : Code) × Is blocks (out-Choice o).value v × Is blocks (out-Choice o).condition x × (z ≡ roll-CodeChoice (record { value = v; condition = x }))
+        (v : Expr) × (x : Expr) × Is blocks (out-Choice o).value v × Is blocks (out-Choice o).condition x × (z ≡ roll-Choice (record { value = v; condition = x }))
 
-    abbrev pub argument_is_by : List BlockParts → Argument-F Argument Clause Expr Suffix TargetExpr Choice Operation Pair → CodeArgument → Type 0
-    argument_is_by blocks (Argument-F.Positional x) z = (y : Code) × Is blocks x y × (z ≡ argument.Positional y)
-    argument_is_by blocks (Argument-F.Named name x) z = (y : Code) × Is blocks x y × (z ≡ argument.Named name y)
-    argument_is_by blocks (Argument-F.Star x) z = (y : Code) × Is blocks x y × (z ≡ argument.Star y)
-    argument_is_by blocks (Argument-F.StarStar x) z = (y : Code) × Is blocks x y × (z ≡ argument.StarStar y)
+    abbrev pub argument_is_by : List BlockParts → Argument-F Argument Clause Expr Suffix TargetExpr Choice Operation Pair → Argument → Type 0
+    argument_is_by blocks (Argument-F.Positional x) z = (y : Expr) × Is blocks x y × (z ≡ argument.Positional y)
+    argument_is_by blocks (Argument-F.Named name x) z = (y : Expr) × Is blocks x y × (z ≡ argument.Named name y)
+    argument_is_by blocks (Argument-F.Star x) z = (y : Expr) × Is blocks x y × (z ≡ argument.Star y)
+    argument_is_by blocks (Argument-F.StarStar x) z = (y : Expr) × Is blocks x y × (z ≡ argument.StarStar y)
 
-    abbrev pub ArgumentsAre : List BlockParts → List Argument → List CodeArgument → Type 0
+    abbrev pub ArgumentsAre : List BlockParts → List Argument → List Argument → Type 0
     ArgumentsAre blocks xs ys = InOrder (λ x y. argument_is_by blocks (out-Argument x) y) xs ys
 
-    abbrev pub suffix_is_by : List BlockParts → SuffixLayer → CodeSuffix → Type 0
-    suffix_is_by blocks (Suffix-F.Call xs) z = (ys : List CodeArgument) × ArgumentsAre blocks xs ys × (z ≡ suffix.Call ys)
-    suffix_is_by blocks (Suffix-F.Method m xs) z = (ys : List CodeArgument) × ArgumentsAre blocks xs ys × (z ≡ suffix.Method m.name ys)
-    suffix_is_by blocks (Suffix-F.Attribute m) z = z ≡ suffix.Attribute m.name
-    suffix_is_by blocks (Suffix-F.Suffix::Index i) z = (j : Code) × Is blocks i j × (z ≡ suffix.Index j)
+    abbrev pub suffix_is_by : List BlockParts → SuffixLayer → Suffix → Type 0
+    suffix_is_by blocks (Suffix-F.Call xs) z = (ys : List Argument) × ArgumentsAre blocks xs ys × (z ≡ suffix.Call ys)
+    suffix_is_by blocks (Suffix-F.Method m xs) z = (ys : List Argument) × ArgumentsAre blocks xs ys × (z ≡ suffix.Method m ys)
+    suffix_is_by blocks (Suffix-F.Attribute m) z = z ≡ suffix.Attribute m
+    suffix_is_by blocks (Suffix-F.Suffix::Index i) z = (j : Expr) × Is blocks i j × (z ≡ suffix.Index j)
     suffix_is_by blocks (Suffix-F.Slice i j k) z =
-        (x : Option Code) × (y : Option Code) × (w : Option Code) × Maybe (Is blocks) i x × Maybe (Is blocks) j y × Maybe (Is blocks) k w × (z ≡ suffix.Slice x y w)
+        (x : Option Expr) × (y : Option Expr) × (w : Option Expr) × Maybe (Is blocks) i x × Maybe (Is blocks) j y × Maybe (Is blocks) k w × (z ≡ suffix.Slice x y w)
 
-    abbrev pub SuffixesAre : List BlockParts → List Suffix → List CodeSuffix → Type 0
+    abbrev pub SuffixesAre : List BlockParts → List Suffix → List Suffix → Type 0
     SuffixesAre blocks ss ts = InOrder (λ s t. suffix_is_by blocks (out-Suffix s) t) ss ts
 
-    -- `native.name(arguments)` calls the build function or rule, `attr.name(arguments)` the function that makes an attribute, and what is
-    -- done to its result comes after
-    abbrev pub primary_is_by : List BlockParts → Expr → List Suffix → Option MemberCall → Code → Type 0
-    primary_is_by blocks x ss None z = (y : Code) × (ts : List CodeSuffix) × Is blocks x y × SuffixesAre blocks ss ts × (z ≡ c.Primary y ts)
+    -- `native.name(arguments)` calls the build function or rule, `attr.name(arguments)` the function that makes an attribute: both words
+    -- refer to it, and what is done to its result comes after
+    abbrev pub primary_is_by : List BlockParts → Expr → List Suffix → Option MemberCall → Expr → Type 0
+    primary_is_by blocks x ss None z = (y : Expr) × (ts : List Suffix) × Is blocks x y × SuffixesAre blocks ss ts × (z ≡ e.Primary y ts)
     primary_is_by blocks x ss (Some (space, m, xs, rest)) z =
-        (p : Predeclared) × (ys : List CodeArgument) × (ts : List CodeSuffix) × (member_named space file.universe.rules m.name ≡ Some p) × ArgumentsAre blocks xs ys × SuffixesAre blocks rest ts
-        × (z ≡ c.Primary (c.Member p) (suffix.Call ys ∷ ts))
+        (p : Predeclared) × (ys : List Argument) × (ts : List Suffix) × (member_named space.0 file.universe.rules m.name ≡ Some p) × ArgumentsAre blocks xs ys × SuffixesAre blocks rest ts
+        × (z ≡ e.Primary (e.Name (refer space.1 (b.Member p))) (suffix.Method (refer m (b.Member p)) ys ∷ ts))
 
     -- an iterable stands among `round`, all else of a clause among `blocks`
-    abbrev pub clause_is_by : List BlockParts → List BlockParts → ClauseLayer → CodeClause → Type 0
-    clause_is_by round blocks (Clause-F.For t x) z = (u : CodeTarget) × (y : Code) × TargetTo max_layers blocks t u × Is round x y × (z ≡ clause.For u y)
-    clause_is_by round blocks (Clause-F.If x) z = (y : Code) × Is blocks x y × (z ≡ clause.If y)
+    abbrev pub clause_is_by : List BlockParts → List BlockParts → ClauseLayer → Clause → Type 0
+    clause_is_by round blocks (Clause-F.For t x) z = (u : TargetExpr) × (y : Expr) × TargetTo max_layers blocks t u × Is round x y × (z ≡ clause.For u y)
+    clause_is_by round blocks (Clause-F.If x) z = (y : Expr) × Is blocks x y × (z ≡ clause.If y)
 
     -- the first iterable stands outside the comprehension, all others inside it
-    abbrev pub ClausesAre : List BlockParts → List BlockParts → List Clause → List CodeClause → Type 0
+    abbrev pub ClausesAre : List BlockParts → List BlockParts → List Clause → List Clause → Type 0
     ClausesAre round blocks (x ∷ xs) (y ∷ ys) = clause_is_by round blocks (out-Clause x) y × InOrder (λ z w. clause_is_by blocks blocks (out-Clause z) w) xs ys
     ClausesAre round blocks [] [] = Unit {0}
     ClausesAre round blocks _ _ = ⊥
 
-    abbrev pub in_block_is : {A : Type 0} → (List BlockParts → A → Type 0) → (A → List CodeClause → Code) → BlockParts → List BlockParts → List Clause → Code → Type 0
-    in_block_is {A = A} Element make block blocks xs z =
-        (x : A) × (ys : List CodeClause) × Element (block ∷ blocks) x × ClausesAre blocks (block ∷ blocks) xs ys × (z ≡ make x ys)
+    abbrev pub in_block_is : {A : Type 0} → (List BlockParts → A → Type 0) → (A → List Clause → Unframed) → BlockParts → List BlockParts → List Clause → Unframed → Type 0
+    in_block_is {A = A} Element make block blocks xs w =
+        (x : A) × (ys : List Clause) × Element (block ∷ blocks) x × ClausesAre blocks (block ∷ blocks) xs ys × (w ≡ make x ys)
 
     -- outside functions a comprehension has a frame of its own
-    abbrev pub comprehension_is : {A : Type 0} → (List BlockParts → A → Type 0) → (A → List CodeClause → Code) → List BlockParts → List Clause → Code → Type 0
+    abbrev pub comprehension_is : {A : Type 0} → (List BlockParts → A → Type 0) → (A → List Clause → Unframed) → List BlockParts → List Clause → Expr → Type 0
     comprehension_is Element make [] xs z =
-        (slots : ℕ) × (w : Code) × in_block_is Element make (record { base = 0; names = comprehension_names xs }) [] xs w × (z ≡ c.Framed slots w)
-    comprehension_is Element make (b ∷ bs) xs z = (base : ℕ) × in_block_is Element make (record { base = base; names = comprehension_names xs }) (b ∷ bs) xs z
+        (slots : ℕ) × (w : Unframed) × in_block_is Element make (record { base = 0; names = comprehension_names xs }) [] xs w × (z ≡ w (frame.Own slots))
+    comprehension_is Element make (block ∷ blocks) xs z =
+        (base : ℕ) × (w : Unframed) × in_block_is Element make (record { base = base; names = comprehension_names xs }) (block ∷ blocks) xs w × (z ≡ w frame.Shared)
 
-    abbrev pub expr_is_by : List BlockParts → ExprLayer → Code → Type 0
-    expr_is_by blocks (Expr-F.Expr::Name n) z = (x : Binding) × (use_of file blocks n.name ≡ Some x) × (z ≡ c.Use x)
-    expr_is_by blocks (Expr-F.Int i) z = z ≡ c.Int i
-    expr_is_by blocks (Expr-F.String s) z = z ≡ c.String s
-    expr_is_by blocks (Expr-F.Expr::List xs) z = (ys : List Code) × InOrder (Is blocks) xs ys × (z ≡ c.List ys)
-    expr_is_by blocks (Expr-F.Expr::Tuple xs) z = (ys : List Code) × InOrder (Is blocks) xs ys × (z ≡ c.Tuple ys)
-    expr_is_by blocks (Expr-F.Dict ps) z = (qs : List CodePair) × InOrder (PairIs blocks) ps qs × (z ≡ c.Dict qs)
-    expr_is_by blocks (Expr-F.ListComprehension x xs own) z = comprehension_is (λ bs y. Is bs x y) c.ListComprehension blocks xs z
-    expr_is_by blocks (Expr-F.DictComprehension p xs own) z = comprehension_is (λ bs q. PairIs bs p q) c.DictComprehension blocks xs z
+    abbrev pub expr_is_by : List BlockParts → ExprLayer → Expr → Type 0
+    expr_is_by blocks (Expr-F.Expr::Name n) z = (x : Referent) × (use_of file blocks n.name ≡ Some x) × (z ≡ e.Name (refer n x))
+    expr_is_by blocks (Expr-F.Int i) z = z ≡ e.Int i
+    expr_is_by blocks (Expr-F.String s) z = z ≡ e.String s
+    expr_is_by blocks (Expr-F.Expr::List xs) z = (ys : List Expr) × InOrder (Is blocks) xs ys × (z ≡ e.List ys)
+    expr_is_by blocks (Expr-F.Expr::Tuple xs) z = (ys : List Expr) × InOrder (Is blocks) xs ys × (z ≡ e.Tuple ys)
+    expr_is_by blocks (Expr-F.Dict ps) z = (qs : List Pair) × InOrder (PairIs blocks) ps qs × (z ≡ e.Dict qs)
+    expr_is_by blocks (Expr-F.ListComprehension x xs own) z = comprehension_is (λ bs y. Is bs x y) e.ListComprehension blocks xs z
+    expr_is_by blocks (Expr-F.DictComprehension p xs own) z = comprehension_is (λ bs q. PairIs bs p q) e.DictComprehension blocks xs z
     expr_is_by blocks (Expr-F.Primary x ss) z = primary_is_by blocks x ss (member_call (namespace_at file blocks (out-Expr x)) ss) z
-    expr_is_by blocks (Expr-F.Unary os x) z = (y : Code) × Is blocks x y × (z ≡ c.Unary os y)
-    expr_is_by blocks (Expr-F.Binary x os) z = (y : Code) × (ps : List CodeOperation) × Is blocks x y × InOrder (OperationIs blocks) os ps × (z ≡ c.Binary y ps)
-    expr_is_by blocks (Expr-F.Compare x o w) z = (y : Code) × (v : Code) × Is blocks x y × Is blocks w v × (z ≡ c.Compare y o v)
-    expr_is_by blocks (Expr-F.Conditional xs w) z = (ys : List CodeChoice) × (v : Code) × InOrder (ChoiceIs blocks) xs ys × Is blocks w v × (z ≡ c.Conditional ys v)
-    expr_is_by blocks Expr-F.Lambda z = z ≡ c.Lambda
+    expr_is_by blocks (Expr-F.Unary os x) z = (y : Expr) × Is blocks x y × (z ≡ e.Unary os y)
+    expr_is_by blocks (Expr-F.Binary x os) z = (y : Expr) × (ps : List Operation) × Is blocks x y × InOrder (OperationIs blocks) os ps × (z ≡ e.Binary y ps)
+    expr_is_by blocks (Expr-F.Compare x o w) z = (y : Expr) × (v : Expr) × Is blocks x y × Is blocks w v × (z ≡ e.Compare y o v)
+    expr_is_by blocks (Expr-F.Conditional xs w) z = (ys : List Choice) × (v : Expr) × InOrder (ChoiceIs blocks) xs ys × Is blocks w v × (z ≡ e.Conditional ys v)
+    expr_is_by blocks Expr-F.Lambda z = z ≡ e.Lambda
 
-  unfoldable pub ExprTo : ℕ → List BlockParts → Expr → Code → Type 0
+  unfoldable pub ExprTo : ℕ → List BlockParts → Expr → Expr → Type 0
   ExprTo zero blocks x z = ⊥
   ExprTo (suc layers) blocks x z = expr_is_by (ExprTo layers) blocks (out-Expr x) z
 
-  unfoldable pub ExprIs : List BlockParts → Expr → Code → Type 0
+  unfoldable pub ExprIs : List BlockParts → Expr → Expr → Type 0
   ExprIs blocks x z = ExprTo max_layers blocks x z
 
-  unfoldable pub TargetIs : List BlockParts → TargetExpr → CodeTarget → Type 0
+  unfoldable pub TargetIs : List BlockParts → TargetExpr → TargetExpr → Type 0
   TargetIs blocks t z = TargetTo (ExprTo max_layers) max_layers blocks t z
 
   -- ---- statements
 
-  abbrev pub kind_is : List BlockParts → SmallKind → CodeSmall → Type 0
-  kind_is blocks (small.Expr x) z = (y : Code) × ExprIs blocks x y × (z ≡ cs.Expr y)
-  kind_is blocks (small.Assign t x) z = (u : CodeTarget) × (y : Code) × TargetIs blocks t u × ExprIs blocks x y × (z ≡ cs.Assign u y)
-  kind_is blocks (small.Augment t o x) z = (u : CodeTarget) × (y : Code) × TargetIs blocks t u × ExprIs blocks x y × (z ≡ cs.Augment u o y)
-  kind_is blocks (small.Return x) z = (y : Option Code) × Maybe (ExprIs blocks) x y × (z ≡ cs.Return y)
-  kind_is blocks small.Break z = z ≡ cs.Break
-  kind_is blocks small.Continue z = z ≡ cs.Continue
-  kind_is blocks small.Pass z = z ≡ cs.Pass
-  kind_is blocks (small.Load l) z = z ≡ cs.Load
+  abbrev pub kind_is : List BlockParts → SmallKind → SmallKind → Type 0
+  kind_is blocks (small.Expr x) z = (y : Expr) × ExprIs blocks x y × (z ≡ small.Expr y)
+  kind_is blocks (small.Assign t x) z = (u : TargetExpr) × (y : Expr) × TargetIs blocks t u × ExprIs blocks x y × (z ≡ small.Assign u y)
+  kind_is blocks (small.Augment t o x) z = (u : TargetExpr) × (y : Expr) × TargetIs blocks t u × ExprIs blocks x y × (z ≡ small.Augment u o y)
+  kind_is blocks (small.Return x) z = (y : Option Expr) × Maybe (ExprIs blocks) x y × (z ≡ small.Return y)
+  kind_is blocks small.Break z = z ≡ small.Break
+  kind_is blocks small.Continue z = z ≡ small.Continue
+  kind_is blocks small.Pass z = z ≡ small.Pass
+  kind_is blocks (small.Load l) z = z ≡ small.Load l
 
-  unfoldable pub SmallIs : List BlockParts → SmallStmt → CodeSmall → Type 0
-  SmallIs blocks x z = kind_is blocks x.kind z
+  unfoldable pub SmallIs : List BlockParts → SmallStmt → SmallStmt → Type 0
+  SmallIs blocks x z = (k : SmallKind) × kind_is blocks x.kind k × (z ≡ record x { kind = k })
 
-  unfoldable pub BranchIs : (Stmt → CodeStmt → Type 0) → List BlockParts → Branch → CodeBranch → Type 0
-  BranchIs inner blocks b z = (x : Code) × (ys : List CodeStmt) × ExprIs blocks (out-Branch b).condition x × InOrder inner (out-Branch b).block ys × (z ≡ roll-CodeBranch (record { condition = x; block = ys }))
+  unfoldable pub BranchIs : (Stmt → Stmt → Type 0) → List BlockParts → Branch → Branch → Type 0
+  BranchIs inner blocks b z = (x : Expr) × (ys : List Stmt) × ExprIs blocks (out-Branch b).condition x × InOrder inner (out-Branch b).block ys × (z ≡ roll-Branch (record { condition = x; block = ys }))
 
-  abbrev pub stmt_is_by : (Stmt → CodeStmt → Type 0) → List BlockParts → Stmt-F Stmt Branch → CodeStmt → Type 0
-  stmt_is_by inner blocks (Stmt-F.Simple xs) z = (ys : List CodeSmall) × InOrder (SmallIs blocks) xs ys × (z ≡ stmt.Simple ys)
-  stmt_is_by inner blocks (Stmt-F.If bs zs) z = (xs : List CodeBranch) × (ys : List CodeStmt) × InOrder (BranchIs inner blocks) bs xs × InOrder inner zs ys × (z ≡ stmt.If xs ys)
+  abbrev pub stmt_is_by : (Stmt → Stmt → Type 0) → List BlockParts → Stmt-F Stmt Branch → Stmt → Type 0
+  stmt_is_by inner blocks (Stmt-F.Simple xs) z = (ys : List SmallStmt) × InOrder (SmallIs blocks) xs ys × (z ≡ stmt.Simple ys)
+  stmt_is_by inner blocks (Stmt-F.If bs zs) z = (xs : List Branch) × (ys : List Stmt) × InOrder (BranchIs inner blocks) bs xs × InOrder inner zs ys × (z ≡ stmt.If xs ys)
   stmt_is_by inner blocks (Stmt-F.For t x body) z =
-      (u : CodeTarget) × (y : Code) × (ys : List CodeStmt) × TargetIs blocks t u × ExprIs blocks x y × InOrder inner body ys × (z ≡ stmt.For u y ys)
+      (u : TargetExpr) × (y : Expr) × (ys : List Stmt) × TargetIs blocks t u × ExprIs blocks x y × InOrder inner body ys × (z ≡ stmt.For u y ys)
   stmt_is_by inner blocks (Stmt-F.Def n ps body) z = ⊥
 
-  unfoldable pub StmtTo : ℕ → List BlockParts → Stmt → CodeStmt → Type 0
+  unfoldable pub StmtTo : ℕ → List BlockParts → Stmt → Stmt → Type 0
   StmtTo zero blocks x z = ⊥
   StmtTo (suc layers) blocks x z = stmt_is_by (StmtTo layers blocks) blocks (out-Stmt x) z
 
   -- ---- functions
 
   -- those with names have the slots from `next` on
-  abbrev pub ParametersAre : ℕ → List Parameter → List CodeParameter → Type 0
+  abbrev pub ParametersAre : ℕ → List Parameter → List Formal → Type 0
   ParametersAre next [] ys = ys ≡ []
-  ParametersAre next (parameter.Plain n ∷ ps) ys = (zs : List CodeParameter) × ParametersAre (next + 1) ps zs × (ys ≡ slot.Plain n.name next ∷ zs)
-  ParametersAre next (parameter.Default n x ∷ ps) ys = (zs : List CodeParameter) × ParametersAre (next + 1) ps zs × (ys ≡ slot.Default n.name next ∷ zs)
-  ParametersAre next (parameter.BareStar ∷ ps) ys = (zs : List CodeParameter) × ParametersAre next ps zs × (ys ≡ slot.BareStar ∷ zs)
-  ParametersAre next (parameter.Star n ∷ ps) ys = (zs : List CodeParameter) × ParametersAre (next + 1) ps zs × (ys ≡ slot.Star next ∷ zs)
-  ParametersAre next (parameter.StarStar n ∷ ps) ys = (zs : List CodeParameter) × ParametersAre (next + 1) ps zs × (ys ≡ slot.StarStar next ∷ zs)
+  ParametersAre next (parameter.Plain n ∷ ps) ys = (zs : List Formal) × ParametersAre (next + 1) ps zs × (ys ≡ formal.Plain (refer n (b.Local next)) ∷ zs)
+  ParametersAre next (parameter.Default n x ∷ ps) ys = (zs : List Formal) × ParametersAre (next + 1) ps zs × (ys ≡ formal.Default (refer n (b.Local next)) ∷ zs)
+  ParametersAre next (parameter.BareStar ∷ ps) ys = (zs : List Formal) × ParametersAre next ps zs × (ys ≡ formal.BareStar ∷ zs)
+  ParametersAre next (parameter.Star n ∷ ps) ys = (zs : List Formal) × ParametersAre (next + 1) ps zs × (ys ≡ formal.Star (refer n (b.Local next)) ∷ zs)
+  ParametersAre next (parameter.StarStar n ∷ ps) ys = (zs : List Formal) × ParametersAre (next + 1) ps zs × (ys ≡ formal.StarStar (refer n (b.Local next)) ∷ zs)
 
   -- the defaults, which stand outside the function
-  abbrev pub DefaultsAre : List Parameter → List Code → Type 0
+  abbrev pub DefaultsAre : List Parameter → List Expr → Type 0
   DefaultsAre [] ys = ys ≡ []
   DefaultsAre (parameter.Plain n ∷ ps) ys = DefaultsAre ps ys
-  DefaultsAre (parameter.Default n x ∷ ps) ys = (y : Code) × (zs : List Code) × ExprIs [] x y × DefaultsAre ps zs × (ys ≡ y ∷ zs)
+  DefaultsAre (parameter.Default n x ∷ ps) ys = (y : Expr) × (zs : List Expr) × ExprIs [] x y × DefaultsAre ps zs × (ys ≡ y ∷ zs)
   DefaultsAre (parameter.BareStar ∷ ps) ys = DefaultsAre ps ys
   DefaultsAre (parameter.Star n ∷ ps) ys = DefaultsAre ps ys
   DefaultsAre (parameter.StarStar n ∷ ps) ys = DefaultsAre ps ys
 
-  unfoldable pub FunctionIs : Identifier → List Parameter → List Stmt → CodeFunction → Type 0
+  unfoldable pub FunctionIs : Identifier → List Parameter → List Stmt → Function → Type 0
   FunctionIs n ps body z =
-      (rows : List CodeParameter) × (slots : ℕ) × (code : List CodeStmt) × ParametersAre 0 ps rows
-      × InOrder (StmtTo max_layers (record { base = 0; names = function_names ps body } ∷ [])) body code
-      × (z ≡ record { name = n.name; parameters = rows; slots = slots; body = code })
+      (rows : List Formal) × (slots : ℕ) × (ys : List Stmt) × ParametersAre 0 ps rows
+      × InOrder (StmtTo max_layers (record { base = 0; names = function_names ps body } ∷ [])) body ys
+      × (z ≡ record { name = n.name; parameters = rows; slots = slots; body = ys })
 
   -- ---- what stands outside functions: `k` functions stand before it, and it has these functions and loads
 
@@ -236,30 +232,30 @@ module _ (file : FileParts) where
   loads_are line (small.Load l) ls = (z : LoadStmt) × LoadIs line l z × (ls ≡ z ∷ [])
   loads_are line _ ls = ls ≡ []
 
-  unfoldable pub OuterIs : ℕ → SmallStmt → CodeSmall → List CodeFunction → List LoadStmt → Type 0
+  unfoldable pub OuterIs : ℕ → SmallStmt → SmallStmt → List Function → List LoadStmt → Type 0
   OuterIs k x z fs ls = SmallIs [] x z × (fs ≡ []) × loads_are x.line x.kind ls
 
 -- one after the other, each after the functions of those before it, and all functions and loads of them
-abbrev pub InTurn : {A B : Type 0} → (ℕ → A → B → List CodeFunction → List LoadStmt → Type 0) → ℕ → List A → List B → List CodeFunction → List LoadStmt → Type 0
+abbrev pub InTurn : {A B : Type 0} → (ℕ → A → B → List Function → List LoadStmt → Type 0) → ℕ → List A → List B → List Function → List LoadStmt → Type 0
 InTurn R k [] ys fs ls = (ys ≡ []) × (fs ≡ []) × (ls ≡ [])
 InTurn {B = B} R k (x ∷ xs) ys fs ls =
-    (y : B) × (zs : List B) × (f : List CodeFunction) × (gs : List CodeFunction) × (l : List LoadStmt) × (ms : List LoadStmt)
+    (y : B) × (zs : List B) × (f : List Function) × (gs : List Function) × (l : List LoadStmt) × (ms : List LoadStmt)
     × R k x y f l × InTurn R (k + length f) xs zs gs ms × (ys ≡ y ∷ zs) × (fs ≡ f ++ gs) × (ls ≡ l ++ ms)
 
 module _ (file : FileParts) where
-  abbrev pub file_stmt_is : ℕ → Stmt-F Stmt Branch → FileStmt → List CodeFunction → List LoadStmt → Type 0
-  file_stmt_is k (Stmt-F.Simple xs) z fs ls = (ys : List CodeSmall) × InTurn (OuterIs file) k xs ys fs ls × (z ≡ top.Simple ys)
+  abbrev pub file_stmt_is : ℕ → Stmt-F Stmt Branch → Outside → List Function → List LoadStmt → Type 0
+  file_stmt_is k (Stmt-F.Simple xs) z fs ls = (ys : List SmallStmt) × InTurn (OuterIs file) k xs ys fs ls × (z ≡ top.Simple ys)
   file_stmt_is k (Stmt-F.If bs zs) z fs ls = ⊥
   file_stmt_is k (Stmt-F.For t x body) z fs ls = ⊥
   file_stmt_is k (Stmt-F.Def n ps body) z fs ls =
-      (u : CodeTarget) × (ds : List Code) × (f : CodeFunction) × (place_of (use_of file [] n.name) ≡ Some u) × DefaultsAre file ps ds × FunctionIs file n ps body f
-      × (z ≡ top.Def (record { target = u; function = k; defaults = ds })) × (fs ≡ f ∷ []) × (ls ≡ [])
+      (x : Referent) × (ds : List Expr) × (f : Function) × (place_of (use_of file [] n.name) ≡ Some x) × DefaultsAre file ps ds × FunctionIs file n ps body f
+      × (z ≡ top.Def (record { name = refer n x; function = k; defaults = ds })) × (fs ≡ f ∷ []) × (ls ≡ [])
 
-  unfoldable pub TopLevelIs : ℕ → TopLevel → CodeTopLevel → List CodeFunction → List LoadStmt → Type 0
-  TopLevelIs k t z fs ls = (x : FileStmt) × file_stmt_is k (out-Stmt t.statement) x fs ls × (z ≡ record { line = t.line; statement = x })
+  unfoldable pub TopLevelIs : ℕ → TopLevel → FileLine → List Function → List LoadStmt → Type 0
+  TopLevelIs k t z fs ls = (x : Outside) × file_stmt_is k (out-Stmt t.statement) x fs ls × (z ≡ record { line = t.line; statement = x })
 
 -- A file that resolves has the statements, functions and loads that it is written with, each use of a name with what it stands for,
 -- and the names that it binds.
 abbrev pub FilesResolveToThemselves : Type 0
-FilesResolveToThemselves = (universe : UniverseParts) (ts : List TopLevel) (r : Resolved) → resolved universe ts ≡ Ok r
+FilesResolveToThemselves = (universe : UniverseParts) (ts : List TopLevel) (r : ResolvedFile) → resolved universe ts ≡ Ok r
     → InTurn (TopLevelIs (file_names universe ts)) 0 ts r.statements r.functions r.loads × (r.globals ≡ global_names ts)

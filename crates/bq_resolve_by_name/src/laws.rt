@@ -31,7 +31,8 @@ pub fn rules_are_declared_in_bzl_files()
     ensures namespaces { NamespacesAreNoValues }
 {}
 
-/// Every slot of a file that resolves is below the number of slots of its frame.
+/// Every slot of a file that resolves is below the number of slots of its frame; the first iterable of a comprehension is read in the
+/// frame around.
 pub fn every_slot_is_below()
     ensures { EverySlotIsBelow }
 {}
@@ -49,7 +50,7 @@ pub fn files_resolve_to_themselves()
     ensures { FilesResolveToThemselves }
 {}
 
-/// The code of a file has the loads and the globals of the file that was parsed.
+/// What a parsed file resolves to has its loads and its globals.
 pub fn loads_and_globals_are_kept()
     ensures loads { LoadsAreKept }
     ensures globals { GlobalsAreKept }

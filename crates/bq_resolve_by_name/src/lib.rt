@@ -6,12 +6,12 @@
 //! names and flow that it breaks. A file that resolves is the file that was written, form by form.
 //!
 //! `specs/Binds.antt` says in words what binds a name; each step of the definition adds just that to the names (`Adds`,
-//! `proofs/Binds.antt`). `specs/Slots.antt` says, by a fold over resolved trees, how many slots a frame must have for the code that
-//! runs in it. `Needs` (`proofs/Needs.antt`) says of a walk that what it makes needs no more slots than the frame has after it; each
+//! `proofs/Binds.antt`). `specs/Slots.antt` says, by a fold over resolved trees, how many slots a frame must have for the trees that
+//! run in it. `Needs` (`proofs/Needs.antt`) says of a walk that what it makes needs no more slots than the frame has after it; each
 //! rule has one such fact, made of those of its parts. `specs/Violations.antt` lists all that a file breaks, without slots and without
 //! an end at the first; `Finds` (`proofs/Finds.antt`) says of a walk that its fault is the first of a list. `specs/Resolution.antt`
 //! relates a tree to what it resolves to, a case for each form; `Makes` and `Gains` (`proofs/Makes.antt`) say of a walk that what it
-//! makes is so related, and which functions and loads it adds. `specs/Files.antt` says what the code of a parsed file is, and
+//! makes is so related, and which functions and loads it adds. `specs/Files.antt` says what a parsed file resolves to, and
 //! `specs/Loads.antt` what a file loads.
 #![tactic(auto)]
 

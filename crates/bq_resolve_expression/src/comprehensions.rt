@@ -1,9 +1,8 @@
 //! Comprehensions.
 
-ghost use Rattle.std.specs.Prelude.{map, take, drop};
+ghost use Rattle.std.specs.Prelude.{take, drop};
 ghost use Rattle.bq_parse_grammar.specs.declared.tree.Clause.{out-Clause};
-ghost use Rattle.bq_resolve_scope.specs.declared.code.Code.TheVariants as code;
-ghost use Rattle.bq_resolve_scope.specs.Codes.{clause_code, expr_code, frame_code, pair_code};
+ghost use Rattle.bq_parse_grammar.specs.declared.tree.Expr.TheVariants as e;
 ghost use Rattle.bq_resolve_scope.specs.Expressions as spec;
 ghost use Rattle.bq_resolve_expression.specs.Walks.{Writes, WritesNested};
 ghost use Rattle.bq_resolve_expression.specs.Comprehensions.{further_clauses, list_in_block, list_comprehension, dict_in_block, dict_comprehension};
@@ -24,7 +23,7 @@ impl<'a, F: Copy + Fn(&Scope<'_>, usize, &mut Walk, &mut Expr) -> Result<(), Sou
     #[tactic(auto, unfolding(bq_resolve_scope::specs::Names::max_layers))]
     fn clause(&self, round: &[Block], walk: &mut Walk, clause: &mut Clause) -> Result<(), SourceErr>
         requires { WritesNested self.now.depth (F.pre self.now.visit) (F.post self.now.visit) }
-        ensures { Writes (spec.clause_by self.now.scope.file.now (spec.expr_to self.now.depth self.now.scope.file.now) round.now self.now.scope.blocks.now (out-Clause clause.old) walk.old) result (clause_code clause.new) walk.new }
+        ensures { Writes (spec.clause_by self.now.scope.file.now (spec.expr_to self.now.depth self.now.scope.file.now) round.now self.now.scope.blocks.now (out-Clause clause.old) walk.old) result clause.new walk.new }
     {
         match clause {
             Clause::For(target, iterable) => {
@@ -39,7 +38,7 @@ impl<'a, F: Copy + Fn(&Scope<'_>, usize, &mut Walk, &mut Expr) -> Result<(), Sou
     /// Resolves the clauses after the first, which lie inside.
     fn further_clauses(&self, walk: &mut Walk, clauses: &mut Items<Clause>) -> Result<(), SourceErr>
         requires { WritesNested self.now.depth (F.pre self.now.visit) (F.post self.now.visit) }
-        ensures { Writes (further_clauses self.now.depth self.now.scope (map clause_code (take 1 clauses.old)) (drop 1 clauses.old) walk.old) result (map clause_code clauses.new) walk.new }
+        ensures { Writes (further_clauses self.now.depth self.now.scope (take 1 clauses.old) (drop 1 clauses.old) walk.old) result clauses.new walk.new }
     {
         for at in 1..clauses.len() {
             self.clause(self.scope.blocks, walk, clauses.item_mut(at))?;
@@ -56,7 +55,7 @@ impl<'a, F: Copy + Fn(&Scope<'_>, usize, &mut Walk, &mut Expr) -> Result<(), Sou
         clauses: &mut Items<Clause>,
     ) -> Result<(), SourceErr>
         requires { WritesNested self.now.depth (F.pre self.now.visit) (F.post self.now.visit) }
-        ensures { Writes (spec.clauses self.now.scope.file.now (spec.expr_to self.now.depth self.now.scope.file.now) round.now self.now.scope.blocks.now clauses.old walk.old) result (map clause_code clauses.new) walk.new }
+        ensures { Writes (spec.clauses self.now.scope.file.now (spec.expr_to self.now.depth self.now.scope.file.now) round.now self.now.scope.blocks.now clauses.old walk.old) result clauses.new walk.new }
     {
         if clauses.is_empty() {
             return Ok(());
@@ -74,7 +73,7 @@ impl<'a, F: Copy + Fn(&Scope<'_>, usize, &mut Walk, &mut Expr) -> Result<(), Sou
         clauses: &mut Boxed<Items<Clause>>,
     ) -> Result<(), SourceErr>
         requires { WritesNested self.now.depth (F.pre self.now.visit) (F.post self.now.visit) }
-        ensures { Writes (list_in_block self.now.depth self.now.scope element.old clauses.old walk.old) result (code.ListComprehension (expr_code element.new) (map clause_code clauses.new)) walk.new }
+        ensures { Writes (list_in_block self.now.depth self.now.scope element.old clauses.old walk.old) result (e.ListComprehension element.new clauses.new) walk.new }
     {
         let names = comprehension_names(self.scope.alloc, clauses.get().as_slice())?;
         let blocks = walk.open(self.scope.alloc, names, self.scope.blocks)?;
@@ -97,7 +96,7 @@ impl<'a, F: Copy + Fn(&Scope<'_>, usize, &mut Walk, &mut Expr) -> Result<(), Sou
         frame: &mut ComprehensionFrame,
     ) -> Result<(), SourceErr>
         requires { WritesNested self.now.depth (F.pre self.now.visit) (F.post self.now.visit) }
-        ensures { Writes (list_comprehension self.now.depth self.now.scope element.old clauses.old walk.old) result (frame_code frame.new (code.ListComprehension (expr_code element.new) (map clause_code clauses.new))) walk.new }
+        ensures { Writes (list_comprehension self.now.depth self.now.scope element.old clauses.old walk.old) result (e.ListComprehension element.new clauses.new frame.new) walk.new }
     {
         if !self.scope.blocks.is_empty() {
             *frame = ComprehensionFrame::Shared;
@@ -118,7 +117,7 @@ impl<'a, F: Copy + Fn(&Scope<'_>, usize, &mut Walk, &mut Expr) -> Result<(), Sou
         clauses: &mut Boxed<Items<Clause>>,
     ) -> Result<(), SourceErr>
         requires { WritesNested self.now.depth (F.pre self.now.visit) (F.post self.now.visit) }
-        ensures { Writes (dict_in_block self.now.depth self.now.scope pair.old clauses.old walk.old) result (code.DictComprehension (pair_code pair.new) (map clause_code clauses.new)) walk.new }
+        ensures { Writes (dict_in_block self.now.depth self.now.scope pair.old clauses.old walk.old) result (e.DictComprehension pair.new clauses.new) walk.new }
     {
         let names = comprehension_names(self.scope.alloc, clauses.get().as_slice())?;
         let blocks = walk.open(self.scope.alloc, names, self.scope.blocks)?;
@@ -141,7 +140,7 @@ impl<'a, F: Copy + Fn(&Scope<'_>, usize, &mut Walk, &mut Expr) -> Result<(), Sou
         frame: &mut ComprehensionFrame,
     ) -> Result<(), SourceErr>
         requires { WritesNested self.now.depth (F.pre self.now.visit) (F.post self.now.visit) }
-        ensures { Writes (dict_comprehension self.now.depth self.now.scope pair.old clauses.old walk.old) result (frame_code frame.new (code.DictComprehension (pair_code pair.new) (map clause_code clauses.new))) walk.new }
+        ensures { Writes (dict_comprehension self.now.depth self.now.scope pair.old clauses.old walk.old) result (e.DictComprehension pair.new clauses.new frame.new) walk.new }
     {
         if !self.scope.blocks.is_empty() {
             *frame = ComprehensionFrame::Shared;

@@ -1,8 +1,6 @@
 //! Names that are bound, and faults at names.
 
 ghost use Rattle.std.specs.Prelude.{◌≡◌, IfOk};
-ghost use Rattle.bq_resolve_scope.specs.declared.code.Code.TheVariants as code;
-ghost use Rattle.bq_resolve_scope.specs.Codes.{use_code, variable_code};
 ghost use Rattle.bq_resolve_scope.specs.Visit.{fault_of};
 ghost use Rattle.bq_resolve_scope.specs.Expressions as spec;
 ghost use Rattle.bq_resolve_expression.specs.Walks.{Writes};
@@ -11,7 +9,6 @@ use crate::scope::Scope;
 use crate::walk::Walk;
 use bq_base::{Fault, FaultKind, SourceErr};
 use bq_parse_grammar::{FileKind, Identifier, Referent};
-use bq_resolve_scope::Binding;
 use std::alloc::AllocError;
 
 /// Returns a fault at a name.
@@ -25,27 +22,11 @@ pub fn fault_of(kind: FaultKind, name: &Identifier) -> Result<Fault, AllocError>
     })
 }
 
-/// Returns what a name refers to that stands for this.
-pub fn referent(binding: Binding) -> Referent
-    ensures { use_code result ≡ code.Use binding }
-{
-    match binding {
-        Binding::Local(slot) => Referent::Local(slot),
-        Binding::Global(k) => Referent::Global(k),
-        Binding::Loaded(k) => Referent::Loaded(k),
-        Binding::Predeclared(predeclared) => Referent::Predeclared(predeclared),
-    }
-}
-
 /// Resolves a name that is bound: its block holds it. Outside functions and comprehensions, where there is no enclosing block, it is a
 /// name of the file, which a .bzl file binds once.
-#[tactic(auto, unfolding(bq_resolve_scope::specs::Expressions::name_target, bq_resolve_scope::specs::Expressions::bind_global))]
-pub fn name_target(
-    scope: &Scope<'_>,
-    walk: &mut Walk,
-    name: &mut Identifier,
-) -> Result<(), SourceErr>
-    ensures writes { Writes (spec.name_target scope.now.file.now scope.now.blocks.now name.old walk.old) result (variable_code name.new.referent) walk.new }
+#[tactic(auto, unfolding(bq_resolve_scope::specs::Expressions::bound_at, bq_resolve_scope::specs::Expressions::bind_global))]
+pub fn bound_at(scope: &Scope<'_>, walk: &mut Walk, name: &mut Identifier) -> Result<(), SourceErr>
+    ensures writes { Writes (spec.bound_at scope.now.file.now scope.now.blocks.now name.old walk.old) result name.new walk.new }
     ensures spelling { name.new.name ≡ name.old.name }
 {
     if scope.blocks.is_empty() {
@@ -59,11 +40,11 @@ pub fn name_target(
         walk.bound.add(&name.name)?;
     }
     match scope.file.use_of(scope.blocks, &name.name) {
-        Some(Binding::Local(slot)) => {
+        Some(Referent::Local(slot)) => {
             name.referent = Referent::Local(slot);
             Ok(())
         }
-        Some(Binding::Global(k)) => {
+        Some(Referent::Global(k)) => {
             name.referent = Referent::Global(k);
             Ok(())
         }

@@ -1,10 +1,9 @@
 //! An operand with what is done to it, among them `native.NAME(..)` and `attr.NAME(..)`.
 
-ghost use Rattle.std.specs.Prelude.{◌≡◌, ◌<◌, map, length};
+ghost use Rattle.std.specs.Prelude.{◌≡◌, ◌<◌, length};
 ghost use Rattle.bq_parse_grammar.specs.declared.tree.Expr.{out-Expr};
+ghost use Rattle.bq_parse_grammar.specs.declared.tree.Expr.TheVariants as e;
 ghost use Rattle.bq_parse_grammar.specs.declared.tree.Suffix.{out-Suffix};
-ghost use Rattle.bq_resolve_scope.specs.declared.code.Code.TheVariants as code;
-ghost use Rattle.bq_resolve_scope.specs.Codes.{expr_code, suffix_code};
 ghost use Rattle.bq_resolve_scope.specs.Expressions as spec;
 ghost use Rattle.bq_resolve_expression.specs.Members as members;
 ghost use Rattle.bq_resolve_expression.specs.Walks.{Writes, WritesNested};
@@ -20,8 +19,9 @@ use bq_resolve_scope::Namespace;
 use bq_tree_items::{Boxed, Items};
 
 /// Returns the namespace that the operand is, in a .bzl file that binds no such name.
+#[tactic(auto, unfolding(bq_resolve_scope::specs::Expressions::space_of))]
 fn namespace_at(scope: &Scope<'_>, operand: &Expr) -> Option<Namespace>
-    ensures { result ≡ spec.namespace_at scope.now.file.now scope.now.blocks.now (out-Expr operand.now) }
+    ensures { result ≡ members.space_at scope.now.file.now scope.now.blocks.now (out-Expr operand.now) }
 {
     let Expr::Name(name) = operand else {
         return None;
@@ -43,7 +43,7 @@ fn namespace_at(scope: &Scope<'_>, operand: &Expr) -> Option<Namespace>
 
 /// Makes a name refer to the member.
 fn refer(operand: &mut Expr, member: Predeclared)
-    ensures { expr_code operand.new ≡ members.as_member member (out-Expr operand.old) (expr_code operand.old) }
+    ensures { operand.new ≡ members.as_member member (out-Expr operand.old) operand.old }
 {
     if let Expr::Name(name) = operand {
         name.referent = Referent::Member(member);
@@ -63,7 +63,7 @@ impl<'a, F: Copy + Fn(&Scope<'_>, usize, &mut Walk, &mut Expr) -> Result<(), Sou
         suffixes: &mut Items<Suffix>,
     ) -> Result<(), SourceErr>
         requires { WritesNested self.now.depth (F.pre self.now.visit) (F.post self.now.visit) }
-        ensures { Writes (spec.operand self.now.scope.file.now (spec.expr_to self.now.depth self.now.scope.file.now) self.now.scope.blocks.now operand.old suffixes.old walk.old) result (code.Primary (expr_code operand.new) (map suffix_code suffixes.new)) walk.new }
+        ensures { Writes (spec.operand self.now.scope.file.now (spec.expr_to self.now.depth self.now.scope.file.now) self.now.scope.blocks.now operand.old suffixes.old walk.old) result (e.Primary operand.new suffixes.new) walk.new }
     {
         self.boxed(walk, operand)?;
         self.suffixes_from(0, walk, suffixes)
@@ -77,7 +77,7 @@ impl<'a, F: Copy + Fn(&Scope<'_>, usize, &mut Walk, &mut Expr) -> Result<(), Sou
         suffix: &mut Suffix,
     ) -> Result<(), SourceErr>
         requires { WritesNested self.now.depth (F.pre self.now.visit) (F.post self.now.visit) }
-        ensures { Writes (members.member_suffix_by self.now.scope.file.now (spec.expr_to self.now.depth self.now.scope.file.now) self.now.scope.blocks.now (out-Suffix suffix.old) walk.old) result (suffix_code suffix.new) walk.new }
+        ensures { Writes (members.member_suffix_by self.now.scope.file.now (spec.expr_to self.now.depth self.now.scope.file.now) self.now.scope.blocks.now member (out-Suffix suffix.old) walk.old) result suffix.new walk.new }
     {
         match suffix {
             Suffix::Method(name, arguments) => {
@@ -98,7 +98,7 @@ impl<'a, F: Copy + Fn(&Scope<'_>, usize, &mut Walk, &mut Expr) -> Result<(), Sou
     ) -> Result<(), SourceErr>
         requires nested { WritesNested self.now.depth (F.pre self.now.visit) (F.post self.now.visit) }
         requires some { 0 < length suffixes.old }
-        ensures { Writes (members.member_primary self.now.scope.file.now (spec.expr_to self.now.depth self.now.scope.file.now) self.now.scope.blocks.now member operand.old suffixes.old walk.old) result (code.Primary (expr_code operand.new) (map suffix_code suffixes.new)) walk.new }
+        ensures { Writes (members.member_primary self.now.scope.file.now (spec.expr_to self.now.depth self.now.scope.file.now) self.now.scope.blocks.now member operand.old suffixes.old walk.old) result (e.Primary operand.new suffixes.new) walk.new }
     {
         refer(operand.get_mut(), member);
         self.member_suffix(member, walk, suffixes.item_mut(0))?;
@@ -115,7 +115,7 @@ impl<'a, F: Copy + Fn(&Scope<'_>, usize, &mut Walk, &mut Expr) -> Result<(), Sou
         suffixes: &mut Items<Suffix>,
     ) -> Result<(), SourceErr>
         requires { WritesNested self.now.depth (F.pre self.now.visit) (F.post self.now.visit) }
-        ensures { Writes (spec.primary self.now.scope.file.now (spec.expr_to self.now.depth self.now.scope.file.now) self.now.scope.blocks.now operand.old suffixes.old walk.old) result (code.Primary (expr_code operand.new) (map suffix_code suffixes.new)) walk.new }
+        ensures { Writes (spec.primary self.now.scope.file.now (spec.expr_to self.now.depth self.now.scope.file.now) self.now.scope.blocks.now operand.old suffixes.old walk.old) result (e.Primary operand.new suffixes.new) walk.new }
     {
         if let Some(space) = namespace_at(&self.scope, operand.get()) {
             if let [Suffix::Method(name, _), ..] = suffixes.as_slice() {

@@ -1,7 +1,6 @@
 //! The rules of expressions take the resolver of those inside as a parameter, so that each rule is proved by itself.
 
-ghost use Rattle.std.specs.Prelude.{[], map};
-ghost use Rattle.bq_resolve_scope.specs.Codes.{expr_code, pair_code, choice_code};
+ghost use Rattle.std.specs.Prelude.{[]};
 ghost use Rattle.bq_resolve_scope.specs.Visit as visit;
 ghost use Rattle.bq_resolve_scope.specs.Expressions as spec;
 ghost use Rattle.bq_resolve_expression.specs.Walks.{Writes, WritesNested};
@@ -27,7 +26,7 @@ impl<'a, F: Copy + Fn(&Scope<'_>, usize, &mut Walk, &mut Expr) -> Result<(), Sou
     /// Resolves an expression inside.
     pub fn expr(&self, walk: &mut Walk, expr: &mut Expr) -> Result<(), SourceErr>
         requires { WritesNested self.now.depth (F.pre self.now.visit) (F.post self.now.visit) }
-        ensures { Writes (spec.expr_to self.now.depth self.now.scope.file.now self.now.scope.blocks.now expr.old walk.old) result (expr_code expr.new) walk.new }
+        ensures { Writes (spec.expr_to self.now.depth self.now.scope.file.now self.now.scope.blocks.now expr.old walk.old) result expr.new walk.new }
     {
         (self.visit)(&self.scope, self.depth, walk, expr)
     }
@@ -35,7 +34,7 @@ impl<'a, F: Copy + Fn(&Scope<'_>, usize, &mut Walk, &mut Expr) -> Result<(), Sou
     /// Resolves an expression inside, in its box.
     pub fn boxed(&self, walk: &mut Walk, expr: &mut Boxed<Expr>) -> Result<(), SourceErr>
         requires { WritesNested self.now.depth (F.pre self.now.visit) (F.post self.now.visit) }
-        ensures { Writes (spec.expr_to self.now.depth self.now.scope.file.now self.now.scope.blocks.now expr.old walk.old) result (expr_code expr.new) walk.new }
+        ensures { Writes (spec.expr_to self.now.depth self.now.scope.file.now self.now.scope.blocks.now expr.old walk.old) result expr.new walk.new }
     {
         self.expr(walk, expr.get_mut())
     }
@@ -43,7 +42,7 @@ impl<'a, F: Copy + Fn(&Scope<'_>, usize, &mut Walk, &mut Expr) -> Result<(), Sou
     /// Resolves expressions, one after another.
     pub fn exprs(&self, walk: &mut Walk, exprs: &mut Items<Expr>) -> Result<(), SourceErr>
         requires { WritesNested self.now.depth (F.pre self.now.visit) (F.post self.now.visit) }
-        ensures { Writes (visit.each (spec.expr_to self.now.depth self.now.scope.file.now self.now.scope.blocks.now) [] exprs.old walk.old) result (map expr_code exprs.new) walk.new }
+        ensures { Writes (visit.each (spec.expr_to self.now.depth self.now.scope.file.now self.now.scope.blocks.now) [] exprs.old walk.old) result exprs.new walk.new }
     {
         for at in 0..exprs.len() {
             self.expr(walk, exprs.item_mut(at))?;
@@ -55,7 +54,7 @@ impl<'a, F: Copy + Fn(&Scope<'_>, usize, &mut Walk, &mut Expr) -> Result<(), Sou
     #[tactic(auto, unfolding(bq_resolve_scope::specs::Expressions::pair))]
     pub fn pair(&self, walk: &mut Walk, pair: &mut Pair) -> Result<(), SourceErr>
         requires { WritesNested self.now.depth (F.pre self.now.visit) (F.post self.now.visit) }
-        ensures { Writes (spec.pair self.now.scope.file.now (spec.expr_to self.now.depth self.now.scope.file.now) self.now.scope.blocks.now pair.old walk.old) result (pair_code pair.new) walk.new }
+        ensures { Writes (spec.pair self.now.scope.file.now (spec.expr_to self.now.depth self.now.scope.file.now) self.now.scope.blocks.now pair.old walk.old) result pair.new walk.new }
     {
         self.expr(walk, &mut pair.key)?;
         self.expr(walk, &mut pair.value)
@@ -63,7 +62,7 @@ impl<'a, F: Copy + Fn(&Scope<'_>, usize, &mut Walk, &mut Expr) -> Result<(), Sou
 
     pub fn pairs(&self, walk: &mut Walk, pairs: &mut Items<Pair>) -> Result<(), SourceErr>
         requires { WritesNested self.now.depth (F.pre self.now.visit) (F.post self.now.visit) }
-        ensures { Writes (visit.each (spec.pair self.now.scope.file.now (spec.expr_to self.now.depth self.now.scope.file.now) self.now.scope.blocks.now) [] pairs.old walk.old) result (map pair_code pairs.new) walk.new }
+        ensures { Writes (visit.each (spec.pair self.now.scope.file.now (spec.expr_to self.now.depth self.now.scope.file.now) self.now.scope.blocks.now) [] pairs.old walk.old) result pairs.new walk.new }
     {
         for at in 0..pairs.len() {
             self.pair(walk, pairs.item_mut(at))?;
@@ -75,7 +74,7 @@ impl<'a, F: Copy + Fn(&Scope<'_>, usize, &mut Walk, &mut Expr) -> Result<(), Sou
     #[tactic(auto, unfolding(bq_resolve_scope::specs::Expressions::choice))]
     fn choice(&self, walk: &mut Walk, choice: &mut Choice) -> Result<(), SourceErr>
         requires { WritesNested self.now.depth (F.pre self.now.visit) (F.post self.now.visit) }
-        ensures { Writes (spec.choice self.now.scope.file.now (spec.expr_to self.now.depth self.now.scope.file.now) self.now.scope.blocks.now choice.old walk.old) result (choice_code choice.new) walk.new }
+        ensures { Writes (spec.choice self.now.scope.file.now (spec.expr_to self.now.depth self.now.scope.file.now) self.now.scope.blocks.now choice.old walk.old) result choice.new walk.new }
     {
         self.expr(walk, &mut choice.value)?;
         self.expr(walk, &mut choice.condition)
@@ -83,7 +82,7 @@ impl<'a, F: Copy + Fn(&Scope<'_>, usize, &mut Walk, &mut Expr) -> Result<(), Sou
 
     pub fn choices(&self, walk: &mut Walk, choices: &mut Items<Choice>) -> Result<(), SourceErr>
         requires { WritesNested self.now.depth (F.pre self.now.visit) (F.post self.now.visit) }
-        ensures { Writes (visit.each (spec.choice self.now.scope.file.now (spec.expr_to self.now.depth self.now.scope.file.now) self.now.scope.blocks.now) [] choices.old walk.old) result (map choice_code choices.new) walk.new }
+        ensures { Writes (visit.each (spec.choice self.now.scope.file.now (spec.expr_to self.now.depth self.now.scope.file.now) self.now.scope.blocks.now) [] choices.old walk.old) result choices.new walk.new }
     {
         for at in 0..choices.len() {
             self.choice(walk, choices.item_mut(at))?;

@@ -1,11 +1,10 @@
 //! Operands, and what is done to them.
 
-ghost use Rattle.std.specs.Prelude.{map, take, drop};
+ghost use Rattle.std.specs.Prelude.{take, drop};
 ghost use Rattle.bq_parse_grammar.specs.declared.tree.Argument.{out-Argument};
 ghost use Rattle.bq_parse_grammar.specs.declared.tree.Argument.TheOpen.{Suffix-F};
 ghost use Rattle.bq_parse_grammar.specs.declared.tree.Suffix.{out-Suffix};
-ghost use Rattle.bq_resolve_scope.specs.declared.code.CodeSuffix.TheVariants as code;
-ghost use Rattle.bq_resolve_scope.specs.Codes.{argument_code, method_code, optional_code, suffix_code};
+ghost use Rattle.bq_parse_grammar.specs.declared.tree.Suffix.TheVariants as form;
 ghost use Rattle.bq_resolve_scope.specs.Visit as visit;
 ghost use Rattle.bq_resolve_scope.specs.Expressions as spec;
 ghost use Rattle.bq_resolve_expression.specs.Walks.{Writes, WritesNested};
@@ -14,7 +13,7 @@ use crate::rules::Rules;
 use crate::scope::Scope;
 use crate::walk::Walk;
 use bq_base::SourceErr;
-use bq_parse_grammar::{Argument, Expr, Identifier, Referent, Suffix};
+use bq_parse_grammar::{Argument, Expr, Suffix};
 use bq_tree_items::{Boxed, Items};
 
 impl<'a, F: Copy + Fn(&Scope<'_>, usize, &mut Walk, &mut Expr) -> Result<(), SourceErr>> Rules<
@@ -23,7 +22,7 @@ impl<'a, F: Copy + Fn(&Scope<'_>, usize, &mut Walk, &mut Expr) -> Result<(), Sou
 > {
     fn argument(&self, walk: &mut Walk, argument: &mut Argument) -> Result<(), SourceErr>
         requires { WritesNested self.now.depth (F.pre self.now.visit) (F.post self.now.visit) }
-        ensures { Writes (spec.argument_by self.now.scope.file.now (spec.expr_to self.now.depth self.now.scope.file.now) self.now.scope.blocks.now (out-Argument argument.old) walk.old) result (argument_code argument.new) walk.new }
+        ensures { Writes (spec.argument_by self.now.scope.file.now (spec.expr_to self.now.depth self.now.scope.file.now) self.now.scope.blocks.now (out-Argument argument.old) walk.old) result argument.new walk.new }
     {
         match argument {
             Argument::Positional(value) => self.expr(walk, value),
@@ -40,7 +39,7 @@ impl<'a, F: Copy + Fn(&Scope<'_>, usize, &mut Walk, &mut Expr) -> Result<(), Sou
         arguments: &mut Items<Argument>,
     ) -> Result<(), SourceErr>
         requires { WritesNested self.now.depth (F.pre self.now.visit) (F.post self.now.visit) }
-        ensures { Writes (spec.arguments self.now.scope.file.now (spec.expr_to self.now.depth self.now.scope.file.now) self.now.scope.blocks.now arguments.old walk.old) result (map argument_code arguments.new) walk.new }
+        ensures { Writes (spec.arguments self.now.scope.file.now (spec.expr_to self.now.depth self.now.scope.file.now) self.now.scope.blocks.now arguments.old walk.old) result arguments.new walk.new }
     {
         for at in 0..arguments.len() {
             self.argument(walk, arguments.item_mut(at))?;
@@ -50,7 +49,7 @@ impl<'a, F: Copy + Fn(&Scope<'_>, usize, &mut Walk, &mut Expr) -> Result<(), Sou
 
     fn optional(&self, walk: &mut Walk, part: &mut Option<Boxed<Expr>>) -> Result<(), SourceErr>
         requires { WritesNested self.now.depth (F.pre self.now.visit) (F.post self.now.visit) }
-        ensures { Writes (visit.optional (spec.expr_to self.now.depth self.now.scope.file.now self.now.scope.blocks.now) part.old walk.old) result (optional_code part.new) walk.new }
+        ensures { Writes (visit.optional (spec.expr_to self.now.depth self.now.scope.file.now self.now.scope.blocks.now) part.old walk.old) result part.new walk.new }
     {
         match part {
             None => Ok(()),
@@ -67,34 +66,21 @@ impl<'a, F: Copy + Fn(&Scope<'_>, usize, &mut Walk, &mut Expr) -> Result<(), Sou
         step: &mut Option<Boxed<Expr>>,
     ) -> Result<(), SourceErr>
         requires { WritesNested self.now.depth (F.pre self.now.visit) (F.post self.now.visit) }
-        ensures { Writes (spec.suffix_by self.now.scope.file.now (spec.expr_to self.now.depth self.now.scope.file.now) self.now.scope.blocks.now (Suffix-F.Slice start.old stop.old step.old) walk.old) result (code.Slice (optional_code start.new) (optional_code stop.new) (optional_code step.new)) walk.new }
+        ensures { Writes (spec.suffix_by self.now.scope.file.now (spec.expr_to self.now.depth self.now.scope.file.now) self.now.scope.blocks.now (Suffix-F.Slice start.old stop.old step.old) walk.old) result (form.Slice start.new stop.new step.new) walk.new }
     {
         self.optional(walk, start)?;
         self.optional(walk, stop)?;
         self.optional(walk, step)
     }
 
-    /// `.name(arguments)`: a method of the operand.
-    fn method(
-        &self,
-        walk: &mut Walk,
-        name: &mut Identifier,
-        arguments: &mut Items<Argument>,
-    ) -> Result<(), SourceErr>
-        requires { WritesNested self.now.depth (F.pre self.now.visit) (F.post self.now.visit) }
-        ensures { Writes (spec.suffix_by self.now.scope.file.now (spec.expr_to self.now.depth self.now.scope.file.now) self.now.scope.blocks.now (Suffix-F.Method name.old arguments.old) walk.old) result (method_code name.new (map argument_code arguments.new) name.new.referent) walk.new }
-    {
-        name.referent = Referent::Local(0);
-        self.arguments(walk, arguments)
-    }
-
+    /// Resolves what is done to an operand. The name of a method refers to nothing: it is looked up in the operand's value.
     pub fn suffix(&self, walk: &mut Walk, suffix: &mut Suffix) -> Result<(), SourceErr>
         requires { WritesNested self.now.depth (F.pre self.now.visit) (F.post self.now.visit) }
-        ensures { Writes (spec.suffix_by self.now.scope.file.now (spec.expr_to self.now.depth self.now.scope.file.now) self.now.scope.blocks.now (out-Suffix suffix.old) walk.old) result (suffix_code suffix.new) walk.new }
+        ensures { Writes (spec.suffix_by self.now.scope.file.now (spec.expr_to self.now.depth self.now.scope.file.now) self.now.scope.blocks.now (out-Suffix suffix.old) walk.old) result suffix.new walk.new }
     {
         match suffix {
             Suffix::Call(arguments) => self.arguments(walk, arguments),
-            Suffix::Method(name, arguments) => self.method(walk, name, arguments),
+            Suffix::Method(_, arguments) => self.arguments(walk, arguments),
             Suffix::Attribute(_) => Ok(()),
             Suffix::Index(index) => self.boxed(walk, index),
             Suffix::Slice(start, stop, step) => self.slice(walk, start, stop, step),
@@ -110,7 +96,7 @@ impl<'a, F: Copy + Fn(&Scope<'_>, usize, &mut Walk, &mut Expr) -> Result<(), Sou
         suffixes: &mut Items<Suffix>,
     ) -> Result<(), SourceErr>
         requires { WritesNested self.now.depth (F.pre self.now.visit) (F.post self.now.visit) }
-        ensures { Writes (spec.suffixes self.now.scope.file.now (spec.expr_to self.now.depth self.now.scope.file.now) self.now.scope.blocks.now (map suffix_code (take first suffixes.old)) (drop first suffixes.old) walk.old) result (map suffix_code suffixes.new) walk.new }
+        ensures { Writes (spec.suffixes self.now.scope.file.now (spec.expr_to self.now.depth self.now.scope.file.now) self.now.scope.blocks.now (take first suffixes.old) (drop first suffixes.old) walk.old) result suffixes.new walk.new }
     {
         for at in first..suffixes.len() {
             self.suffix(walk, suffixes.item_mut(at))?;

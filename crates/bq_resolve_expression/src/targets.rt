@@ -1,12 +1,11 @@
 //! Targets of assignments and loops.
 
-ghost use Rattle.std.specs.Prelude.{[], map};
-ghost use Rattle.bq_resolve_scope.specs.Codes.{target_code};
+ghost use Rattle.std.specs.Prelude.{[]};
 ghost use Rattle.bq_resolve_scope.specs.Visit as visit;
 ghost use Rattle.bq_resolve_scope.specs.Expressions as spec;
 ghost use Rattle.bq_resolve_expression.specs.Walks.{Writes, WritesNested};
 
-use crate::identifier::name_target;
+use crate::identifier::bound_at;
 use crate::rules::Rules;
 use crate::scope::Scope;
 use crate::walk::Walk;
@@ -26,7 +25,7 @@ impl<'a, F: Copy + Fn(&Scope<'_>, usize, &mut Walk, &mut Expr) -> Result<(), Sou
         targets: &mut Items<TargetExpr>,
     ) -> Result<(), SourceErr>
         requires { WritesNested self.now.depth (F.pre self.now.visit) (F.post self.now.visit) }
-        ensures { Writes (visit.each (spec.target_to self.now.scope.file.now (spec.expr_to self.now.depth self.now.scope.file.now) layers self.now.scope.blocks.now) [] targets.old walk.old) result (map target_code targets.new) walk.new }
+        ensures { Writes (visit.each (spec.target_to self.now.scope.file.now (spec.expr_to self.now.depth self.now.scope.file.now) layers self.now.scope.blocks.now) [] targets.old walk.old) result targets.new walk.new }
     {
         for at in 0..targets.len() {
             self.target_to(layers, walk, targets.item_mut(at))?;
@@ -36,7 +35,7 @@ impl<'a, F: Copy + Fn(&Scope<'_>, usize, &mut Walk, &mut Expr) -> Result<(), Sou
 
     /// Resolves a target that is at most `layers` layers deep.
     #[cycle(targets)]
-    #[tactic(auto, using(crate::proofs::Layers::code_target_layer), unfolding(bq_resolve_scope::specs::Expressions::target_to))]
+    #[tactic(auto, using(crate::proofs::Layers::target_layer), unfolding(bq_resolve_scope::specs::Expressions::target_to))]
     pub fn target_to(
         &self,
         layers: usize,
@@ -44,13 +43,13 @@ impl<'a, F: Copy + Fn(&Scope<'_>, usize, &mut Walk, &mut Expr) -> Result<(), Sou
         target: &mut TargetExpr,
     ) -> Result<(), SourceErr>
         requires { WritesNested self.now.depth (F.pre self.now.visit) (F.post self.now.visit) }
-        ensures { Writes (spec.target_to self.now.scope.file.now (spec.expr_to self.now.depth self.now.scope.file.now) layers self.now.scope.blocks.now target.old walk.old) result (target_code target.new) walk.new }
+        ensures { Writes (spec.target_to self.now.scope.file.now (spec.expr_to self.now.depth self.now.scope.file.now) layers self.now.scope.blocks.now target.old walk.old) result target.new walk.new }
     {
         if layers == 0 {
             return Err(SourceErr::Bad(Fault::at(FaultKind::Nesting, 0)));
         }
         match target {
-            TargetExpr::Name(name) => name_target(&self.scope, walk, name),
+            TargetExpr::Name(name) => bound_at(&self.scope, walk, name),
             TargetExpr::Index(operand, index) => {
                 self.boxed(walk, operand)?;
                 self.boxed(walk, index)

@@ -25,12 +25,12 @@ pub struct Walk {
 
 impl Model for Walk {
     ghost use Rattle.bq_resolve_scope.specs.Visit.{Passed};
-    ghost use Rattle.bq_resolve_scope.specs.contracts.code.CodeStmt as block;
+    ghost use Rattle.bq_parse_grammar.specs.contracts.tree.Stmt as stmt;
     ghost use Rattle.std.specs.Coded.{codes};
 
     ghost Value = { Passed };
 
-    ghost coded = { Prim.hlevel (codes, block.the_row.coded) };
+    ghost coded = { Prim.hlevel (codes, stmt.the_row.coded) };
 
     ghost view = { λ w. record { slots = w.slots; bound = w.bound; loaded = w.loaded; functions = w.functions; loads = w.loads } };
 }

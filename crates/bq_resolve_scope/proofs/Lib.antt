@@ -3,7 +3,5 @@ mod Places
 mod Layers
 mod Uses
 mod Examples
--- The code that a tree stands for, by its layers.
-pub mod Codes
 -- Parts of definitions, as words that proofs name.
 pub mod Cases

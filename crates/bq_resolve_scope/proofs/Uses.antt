@@ -1,9 +1,9 @@
 -- What a use stands for, and which names share a slot.
 use Rattle.std.proofs.Common.{◌≡◌, ◌<◌, ◌+◌, ℕ, false, List, [], ◌∷◌, length, Option, Some, None, refl, sym, ◌∙◌, subst, slice_get, arith}
 use Rattle.std.specs.Option.{option_map}
+use Rattle.bq_parse_grammar.specs.declared.tree.Referent.{Referent}
+use Rattle.bq_parse_grammar.specs.declared.tree.Referent.TheVariants as b
 use Rattle.bq_resolve_predeclared.specs.declared.predeclared.Predeclared.{Predeclared}
-use Rattle.bq_resolve_scope.specs.declared.code.Binding.{Binding}
-use Rattle.bq_resolve_scope.specs.declared.code.Binding.TheVariants as b
 use Rattle.bq_resolve_scope.specs.Universe.{universe_has}
 use Rattle.bq_resolve_scope.specs.Names.{Name, has, place_among}
 use Rattle.bq_resolve_scope.specs.Scope.{BlockParts, FileParts, or_else, slot_in, slot_of, file_has, use_of}
@@ -30,7 +30,7 @@ slot_is block name slot h = slot_by block (place_among name block.names) slot h
 
 -- ---- what a use stands for
 
-means : {file : FileParts} {name : Name} {blocks : List BlockParts} {x : Option Binding} → StandsFor file name blocks x → use_of file blocks name ≡ x
+means : {file : FileParts} {name : Name} {blocks : List BlockParts} {x : Option Referent} → StandsFor file name blocks x → use_of file blocks name ≡ x
 unfolding use_of slot_of file_has
 means {file} {name} (held {block} {blocks} {i} h) = rw (slot_at block name i h) refl
 means {file} {name} (outside {block} {blocks} {x} h d) = rw (no_slot block name (absent name block.names h)) (means d)

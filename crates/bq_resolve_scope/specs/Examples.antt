@@ -4,6 +4,7 @@ use Rattle.bq_base.specs.declared.fault.Fault.{Fault}
 use Rattle.bq_base.specs.declared.fault.FaultKind.{FaultKind}
 use Rattle.bq_base.specs.declared.fault.FaultKind.TheVariants as f
 use Rattle.bq_parse_grammar.specs.declared.tree.Clause.TheVariants as clause
+use Rattle.bq_parse_grammar.specs.declared.tree.ComprehensionFrame.{ComprehensionFrame}
 use Rattle.bq_parse_grammar.specs.declared.tree.ComprehensionFrame.TheVariants as frame
 use Rattle.bq_parse_grammar.specs.declared.tree.Expr.{Expr}
 use Rattle.bq_parse_grammar.specs.declared.tree.Expr.TheVariants as e
@@ -11,6 +12,8 @@ use Rattle.bq_parse_grammar.specs.declared.tree.FileKind.TheVariants as kinds
 use Rattle.bq_parse_grammar.specs.declared.tree.Identifier.{Identifier}
 use Rattle.bq_parse_grammar.specs.declared.tree.Operator.TheVariants as operator
 use Rattle.bq_parse_grammar.specs.declared.tree.Parameter.TheVariants as parameter
+use Rattle.bq_parse_grammar.specs.declared.tree.Referent.{Referent}
+use Rattle.bq_parse_grammar.specs.declared.tree.Referent.TheVariants as referent
 use Rattle.bq_parse_grammar.specs.declared.tree.SmallKind.{SmallKind}
 use Rattle.bq_parse_grammar.specs.declared.tree.SmallKind.TheVariants as small
 use Rattle.bq_parse_grammar.specs.declared.tree.Stmt.{Stmt}
@@ -20,20 +23,13 @@ use Rattle.bq_parse_grammar.specs.declared.tree.TargetExpr.TheVariants as target
 use Rattle.bq_parse_grammar.specs.declared.tree.TopLevel.{TopLevel}
 use Rattle.bq_parse_grammar.specs.Literals as literals
 use Rattle.bq_resolve_predeclared.specs.declared.host_function.HostFunction.TheVariants as host
+use Rattle.bq_resolve_predeclared.specs.declared.predeclared.Predeclared.{Predeclared}
 use Rattle.bq_resolve_predeclared.specs.declared.predeclared.Predeclared.TheVariants as p
 use Rattle.bq_resolve_predeclared.specs.declared.rule_function.RuleFunction.TheVariants as function
-use Rattle.bq_resolve_scope.specs.declared.code.Binding.TheVariants as binding
-use Rattle.bq_resolve_scope.specs.declared.code.Code.{Code}
-use Rattle.bq_resolve_scope.specs.declared.code.Code.TheVariants as code
-use Rattle.bq_resolve_scope.specs.declared.code.CodeClause.TheVariants as code_clause
-use Rattle.bq_resolve_scope.specs.declared.code.CodeParameter.TheVariants as code_parameter
-use Rattle.bq_resolve_scope.specs.declared.code.CodeSmall.{CodeSmall}
-use Rattle.bq_resolve_scope.specs.declared.code.CodeSmall.TheVariants as code_small
-use Rattle.bq_resolve_scope.specs.declared.code.CodeSuffix.TheVariants as code_suffix
-use Rattle.bq_resolve_scope.specs.declared.code.CodeTarget.TheVariants as code_target
-use Rattle.bq_resolve_scope.specs.declared.code.CodeTopLevel.{CodeTopLevel}
-use Rattle.bq_resolve_scope.specs.declared.code.FileStmt.TheVariants as file_stmt
-use Rattle.bq_resolve_scope.specs.declared.code.Resolved.{Resolved}
+use Rattle.bq_resolve_scope.specs.declared.file.FileLine.{FileLine}
+use Rattle.bq_resolve_scope.specs.declared.file.Formal.TheVariants as formal
+use Rattle.bq_resolve_scope.specs.declared.file.Outside.TheVariants as outside
+use Rattle.bq_resolve_scope.specs.declared.file.ResolvedFile.{ResolvedFile}
 use Rattle.bq_resolve_scope.specs.Universe.{UniverseParts}
 use Rattle.bq_resolve_scope.specs.Names.{max_layers}
 use Rattle.bq_resolve_scope.specs.Scope.{FileParts}
@@ -99,25 +95,42 @@ each_of line name x = e.ListComprehension (named line name) (clause.For (target.
 
 -- ---- what comes of them
 
-abbrev pub fault : FaultKind → ℕ → List ℕ → Result Resolved Fault
+abbrev pub fault : FaultKind → ℕ → List ℕ → Result ResolvedFile Fault
 fault kind line name = Err (record { kind = kind; line = line; detail = name })
 
-abbrev pub line_of : ℕ → CodeSmall → CodeTopLevel
-line_of line x = record { line = line; statement = file_stmt.Simple (x ∷ []) }
+abbrev pub line_of : ℕ → SmallKind → FileLine
+line_of line kind = record { line = line; statement = outside.Simple (record { line = line; kind = kind } ∷ []) }
 
-abbrev pub of_lines : List CodeTopLevel → List (List ℕ) → Result Resolved Fault
+abbrev pub of_lines : List FileLine → List (List ℕ) → Result ResolvedFile Fault
 of_lines ls globals = Ok (record { statements = ls; functions = []; globals = globals; loads = [] })
 
--- the call of a code without arguments
-abbrev pub called : Code → CodeSmall
-called x = code_small.Expr (code.Primary x (code_suffix.Call [] ∷ []))
+-- a name that is resolved
+abbrev pub known : List ℕ → Referent → Identifier
+known name x = record { name = name; referent = x }
 
--- the call of a value's method `int`
-abbrev pub int_method : Code → CodeSmall
-int_method x = code_small.Expr (code.Primary x (code_suffix.Method (codes "int") [] ∷ []))
+abbrev pub used : List ℕ → Referent → Expr
+used name x = e.Name (known name x)
 
-abbrev pub local_each : ℕ → Code → Code
-local_each slot x = code.ListComprehension (code.Use (binding.Local slot)) (code_clause.For (code_target.Local slot) x ∷ [])
+-- `name = x` outside functions, where the name is the first that the file binds
+abbrev pub assigned : List ℕ → Expr → SmallKind
+assigned name x = small.Assign (target.Name (known name (referent.Global 0))) x
+
+-- `name()`
+abbrev pub called : List ℕ → Referent → SmallKind
+called name x = small.Expr (e.Primary (used name x) (suffix.Call [] ∷ []))
+
+-- `space.name()`, where `space` is a namespace
+abbrev pub member_called : List ℕ → List ℕ → Predeclared → SmallKind
+member_called space name x = small.Expr (e.Primary (used space (referent.Member x)) (suffix.Method (known name (referent.Member x)) [] ∷ []))
+
+-- `name.int()` on a line, where `name` is a value
+abbrev pub int_method : ℕ → List ℕ → Referent → SmallKind
+int_method line name x = small.Expr (e.Primary (used name x) (suffix.Method (word line (codes "int")) [] ∷ []))
+
+-- `[name for name in x]`, where the name has this slot
+abbrev pub local_each : List ℕ → ℕ → Expr → ComprehensionFrame → Expr
+local_each name slot x own =
+    e.ListComprehension (used name (referent.Local slot)) (clause.For (target.Name (known name (referent.Local slot))) x ∷ []) own
 
 -- ---- scopes
 
@@ -126,21 +139,21 @@ abbrev pub FirstIterable : Type 0
 FirstIterable =
     let y = codes "y" in
     resolved build (top 1 (simple 1 (assign 1 y (each_of 1 y (named 1 y)))) ∷ [])
-    ≡ of_lines (line_of 1 (code_small.Assign (code_target.Global 0) (code.Framed 1 (local_each 0 (code.Use (binding.Global 0))))) ∷ []) (y ∷ [])
+    ≡ of_lines (line_of 1 (assigned y (local_each y 0 (used y (referent.Global 0)) (frame.Own 1))) ∷ []) (y ∷ [])
 
 -- `[x for x in [x for x in x]]` in a function of the parameter `x`: one name of three blocks has three slots
 abbrev pub OneNameThrice : Type 0
 OneNameThrice =
     let x = codes "x" in (file : FileParts)
     → expr_to max_layers file (record { base = 0; names = x ∷ [] } ∷ []) (each_of 1 x (each_of 1 x (named 1 x))) (record nothing_passed { slots = 1 })
-    ≡ Ok (local_each 1 (local_each 2 (code.Use (binding.Local 0))), record nothing_passed { slots = 3 })
+    ≡ Ok (local_each x 1 (local_each x 2 (used x (referent.Local 0)) frame.Shared) frame.Shared, record nothing_passed { slots = 3 })
 
 -- the parameter of `def g(a = b)`, where the file binds `b`: a default lies outside the function
 abbrev pub Default : Type 0
 Default =
     let a = codes "a" in let b = codes "b" in
     parameters (record { universe = bzl; globals = b ∷ []; loaded = [] }) no_parameters (parameter.Default (word 1 a) (named 1 b) ∷ []) nothing_passed
-    ≡ Ok (record { names = a ∷ []; parameters = code_parameter.Default a 0 ∷ []; defaults = code.Use (binding.Global 0) ∷ [] }, nothing_passed)
+    ≡ Ok (record { names = a ∷ []; parameters = formal.Default (known a (referent.Local 0)) ∷ []; defaults = used b (referent.Global 0) ∷ [] }, nothing_passed)
 
 -- `load(":m", "a")`, then `a = 1`: in a BUILD file one global, whose first value is the loaded one
 abbrev pub LoadedAndBound : Type 0
@@ -148,7 +161,7 @@ LoadedAndBound =
     let a = codes "a" in
     resolved build (top 1 (simple 1 (load (codes ":m") 1 a)) ∷ top 2 (simple 2 (assign 2 a (e.Int (pos 1)))) ∷ [])
     ≡ Ok (record {
-      statements = line_of 1 code_small.Load ∷ line_of 2 (code_small.Assign (code_target.Global 0) (code.Int (pos 1))) ∷ [];
+      statements = line_of 1 (load (codes ":m") 1 a) ∷ line_of 2 (assigned a (e.Int (pos 1))) ∷ [];
       functions = [];
       globals = a ∷ [];
       loads = record { label = codes ":m"; line = 1; clauses = record { local = a; symbol = a; global = Some 0 } ∷ [] } ∷ [];
@@ -161,9 +174,9 @@ abbrev pub Rules : Type 0
 Rules =
     let n = codes "filegroup" in
     (resolved build (top 1 (simple 1 (small.Expr (call 1 n))) ∷ [])
-    ≡ of_lines (line_of 1 (called (code.Use (binding.Predeclared (p.Host (host.Rule 0))))) ∷ []) [])
+    ≡ of_lines (line_of 1 (called n (referent.Predeclared (p.Host (host.Rule 0)))) ∷ []) [])
     × (resolved bzl (top 1 (simple 1 (small.Expr (call 1 n))) ∷ []) ≡ fault f.UnknownName 1 n)
-    × (resolved bzl (top 1 (simple 1 (small.Expr (native_call 1 n))) ∷ []) ≡ of_lines (line_of 1 (called (code.Member (p.Host (host.Rule 0)))) ∷ []) [])
+    × (resolved bzl (top 1 (simple 1 (small.Expr (native_call 1 n))) ∷ []) ≡ of_lines (line_of 1 (member_called (codes "native") n (p.Host (host.Rule 0))) ∷ []) [])
 
 -- `native.nope()` is F20 at `nope`, and in a BUILD file `native.glob()` at `native`
 abbrev pub Native : Type 0
@@ -175,7 +188,7 @@ Native =
 -- file, at `attr`
 abbrev pub Attr : Type 0
 Attr =
-    (resolved bzl (top 1 (simple 1 (small.Expr (attr_call 1 (codes "int")))) ∷ []) ≡ of_lines (line_of 1 (called (code.Member (p.RuleFunction function.AttrInt))) ∷ []) [])
+    (resolved bzl (top 1 (simple 1 (small.Expr (attr_call 1 (codes "int")))) ∷ []) ≡ of_lines (line_of 1 (member_called (codes "attr") (codes "int") (p.RuleFunction function.AttrInt)) ∷ []) [])
     × (resolved bzl (top 1 (simple 1 (small.Expr (attr_call 1 (codes "nope")))) ∷ []) ≡ fault f.UnknownName 1 (codes "nope"))
     × (resolved bzl (top 1 (simple 1 (small.Expr (named 1 (codes "attr")))) ∷ []) ≡ fault f.UnknownName 1 (codes "attr"))
     × (resolved bzl (top 1 (simple 1 (small.Expr (parenthesized_call 1 (codes "attr") (codes "int")))) ∷ []) ≡ fault f.UnknownName 1 (codes "attr"))
@@ -186,10 +199,10 @@ abbrev pub OwnAttr : Type 0
 OwnAttr =
     let attr = codes "attr" in
     (resolved bzl (top 1 (simple 1 (assign 1 attr (e.List []))) ∷ top 2 (simple 2 (small.Expr (attr_call 2 (codes "int")))) ∷ [])
-    ≡ of_lines (line_of 1 (code_small.Assign (code_target.Global 0) (code.List [])) ∷ line_of 2 (int_method (code.Use (binding.Global 0))) ∷ []) (attr ∷ []))
+    ≡ of_lines (line_of 1 (assigned attr (e.List [])) ∷ line_of 2 (int_method 2 attr (referent.Global 0)) ∷ []) (attr ∷ []))
     × (resolved bzl (top 1 (simple 1 (load (codes ":m") 1 attr)) ∷ top 2 (simple 2 (small.Expr (attr_call 2 (codes "int")))) ∷ [])
     ≡ Ok (record {
-      statements = line_of 1 code_small.Load ∷ line_of 2 (int_method (code.Use (binding.Loaded 0))) ∷ [];
+      statements = line_of 1 (load (codes ":m") 1 attr) ∷ line_of 2 (int_method 2 attr (referent.Loaded 0)) ∷ [];
       functions = [];
       globals = [];
       loads = record { label = codes ":m"; line = 1; clauses = record { local = attr; symbol = attr; global = None } ∷ [] } ∷ [];
@@ -200,12 +213,12 @@ OwnAttr =
 abbrev pub OfRule : Type 0
 OfRule =
     let n = codes "rule" in let attr = codes "attr" in
-    (resolved bzl (top 1 (simple 1 (small.Expr (call 1 n))) ∷ []) ≡ of_lines (line_of 1 (called (code.Use (binding.Predeclared (p.RuleFunction function.Rule)))) ∷ []) [])
+    (resolved bzl (top 1 (simple 1 (small.Expr (call 1 n))) ∷ []) ≡ of_lines (line_of 1 (called n (referent.Predeclared (p.RuleFunction function.Rule))) ∷ []) [])
     × (resolved build (top 1 (simple 1 (small.Expr (call 1 n))) ∷ []) ≡ fault f.UnknownName 1 n)
-    × (resolved (build_beside n) (top 1 (simple 1 (small.Expr (call 1 n))) ∷ []) ≡ of_lines (line_of 1 (called (code.Use (binding.Predeclared (p.Host (host.Rule 0))))) ∷ []) [])
-    × (resolved (build_beside attr) (top 1 (simple 1 (small.Expr (call 1 attr))) ∷ []) ≡ of_lines (line_of 1 (called (code.Use (binding.Predeclared (p.Host (host.Rule 0))))) ∷ []) [])
-    × (resolved (bzl_beside n) (top 1 (simple 1 (small.Expr (call 1 n))) ∷ []) ≡ of_lines (line_of 1 (called (code.Use (binding.Predeclared (p.RuleFunction function.Rule)))) ∷ []) [])
-    × (resolved (bzl_beside n) (top 1 (simple 1 (small.Expr (native_call 1 n))) ∷ []) ≡ of_lines (line_of 1 (called (code.Member (p.Host (host.Rule 0)))) ∷ []) [])
+    × (resolved (build_beside n) (top 1 (simple 1 (small.Expr (call 1 n))) ∷ []) ≡ of_lines (line_of 1 (called n (referent.Predeclared (p.Host (host.Rule 0)))) ∷ []) [])
+    × (resolved (build_beside attr) (top 1 (simple 1 (small.Expr (call 1 attr))) ∷ []) ≡ of_lines (line_of 1 (called attr (referent.Predeclared (p.Host (host.Rule 0)))) ∷ []) [])
+    × (resolved (bzl_beside n) (top 1 (simple 1 (small.Expr (call 1 n))) ∷ []) ≡ of_lines (line_of 1 (called n (referent.Predeclared (p.RuleFunction function.Rule))) ∷ []) [])
+    × (resolved (bzl_beside n) (top 1 (simple 1 (small.Expr (native_call 1 n))) ∷ []) ≡ of_lines (line_of 1 (member_called (codes "native") n (p.Host (host.Rule 0))) ∷ []) [])
 
 -- ---- faults
 
@@ -216,7 +229,7 @@ Rebound =
     (resolved bzl (top 1 (simple 1 (assign 1 x (e.Int (pos 1)))) ∷ top 2 (simple 2 (assign 2 x (e.Int (pos 2)))) ∷ []) ≡ fault f.Rebound 2 x)
     × (resolved bzl (top 1 (simple 1 (assign 1 x (e.Int (pos 1)))) ∷ top 2 (simple 2 (small.Augment (target.Name (word 2 x)) operator.Add (e.Int (pos 2)))) ∷ []) ≡ fault f.Rebound 2 x)
     × (resolved build (top 1 (simple 1 (assign 1 x (e.Int (pos 1)))) ∷ top 2 (simple 2 (assign 2 x (e.Int (pos 2)))) ∷ [])
-    ≡ of_lines (line_of 1 (code_small.Assign (code_target.Global 0) (code.Int (pos 1))) ∷ line_of 2 (code_small.Assign (code_target.Global 0) (code.Int (pos 2))) ∷ []) (x ∷ []))
+    ≡ of_lines (line_of 1 (assigned x (e.Int (pos 1))) ∷ line_of 2 (assigned x (e.Int (pos 2))) ∷ []) (x ∷ []))
 
 -- a name of two loads: F22 in both kinds; a loaded name that is bound: F21 in a .bzl file
 abbrev pub LoadedTwice : Type 0

@@ -1,17 +1,17 @@
 -- Words of the laws.
 use Rattle.std.specs.Prelude.{◌≡◌, ◌≢◌, ◌≤◌, ◌+◌, ℕ, List, [], ◌∷◌, length, slice_get, true, false, Option, Some, None}
 use Rattle.bq_resolve_predeclared.specs.declared.predeclared.Predeclared.{Predeclared}
-use Rattle.bq_resolve_scope.specs.declared.code.Binding.{Binding}
-use Rattle.bq_resolve_scope.specs.declared.code.Binding.TheVariants as b
+use Rattle.bq_parse_grammar.specs.declared.tree.Referent.{Referent}
+use Rattle.bq_parse_grammar.specs.declared.tree.Referent.TheVariants as b
 use Rattle.bq_resolve_scope.specs.Universe.{universe_has}
 use Rattle.bq_resolve_scope.specs.Names.{Name, has, place_among}
 use Rattle.bq_resolve_scope.specs.Scope.{BlockParts, FileParts, slot_in, use_of}
 
 -- What a use of the name stands for: "a use belongs to the innermost enclosing block whose set holds the name", else to what the file
 -- binds, else to what its loads bind, else to what every file of its kind has.
-pub data StandsFor (file : FileParts) (name : Name) : List BlockParts → Option Binding → Type 0 where
+pub data StandsFor (file : FileParts) (name : Name) : List BlockParts → Option Referent → Type 0 where
   held : {block : BlockParts} {blocks : List BlockParts} {i : ℕ} → place_among name block.names ≡ Some i → StandsFor file name (block ∷ blocks) (Some (b.Local (block.base + i)))
-  outside : {block : BlockParts} {blocks : List BlockParts} {x : Option Binding} → has block.names name ≡ false → StandsFor file name blocks x → StandsFor file name (block ∷ blocks) x
+  outside : {block : BlockParts} {blocks : List BlockParts} {x : Option Referent} → has block.names name ≡ false → StandsFor file name blocks x → StandsFor file name (block ∷ blocks) x
   of_file : {k : ℕ} → place_among name file.globals ≡ Some k → StandsFor file name [] (Some (b.Global k))
   of_load : {k : ℕ} → has file.globals name ≡ false → place_among name file.loaded ≡ Some k → StandsFor file name [] (Some (b.Loaded k))
   of_all : {x : Predeclared} → has file.globals name ≡ false → has file.loaded name ≡ false → universe_has file.universe name ≡ Some x
@@ -19,7 +19,7 @@ pub data StandsFor (file : FileParts) (name : Name) : List BlockParts → Option
   of_none : has file.globals name ≡ false → has file.loaded name ≡ false → universe_has file.universe name ≡ None → StandsFor file name [] None
 
 abbrev pub EachUseStandsForOne : Type 0
-EachUseStandsForOne = (file : FileParts) (blocks : List BlockParts) (name : Name) (x : Option Binding)
+EachUseStandsForOne = (file : FileParts) (blocks : List BlockParts) (name : Name) (x : Option Referent)
     → (StandsFor file name blocks x → use_of file blocks name ≡ x) × (use_of file blocks name ≡ x → StandsFor file name blocks x)
 
 -- A name that the block holds is Local, whatever else encloses it.

@@ -7,4 +7,3 @@ pub mod Statements
 pub mod Files
 pub mod Laws
 pub mod Examples
-pub mod Codes

@@ -2,8 +2,8 @@
 -- binding and variables"), else to the file, else to the names that every file has.
 use Rattle.std.specs.Prelude.{ℕ, ◌+◌, List, [], ◌∷◌, Option, Some, None}
 use Rattle.std.specs.Option.{option_map}
-use Rattle.bq_resolve_scope.specs.declared.code.Binding.{Binding}
-use Rattle.bq_resolve_scope.specs.declared.code.Binding.TheVariants as b
+use Rattle.bq_parse_grammar.specs.declared.tree.Referent.{Referent}
+use Rattle.bq_parse_grammar.specs.declared.tree.Referent.TheVariants as b
 use Rattle.bq_resolve_scope.specs.Universe.{UniverseParts, universe_has}
 use Rattle.bq_resolve_scope.specs.Names.{Name, place_among}
 
@@ -33,11 +33,11 @@ slot_of [] name = None
 slot_of (block ∷ blocks) name = or_else (slot_in block name) (slot_of blocks name)
 
 -- A file's own names take precedence over loaded ones: in a BUILD file a loaded name that is bound again is one global.
-unfoldable pub file_has : FileParts → Name → Option Binding
+unfoldable pub file_has : FileParts → Name → Option Referent
 file_has file name =
     or_else (option_map b.Global (place_among name file.globals))
     (or_else (option_map b.Loaded (place_among name file.loaded)) (option_map b.Predeclared (universe_has file.universe name)))
 
 -- what a use of the name stands for; none: no such name is known
-unfoldable pub use_of : FileParts → List BlockParts → Name → Option Binding
+unfoldable pub use_of : FileParts → List BlockParts → Name → Option Referent
 use_of file blocks name = or_else (option_map b.Local (slot_of blocks name)) (file_has file name)

@@ -4,8 +4,8 @@ use Rattle.bq_base.specs.declared.fault.Fault.{Fault}
 use Rattle.bq_base.specs.declared.fault.FaultKind.{FaultKind}
 use Rattle.bq_parse_grammar.specs.declared.tree.Identifier.{Identifier}
 use Rattle.bq_parse_grammar.specs.Literals.{name_line}
-use Rattle.bq_resolve_scope.specs.declared.code.CodeFunction.{CodeFunction}
-use Rattle.bq_resolve_scope.specs.declared.code.LoadStmt.{LoadStmt}
+use Rattle.bq_resolve_scope.specs.declared.file.Function.{Function}
+use Rattle.bq_resolve_scope.specs.declared.loads.LoadStmt.{LoadStmt}
 use Rattle.bq_resolve_scope.specs.Names.{Name}
 
 -- what was passed so far
@@ -16,7 +16,7 @@ pub record Passed : Type 0 where
   pub bound : List Name
   -- the names of its load clauses
   pub loaded : List Name
-  pub functions : List CodeFunction
+  pub functions : List Function
   pub loads : List LoadStmt
 
 -- before the walk

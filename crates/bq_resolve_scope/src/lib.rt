@@ -3,8 +3,7 @@
 //! The trees of `bq_parse_grammar` come in; what their blocks bind, and what a name among these blocks stands for, go out. Resolved files
 //! (`file`) and the whole definition of what a file resolves to are here too; `bq_resolve_expression` and the crates above it compute it.
 //!
-//! A resolved file holds the trees that were parsed: what each name refers to is written into them. Definitions and contracts speak of the
-//! *code* that such a tree stands for (`specs/Codes.antt`), in which there is no name, but where its value is; no program makes code.
+//! A resolved file holds the trees that were parsed: what each name refers to is written into them.
 //!
 //! The idea. A *block* is what binds names: a function, a comprehension, the file. Which names a block binds is known before any
 //! use is looked at, since a name that is bound anywhere in a function or file is bound in all of it (`specs/Names.antt`). A use
@@ -19,8 +18,7 @@
 //!
 //! In reading order:
 //!
-//! - `code`: the code that resolved trees stand for, and the parameters and loads of resolved files;
-//! - `file`: resolved files;
+//! - `file`, `loads`: resolved files, and their loads;
 //! - `names`: sets of names;
 //! - `binding`: what targets, clauses, statements, functions and files bind;
 //! - `universe`: what every file of a kind has, and the namespaces `native` and `attr` of .bzl files;
@@ -29,24 +27,20 @@
 #![tactic(auto)]
 
 mod binding;
-mod code;
 mod file;
 mod laws;
+mod loads;
 mod names;
 mod scope;
 mod universe;
 
 pub use binding::{MAX_LAYERS, comprehension_names, function_names, global_names, loaded_names};
-pub use code::{
-    Binding, Code, CodeArgument, CodeBranch, CodeChoice, CodeClause, CodeDef, CodeFunction,
-    CodeOperation, CodePair, CodeParameter, CodeSmall, CodeStmt, CodeSuffix, CodeTarget,
-    CodeTopLevel, FileStmt, LoadStmt, LoadedSymbol, Resolved,
-};
-pub use file::{Def, FileLine, Function, Outside, ResolvedFile};
+pub use file::{Def, FileLine, Formal, Function, Outside, ResolvedFile};
 pub use laws::{
     blocks_have_slots_of_their_own, each_use_stands_for_one, files_resolve_by_hand,
     held_names_are_local, names_have_slots_of_their_own,
 };
+pub use loads::{LoadStmt, LoadedSymbol};
 pub use names::Names;
 pub use scope::{Block, FileNames, inside};
 pub use universe::{Namespace, Universe};

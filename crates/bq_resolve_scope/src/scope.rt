@@ -7,11 +7,10 @@ ghost use Rattle.bq_resolve_scope.specs.Files.{file_names};
 ghost use Rattle.bq_resolve_scope.specs.Universe.{member_named};
 
 use crate::binding::{global_names, loaded_names};
-use crate::code::Binding;
 use crate::names::Names;
 use crate::universe::{Namespace, Universe};
 use bq_base::Bytes;
-use bq_parse_grammar::{FileKind, TopLevel};
+use bq_parse_grammar::{FileKind, Referent, TopLevel};
 use bq_resolve_predeclared::Predeclared;
 use sqlite_items::Items;
 use std::alloc::{AllocError, Global};
@@ -144,23 +143,23 @@ impl FileNames {
 
     /// Returns what a use of the name among these blocks stands for. The blocks stand innermost first.
     #[tactic(auto, unfolding(crate::specs::Scope::use_of, crate::specs::Scope::slot_of, crate::specs::Scope::slot_in, crate::specs::Scope::file_has))]
-    pub fn use_of(&self, blocks: &[Block], name: &Bytes) -> Option<Binding>
+    pub fn use_of(&self, blocks: &[Block], name: &Bytes) -> Option<Referent>
         ensures { result ≡ use_of self.now blocks.now name.now }
     {
         for block in blocks {
             if let Some(place) = block.names.place(name) {
-                return Some(Binding::Local(block.base + place));
+                return Some(Referent::Local(block.base + place));
             }
         }
         if let Some(place) = self.globals.place(name) {
-            return Some(Binding::Global(place));
+            return Some(Referent::Global(place));
         }
         if let Some(place) = self.loaded.place(name) {
-            return Some(Binding::Loaded(place));
+            return Some(Referent::Loaded(place));
         }
         match self.universe.has(name) {
             None => None,
-            Some(predeclared) => Some(Binding::Predeclared(predeclared)),
+            Some(predeclared) => Some(Referent::Predeclared(predeclared)),
         }
     }
 }

@@ -10,7 +10,7 @@ use Rattle.bq_label.specs.declared.workspace.File.{File}
 use Rattle.bq_label.specs.Label.{LabelParts}
 use Rattle.bq_label.specs.Packages.{packages_of}
 use Rattle.bq_label.specs.Workspace.{IsWorkspace}
-use Rattle.bq_resolve_scope.specs.declared.code.CodeTopLevel.{CodeTopLevel}
+use Rattle.bq_resolve_scope.specs.declared.file.FileLine.{FileLine}
 use Rattle.bq_package_schema.specs.Schema.{Rules}
 use Rattle.bq_package_target.specs.declared.target.Target.{Target}
 use Rattle.bq_package_target.specs.Package.{PackageTargets}
@@ -65,7 +65,7 @@ unfolding dependencies
 files_depend_on_nothing l line = refl
 
 -- what depends on something is no source file
-by_call : (statements : List CodeTopLevel) (t : Target) (label : LabelParts) → Contains (dependencies t) label → IsFile t ⊎ IsLineOf statements t.line → IsLineOf statements t.line
+by_call : (statements : List FileLine) (t : Target) (label : LabelParts) → Contains (dependencies t) label → IsFile t ⊎ IsLineOf statements t.line → IsLineOf statements t.line
 by_call statements t label c (inr at) = at
 by_call statements t label c (inl e) =
     let none : dependencies t ≡ [] = ap dependencies e ∙ files_depend_on_nothing t.label t.line in
@@ -119,7 +119,7 @@ Stands x = 1 ≤ x.line
 statement_stands : (inputs : InputParts) (line : FaultLine) → IsOfStatement inputs line → 1 ≤ line.line
 statement_stands inputs line s =
     let all = (code_numbered inputs s.build_file s.file.content s.code s.has).0 in
-    subst (λ n. 1 ≤ n) (sym s.at.same) (each_of (λ (x : CodeTopLevel). 1 ≤ x.line) s.code.statements all s.at.statement s.at.among)
+    subst (λ n. 1 ≤ n) (sym s.at.same) (each_of (λ (x : FileLine). 1 ≤ x.line) s.code.statements all s.at.statement s.at.among)
 
 standing : (files : List File) (rules : Rules) (limit : ℕ) (labels : List LabelParts) (edges : Loads) → IsWorkspace files → IsLoadGraph (packages_of files) (parsed_of (inputs_of files rules)) labels edges
     → (line : FaultLine) → Contains (all_faults (loaded_in files rules (parsed_of (inputs_of files rules)) limit labels edges)) line → 1 ≤ line.line

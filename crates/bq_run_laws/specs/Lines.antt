@@ -5,7 +5,7 @@ use Rattle.bq_label.specs.declared.workspace.File.{File}
 use Rattle.bq_label.specs.Label.{LabelParts, full_form}
 use Rattle.bq_label.specs.Packages.{label_file, packages_of}
 use Rattle.bq_label.specs.Workspace.{IsWorkspace}
-use Rattle.bq_resolve_scope.specs.declared.code.Resolved.{Resolved}
+use Rattle.bq_resolve_scope.specs.declared.file.ResolvedFile.{ResolvedFile}
 use Rattle.bq_package_schema.specs.Schema.{Rules}
 use Rattle.bq_base_fault_line.specs.declared.fault_line.FaultLine.{FaultLine}
 use Rattle.bq_load_front.specs.Inputs.{InputParts}
@@ -29,7 +29,7 @@ pub record IsOfStatement (inputs : InputParts) (line : FaultLine) : Type 0 where
   pub label : line.label ≡ full_form build_file
   pub file : File
   pub there : label_file inputs.files build_file ≡ Some file
-  pub code : Resolved
+  pub code : ResolvedFile
   pub has : HasCode (universe_at inputs build_file) file.content code
   pub at : IsLineOf code.statements line.line
 

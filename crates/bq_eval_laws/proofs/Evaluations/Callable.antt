@@ -3,11 +3,11 @@ use Rattle.std.proofs.Common.{◌≡◌, ◌∙◌, ◌⊎◌, inl, inr, ℕ, �
 use Rattle.std.proofs.lemmas.List.Elements.{Contains-append_cases, Contains-push_cases}
 use Rattle.bq_base.proofs.Choices.{left_of, right_of}
 use Rattle.bq_resolve_scope.specs.Names.{Name}
-use Rattle.bq_resolve_scope.specs.declared.code.Resolved.{Resolved}
+use Rattle.bq_resolve_scope.specs.declared.file.ResolvedFile.{ResolvedFile}
 use Rattle.bq_value.specs.Cells.{StoreView, FrozenCells, FrozenView, Modules, module_at, globals_at, frozen, placed, added, loading}
 use Rattle.bq_value.specs.Datum.{Datum}
 use Rattle.bq_value.proofs.Cases.{brought, globals_of}
-use Rattle.bq_eval_meaning_spec.specs.Module.{frozen_unit, globals_among, frozen_units}
+use Rattle.bq_eval_language_spec.specs.Slots.{frozen_unit, globals_among, frozen_units}
 use Rattle.bq_eval_meaning_spec.proofs.Cases.{or_else}
 use Rattle.bq_eval_operations.specs.Calling.{HostCalls}
 use Rattle.bq_eval.specs.Module.{first_store}
@@ -130,19 +130,19 @@ module _ (n : ℕ) where
 
 -- ---- their functions
 
-abbrev has_file : Option (Option Resolved) → Bool
+abbrev has_file : Option (Option ResolvedFile) → Bool
 has_file (Some (Some file)) = true
 has_file (Some None) = false
 has_file None = false
 
-some_unit : (c : Option (Option Resolved)) (v : Option (List Datum)) → is_some (frozen_unit c v) ≡ (has_file c && is_some v)
+some_unit : (c : Option (Option ResolvedFile)) (v : Option (List Datum)) → is_some (frozen_unit c v) ≡ (has_file c && is_some v)
 some_unit (Some (Some file)) (Some v) = refl
 some_unit (Some (Some file)) None = refl
 some_unit (Some None) v = refl
 some_unit None v = refl
 
 module _ {W : Type 0} (names : List Name) (host : HostCalls W) (hosts : HostTakes host) where
-  module _ (code : List (Option Resolved)) (number : ℕ) (file : Resolved) (is : slice_get code number ≡ Some (Some file)) (loaded : List FrozenView) (home : ℕ) (reach : IsCallable code number loaded home) where
+  module _ (code : List (Option ResolvedFile)) (number : ℕ) (file : ResolvedFile) (is : slice_get code number ≡ Some (Some file)) (loaded : List FrozenView) (home : ℕ) (reach : IsCallable code number loaded home) where
     of_unit : IsSome (frozen_units code loaded home) → (has_file (slice_get code home) && is_some (globals_among home loaded)) ≡ true
     unfolding frozen_units
     of_unit h = sym (some_unit (slice_get code home) (globals_among home loaded)) ∙ h

@@ -2,13 +2,13 @@
 use Rattle.std.proofs.Common.{◌≡◌, ◌≢◌, ◌∙◌, ◌<◌, ◌≤◌, ◌⊎◌, inl, inr, ℕ, ◌+◌, ◌-◌, cond, List, [], ◌∷◌, fold, slice_get, Option, refl, sym, ap, subst, arith, ne_eqb}
 use Rattle.std.proofs.lemmas.Bool.{cases_lt}
 use Rattle.bq_resolve_scope.specs.Names.{Name}
-use Rattle.bq_resolve_scope.specs.declared.code.Resolved.{Resolved}
+use Rattle.bq_resolve_scope.specs.declared.file.ResolvedFile.{ResolvedFile}
 use Rattle.bq_value.specs.Cells.{StoreView, FrozenView, module_at, cell_of, content_at, frozen_at, frozen, loading}
 use Rattle.bq_value.specs.Datum.{Datum}
 use Rattle.bq_builtin_machine.specs.Action.{Run, done, stopped}
 use Rattle.bq_builtin_machine.specs.State.{State, started}
 use Rattle.bq_eval_meaning_spec.specs.Frame.{Frame}
-use Rattle.bq_eval_meaning_spec.specs.Module.{module_meaning, frozen_units}
+use Rattle.bq_eval_language_spec.specs.Slots.{module_meaning, frozen_units}
 use Rattle.bq_eval_operations.specs.Calling.{HostCalls}
 use Rattle.bq_eval_operations.specs.Runtime.{primitives}
 use Rattle.bq_eval.specs.Module.{Ended, evaluated, failed, first_store, frozen_values, ended, module_run}
@@ -17,7 +17,7 @@ use Rattle.bq_eval_laws.specs.Evaluations.Files.{HostTakes, prints_of, EndsShort
 use Rattle.bq_builtin_laws.specs.Steps.Steps.{hosted, leaving, printed, IsCutShort, Stays, Leaves, Takes}
 use Rattle.bq_eval_laws.proofs.Evaluations.Hosts.{TakesItsSteps, take_steps, lines_take}
 
-module _ {W : Type 0} (file : Resolved) (imports : List Datum) where
+module _ {W : Type 0} (file : ResolvedFile) (imports : List Datum) where
   ended_leaving : (n : ℕ) (r : Run (State × W) Frame) → ended file imports (leaving hosted n r) ≡ ended file imports r
   ended_leaving n (done globals s) = refl
   ended_leaving n (stopped why) = refl
@@ -57,7 +57,7 @@ short_stays (evaluated f ps) prints P h = absurd h
 short_stays (failed fault ps) prints P h = tt
 
 module _ {W : Type 0} (names : List Name) (host : HostCalls W) (hosts : HostTakes host)
-    (code : List (Option Resolved)) (number : ℕ) (file : Resolved) (loaded : List FrozenView) (imports : List Datum) (kept : W) where
+    (code : List (Option ResolvedFile)) (number : ℕ) (file : ResolvedFile) (loaded : List FrozenView) (imports : List Datum) (kept : W) where
   abbrev at_start : State × W
   at_start = (started (first_store number loaded) 0, kept)
 

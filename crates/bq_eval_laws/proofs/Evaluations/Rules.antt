@@ -8,7 +8,8 @@ use Rattle.bq_value.specs.Contents.{rule}
 use Rattle.bq_builtin_machine.specs.Action.{Action, Run, done, stopped}
 use Rattle.bq_builtin_machine.specs.Machine.{with_steps}
 use Rattle.bq_builtin_machine.specs.State.{State}
-use Rattle.bq_eval_meaning_spec.specs.Calls.{calls}
+use Rattle.bq_eval_language_spec.specs.Calls.{calls}
+use Rattle.bq_eval_language_spec.specs.Slots.{by_slots}
 use Rattle.bq_eval_operations.specs.Calling.{HostCalls}
 use Rattle.bq_eval_operations.specs.Runtime.{primitives}
 use Rattle.bq_eval_meaning_laws.proofs.CallRules.{calls_rule}
@@ -46,5 +47,5 @@ still_there s t stay home number class false own at =
 module _ {W : Type 0} (names : List Name) (host : HostCalls W) (hosts : HostTakes host) where
   pub rules_stay : CallsKeepRules names host
   rules_stay left units v args s result t is home number class at =
-      let owns : Takes hosted (calls left (primitives names host) units v args) s = calls_rule (primitives names host) (TakesItsSteps W) (take_steps names host hosts) left units v args s in
-      still_there s.0.store t.0.store (stays_after (calls left (primitives names host) units v args) s owns result t is) home number class (home == s.0.store.own) refl at
+      let owns : Takes hosted (calls left (primitives names host) by_slots units v args) s = calls_rule (primitives names host) by_slots (TakesItsSteps W) (take_steps names host hosts) left units v args s in
+      still_there s.0.store t.0.store (stays_after (calls left (primitives names host) by_slots units v args) s owns result t is) home number class (home == s.0.store.own) refl at

@@ -3,8 +3,8 @@ use Rattle.std.specs.Prelude.{◌≡◌, ◌≢◌, ℕ, ◌<◌, ◌≤◌, Lis
 use Rattle.bq_base.specs.declared.fault.Fault.{Fault}
 use Rattle.bq_base.specs.declared.fault.FaultKind.TheVariants.{StepLimit}
 use Rattle.bq_resolve_scope.specs.Names.{Name}
-use Rattle.bq_resolve_scope.specs.declared.code.CodeTopLevel.{CodeTopLevel}
-use Rattle.bq_resolve_scope.specs.declared.code.Resolved.{Resolved}
+use Rattle.bq_resolve_scope.specs.declared.file.FileLine.{FileLine}
+use Rattle.bq_resolve_scope.specs.declared.file.ResolvedFile.{ResolvedFile}
 use Rattle.bq_resolve_predeclared.specs.declared.host_function.HostFunction.{HostFunction}
 use Rattle.bq_value_rule_class.specs.Class.{Class}
 use Rattle.bq_value.specs.Cells.{FrozenView, content_at, frozen_at}
@@ -13,7 +13,9 @@ use Rattle.bq_value.specs.Datum.{Datum}
 use Rattle.bq_builtin_machine.specs.Action.{done}
 use Rattle.bq_builtin_machine.specs.Args.{Passed}
 use Rattle.bq_builtin_machine.specs.State.{State}
-use Rattle.bq_eval_meaning_spec.specs.Calls.{Units, calls}
+use Rattle.bq_eval_meaning_spec.specs.Frame.{Surroundings}
+use Rattle.bq_eval_language_spec.specs.Calls.{Units, calls}
+use Rattle.bq_eval_language_spec.specs.Slots.{by_slots}
 use Rattle.bq_eval_operations.specs.Calling.{HostCalls}
 use Rattle.bq_eval_operations.specs.Runtime.{primitives}
 use Rattle.bq_eval.specs.Module.{Ended, evaluated, failed, ended, first_store, module_run}
@@ -49,37 +51,37 @@ FrozenAre (evaluated frozen prints) P = P frozen
 FrozenAre (failed fault prints) P = Unit {0}
 
 -- the fault names the line of one of these statements
-pub record IsAtStatement (statements : List CodeTopLevel) (fault : Fault) : Type 0 where
-  pub statement : CodeTopLevel
+pub record IsAtStatement (statements : List FileLine) (fault : Fault) : Type 0 where
+  pub statement : FileLine
   pub among : Contains statements statement
   pub line : fault.line ≡ statement.line
 
 -- a file that failed is at one of its own statements
-abbrev pub FailsAtAStatement : Resolved → Ended → Type 0
+abbrev pub FailsAtAStatement : ResolvedFile → Ended → Type 0
 FailsAtAStatement file (evaluated frozen prints) = Unit {0}
 FailsAtAStatement file (failed fault prints) = IsAtStatement file.statements fault
 
 module _ {W : Type 0} (names : List Name) (host : HostCalls W) where
   -- what a file ends in, under that limit
-  abbrev pub ends : List (Option Resolved) → ℕ → Resolved → List FrozenView → List Datum → W → ℕ → Ended
+  abbrev pub ends : List (Option ResolvedFile) → ℕ → ResolvedFile → List FrozenView → List Datum → W → ℕ → Ended
   ends code number file loaded imports kept limit = ended file imports (module_run names host code number file loaded imports limit kept)
 
   abbrev pub FilesTakeTheirSteps : Type 0
-  FilesTakeTheirSteps = (code : List (Option Resolved)) (number : ℕ) (file : Resolved) (loaded : List FrozenView) (imports : List Datum) (kept : W) → FileTakes (ends code number file loaded imports kept)
+  FilesTakeTheirSteps = (code : List (Option ResolvedFile)) (number : ℕ) (file : ResolvedFile) (loaded : List FrozenView) (imports : List Datum) (kept : W) → FileTakes (ends code number file loaded imports kept)
 
   -- A cell of another module holds at the end what it held at the start, whatever functions of it were called (F47).
   abbrev pub OtherModulesStay : Type 0
   OtherModulesStay =
-      (code : List (Option Resolved)) (number : ℕ) (file : Resolved) (loaded : List FrozenView) (imports : List Datum) (kept : W) (limit : ℕ) (home cell : ℕ) → home ≢ number
+      (code : List (Option ResolvedFile)) (number : ℕ) (file : ResolvedFile) (loaded : List FrozenView) (imports : List Datum) (kept : W) (limit : ℕ) (home cell : ℕ) → home ≢ number
       → FrozenAre (ends code number file loaded imports kept limit) (λ f. frozen_at f home cell ≡ content_at (first_store number loaded) home cell)
 
   -- A fault names the line of one of the file's own top-level statements, whichever module's function it was in.
   abbrev pub FilesFailAtTheirStatements : Type 0
   FilesFailAtTheirStatements =
-      (code : List (Option Resolved)) (number : ℕ) (file : Resolved) (loaded : List FrozenView) (imports : List Datum) (kept : W) (limit : ℕ) → FailsAtAStatement file (ends code number file loaded imports kept limit)
+      (code : List (Option ResolvedFile)) (number : ℕ) (file : ResolvedFile) (loaded : List FrozenView) (imports : List Datum) (kept : W) (limit : ℕ) → FailsAtAStatement file (ends code number file loaded imports kept limit)
 
   -- A rule holds the attributes that it was declared with, whatever is called after that.
   abbrev pub CallsKeepRules : Type 0
   CallsKeepRules =
-      (left : ℕ) (units : Units) (v : Datum) (args : Passed) (s : State × W) (result : Datum) (t : State × W) → calls left (primitives names host) units v args s ≡ done result t
+      (left : ℕ) (units : Units Surroundings) (v : Datum) (args : Passed) (s : State × W) (result : Datum) (t : State × W) → calls left (primitives names host) by_slots units v args s ≡ done result t
       → (home number : ℕ) (class : Class) → content_at s.0.store home number ≡ Some (rule class) → content_at t.0.store home number ≡ Some (rule class)

@@ -16,8 +16,8 @@ use Rattle.bq_parse_grammar.specs.contracts.tree.SmallKind as SmallKind
 use Rattle.bq_parse_grammar.specs.contracts.tree.SmallStmt as SmallStmt
 use Rattle.bq_parse_grammar.specs.contracts.tree.Parameter as Parameter
 use Rattle.bq_parse_grammar.specs.contracts.tree.Stmt as Stmt
-use Rattle.bq_resolve_scope.specs.contracts.code.CodeParameter as CodeParameter
-use Rattle.bq_resolve_scope.specs.contracts.code.LoadStmt as LoadStmt
+use Rattle.bq_resolve_scope.specs.contracts.file.Formal as Formal
+use Rattle.bq_resolve_scope.specs.contracts.loads.LoadStmt as LoadStmt
 use Rattle.bq_resolve_scope.specs.contracts.file.Function as Function
 use Rattle.bq_resolve_scope.specs.contracts.file.Def as Def
 use Rattle.bq_resolve_scope.specs.contracts.file.Outside as Outside
@@ -102,17 +102,17 @@ statement_send = let identifier = identifier_send in let expr = expr_send in let
 pub statement_sync : IsSync (Stmt.the_field).row
 statement_sync = let identifier = identifier_sync in let expr = expr_sync in let target = target_sync in let small = small_sync in let parameter = parameter_sync in search (crosses, Blocks.crosses, sendable) depth 60 fits 20000
 
-pub code_parameter_send : IsSend (CodeParameter.the_field).row
-code_parameter_send = search (crosses, sendable) depth 60 fits 20000
+pub formal_send : IsSend (Formal.the_field).row
+formal_send = let identifier = identifier_send in search (crosses, sendable) depth 60 fits 20000
 
-pub code_parameter_sync : IsSync (CodeParameter.the_field).row
-code_parameter_sync = search (crosses, sendable) depth 60 fits 20000
+pub formal_sync : IsSync (Formal.the_field).row
+formal_sync = let identifier = identifier_sync in search (crosses, sendable) depth 60 fits 20000
 
 pub function_send : IsSend (Function.the_field).row
-function_send = let code_parameter = code_parameter_send in let statement = statement_send in search (crosses, sendable) depth 60 fits 20000
+function_send = let formal = formal_send in let statement = statement_send in search (crosses, sendable) depth 60 fits 20000
 
 pub function_sync : IsSync (Function.the_field).row
-function_sync = let code_parameter = code_parameter_sync in let statement = statement_sync in search (crosses, sendable) depth 60 fits 20000
+function_sync = let formal = formal_sync in let statement = statement_sync in search (crosses, sendable) depth 60 fits 20000
 
 pub def_send : IsSend (Def.the_field).row
 def_send = let identifier = identifier_send in let expr = expr_send in search (crosses, sendable) depth 60 fits 20000

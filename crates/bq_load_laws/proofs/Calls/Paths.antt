@@ -7,7 +7,7 @@ use Rattle.bq_parse_grammar.specs.declared.tree.FileKind.TheVariants as kinds
 use Rattle.bq_label.specs.Label.{LabelParts}
 use Rattle.bq_label.proofs.Orders.{at_head, in_tail, head_or_tail}
 use Rattle.bq_label_set.proofs.Added.{none_in}
-use Rattle.bq_resolve_scope.specs.declared.code.Resolved.{Resolved}
+use Rattle.bq_resolve_scope.specs.declared.file.ResolvedFile.{ResolvedFile}
 use Rattle.bq_value.specs.Cells.{FrozenView}
 use Rattle.bq_value.specs.Datum.{Datum}
 use Rattle.bq_board.specs.Cycles.{PathTo}
@@ -79,14 +79,14 @@ module _ (x : LoadingParts) (k : ℕ) (home : ℕ) where
   -- ---- a module by its file
 
   module _ (modules : List ModuleView) (v : ModuleView) (callable : IsCallable (codes_of x.modules) k (map frozen_of modules) home) (none : v.package ≡ None) where
-    by_run : (l : LabelParts) (file : Resolved) → slice_get (codes_of x.modules) k ≡ Some (Some file) → (imported : List Datum) → module_after file imported (evaluation x k l file modules imported) ≡ Ok v → ForLoaders v.frozen
+    by_run : (l : LabelParts) (file : ResolvedFile) → slice_get (codes_of x.modules) k ≡ Some (Some file) → (imported : List Datum) → module_after file imported (evaluation x k l file modules imported) ≡ Ok v → ForLoaders v.frozen
     unfolding module_after evaluation
     by_run l file at imported is =
         by_end (ended file imported (module_run x.names meaning (codes_of x.modules) k file (map frozen_of modules) imported x.limit (kept_first x l)))
         (package_left (kept_after (module_run x.names meaning (codes_of x.modules) k file (map frozen_of modules) imported x.limit (kept_first x l)))) v
         (stay_callable x.names meaning calls_own (codes_of x.modules) k file at (map frozen_of modules) imported (kept_first x l) x.limit home callable) is none
 
-    by_values : (l : LabelParts) (file : Resolved) → slice_get (codes_of x.modules) k ≡ Some (Some file) → (r : Result (List Datum) Fault) → by_imports x k l file modules r ≡ Ok v → ForLoaders v.frozen
+    by_values : (l : LabelParts) (file : ResolvedFile) → slice_get (codes_of x.modules) k ≡ Some (Some file) → (r : Result (List Datum) Fault) → by_imports x k l file modules r ≡ Ok v → ForLoaders v.frozen
     by_values l file at (Err why) is = absurd (cc)
     by_values l file at (Ok imported) is = by_run l file at imported is
 

@@ -7,9 +7,9 @@ use Rattle.bq_label.specs.Label.{LabelParts}
 use Rattle.bq_source.specs.declared.token.Token.{Token}
 use Rattle.bq_source_lexer.specs.Reading.{Lexes}
 use Rattle.bq_parse_grammar.specs.Lexeme.{lexemes}
-use Rattle.bq_resolve_scope.specs.declared.code.CodeTopLevel.{CodeTopLevel}
-use Rattle.bq_resolve_scope.specs.declared.code.LoadStmt.{LoadStmt}
-use Rattle.bq_resolve_scope.specs.declared.code.Resolved.{Resolved}
+use Rattle.bq_resolve_scope.specs.declared.file.FileLine.{FileLine}
+use Rattle.bq_resolve_scope.specs.declared.loads.LoadStmt.{LoadStmt}
+use Rattle.bq_resolve_scope.specs.declared.file.ResolvedFile.{ResolvedFile}
 use Rattle.bq_package_target.specs.declared.target.Target.{Target}
 use Rattle.bq_package_target.specs.Package.{PackageTargets}
 use Rattle.bq_load_front.specs.Parsed.{kind_of}
@@ -37,9 +37,9 @@ each_of P xs h x c = All-contains P xs x (All-from_recursion P xs h) c
 numbered : (text : List ℕ) (ts : List Token) → Lexes text (Ok ts) → Numbered (lexemes text ts)
 numbered text ts reads = lexemes_numbered text ts (tokens.tokens_count text ts reads)
 
--- the lines of the statements of a code, and those of its loads
-pub code_numbered : (inputs : InputParts) (l : LabelParts) (text : List ℕ) (code : Resolved) → HasCode (universe_at inputs l) text code
-    → AllByRecursion (λ (x : CodeTopLevel). 1 ≤ x.line) code.statements × AllByRecursion (λ (x : LoadStmt). 1 ≤ x.line) code.loads
+-- the lines of the statements of a resolved file, and those of its loads
+pub code_numbered : (inputs : InputParts) (l : LabelParts) (text : List ℕ) (code : ResolvedFile) → HasCode (universe_at inputs l) text code
+    → AllByRecursion (λ (x : FileLine). 1 ≤ x.line) code.statements × AllByRecursion (λ (x : LoadStmt). 1 ≤ x.line) code.loads
 code_numbered inputs l text code has =
     code_stands (universe_at inputs l) (kind_of l) (lexemes text has.tokens) has.trees code (numbered text has.tokens has.reads) has.parses has.names
 
@@ -56,7 +56,7 @@ faults_stand inputs l why (FailsIn.of_names x ts trees is reads parses names k) 
 faults_stand inputs l why (FailsIn.of_loads x code is has k at) =
     same_line why.line at.load.line at.line (each_of (λ (y : LoadStmt). 1 ≤ y.line) code.loads (code_numbered inputs l x.content code has).1 at.load at.among)
 faults_stand inputs l why (FailsIn.of_evaluation x code is has k at) =
-    same_line why.line at.statement.line at.line (each_of (λ (y : CodeTopLevel). 1 ≤ y.line) code.statements (code_numbered inputs l x.content code has).0 at.statement at.among)
+    same_line why.line at.statement.line at.line (each_of (λ (y : FileLine). 1 ≤ y.line) code.statements (code_numbered inputs l x.content code has).0 at.statement at.among)
 
 outcome_stands : (inputs : InputParts) (l : LabelParts) (r : Result ModuleView FailedView) → IfErr r (λ m. FailsIn inputs l m.fault) → IfErr r (λ m. 1 ≤ m.fault.line)
 outcome_stands inputs l (Ok v) h = tt
@@ -72,15 +72,15 @@ lines_stand = lines_loaded (λ kind line. 1 ≤ line) faults_stand
 
 -- ---- targets
 
-by_one : (s : CodeTopLevel) (ss : List CodeTopLevel) (t : Target) → IsFileOrIn s.line t → IsFile t ⊎ IsLineOf (s ∷ ss) t.line
+by_one : (s : FileLine) (ss : List FileLine) (t : Target) → IsFileOrIn s.line t → IsFile t ⊎ IsLineOf (s ∷ ss) t.line
 by_one s ss t (inl file) = inl file
 by_one s ss t (inr e) = inr (record { statement = s; among = at_head s ss; same = e })
 
-by_later : (s : CodeTopLevel) (ss : List CodeTopLevel) (t : Target) → IsFile t ⊎ IsLineOf ss t.line → IsFile t ⊎ IsLineOf (s ∷ ss) t.line
+by_later : (s : FileLine) (ss : List FileLine) (t : Target) → IsFile t ⊎ IsLineOf ss t.line → IsFile t ⊎ IsLineOf (s ∷ ss) t.line
 by_later s ss t (inl file) = inl file
 by_later s ss t (inr i) = inr (record { statement = i.statement; among = in_tail s ss i.statement i.among; same = i.same })
 
-by_calls : (ss : List CodeTopLevel) (ts : List Target) → AreDeclaredBy ss ts → (t : Target) → Contains ts t → IsFile t ⊎ IsLineOf ss t.line
+by_calls : (ss : List FileLine) (ts : List Target) → AreDeclaredBy ss ts → (t : Target) → Contains ts t → IsFile t ⊎ IsLineOf ss t.line
 by_calls ss ts AreDeclaredBy.nothing t c = absurd (none_in t c)
 by_calls ss ts (AreDeclaredBy.in_turn s later first rest all e here more) t c = elim (Contains-append_cases first rest t (subst (λ (z : List Target). Contains z t) e c)) [
   | inl d ↦ by_one s later t (each_of (IsFileOrIn s.line) first here t d)
@@ -88,15 +88,15 @@ by_calls ss ts (AreDeclaredBy.in_turn s later first rest all e here more) t c = 
 ]
 
 -- a target of a package is a source file, or in the line of one of the statements that declare
-pub by_statements : (ss : List CodeTopLevel) (p : PackageTargets) → HasDeclared ss p → (t : Target) → Contains p.targets t → IsFile t ⊎ IsLineOf ss t.line
+pub by_statements : (ss : List FileLine) (p : PackageTargets) → HasDeclared ss p → (t : Target) → Contains p.targets t → IsFile t ⊎ IsLineOf ss t.line
 by_statements ss p h t c = elim (Contains-append_cases h.called h.others t (subst (λ (z : List Target). Contains z t) h.targets c)) [
   | inl d ↦ by_calls ss h.called h.by_calls t d
   | inr d ↦ inl (each_of IsFile h.others h.are_files t d)
 ]
 
-on_a_line : (ss : List CodeTopLevel) (t : Target) → AllByRecursion (λ (x : CodeTopLevel). 1 ≤ x.line) ss → IsFile t ⊎ IsLineOf ss t.line → IsFile t ⊎ (1 ≤ t.line)
+on_a_line : (ss : List FileLine) (t : Target) → AllByRecursion (λ (x : FileLine). 1 ≤ x.line) ss → IsFile t ⊎ IsLineOf ss t.line → IsFile t ⊎ (1 ≤ t.line)
 on_a_line ss t all (inl file) = inl file
-on_a_line ss t all (inr i) = inr (same_line t.line i.statement.line i.same (each_of (λ (x : CodeTopLevel). 1 ≤ x.line) ss all i.statement i.among))
+on_a_line ss t all (inr i) = inr (same_line t.line i.statement.line i.same (each_of (λ (x : FileLine). 1 ≤ x.line) ss all i.statement i.among))
 
 in_package : (inputs : InputParts) (p : PackageTargets) (t : Target) → Contains p.targets t → (p.targets ≡ []) ⊎ DeclaresIn inputs p.build_file p → IsFile t ⊎ (1 ≤ t.line)
 in_package inputs p t c (inl none) = absurd (none_in t (subst (λ (z : List Target). Contains z t) none c))

@@ -52,9 +52,9 @@ use Rattle.bq_eval_fault_laws.proofs.BuildCalls.{calls_refuse}
 use Rattle.bq_eval_fault_laws.proofs.Files.{files_fail}
 use Rattle.bq_package_target.specs.Package.{PackageTargets}
 use Rattle.bq_resolve_scope.specs.Names.{Name}
-use Rattle.bq_resolve_scope.specs.declared.code.LoadStmt.{LoadStmt}
-use Rattle.bq_resolve_scope.specs.declared.code.LoadedSymbol.{LoadedSymbol}
-use Rattle.bq_resolve_scope.specs.declared.code.Resolved.{Resolved}
+use Rattle.bq_resolve_scope.specs.declared.loads.LoadStmt.{LoadStmt}
+use Rattle.bq_resolve_scope.specs.declared.loads.LoadedSymbol.{LoadedSymbol}
+use Rattle.bq_resolve_scope.specs.declared.file.ResolvedFile.{ResolvedFile}
 use Rattle.bq_value.specs.Datum.{Datum}
 use Rattle.bq_load_laws.specs.Faults.Parts.{is_of_loads, universe_at, IsAtLoad, FailsIn, FailsInItsPart, OutcomesFailInTheirParts, LoadedModulesFailInTheirParts}
 use Rattle.bq_load_laws.specs.Outcomes.FirstLoad.{IsAtItsLoad, fault_at_load}
@@ -84,7 +84,7 @@ module _ (all : List LoadStmt) (load : LoadStmt) (among : Contains all load) whe
   of_global name None = (refl, at_it _ refl)
   of_global name (Some v) = tt
 
-  of_symbol : (code : List (Option Resolved)) (m : Option ModuleView) (name : Name) → ByLoads all (at_symbol load.line name (exported code m name))
+  of_symbol : (code : List (Option ResolvedFile)) (m : Option ModuleView) (name : Name) → ByLoads all (at_symbol load.line name (exported code m name))
   unfolding exported
   of_symbol code m name = by_privacy (is_private name)
     where
@@ -92,7 +92,7 @@ module _ (all : List LoadStmt) (load : LoadStmt) (among : Contains all load) whe
       by_privacy true = (refl, at_it _ refl)
       by_privacy false = of_global name (global_by code m name)
 
-  clauses_fail : (code : List (Option Resolved)) (m : Option ModuleView) (done : List Datum) (cs : List LoadedSymbol) → ByLoads all (clause_values code m load.line done cs)
+  clauses_fail : (code : List (Option ResolvedFile)) (m : Option ModuleView) (done : List Datum) (cs : List LoadedSymbol) → ByLoads all (clause_values code m load.line done cs)
   unfolding clause_values
   clauses_fail code m done [] = tt
   clauses_fail code m done (c ∷ cs) =

@@ -20,8 +20,8 @@ use Rattle.bq_parse_grammar.specs.Verdict.{ReadsAs}
 use Rattle.bq_parse_grammar.specs.declared.tree.FileKind.{FileKind}
 use Rattle.bq_parse_grammar.specs.declared.tree.TopLevel.{TopLevel}
 use Rattle.bq_parse_tree_laws.proofs.FileDepths.{file_within}
-use Rattle.bq_resolve_scope.specs.declared.code.LoadStmt.{LoadStmt}
-use Rattle.bq_resolve_scope.specs.declared.code.Resolved.{Resolved}
+use Rattle.bq_resolve_scope.specs.declared.loads.LoadStmt.{LoadStmt}
+use Rattle.bq_resolve_scope.specs.declared.file.ResolvedFile.{ResolvedFile}
 use Rattle.bq_resolve_laws.proofs.Depths.Files.{all_of_names}
 use Rattle.bq_label.proofs.Orders.{at_head, in_tail}
 use Rattle.bq_label.specs.declared.workspace.File.{File}
@@ -146,13 +146,13 @@ module _ (inputs : InputParts) (l : LabelParts) where
       FailsIn.of_names x tokens trees is reads parses names
       (all_of_names (universe_at inputs l) trees why (file_within (kind_of l) (pieces (lexemes x.content tokens)) trees (Ok trees) refl parses) names)
 
-  abbrev labels : Resolved → Result (List LabelParts) Fault
+  abbrev labels : ResolvedFile → Result (List LabelParts) Fault
   labels code = labels_of (load_of inputs (package_of l)) [] code.loads
 
-  abbrev front_in : Resolved → Result (List LabelParts) Fault → Result Front Fault
+  abbrev front_in : ResolvedFile → Result (List LabelParts) Fault → Result Front Fault
   front_in code r = r >>= λ ls. Ok (record { code = code; loads = ls })
 
-  abbrev front_with : Result Resolved Fault → Result Front Fault
+  abbrev front_with : Result ResolvedFile Fault → Result Front Fault
   front_with r = r >>= λ code. front_in code (labels code)
 
   -- what is read is the code of the file, or a fault of one of its parts
@@ -160,7 +160,7 @@ module _ (inputs : InputParts) (l : LabelParts) where
   IsFront (Ok front) = (x : File) × (label_file inputs.files l ≡ Some x) × HasCode (universe_at inputs l) x.content front.code
   IsFront (Err why) = FailsIn inputs l why
 
-  by_labels : (x : File) → label_file inputs.files l ≡ Some x → (code : Resolved) → HasCode (universe_at inputs l) x.content code → (r : Result (List LabelParts) Fault) → labels code ≡ r
+  by_labels : (x : File) → label_file inputs.files l ≡ Some x → (code : ResolvedFile) → HasCode (universe_at inputs l) x.content code → (r : Result (List LabelParts) Fault) → labels code ≡ r
       → IsFront (front_in code r)
   by_labels x is code has (Ok ls) e = (x, is, has)
   by_labels x is code has (Err why) e =
@@ -172,7 +172,7 @@ module _ (inputs : InputParts) (l : LabelParts) where
       } in
       FailsIn.of_loads x code is has (load_fails inputs.files inputs.packages (package_of l) bad.load.line bad.load.label why bad.bad) at
 
-  by_code : (x : File) → label_file inputs.files l ≡ Some x → (r : Result Resolved Fault) → code_of (universe_at inputs l) x.content ≡ r → IsFront (front_with r)
+  by_code : (x : File) → label_file inputs.files l ≡ Some x → (r : Result ResolvedFile Fault) → code_of (universe_at inputs l) x.content ≡ r → IsFront (front_with r)
   by_code x is (Ok code) e = by_labels x is code ((codes_of_files (universe_at inputs l) x.content code).0 e) (labels code) refl
   by_code x is (Err why) e = of_text x is why ((faults_of_files (universe_at inputs l) x.content why).0 e)
 

@@ -8,7 +8,7 @@ use Rattle.bq_base.specs.declared.fault.FaultKind.{FaultKind}
 use Rattle.bq_base.specs.declared.fault.FaultKind.TheVariants.{NoSymbol, PrivateSymbol}
 use Rattle.bq_base.proofs.Choices.{by_bool}
 use Rattle.bq_resolve_scope.specs.Names.{Name}
-use Rattle.bq_resolve_scope.specs.declared.code.Resolved.{Resolved}
+use Rattle.bq_resolve_scope.specs.declared.file.ResolvedFile.{ResolvedFile}
 use Rattle.bq_value.specs.Datum.{Datum}
 use Rattle.bq_load.specs.Imports.{value_named, globals_by, is_private, or_no_symbol, exported}
 use Rattle.bq_load.specs.Views.{ModuleView}
@@ -70,9 +70,9 @@ some_of : (o : Option Datum) (v : Datum) → or_no_symbol o ≡ Ok v → o ≡ S
 some_of None v e = absurd (no_value NoSymbol v e)
 some_of (Some u) v e = ap Some (same_value u v e)
 
-module _ (code : List (Option Resolved)) (m : ModuleView) (file : Resolved) (name : Name) (v : Datum) (is : slice_get code m.frozen.own ≡ Some (Some file)) where
+module _ (code : List (Option ResolvedFile)) (m : ModuleView) (file : ResolvedFile) (name : Name) (v : Datum) (is : slice_get code m.frozen.own ≡ Some (Some file)) where
   of_file : value_named name (globals_by (slice_get code m.frozen.own)) m.frozen.cells.globals ≡ value_named name file.globals m.frozen.cells.globals
-  of_file = ap (λ (o : Option (Option Resolved)). value_named name (globals_by o) m.frozen.cells.globals) is
+  of_file = ap (λ (o : Option (Option ResolvedFile)). value_named name (globals_by o) m.frozen.cells.globals) is
 
   own : exported code (Some m) name ≡ Ok v → (is_private name ≡ false) × IsNamed name file.globals m.frozen.cells.globals v
   unfolding exported

@@ -9,7 +9,7 @@ use Rattle.bq_base.proofs.Choices.{by_bool}
 use Rattle.bq_label.proofs.Orders.{head_or_tail}
 use Rattle.bq_label_set.proofs.Added.{none_in}
 use Rattle.bq_label.specs.Label.{LabelParts, full_form}
-use Rattle.bq_resolve_scope.specs.declared.code.LoadStmt.{LoadStmt}
+use Rattle.bq_resolve_scope.specs.declared.loads.LoadStmt.{LoadStmt}
 use Rattle.bq_load_front.specs.declared.front.Front.{Front}
 use Rattle.bq_load_discover.specs.declared.modules.Module.{Module}
 use Rattle.bq_load.specs.Results.{line_of_load, load_fault}

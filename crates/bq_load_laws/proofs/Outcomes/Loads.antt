@@ -9,8 +9,8 @@ use Rattle.bq_label.specs.declared.workspace.File.{File}
 use Rattle.bq_label.specs.Label.{LabelParts, package_of}
 use Rattle.bq_label.specs.Packages.{label_file}
 use Rattle.bq_label_set.proofs.Added.{none_in, the_labels_added}
-use Rattle.bq_resolve_scope.specs.declared.code.LoadStmt.{LoadStmt}
-use Rattle.bq_resolve_scope.specs.declared.code.Resolved.{Resolved}
+use Rattle.bq_resolve_scope.specs.declared.loads.LoadStmt.{LoadStmt}
+use Rattle.bq_resolve_scope.specs.declared.file.ResolvedFile.{ResolvedFile}
 use Rattle.bq_board.specs.Counts.{Has}
 use Rattle.bq_board.specs.Cycles.{is_cyclic, starts_path}
 use Rattle.bq_board.specs.Depth.{max_load_depth, is_too_deep}
@@ -113,7 +113,7 @@ module _ (inputs : InputParts) (l : LabelParts) (front : Front) where
   abbrev pub Wide : Front → Type 0
   Wide x = length x.code.loads ≡ length x.loads
 
-  abbrev made : Resolved → List LabelParts → Front
+  abbrev made : ResolvedFile → List LabelParts → Front
   made code ls = record { code = code; loads = ls }
 
   abbrev ok : Front → Result Front Fault
@@ -122,13 +122,13 @@ module _ (inputs : InputParts) (l : LabelParts) (front : Front) where
   same_front : (x y : Front) → ok x ≡ ok y → x ≡ y
   same_front x y e = cc
 
-  wide_labels : (code : Resolved) (r : Result (List LabelParts) Fault) → labels_of (load_of inputs (package_of l)) [] code.loads ≡ r → (r >>= λ ls. ok (made code ls)) ≡ ok front → Wide front
+  wide_labels : (code : ResolvedFile) (r : Result (List LabelParts) Fault) → labels_of (load_of inputs (package_of l)) [] code.loads ≡ r → (r >>= λ ls. ok (made code ls)) ≡ ok front → Wide front
   wide_labels code (Ok ls) is e =
       let names : NameFiles (load_of inputs (package_of l)) code.loads ls = ((are_read (load_of inputs (package_of l)) code.loads).0 ls).0 is in
       subst Wide (same_front (made code ls) front e) (sym (length-map code.loads (load_of inputs (package_of l))) ∙ ap length names ∙ length-map ls named)
   wide_labels code (Err why) is e = absurd (cc)
 
-  wide_code : (r : Result Resolved Fault) → (r >>= λ code. labels_of (load_of inputs (package_of l)) [] code.loads >>= λ ls. ok (made code ls)) ≡ ok front → Wide front
+  wide_code : (r : Result ResolvedFile Fault) → (r >>= λ code. labels_of (load_of inputs (package_of l)) [] code.loads >>= λ ls. ok (made code ls)) ≡ ok front → Wide front
   wide_code (Ok code) e = wide_labels code (labels_of (load_of inputs (package_of l)) [] code.loads) refl e
   wide_code (Err why) e = absurd (cc)
 

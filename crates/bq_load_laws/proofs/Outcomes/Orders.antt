@@ -11,7 +11,7 @@ use Rattle.bq_load_outcome_spec.specs.Outcome.{values, own, evaluated, by_loads,
 use Rattle.bq_load_outcome_spec.specs.declared.outcome.Outcome.{Outcome}
 use Rattle.bq_load_outcome_spec.proofs.Solution.{solved}
 use Rattle.bq_resolve_scope.specs.Names.{Name}
-use Rattle.bq_resolve_scope.specs.declared.code.Resolved.{Resolved}
+use Rattle.bq_resolve_scope.specs.declared.file.ResolvedFile.{ResolvedFile}
 use Rattle.bq_value.specs.Datum.{Datum}
 use Rattle.bq_base.specs.declared.fault.Fault.{Fault}
 use Rattle.bq_load_front.specs.declared.front.Front.{Front}
@@ -30,7 +30,7 @@ by_global : (o : Option Datum) → fault_in (or_no_symbol o) ≡ first_fault (wh
 by_global None = refl
 by_global (Some v) = refl
 
-pub exported_in_order : (code : List (Option Resolved)) (m : Option ModuleView) (name : Name) → FailsForFirst (exported code m name) (exporting code m name)
+pub exported_in_order : (code : List (Option ResolvedFile)) (m : Option ModuleView) (name : Name) → FailsForFirst (exported code m name) (exporting code m name)
 unfolding exported
 exported_in_order code m name = elim (by_bool (is_private name)) [
   | inl t ↦ rw t refl

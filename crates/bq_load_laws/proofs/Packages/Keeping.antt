@@ -10,8 +10,8 @@ use Rattle.bq_resolve_predeclared.specs.declared.predeclared.Predeclared.TheVari
 use Rattle.bq_resolve_predeclared.specs.declared.rule_function.RuleFunction.{RuleFunction}
 use Rattle.bq_value_rule_class.specs.Class.{Class}
 use Rattle.bq_resolve_scope.specs.Names.{Name}
-use Rattle.bq_resolve_scope.specs.declared.code.CodeTopLevel.{CodeTopLevel}
-use Rattle.bq_resolve_scope.specs.declared.code.Resolved.{Resolved}
+use Rattle.bq_resolve_scope.specs.declared.file.FileLine.{FileLine}
+use Rattle.bq_resolve_scope.specs.declared.file.ResolvedFile.{ResolvedFile}
 use Rattle.bq_value.specs.Cells.{FrozenView, content_at, kind_of}
 use Rattle.bq_value.specs.Datum.{Datum}
 use Rattle.bq_value_compare.specs.Truth.{truth_of}
@@ -31,17 +31,19 @@ use Rattle.bq_builtin.specs.Call.{call_function}
 use Rattle.bq_eval.specs.Module.{first_store, module_run}
 use Rattle.bq_eval_laws.specs.Evaluations.Files.{HostTakes}
 use Rattle.bq_eval_laws.proofs.Evaluations.Hosts.{OwnsItsSteps, own_steps}
-use Rattle.bq_eval_meaning_spec.specs.Calls.{Units}
-use Rattle.bq_eval_meaning_spec.specs.Frame.{Frame, empty}
-use Rattle.bq_eval_meaning_spec.specs.Module.{Own, top_level, top_levels, eval_top, first_globals, module_meaning, frozen_units}
-use Rattle.bq_eval_meaning_spec.specs.Statements.{Flow, next, leave, again, answer, go_on}
+use Rattle.bq_eval_meaning_spec.specs.Frame.{Frame, empty, Surroundings}
+use Rattle.bq_eval_language_spec.specs.Calls.{Units}
+use Rattle.bq_eval_language_spec.specs.Module.{Own, top_level, top_levels, eval_top, module_meaning}
+use Rattle.bq_eval_language_spec.specs.Slots as slots
+use Rattle.bq_eval_language_spec.specs.Slots.{by_slots, own_of, first_globals, frozen_units}
+use Rattle.bq_eval_language_spec.specs.Statements.{Flow, next, leave, again, answer, go_on}
 use Rattle.bq_package_rule_functions.specs.Call.{class_in, declare, type_of, call_rule_function, call_kind, call_class, call_cell}
 use Rattle.bq_eval_operations.specs.Calling.{HostCalls, call_built_in}
 use Rattle.bq_eval_operations.specs.Making as making
 use Rattle.bq_eval_operations.specs.Passing as passing
 use Rattle.bq_eval_operations.specs.Unpacking as unpacking
 use Rattle.bq_eval_operations.specs.Runtime.{primitives}
-use Rattle.bq_eval_meaning_laws.proofs.ModuleRules.{file_stmt_rule, top_rule}
+use Rattle.bq_eval_meaning_laws.proofs.ModuleRules.{outside_rule, top_rule}
 use Rattle.bq_eval_meaning_laws.proofs.Respects.{Relation, Respects}
 
 module _ {W : Type 0} (P : W → Type 0) where
@@ -57,12 +59,12 @@ module _ {W : Type 0} (P : W → Type 0) where
 abbrev Flowing : Type 0 → Type 0
 Flowing W = Run (State × W) (Flow × Frame)
 
-module _ {W : Type 0} (names : List Name) (host : HostCalls W) (units : Units) (own : Own) where
-  abbrev run_all : List CodeTopLevel → Frame → State × W → Flowing W
-  run_all ts globals = top_levels (primitives names host) own (eval_top (primitives names host) units own) ts globals
+module _ {W : Type 0} (names : List Name) (host : HostCalls W) (units : Units Surroundings) (own : Own Surroundings Frame) where
+  abbrev run_all : List FileLine → Frame → State × W → Flowing W
+  run_all ts globals = top_levels (primitives names host) by_slots own (eval_top (primitives names host) by_slots units own) ts globals
 
-  abbrev run_one : CodeTopLevel → Frame → State × W → Flowing W
-  run_one t globals = top_level (primitives names host) own (eval_top (primitives names host) units own) t globals
+  abbrev run_one : FileLine → Frame → State × W → Flowing W
+  run_one t globals = top_level (primitives names host) by_slots own (eval_top (primitives names host) by_slots units own) t globals
 
 look_stays : {W A : Type 0} (r : Result A FaultKind) (s : State × W) → InLine {S = State × W} hosted s.0.line (beside s.1 (given r s.0))
 look_stays (Ok x) s = refl
@@ -153,37 +155,37 @@ module _ {W : Type 0} (At : ℕ → Type 0) (P : W → Type 0) where
         chosen A a c s false h k at q = k.1 s at q
 
     -- so does a statement in one of the lines
-    pub one_keeps : (units : Units) (own : Own) (t : CodeTopLevel) → At t.line → (globals : Frame) (s : State × W) → P s.1 → Left P (run_one names host units own t globals s)
+    pub one_keeps : (units : Units Surroundings) (own : Own Surroundings Frame) (t : FileLine) → At t.line → (globals : Frame) (s : State × W) → P s.1 → Left P (run_one names host units own t globals s)
     unfolding top_level primitives
     one_keeps units own t at globals s h =
-        (file_stmt_rule (primitives names host) Keeps all_keep own (eval_top (primitives names host) units own) (top_rule (primitives names host) Keeps all_keep own units) t.statement globals).1
+        (outside_rule (primitives names host) by_slots Keeps all_keep own (eval_top (primitives names host) by_slots units own) (top_rule (primitives names host) by_slots Keeps all_keep own units) t.statement globals).1
         (record s.0 { line = t.line }, s.1) at h
 
 -- ---- the statements of a file, one after another
 
 -- what they make of what is kept, each in its line
 module _ {W : Type 0} (Step : ℕ → W → W → Type 0) where
-  abbrev pub Goes : List CodeTopLevel → W → W → Type 0
+  abbrev pub Goes : List FileLine → W → W → Type 0
   Goes [] k last = last ≡ k
   Goes (t ∷ ts) k last = (between : W) × Step t.line k between × Goes ts between last
 
   module _ (idle : (line : ℕ) (k : W) → Step line k k) where
-    idle_goes : (ts : List CodeTopLevel) (k : W) → Goes ts k k
+    idle_goes : (ts : List FileLine) (k : W) → Goes ts k k
     idle_goes [] k = refl
     idle_goes (t ∷ ts) k = (k, idle t.line k, idle_goes ts k)
 
     module _ (names : List Name) (host : HostCalls W) (takes : HostTakes host)
         (hosts : (line : ℕ) (k : W) (function : HostFunction) (args : Passed) (s : State × W) → s.0.line ≡ line → Step line k s.1 → Left (Step line k) (host.call function args s))
         (rules : (line : ℕ) (k : W) (kind : List ℕ) (class : Class) (args : Passed) (s : State × W) → s.0.line ≡ line → Step line k s.1 → Left (Step line k) (host.call_rule kind class args s)) where
-      module _ (units : Units) (own : Own) where
-        one_goes : (t : CodeTopLevel) (globals : Frame) (s : State × W) → Left (Step t.line s.1) (run_one names host units own t globals s)
+      module _ (units : Units Surroundings) (own : Own Surroundings Frame) where
+        one_goes : (t : FileLine) (globals : Frame) (s : State × W) → Left (Step t.line s.1) (run_one names host units own t globals s)
         one_goes t globals s = one_keeps (λ n. n ≡ t.line) (Step t.line s.1) names host takes (hosts t.line s.1) (rules t.line s.1) units own t refl globals s (idle t.line s.1)
 
-        then_goes : (t : CodeTopLevel) (ts : List CodeTopLevel) (k between : W) → Step t.line k between → (r : Flowing W) → Left (Goes ts between) r → Left (Goes (t ∷ ts) k) r
+        then_goes : (t : FileLine) (ts : List FileLine) (k between : W) → Step t.line k between → (r : Flowing W) → Left (Goes ts between) r → Left (Goes (t ∷ ts) k) r
         then_goes t ts k between step (done x s) h = (between, step, h)
         then_goes t ts k between step (stopped why) h = tt
 
-        after_one : (t : CodeTopLevel) (ts : List CodeTopLevel) (k : W) (r : Flowing W) → Left (Step t.line k) r → ((globals : Frame) (s : State × W) → Left (Goes ts s.1) (run_all names host units own ts globals s))
+        after_one : (t : FileLine) (ts : List FileLine) (k : W) (r : Flowing W) → Left (Step t.line k) r → ((globals : Frame) (s : State × W) → Left (Goes ts s.1) (run_all names host units own ts globals s))
             → Left (Goes (t ∷ ts) k) (following r (go_on (run_all names host units own ts)))
         after_one t ts k (stopped why) h rest = tt
         after_one t ts k (done (next, globals) s) h rest = then_goes t ts k s.1 h (run_all names host units own ts globals s) (rest globals s)
@@ -191,20 +193,20 @@ module _ {W : Type 0} (Step : ℕ → W → W → Type 0) where
         after_one t ts k (done (again, globals) s) h rest = (s.1, h, idle_goes ts s.1)
         after_one t ts k (done (answer v, globals) s) h rest = (s.1, h, idle_goes ts s.1)
 
-        statements_go : (ts : List CodeTopLevel) (globals : Frame) (s : State × W) → Left (Goes ts s.1) (run_all names host units own ts globals s)
+        statements_go : (ts : List FileLine) (globals : Frame) (s : State × W) → Left (Goes ts s.1) (run_all names host units own ts globals s)
         unfolding top_levels
         statements_go [] globals s = refl
         statements_go (t ∷ ts) globals s = after_one t ts s.1 (run_one names host units own t globals s) (one_goes t globals s) (statements_go ts)
 
-      with_globals : (ts : List CodeTopLevel) (k : W) (r : Flowing W) → Left (Goes ts k) r → Left (Goes ts k) (following r (λ u. λ s. done u.1 s))
+      with_globals : (ts : List FileLine) (k : W) (r : Flowing W) → Left (Goes ts k) r → Left (Goes ts k) (following r (λ u. λ s. done u.1 s))
       with_globals ts k (done u s) h = h
       with_globals ts k (stopped why) h = tt
 
-      pub file_goes : (code : List (Option Resolved)) (number : ℕ) (file : Resolved) (loaded : List FrozenView) (imports : List Datum) (limit : ℕ) (kept : W)
+      pub file_goes : (code : List (Option ResolvedFile)) (number : ℕ) (file : ResolvedFile) (loaded : List FrozenView) (imports : List Datum) (limit : ℕ) (kept : W)
           → Left (Goes file.statements kept) (module_run names host code number file loaded imports limit kept)
-      unfolding module_run module_meaning
+      unfolding module_run slots.module_meaning module_meaning
       file_goes code number file loaded imports limit kept =
-          let own : Own = record { number = number; functions = file.functions; loaded = imports } in
+          let own : Own Surroundings Frame = own_of number file imports in
           let units = frozen_units code loaded in
           let s : State × W = (started (first_store number loaded) limit, kept) in
           let globals = first_globals file.loads imports empty in

@@ -7,8 +7,8 @@ use Rattle.bq_base.specs.declared.fault.Fault.{Fault}
 use Rattle.bq_parse_grammar.specs.declared.tree.FileKind.{FileKind}
 use Rattle.bq_parse_grammar.specs.declared.tree.FileKind.TheVariants as kinds
 use Rattle.bq_label.specs.Label.{LabelParts, package_of}
-use Rattle.bq_resolve_scope.specs.declared.code.CodeTopLevel.{CodeTopLevel}
-use Rattle.bq_resolve_scope.specs.declared.code.Resolved.{Resolved}
+use Rattle.bq_resolve_scope.specs.declared.file.FileLine.{FileLine}
+use Rattle.bq_resolve_scope.specs.declared.file.ResolvedFile.{ResolvedFile}
 use Rattle.bq_value.specs.Datum.{Datum}
 use Rattle.bq_builtin_machine.specs.Action.{Run, done, stopped}
 use Rattle.bq_builtin_machine.specs.State.{State}
@@ -32,23 +32,23 @@ use Rattle.bq_load_laws.proofs.Packages.Calls.{Held}
 use Rattle.bq_load_laws.proofs.Packages.Running.{Ends, build_ends, bzl_ends, left_by}
 
 -- these statements declare the targets of a package
-abbrev pub Declares : List CodeTopLevel → Option PackageTargets → Type 0
+abbrev pub Declares : List FileLine → Option PackageTargets → Type 0
 Declares ss None = Unit {0}
 Declares ss (Some p) = HasDeclared ss p
 
 -- a package of this label's own, whose targets these statements declare
-abbrev pub IsMade : FileKind → LabelParts → List CodeTopLevel → ModuleView → Type 0
+abbrev pub IsMade : FileKind → LabelParts → List FileLine → ModuleView → Type 0
 IsMade k l ss v = IsOwnOf k l v.package × Declares ss v.package
 
 -- the package that a BUILD file begins with
 abbrev begun : LoadingParts → LabelParts → Declaring
 begun x l = record { place = record { own = package_of l; files = x.files; packages = x.packages; rules = x.rules }; «package» = no_targets l }
 
-without_package : (l : LabelParts) (ss : List CodeTopLevel) (p : Option PackageTargets) → p ≡ None → IsOwnOf kinds.Bzl l (option_map finished p) × Declares ss (option_map finished p)
+without_package : (l : LabelParts) (ss : List FileLine) (p : Option PackageTargets) → p ≡ None → IsOwnOf kinds.Bzl l (option_map finished p) × Declares ss (option_map finished p)
 without_package l ss None e = (refl, tt)
 without_package l ss (Some p) e = absurd (none-some p (sym e))
 
-with_package : (x : LoadingParts) (l : LabelParts) (ss : List CodeTopLevel) (kept : HeldPackage) → Ends ss (begun x l) kept
+with_package : (x : LoadingParts) (l : LabelParts) (ss : List FileLine) (kept : HeldPackage) → Ends ss (begun x l) kept
     → IsOwnOf kinds.Build l (option_map finished (package_in kept)) × Declares ss (option_map finished (package_in kept))
 unfolding finished
 with_package x l ss (outside own packages) h = absurd h
@@ -65,18 +65,18 @@ with_package x l ss (declaring d) h =
       },
     )
 
-packed : (x : LoadingParts) (l : LabelParts) (ss : List CodeTopLevel) (k : FileKind) (kept : HeldPackage) → Goes Held ss (kept_by x l k) kept
+packed : (x : LoadingParts) (l : LabelParts) (ss : List FileLine) (k : FileKind) (kept : HeldPackage) → Goes Held ss (kept_by x l k) kept
     → IsOwnOf k l (option_map finished (package_in kept)) × Declares ss (option_map finished (package_in kept))
 packed x l ss kinds.Bzl kept h = without_package l ss (package_in kept) (bzl_ends ss (kept_by x l kinds.Bzl) kept refl h)
 packed x l ss kinds.Build kept h = with_package x l ss kept (build_ends ss (begun x l) kept h)
 
-ended_made : (x : LoadingParts) (k : FileKind) (l : LabelParts) (file : Resolved) (values : List Datum) (run : Run (State × HeldPackage) Frame) → Left (Goes Held file.statements (kept_by x l k)) run
+ended_made : (x : LoadingParts) (k : FileKind) (l : LabelParts) (file : ResolvedFile) (values : List Datum) (run : Run (State × HeldPackage) Frame) → Left (Goes Held file.statements (kept_by x l k)) run
     → IfOk (module_after file values run) (IsMade k l file.statements)
 unfolding module_after
 ended_made x k l file values (done globals s) h = packed x l file.statements k s.1 h
 ended_made x k l file values (stopped why) h = tt
 
-pub file_made : (x : LoadingParts) (m : ℕ) (l : LabelParts) (file : Resolved) (modules : List ModuleView) (values : List Datum)
+pub file_made : (x : LoadingParts) (m : ℕ) (l : LabelParts) (file : ResolvedFile) (modules : List ModuleView) (values : List Datum)
     → IfOk (module_after file values (evaluation x m l file modules values)) (IsMade (kind_of l) l file.statements)
 file_made x m l file modules values = ended_made x (kind_of l) l file values (evaluation x m l file modules values) (left_by x m l file modules values)
 
@@ -84,11 +84,11 @@ module _ (k : FileKind) (l : LabelParts) where
   abbrev pub Own : ModuleView → Type 0
   Own v = IsOwnOf k l v.package
 
-  its_own_alone : (ts : List CodeTopLevel) (r : Result ModuleView FailedView) → IfOk r (IsMade k l ts) → IfOk r Own
+  its_own_alone : (ts : List FileLine) (r : Result ModuleView FailedView) → IfOk r (IsMade k l ts) → IfOk r Own
   its_own_alone ts (Ok v) h = h.0
   its_own_alone ts (Err why) h = tt
 
-imported_own : (x : LoadingParts) (m : ℕ) (l : LabelParts) (file : Resolved) (modules : List ModuleView) (values : Result (List Datum) Fault) → IfOk (by_imports x m l file modules values) (Own (kind_of l) l)
+imported_own : (x : LoadingParts) (m : ℕ) (l : LabelParts) (file : ResolvedFile) (modules : List ModuleView) (values : Result (List Datum) Fault) → IfOk (by_imports x m l file modules values) (Own (kind_of l) l)
 imported_own x m l file modules (Err why) = tt
 imported_own x m l file modules (Ok values) =
     its_own_alone (kind_of l) l file.statements (module_after file values (evaluation x m l file modules values)) (file_made x m l file modules values)

@@ -11,8 +11,8 @@ use Rattle.bq_parse_grammar.specs.Parses.{Parses}
 use Rattle.bq_parse_grammar.specs.declared.tree.TopLevel.{TopLevel}
 use Rattle.bq_resolve_scope.specs.Files.{resolved}
 use Rattle.bq_resolve_scope.specs.Universe.{UniverseParts}
-use Rattle.bq_resolve_scope.specs.declared.code.LoadStmt.{LoadStmt}
-use Rattle.bq_resolve_scope.specs.declared.code.Resolved.{Resolved}
+use Rattle.bq_resolve_scope.specs.declared.loads.LoadStmt.{LoadStmt}
+use Rattle.bq_resolve_scope.specs.declared.file.ResolvedFile.{ResolvedFile}
 use Rattle.bq_resolve_laws.specs.Depths.Nesting.{is_of_names}
 use Rattle.bq_label.specs.declared.workspace.File.{File}
 use Rattle.bq_label.specs.Label.{LabelParts}
@@ -63,15 +63,15 @@ pub record IsAtLoad (loads : List LoadStmt) (why : Fault) : Type 0 where
   pub line : why.line ≡ load.line
 
 -- The module of this label fails with this fault: its text has no tokens; or these are no statements; or the names of these stand for nothing;
--- or it has a code, and fails by its loads, at the line of one of them, or in its evaluation, at the line of one of its statements.
+-- or it resolves, and fails by its loads, at the line of one of them, or in its evaluation, at the line of one of its statements.
 pub data FailsIn (inputs : InputParts) (l : LabelParts) (why : Fault) : Type 0 where
   of_tokens : (x : File) → label_file inputs.files l ≡ Some x → Lexes x.content (Err why) → is_of_tokens why.kind ≡ true → FailsIn inputs l why
   of_statements : (x : File) (tokens : List Token) → label_file inputs.files l ≡ Some x → Lexes x.content (Ok tokens) → Parses (kind_of l) (lexemes x.content tokens) (Err why)
       → is_of_statements why.kind ≡ true → FailsIn inputs l why
   of_names : (x : File) (tokens : List Token) (trees : List TopLevel) → label_file inputs.files l ≡ Some x → Lexes x.content (Ok tokens) → Parses (kind_of l) (lexemes x.content tokens) (Ok trees)
       → resolved (universe_at inputs l) trees ≡ Err why → is_of_names why.kind ≡ true → FailsIn inputs l why
-  of_loads : (x : File) (code : Resolved) → label_file inputs.files l ≡ Some x → HasCode (universe_at inputs l) x.content code → is_of_loads why.kind ≡ true → IsAtLoad code.loads why → FailsIn inputs l why
-  of_evaluation : (x : File) (code : Resolved) → label_file inputs.files l ≡ Some x → HasCode (universe_at inputs l) x.content code → is_refusal why.kind ≡ true → IsAtStatement code.statements why → FailsIn inputs l why
+  of_loads : (x : File) (code : ResolvedFile) → label_file inputs.files l ≡ Some x → HasCode (universe_at inputs l) x.content code → is_of_loads why.kind ≡ true → IsAtLoad code.loads why → FailsIn inputs l why
+  of_evaluation : (x : File) (code : ResolvedFile) → label_file inputs.files l ≡ Some x → HasCode (universe_at inputs l) x.content code → is_refusal why.kind ≡ true → IsAtStatement code.statements why → FailsIn inputs l why
 
 -- a module's outcome is a value, or a fault of one of its parts
 abbrev pub FailsInItsPart : InputParts → OutcomeView → Type 0

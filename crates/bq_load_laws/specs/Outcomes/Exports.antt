@@ -2,7 +2,7 @@
 use Rattle.std.specs.Prelude.{◌≡◌, ◌≢◌, false, List, ◌∷◌, ◌++◌, length, Option, Some, Ok, slice_get}
 use Rattle.std.specs.List.{AllByRecursion}
 use Rattle.bq_resolve_scope.specs.Names.{Name}
-use Rattle.bq_resolve_scope.specs.declared.code.Resolved.{Resolved}
+use Rattle.bq_resolve_scope.specs.declared.file.ResolvedFile.{ResolvedFile}
 use Rattle.bq_value.specs.Datum.{Datum}
 use Rattle.bq_load.specs.Imports.{is_private, exported}
 use Rattle.bq_load.specs.Views.{ModuleView}
@@ -16,10 +16,10 @@ pub record IsNamed (name : Name) (names : List Name) (values : List Datum) (v : 
   pub value : slice_get values (length before) ≡ Some v
 
 -- a symbol that a module has is one that its file binds outside all functions, with its value there
-pub record ExportsItsOwn (code : List (Option Resolved)) (m : ModuleView) (file : Resolved) (name : Name) (v : Datum) : Type 0 where
+pub record ExportsItsOwn (code : List (Option ResolvedFile)) (m : ModuleView) (file : ResolvedFile) (name : Name) (v : Datum) : Type 0 where
   pub own : exported code (Some m) name ≡ Ok v → (is_private name ≡ false) × IsNamed name file.globals m.frozen.cells.globals v
   pub all : is_private name ≡ false → IsNamed name file.globals m.frozen.cells.globals v → exported code (Some m) name ≡ Ok v
 
 abbrev pub ModulesExportTheirOwn : Type 0
 ModulesExportTheirOwn =
-    (code : List (Option Resolved)) (m : ModuleView) (file : Resolved) (name : Name) (v : Datum) → slice_get code m.frozen.own ≡ Some (Some file) → ExportsItsOwn code m file name v
+    (code : List (Option ResolvedFile)) (m : ModuleView) (file : ResolvedFile) (name : Name) (v : Datum) → slice_get code m.frozen.own ≡ Some (Some file) → ExportsItsOwn code m file name v

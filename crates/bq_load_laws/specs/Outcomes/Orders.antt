@@ -2,7 +2,7 @@
 use Rattle.std.specs.Prelude.{ℕ, not, List, [], ◌∷◌, Option, Some, None, Result, Ok, Err, is_some}
 use Rattle.bq_base.specs.declared.fault.FaultKind.TheVariants.{NoSymbol, PrivateSymbol, CycleReached, LoadDepth, LoadFailed}
 use Rattle.bq_resolve_scope.specs.Names.{Name}
-use Rattle.bq_resolve_scope.specs.declared.code.Resolved.{Resolved}
+use Rattle.bq_resolve_scope.specs.declared.file.ResolvedFile.{ResolvedFile}
 use Rattle.bq_board.specs.Graph.{Loads, row}
 use Rattle.bq_board.specs.Cycles.{is_cyclic}
 use Rattle.bq_board.specs.Depth.{is_too_deep}
@@ -14,7 +14,7 @@ use Rattle.bq_load.specs.Views.{ModuleView, FailedView}
 use Rattle.bq_builtin_refusal_laws.specs.Refusals.{Check, when}
 
 -- a symbol that a load asks for: F34 for a private name, also where there is none, and then F33
-abbrev pub exporting : List (Option Resolved) → Option ModuleView → Name → List Check
+abbrev pub exporting : List (Option ResolvedFile) → Option ModuleView → Name → List Check
 exporting code m name = when (is_private name) PrivateSymbol ∷ when (not (is_some (global_by code m name))) NoSymbol ∷ []
 
 -- why a module failed, if it did

@@ -6,7 +6,7 @@ use Rattle.bq_builtin_machine.specs.Action.{Run, done, stopped}
 use Rattle.bq_builtin_machine.specs.State.{State}
 use Rattle.bq_eval_meaning_spec.specs.Frame.{Frame}
 use Rattle.bq_package.specs.Calls.{HeldPackage}
-use Rattle.bq_resolve_scope.specs.declared.code.Resolved.{Resolved}
+use Rattle.bq_resolve_scope.specs.declared.file.ResolvedFile.{ResolvedFile}
 use Rattle.bq_value.specs.Datum.{Datum}
 use Rattle.bq_load.specs.Evaluation.{module_after}
 use Rattle.bq_load.specs.Loaded.{print_line, prints_of}
@@ -19,5 +19,5 @@ printed (stopped why) = why.prints
 -- a module's lines are all that its run printed, also where it failed then
 abbrev pub PrintsAreKept : Type 0
 PrintsAreKept =
-    (l : LabelParts) (file : Resolved) (values : List Datum) (run : Run (State × HeldPackage) Frame)
+    (l : LabelParts) (file : ResolvedFile) (values : List Datum) (run : Run (State × HeldPackage) Frame)
     → prints_of (record { label = l; result = module_after file values run }) ≡ flat_map (print_line (full_form l)) (printed run)

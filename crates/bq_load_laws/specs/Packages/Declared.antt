@@ -6,8 +6,8 @@ use Rattle.bq_label.specs.declared.workspace.File.{File}
 use Rattle.bq_label.specs.Label.{LabelParts}
 use Rattle.bq_label.specs.Packages.{label_file}
 use Rattle.bq_label.specs.Workspace.{IsWorkspace}
-use Rattle.bq_resolve_scope.specs.declared.code.CodeTopLevel.{CodeTopLevel}
-use Rattle.bq_resolve_scope.specs.declared.code.Resolved.{Resolved}
+use Rattle.bq_resolve_scope.specs.declared.file.FileLine.{FileLine}
+use Rattle.bq_resolve_scope.specs.declared.file.ResolvedFile.{ResolvedFile}
 use Rattle.bq_package_schema.specs.Schema.{Rules}
 use Rattle.bq_package_target.specs.declared.target.Target.{Target}
 use Rattle.bq_package_target.specs.Package.{PackageTargets}
@@ -23,8 +23,8 @@ use Rattle.bq_load.specs.Views.{OutcomeView}
 use Rattle.bq_load_laws.specs.Faults.Parts.{universe_at}
 
 -- one of these statements is in this line
-pub record IsLineOf (statements : List CodeTopLevel) (line : ℕ) : Type 0 where
-  pub statement : CodeTopLevel
+pub record IsLineOf (statements : List FileLine) (line : ℕ) : Type 0 where
+  pub statement : FileLine
   pub among : Contains statements statement
   pub same : line ≡ statement.line
 
@@ -37,13 +37,13 @@ abbrev pub IsFileOrIn : ℕ → Target → Type 0
 IsFileOrIn line t = IsFile t ⊎ (t.line ≡ line)
 
 -- these statements declare these targets, one statement after another, and each in its own line
-pub data AreDeclaredBy : List CodeTopLevel → List Target → Type 0 where
+pub data AreDeclaredBy : List FileLine → List Target → Type 0 where
   nothing : AreDeclaredBy [] []
-  in_turn : (s : CodeTopLevel) (later : List CodeTopLevel) (first rest all : List Target) → all ≡ first ++ rest → AllByRecursion (IsFileOrIn s.line) first → AreDeclaredBy later rest
+  in_turn : (s : FileLine) (later : List FileLine) (first rest all : List Target) → all ≡ first ++ rest → AllByRecursion (IsFileOrIn s.line) first → AreDeclaredBy later rest
       → AreDeclaredBy (s ∷ later) all
 
 -- a package has what calls declare by these statements, and then source files
-pub record HasDeclared (statements : List CodeTopLevel) (p : PackageTargets) : Type 0 where
+pub record HasDeclared (statements : List FileLine) (p : PackageTargets) : Type 0 where
   pub called : List Target
   pub others : List Target
   pub targets : p.targets ≡ called ++ others
@@ -54,7 +54,7 @@ pub record HasDeclared (statements : List CodeTopLevel) (p : PackageTargets) : T
 pub record DeclaresIn (inputs : InputParts) (l : LabelParts) (p : PackageTargets) : Type 0 where
   pub file : File
   pub there : label_file inputs.files l ≡ Some file
-  pub code : Resolved
+  pub code : ResolvedFile
   pub has : HasCode (universe_at inputs l) file.content code
   pub declared : HasDeclared code.statements p
 

@@ -16,12 +16,11 @@ use Rattle.bq_parse_grammar.specs.declared.tree.Stmt.TheOpen.{Stmt-F}
 use Rattle.bq_parse_grammar.specs.declared.tree.TopLevel.{TopLevel}
 use Rattle.bq_parse_tree_laws.specs.Parts as parts
 use Rattle.bq_parse_tree_laws.proofs.FileDepths.{file_within}
-use Rattle.bq_resolve_scope.specs.declared.code.CodeFunction.{CodeFunction}
-use Rattle.bq_resolve_scope.specs.declared.code.CodeSmall.{CodeSmall}
-use Rattle.bq_resolve_scope.specs.declared.code.CodeTopLevel.{CodeTopLevel}
-use Rattle.bq_resolve_scope.specs.declared.code.FileStmt.{FileStmt}
-use Rattle.bq_resolve_scope.specs.declared.code.LoadStmt.{LoadStmt}
-use Rattle.bq_resolve_scope.specs.declared.code.Resolved.{Resolved}
+use Rattle.bq_resolve_scope.specs.declared.file.Function.{Function}
+use Rattle.bq_resolve_scope.specs.declared.file.FileLine.{FileLine}
+use Rattle.bq_resolve_scope.specs.declared.file.Outside.{Outside}
+use Rattle.bq_resolve_scope.specs.declared.loads.LoadStmt.{LoadStmt}
+use Rattle.bq_resolve_scope.specs.declared.file.ResolvedFile.{ResolvedFile}
 use Rattle.bq_resolve_scope.specs.Files.{file_names, resolved}
 use Rattle.bq_resolve_scope.specs.Scope.{FileParts}
 use Rattle.bq_resolve_scope.specs.Universe.{UniverseParts}
@@ -77,9 +76,9 @@ fault_stands universe kind ts xs why h g e =
 abbrev LoadsStand : List LoadStmt → Type 0
 LoadsStand ls = AllByRecursion (λ l. 1 ≤ l.line) ls
 
-module _ {A B : Type 0} (R : ℕ → A → B → List CodeFunction → List LoadStmt → Type 0) (P : A → Type 0) (Q : B → Type 0)
-    (each : (k : ℕ) (x : A) (y : B) (fs : List CodeFunction) (ls : List LoadStmt) → P x → R k x y fs ls → Q y × LoadsStand ls) where
-  turn_stands : (k : ℕ) (xs : List A) (ys : List B) (fs : List CodeFunction) (ls : List LoadStmt) → AllByRecursion P xs → InTurn R k xs ys fs ls → AllByRecursion Q ys × LoadsStand ls
+module _ {A B : Type 0} (R : ℕ → A → B → List Function → List LoadStmt → Type 0) (P : A → Type 0) (Q : B → Type 0)
+    (each : (k : ℕ) (x : A) (y : B) (fs : List Function) (ls : List LoadStmt) → P x → R k x y fs ls → Q y × LoadsStand ls) where
+  turn_stands : (k : ℕ) (xs : List A) (ys : List B) (fs : List Function) (ls : List LoadStmt) → AllByRecursion P xs → InTurn R k xs ys fs ls → AllByRecursion Q ys × LoadsStand ls
   turn_stands k [] ys fs ls h (e, g, i) = (subst (AllByRecursion Q) (sym e) tt, subst LoadsStand (sym i) tt)
   turn_stands k (x ∷ xs) ys fs ls h (y, zs, gs, hs, l, ms, r, t, e, g, i) =
       let here = each k x y gs l h.0 r in
@@ -101,21 +100,21 @@ module _ (file : FileParts) where
   loads_stand line small.Continue ls h e = no_loads ls e
   loads_stand line small.Pass ls h e = no_loads ls e
 
-  outer_stands : (k : ℕ) (x : SmallStmt) (z : CodeSmall) (fs : List CodeFunction) (ls : List LoadStmt) → LoadFine x.line x.kind → OuterIs file k x z fs ls → Unit {0} × LoadsStand ls
+  outer_stands : (k : ℕ) (x : SmallStmt) (z : SmallStmt) (fs : List Function) (ls : List LoadStmt) → LoadFine x.line x.kind → OuterIs file k x z fs ls → Unit {0} × LoadsStand ls
   unfolding OuterIs
   outer_stands k x z fs ls h r = (tt, loads_stand x.line x.kind ls h r.2)
 
-  stmt_stands : (k : ℕ) (o : Stmt-F Stmt Branch) (z : FileStmt) (fs : List CodeFunction) (ls : List LoadStmt) → LoadsFine o → file_stmt_is file k o z fs ls → LoadsStand ls
+  stmt_stands : (k : ℕ) (o : Stmt-F Stmt Branch) (z : Outside) (fs : List Function) (ls : List LoadStmt) → LoadsFine o → file_stmt_is file k o z fs ls → LoadsStand ls
   stmt_stands k (Stmt-F.Simple xs) z fs ls h r = (turn_stands (OuterIs file) (λ x. LoadFine x.line x.kind) (λ y. Unit {0}) outer_stands k xs r.0 fs ls h r.1).1
   stmt_stands k (Stmt-F.If bs zs) z fs ls h r = absurd r
   stmt_stands k (Stmt-F.For t x body) z fs ls h r = absurd r
   stmt_stands k (Stmt-F.Def n ps body) z fs ls h (u, ds, g, a, b, d, e, i, j) = no_loads ls j
 
-  top_stands : (k : ℕ) (t : TopLevel) (z : CodeTopLevel) (fs : List CodeFunction) (ls : List LoadStmt) → TreeFine file t → TopLevelIs file k t z fs ls → (1 ≤ z.line) × LoadsStand ls
+  top_stands : (k : ℕ) (t : TopLevel) (z : FileLine) (fs : List Function) (ls : List LoadStmt) → TreeFine file t → TopLevelIs file k t z fs ls → (1 ≤ z.line) × LoadsStand ls
   unfolding TopLevelIs
-  top_stands k t z fs ls h (x, r, e) = (subst (λ (y : CodeTopLevel). 1 ≤ y.line) (sym e) h.0, stmt_stands k (out-Stmt t.statement) x fs ls h.1.1 r)
+  top_stands k t z fs ls h (x, r, e) = (subst (λ (y : FileLine). 1 ≤ y.line) (sym e) h.0, stmt_stands k (out-Stmt t.statement) x fs ls h.1.1 r)
 
-pub code_stands : (universe : UniverseParts) (kind : FileKind) (ts : List Lexeme) (xs : List TopLevel) (code : Resolved) → Numbered ts → Parses kind ts (Ok xs) → resolved universe xs ≡ Ok code
+pub code_stands : (universe : UniverseParts) (kind : FileKind) (ts : List Lexeme) (xs : List TopLevel) (code : ResolvedFile) → Numbered ts → Parses kind ts (Ok xs) → resolved universe xs ≡ Ok code
     → AllByRecursion (λ x. 1 ≤ x.line) code.statements × AllByRecursion (λ l. 1 ≤ l.line) code.loads
 code_stands universe kind ts xs code h g e =
     let file : FileParts = file_names universe xs in

@@ -8,18 +8,18 @@ use Rattle.bq_parse_grammar.specs.declared.tree.Expr.{Expr}
 use Rattle.bq_parse_grammar.specs.declared.tree.Identifier.{Identifier}
 use Rattle.bq_parse_grammar.specs.declared.tree.Parameter.{Parameter}
 use Rattle.bq_parse_grammar.specs.declared.tree.Parameter.TheVariants as parameter
+use Rattle.bq_parse_grammar.specs.declared.tree.Referent.TheVariants as b
 use Rattle.bq_parse_grammar.specs.declared.tree.Stmt.{Stmt, out-Stmt}
 use Rattle.bq_parse_grammar.specs.declared.tree.Stmt.TheOpen.{Stmt-F}
 use Rattle.bq_parse_grammar.specs.declared.tree.TopLevel.{TopLevel}
-use Rattle.bq_resolve_scope.specs.declared.code.CodeParameter.{CodeParameter}
-use Rattle.bq_resolve_scope.specs.declared.code.CodeParameter.TheVariants as slot
-use Rattle.bq_resolve_scope.specs.declared.code.CodeStmt.{CodeStmt}
-use Rattle.bq_resolve_scope.specs.declared.code.CodeTopLevel.{CodeTopLevel}
-use Rattle.bq_resolve_scope.specs.declared.code.FileStmt.TheVariants as s
+use Rattle.bq_resolve_scope.specs.declared.file.Formal.{Formal}
+use Rattle.bq_resolve_scope.specs.declared.file.Formal.TheVariants as formal
+use Rattle.bq_resolve_scope.specs.declared.file.FileLine.{FileLine}
+use Rattle.bq_resolve_scope.specs.declared.file.Outside.TheVariants as s
 use Rattle.bq_resolve_scope.specs.Names.{Name, max_layers, has, function_names}
 use Rattle.bq_resolve_scope.specs.Scope.{BlockParts, FileParts}
 use Rattle.bq_resolve_scope.specs.Visit.{Passed, ◌>>=◌, pure, fault_of, each, nothing_passed}
-use Rattle.bq_resolve_scope.specs.Expressions.{name_target}
+use Rattle.bq_resolve_scope.specs.Expressions.{refer, bound_at}
 use Rattle.bq_resolve_scope.specs.Statements.{ParameterParts, no_parameters, expr, small_stmt, stmt_to, named_parameter, default_parameter, next_parameter, parameters, statements_in, with_function, function}
 use Rattle.bq_resolve_scope.specs.Files.{file_names, def_stmt, file_stmt, top_level, resolved_by, resolved}
 use Rattle.bq_parse_tree_laws.specs.Depth.{deepest, max_depth, expr_depth, parameter_depth, small_depth, stmt_depth}
@@ -37,7 +37,7 @@ enough = omega arith
 module _ (file : FileParts) where
   -- ---- parameters
 
-  named_calm : (l : ParameterParts) (n : Identifier) (x : CodeParameter) → Calm (named_parameter file l n x)
+  named_calm : (l : ParameterParts) (n : Identifier) (x : Formal) → Calm (named_parameter file l n x)
   unfolding named_parameter
   named_calm l n x u =
       calm_choice (has l.names n.name) (fault_of f.DoubleParameter n) (record l { names = l.names ++ n.name ∷ []; parameters = l.parameters ++ x ∷ [] }) u double_is_named
@@ -45,16 +45,17 @@ module _ (file : FileParts) where
   default_calm : (l : ParameterParts) (n : Identifier) (x : Expr) → expr_depth x ≤ max_layers → Calm (default_parameter file l n x)
   unfolding default_parameter
   default_calm l n x h =
-      calm_bind (named_parameter file l n (slot.Default n.name (length l.names))) (λ m. expr file [] x >>= λ y. pure (record m { defaults = m.defaults ++ y ∷ [] }))
-      (named_calm l n (slot.Default n.name (length l.names))) (λ m. calm_map (expr file [] x) (λ y. record m { defaults = m.defaults ++ y ∷ [] }) (an_expr_calm file [] x h))
+      let own : Formal = formal.Default (refer n (b.Local (length l.names))) in
+      calm_bind (named_parameter file l n own) (λ m. expr file [] x >>= λ y. pure (record m { defaults = m.defaults ++ y ∷ [] }))
+      (named_calm l n own) (λ m. calm_map (expr file [] x) (λ y. record m { defaults = m.defaults ++ y ∷ [] }) (an_expr_calm file [] x h))
 
   next_calm : (l : ParameterParts) (q : Parameter) → parameter_depth q ≤ max_layers → Calm (next_parameter file l q)
   unfolding next_parameter
-  next_calm l (parameter.Plain n) h = named_calm l n (slot.Plain n.name (length l.names))
+  next_calm l (parameter.Plain n) h = named_calm l n (formal.Plain (refer n (b.Local (length l.names))))
   next_calm l (parameter.Default n x) h = default_calm l n x h
   next_calm l parameter.BareStar h = λ u. tt
-  next_calm l (parameter.Star n) h = named_calm l n (slot.Star (length l.names))
-  next_calm l (parameter.StarStar n) h = named_calm l n (slot.StarStar (length l.names))
+  next_calm l (parameter.Star n) h = named_calm l n (formal.Star (refer n (b.Local (length l.names))))
+  next_calm l (parameter.StarStar n) h = named_calm l n (formal.StarStar (refer n (b.Local (length l.names))))
 
   parameters_calm : (ps : List Parameter) (l : ParameterParts) → deepest (map parameter_depth ps) ≤ max_layers → Calm (parameters file l ps)
   unfolding parameters
@@ -66,11 +67,11 @@ module _ (file : FileParts) where
 
   -- ---- functions
 
-  with_calm : (name : Name) (ps : List CodeParameter) (k : ℕ) (r : Result (List CodeStmt × Passed) Fault) → IsCalm {A = List CodeStmt} r → IsCalm {A = ℕ} (with_function file name ps k r)
+  with_calm : (name : Name) (ps : List Formal) (k : ℕ) (r : Result (List Stmt × Passed) Fault) → IsCalm {A = List Stmt} r → IsCalm {A = ℕ} (with_function file name ps k r)
   with_calm name ps k (Err why) h = h
   with_calm name ps k (Ok p) h = tt
 
-  function_calm : (name : Name) (ps : List CodeParameter) (names : List Name) (body : List Stmt) → deepest (map stmt_depth body) ≤ max_layers → Calm (function file name ps names body)
+  function_calm : (name : Name) (ps : List Formal) (names : List Name) (body : List Stmt) → deepest (map stmt_depth body) ≤ max_layers → Calm (function file name ps names body)
   unfolding function
   function_calm name ps names body h u =
       let block : BlockParts = record { base = 0; names = names } in
@@ -83,11 +84,11 @@ module _ (file : FileParts) where
   unfolding def_stmt
   def_calm n ps body h k =
       let names : List Name = function_names ps body in
-      calm_bind (name_target file [] n) (λ t. parameters file no_parameters ps >>= λ l. function file n.name l.parameters names body >>= λ k. pure (s.Def (record { target = t; function = k; defaults = l.defaults })))
+      calm_bind (bound_at file [] n) (λ m. parameters file no_parameters ps >>= λ l. function file n.name l.parameters names body >>= λ k. pure (s.Def (record { name = m; function = k; defaults = l.defaults })))
       (name_calm file [] n)
-      (λ t. calm_bind (parameters file no_parameters ps) (λ l. function file n.name l.parameters names body >>= λ k. pure (s.Def (record { target = t; function = k; defaults = l.defaults })))
+      (λ m. calm_bind (parameters file no_parameters ps) (λ l. function file n.name l.parameters names body >>= λ k. pure (s.Def (record { name = m; function = k; defaults = l.defaults })))
       (parameters_calm ps no_parameters h)
-      (λ l. calm_map (function file n.name l.parameters names body) (λ k. s.Def (record { target = t; function = k; defaults = l.defaults })) (function_calm n.name l.parameters names body k)))
+      (λ l. calm_map (function file n.name l.parameters names body) (λ k. s.Def (record { name = m; function = k; defaults = l.defaults })) (function_calm n.name l.parameters names body k)))
 
   file_stmt_calm : (line : ℕ) (o : Stmt-F Stmt Branch) → stmt_layer o ≤ max_layers → Calm (file_stmt file line o)
   file_stmt_calm line (Stmt-F.Simple xs) h =
@@ -102,14 +103,14 @@ module _ (file : FileParts) where
       calm_map (file_stmt file t.line (out-Stmt t.statement)) (λ x. record { line = t.line; statement = x })
       (file_stmt_calm t.line (out-Stmt t.statement) (omega (arith, opened_stmt t.statement)))
 
-  all_calm : (ts : List TopLevel) (done : List CodeTopLevel) → AllByRecursion (λ t. stmt_depth t.statement ≤ max_depth) ts → Calm (each (top_level file) done ts)
+  all_calm : (ts : List TopLevel) (done : List FileLine) → AllByRecursion (λ t. stmt_depth t.statement ≤ max_depth) ts → Calm (each (top_level file) done ts)
   unfolding each
   all_calm [] done all = λ u. tt
   all_calm (t ∷ ts) done all =
       let a : stmt_depth t.statement ≤ max_depth = all.0 in
       calm_bind (top_level file t) (λ y. each (top_level file) (done ++ y ∷ []) ts) (top_level_calm t (omega (arith, enough))) (λ y. all_calm ts (done ++ y ∷ []) all.1)
 
-file_by : (file : FileParts) (r : Result (List CodeTopLevel × Passed) Fault) (why : Fault) → IsCalm {A = List CodeTopLevel} r → resolved_by file r ≡ Err why → is_of_names why.kind ≡ true
+file_by : (file : FileParts) (r : Result (List FileLine × Passed) Fault) (why : Fault) → IsCalm {A = List FileLine} r → resolved_by file r ≡ Err why → is_of_names why.kind ≡ true
 file_by file (Err w) why h e =
     let same : w ≡ why = cc in
     let P : Fault → Type 0 = λ z. is_of_names z.kind ≡ true in subst P same h

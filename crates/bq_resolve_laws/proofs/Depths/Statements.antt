@@ -3,7 +3,7 @@ use Rattle.std.proofs.Common.{◌≡◌, ◌≤◌, ℕ, zero, suc, ◌+◌, Boo
 use Rattle.std.specs.Prelude.{if◌then◌else◌}
 use Rattle.bq_base.specs.declared.fault.Fault.{Fault}
 use Rattle.bq_base.specs.declared.fault.FaultKind.TheVariants as f
-use Rattle.bq_parse_grammar.specs.declared.tree.Branch.{Branch, out-Branch}
+use Rattle.bq_parse_grammar.specs.declared.tree.Branch.{Branch, out-Branch, roll-Branch}
 use Rattle.bq_parse_grammar.specs.declared.tree.Expr.{Expr}
 use Rattle.bq_parse_grammar.specs.declared.tree.Load.{Load}
 use Rattle.bq_parse_grammar.specs.declared.tree.LoadClause.{LoadClause}
@@ -13,13 +13,9 @@ use Rattle.bq_parse_grammar.specs.declared.tree.SmallKind.TheVariants as small
 use Rattle.bq_parse_grammar.specs.declared.tree.SmallStmt.{SmallStmt}
 use Rattle.bq_parse_grammar.specs.declared.tree.Stmt.{Stmt, out-Stmt}
 use Rattle.bq_parse_grammar.specs.declared.tree.Stmt.TheOpen.{Stmt-F}
+use Rattle.bq_parse_grammar.specs.declared.tree.Stmt.TheVariants as s
 use Rattle.bq_parse_grammar.specs.declared.tree.TargetExpr.{TargetExpr}
-use Rattle.bq_resolve_scope.specs.declared.code.CodeBranch.{roll-CodeBranch}
-use Rattle.bq_resolve_scope.specs.declared.code.CodeSmall.{CodeSmall}
-use Rattle.bq_resolve_scope.specs.declared.code.CodeSmall.TheVariants as c
-use Rattle.bq_resolve_scope.specs.declared.code.CodeStmt.{CodeStmt}
-use Rattle.bq_resolve_scope.specs.declared.code.CodeStmt.TheVariants as s
-use Rattle.bq_resolve_scope.specs.declared.code.LoadedSymbol.{LoadedSymbol}
+use Rattle.bq_resolve_scope.specs.declared.loads.LoadedSymbol.{LoadedSymbol}
 use Rattle.bq_resolve_scope.specs.Names.{max_layers, has, with_name, place_among}
 use Rattle.bq_resolve_scope.specs.Scope.{BlockParts, FileParts}
 use Rattle.bq_resolve_scope.specs.Visit.{Passed, Visit, ◌>>=◌, pure, fault_of, each, optional}
@@ -57,73 +53,73 @@ module _ (file : FileParts) where
   load_calm : (line : ℕ) (l : Load) → Calm (load file line l)
   unfolding load
   load_calm line l =
-      calm_bind (each (load_clause file) [] l.clauses) (λ xs. with_load file line l xs >>= λ _. pure c.Load) (calm_all (load_clause file) clause_calm [] l.clauses) (λ xs u. tt)
+      calm_bind (each (load_clause file) [] l.clauses) (λ xs. with_load file line l xs >>= λ _. pure (small.Load l)) (calm_all (load_clause file) clause_calm [] l.clauses) (λ xs u. tt)
 
   -- ---- small statements
 
   assign_calm : (blocks : List BlockParts) (t : TargetExpr) (x : Expr) → target_depth t ≤ max_layers → expr_depth x ≤ max_layers → Calm (assign file blocks t x)
   unfolding assign
-  assign_calm blocks t x h k = calm_two (target file blocks t) (expr file blocks x) (λ u y. c.Assign u y) (a_target_calm blocks t h) (an_expr_calm blocks x k)
+  assign_calm blocks t x h k = calm_two (target file blocks t) (expr file blocks x) (λ u y. small.Assign u y) (a_target_calm blocks t h) (an_expr_calm blocks x k)
 
   augment_calm : (blocks : List BlockParts) (t : TargetExpr) (o : Operator) (x : Expr) → target_depth t ≤ max_layers → expr_depth x ≤ max_layers → Calm (augment file blocks t o x)
   unfolding augment
-  augment_calm blocks t o x h k = calm_two (target file blocks t) (expr file blocks x) (λ u y. c.Augment u o y) (a_target_calm blocks t h) (an_expr_calm blocks x k)
+  augment_calm blocks t o x h k = calm_two (target file blocks t) (expr file blocks x) (λ u y. small.Augment u o y) (a_target_calm blocks t h) (an_expr_calm blocks x k)
 
   returned_calm : (blocks : List BlockParts) (line : ℕ) (x : Option Expr) → kind_depth (small.Return x) ≤ max_layers → Calm (returned file blocks line x)
   unfolding returned
   returned_calm [] line x h = λ u. flow_is_named
   returned_calm (b ∷ bs) line None h = λ u. tt
   returned_calm (b ∷ bs) line (Some x) h =
-      calm_map (optional (expr file (b ∷ bs)) (Some x)) (λ y. c.Return y) (calm_map (expr file (b ∷ bs) x) (λ y. Some y) (an_expr_calm (b ∷ bs) x h))
+      calm_map (optional (expr file (b ∷ bs)) (Some x)) (λ y. small.Return y) (calm_map (expr file (b ∷ bs) x) (λ y. Some y) (an_expr_calm (b ∷ bs) x h))
 
   load_in_calm : (blocks : List BlockParts) (line : ℕ) (l : Load) → Calm (load_in file blocks line l)
   unfolding load_in
   load_in_calm [] line l = load_calm line l
   load_in_calm (b ∷ bs) line l = λ u. flow_is_named
 
-  in_loop_calm : (looping : Bool) (line : ℕ) (x : CodeSmall) → Calm (in_loop file looping line x)
+  in_loop_calm : (looping : Bool) (line : ℕ) (x : SmallKind) → Calm (in_loop file looping line x)
   unfolding in_loop
   in_loop_calm true line x = λ u. tt
   in_loop_calm false line x = λ u. flow_is_named
 
   small_by_calm : (blocks : List BlockParts) (looping : Bool) (line : ℕ) (k : SmallKind) → kind_depth k ≤ max_layers → Calm (small_by file blocks looping line k)
-  small_by_calm blocks looping line (small.Expr x) h = calm_map (expr file blocks x) (λ y. c.Expr y) (an_expr_calm blocks x h)
+  small_by_calm blocks looping line (small.Expr x) h = calm_map (expr file blocks x) (λ y. small.Expr y) (an_expr_calm blocks x h)
   small_by_calm blocks looping line (small.Assign t x) h = assign_calm blocks t x (omega arith) (omega arith)
   small_by_calm blocks looping line (small.Augment t o x) h = augment_calm blocks t o x (omega arith) (omega arith)
   small_by_calm blocks looping line (small.Return x) h = returned_calm blocks line x h
-  small_by_calm blocks looping line small.Break h = in_loop_calm looping line c.Break
-  small_by_calm blocks looping line small.Continue h = in_loop_calm looping line c.Continue
+  small_by_calm blocks looping line small.Break h = in_loop_calm looping line small.Break
+  small_by_calm blocks looping line small.Continue h = in_loop_calm looping line small.Continue
   small_by_calm blocks looping line small.Pass h = λ u. tt
   small_by_calm blocks looping line (small.Load l) h = load_in_calm blocks line l
 
   pub small_calm : (blocks : List BlockParts) (looping : Bool) (x : SmallStmt) → small_depth x ≤ max_layers → Calm (small_stmt file blocks looping x)
   unfolding small_stmt
-  small_calm blocks looping x h = small_by_calm blocks looping x.line x.kind h
+  small_calm blocks looping x h = calm_map (small_by file blocks looping x.line x.kind) (λ k. record x { kind = k }) (small_by_calm blocks looping x.line x.kind h)
 
   -- ---- statements with blocks
 
-  branch_calm : (inner : Stmt → Visit CodeStmt) (blocks : List BlockParts) (m : ℕ) → m ≤ max_layers → ((x : Stmt) → stmt_depth x ≤ m → Calm (inner x)) → (b : Branch) → branch_depth b ≤ m
+  branch_calm : (inner : Stmt → Visit Stmt) (blocks : List BlockParts) (m : ℕ) → m ≤ max_layers → ((x : Stmt) → stmt_depth x ≤ m → Calm (inner x)) → (b : Branch) → branch_depth b ≤ m
       → Calm (branch file inner blocks b)
   unfolding branch
   branch_calm inner blocks m few inners b h =
-      calm_two (expr file blocks (out-Branch b).condition) (each inner [] (out-Branch b).block) (λ x ys. roll-CodeBranch (record { condition = x; block = ys }))
+      calm_two (expr file blocks (out-Branch b).condition) (each inner [] (out-Branch b).block) (λ x ys. roll-Branch (record { condition = x; block = ys }))
       (an_expr_calm blocks (out-Branch b).condition (omega (arith, opened_branch b))) (calm_each stmt_depth m inner inners [] (out-Branch b).block (omega (arith, opened_branch b)))
 
-  if_calm : (inner : Stmt → Visit CodeStmt) (blocks : List BlockParts) (m : ℕ) → m ≤ max_layers → ((x : Stmt) → stmt_depth x ≤ m → Calm (inner x)) → (bs : List Branch) (zs : List Stmt)
+  if_calm : (inner : Stmt → Visit Stmt) (blocks : List BlockParts) (m : ℕ) → m ≤ max_layers → ((x : Stmt) → stmt_depth x ≤ m → Calm (inner x)) → (bs : List Branch) (zs : List Stmt)
       → deepest (map branch_depth bs) ≤ m → deepest (map stmt_depth zs) ≤ m → Calm (if_stmt file inner blocks bs zs)
   unfolding if_stmt
   if_calm inner blocks m few inners bs zs h k =
       calm_two (each (branch file inner blocks) [] bs) (each inner [] zs) (λ xs ys. s.If xs ys)
       (calm_each branch_depth m (branch file inner blocks) (branch_calm inner blocks m few inners) [] bs h) (calm_each stmt_depth m inner inners [] zs k)
 
-  for_calm : (inner : Stmt → Visit CodeStmt) (blocks : List BlockParts) (m : ℕ) → m ≤ max_layers → ((x : Stmt) → stmt_depth x ≤ m → Calm (inner x)) → (t : TargetExpr) (x : Expr) (body : List Stmt)
+  for_calm : (inner : Stmt → Visit Stmt) (blocks : List BlockParts) (m : ℕ) → m ≤ max_layers → ((x : Stmt) → stmt_depth x ≤ m → Calm (inner x)) → (t : TargetExpr) (x : Expr) (body : List Stmt)
       → target_depth t ≤ m → expr_depth x ≤ m → deepest (map stmt_depth body) ≤ m → Calm (for_stmt file inner blocks t x body)
   unfolding for_stmt
   for_calm inner blocks m few inners t x body h k l =
       calm_three (target file blocks t) (expr file blocks x) (each inner [] body) (λ u y zs. s.For u y zs)
       (a_target_calm blocks t (omega arith)) (an_expr_calm blocks x (omega arith)) (calm_each stmt_depth m inner inners [] body l)
 
-  stmt_by_calm : (inner : Bool → Stmt → Visit CodeStmt) (blocks : List BlockParts) (looping : Bool) (m : ℕ) → m ≤ max_layers → ((l : Bool) (x : Stmt) → stmt_depth x ≤ m → Calm (inner l x))
+  stmt_by_calm : (inner : Bool → Stmt → Visit Stmt) (blocks : List BlockParts) (looping : Bool) (m : ℕ) → m ≤ max_layers → ((l : Bool) (x : Stmt) → stmt_depth x ≤ m → Calm (inner l x))
       → (o : Stmt-F Stmt Branch) → stmt_layer o ≤ m + 1 → Calm (stmt_by file inner blocks looping o)
   stmt_by_calm inner blocks looping m few inners (Stmt-F.Simple xs) h =
       calm_map (each (small_stmt file blocks looping) [] xs) (λ ys. s.Simple ys) (calm_each small_depth max_layers (small_stmt file blocks looping) (small_calm blocks looping) [] xs (omega arith))

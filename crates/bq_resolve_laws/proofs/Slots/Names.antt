@@ -7,23 +7,20 @@ use Rattle.bq_base.specs.declared.fault.FaultKind.TheVariants as f
 use Rattle.bq_resolve_predeclared.specs.declared.predeclared.Predeclared.{Predeclared}
 use Rattle.bq_parse_grammar.specs.declared.tree.Argument.TheOpen.{Expr-F}
 use Rattle.bq_parse_grammar.specs.declared.tree.Identifier.{Identifier}
+use Rattle.bq_parse_grammar.specs.declared.tree.Referent.{Referent}
+use Rattle.bq_parse_grammar.specs.declared.tree.Referent.TheVariants as b
 use Rattle.bq_parse_grammar.specs.Targets.{ExprLayer}
 use Rattle.bq_resolve_scope.specs.declared.universe.Namespace.{Namespace}
-use Rattle.bq_resolve_scope.specs.declared.code.Binding.{Binding}
-use Rattle.bq_resolve_scope.specs.declared.code.Binding.TheVariants as b
-use Rattle.bq_resolve_scope.specs.declared.code.CodeTarget.{CodeTarget}
-use Rattle.bq_resolve_scope.specs.declared.code.CodeTarget.TheVariants as t
 use Rattle.bq_resolve_scope.specs.Names.{Name, has, place_among}
 use Rattle.bq_resolve_scope.specs.Scope.{BlockParts, FileParts, file_has, or_else, slot_in, slot_of, use_of}
 use Rattle.bq_resolve_scope.specs.Universe.{namespace_named, universe_has}
-use Rattle.bq_resolve_scope.specs.Visit.{Visit, fault_of}
-use Rattle.bq_resolve_scope.specs.Expressions.{is_bzl, is_unbound, namespace_at, name_target, place_of, use_at}
+use Rattle.bq_resolve_scope.specs.Visit.{Visit, ◌>>=◌, pure, given, fault_of}
+use Rattle.bq_resolve_scope.specs.Expressions.{NamedSpace, is_bzl, is_unbound, namespace_at, bound_at, place_of, refer, space_of, use_at, with_space}
 use Rattle.bq_resolve_by_name.specs.Resolution.{InOrder}
-use Rattle.bq_resolve_laws.specs.Slots.Slots.{binding_slots, target_slots}
+use Rattle.bq_resolve_laws.specs.Slots.Slots.{name_slots, referent_slots}
 use Rattle.bq_resolve_laws.specs.Slots.Uses.{Block, Part, Use, name_use, use_among}
-use Rattle.bq_resolve_laws.proofs.Slots.Lists.{Listed, Lists, lists_given}
+use Rattle.bq_resolve_laws.proofs.Slots.Lists.{Listed, Lists, lists_given, lists_map}
 use Rattle.bq_resolve_laws.proofs.Slots.Opened.{AreRound, IsSlot}
-use Rattle.bq_resolve_laws.proofs.Slots.Steps as S
 
 -- ---- places
 
@@ -99,46 +96,55 @@ among name opened (r ∷ rs) (block ∷ bs) round = among_by name opened r rs bl
 
 -- ---- bindings
 
-file_by : (g l : Option ℕ) (u : Option Predeclared) (x : Binding) → or_else (option_map b.Global g) (or_else (option_map b.Loaded l) (option_map b.Predeclared u)) ≡ Some x → binding_slots x ≡ []
-file_by (Some k) l u x h = let e : b.Global k ≡ x = cc in sym (ap binding_slots e)
-file_by None (Some k) u x h = let e : b.Loaded k ≡ x = cc in sym (ap binding_slots e)
-file_by None None (Some p) x h = let e : b.Predeclared p ≡ x = cc in sym (ap binding_slots e)
+file_by : (g l : Option ℕ) (u : Option Predeclared) (x : Referent) → or_else (option_map b.Global g) (or_else (option_map b.Loaded l) (option_map b.Predeclared u)) ≡ Some x → referent_slots x ≡ []
+file_by (Some k) l u x h = let e : b.Global k ≡ x = cc in sym (ap referent_slots e)
+file_by None (Some k) u x h = let e : b.Loaded k ≡ x = cc in sym (ap referent_slots e)
+file_by None None (Some p) x h = let e : b.Predeclared p ≡ x = cc in sym (ap referent_slots e)
 file_by None None None x h = absurd (let no : ⊥ = cc in no)
 
-file_slots : (file : FileParts) (name : Name) (x : Binding) → file_has file name ≡ Some x → binding_slots x ≡ []
+file_slots : (file : FileParts) (name : Name) (x : Referent) → file_has file name ≡ Some x → referent_slots x ≡ []
 unfolding file_has
 file_slots file name x h = file_by (place_among name file.globals) (place_among name file.loaded) (universe_has file.universe name) x h
 
-bound_by : (file : FileParts) (name : Name) (o : Option ℕ) (x : Binding) → or_else (option_map b.Local o) (file_has file name) ≡ Some x → binding_slots x ≡ slot_list o
+bound_by : (file : FileParts) (name : Name) (o : Option ℕ) (x : Referent) → or_else (option_map b.Local o) (file_has file name) ≡ Some x → referent_slots x ≡ slot_list o
 bound_by file name None x h = file_slots file name x h
-bound_by file name (Some slot) x h = let e : b.Local slot ≡ x = cc in sym (ap binding_slots e)
+bound_by file name (Some slot) x h = let e : b.Local slot ≡ x = cc in sym (ap referent_slots e)
 
 module _ (file : FileParts) where
-  use_are : (name : Name) (opened : List BlockParts) (rs : List Block) (bs : List BlockParts) → AreRound opened rs bs → (x : Binding) → use_of file bs name ≡ Some x → InOrder (IsSlot opened) (use_among rs name) (binding_slots x)
+  use_are : (name : Name) (opened : List BlockParts) (rs : List Block) (bs : List BlockParts) → AreRound opened rs bs → (x : Referent) → use_of file bs name ≡ Some x → InOrder (IsSlot opened) (use_among rs name) (referent_slots x)
   unfolding use_of
   use_are name opened rs bs round x h = subst (λ (ns : List ℕ). InOrder (IsSlot opened) (use_among rs name) ns) (sym (bound_by file name (slot_of bs name) x h)) (among name opened rs bs round)
 
-  pub use_lists : (rs : List Block) (bs : List BlockParts) (n : Identifier) → Lists rs bs [] binding_slots (name_use rs n.name) (use_at file bs n)
+  pub use_lists : (rs : List Block) (bs : List BlockParts) (n : Identifier) → Lists rs bs [] name_slots (name_use rs n.name) (use_at file bs n)
   unfolding use_at
-  use_lists rs bs n = lists_given rs bs binding_slots (use_among rs n.name) (fault_of f.UnknownName n) (use_of file bs n.name) (λ opened round. use_are n.name opened rs bs round)
+  use_lists rs bs n =
+      let used : Visit Referent = given (fault_of f.UnknownName n) (use_of file bs n.name) in
+      let listed = lists_given rs bs referent_slots (use_among rs n.name) (fault_of f.UnknownName n) (use_of file bs n.name) (λ opened round. use_are n.name opened rs bs round) in
+      lists_map rs bs [] referent_slots name_slots (name_use rs n.name) used (refer n) listed (λ x. refl)
 
-  place_by : (o : Option Binding) (z : CodeTarget) → place_of o ≡ Some z → (x : Binding) × (o ≡ Some x) × (target_slots z ≡ binding_slots x)
+  -- a place is what the name stands for
+  place_by : (o : Option Referent) (z : Referent) → place_of o ≡ Some z → o ≡ Some z
   place_by None z h = absurd (let no : ⊥ = cc in no)
-  place_by (Some (b.Local slot)) z h = let e : t.Local slot ≡ z = cc in (b.Local slot, refl, sym (ap target_slots e) ∙ S.slots-target_Local slot)
-  place_by (Some (b.Global k)) z h = let e : t.Global k ≡ z = cc in (b.Global k, refl, sym (ap target_slots e) ∙ S.slots-target_Global k)
+  place_by (Some (b.Unresolved line)) z h = absurd (let no : ⊥ = cc in no)
+  place_by (Some (b.Local slot)) z h = h
+  place_by (Some (b.Global k)) z h = h
   place_by (Some (b.Loaded k)) z h = absurd (let no : ⊥ = cc in no)
   place_by (Some (b.Predeclared p)) z h = absurd (let no : ⊥ = cc in no)
+  place_by (Some (b.Member p)) z h = absurd (let no : ⊥ = cc in no)
 
-  place_are : (name : Name) (opened : List BlockParts) (rs : List Block) (bs : List BlockParts) → AreRound opened rs bs → (z : CodeTarget) → place_of (use_of file bs name) ≡ Some z → InOrder (IsSlot opened) (use_among rs name) (target_slots z)
-  place_are name opened rs bs round z h =
-      let p = place_by (use_of file bs name) z h in
-      subst (λ (ns : List ℕ). InOrder (IsSlot opened) (use_among rs name) ns) (sym p.2) (use_are name opened rs bs round p.0 p.1)
+  place_are : (name : Name) (opened : List BlockParts) (rs : List Block) (bs : List BlockParts) → AreRound opened rs bs → (z : Referent) → place_of (use_of file bs name) ≡ Some z → InOrder (IsSlot opened) (use_among rs name) (referent_slots z)
+  place_are name opened rs bs round z h = use_are name opened rs bs round z (place_by (use_of file bs name) z h)
 
-  pub name_lists : (rs : List Block) (bs : List BlockParts) (n : Identifier) → Lists rs bs [] target_slots (name_use rs n.name) (name_target file bs n)
-  unfolding name_target
+  place_lists : (rs : List Block) (bs : List BlockParts) (n : Identifier) → Lists rs bs [] name_slots (name_use rs n.name) (given (fault_of f.UnknownName n) (place_of (use_of file bs n.name)) >>= λ x. pure (refer n x))
+  place_lists rs bs n =
+      let place : Visit Referent = given (fault_of f.UnknownName n) (place_of (use_of file bs n.name)) in
+      let listed = lists_given rs bs referent_slots (use_among rs n.name) (fault_of f.UnknownName n) (place_of (use_of file bs n.name)) (λ opened round. place_are n.name opened rs bs round) in
+      lists_map rs bs [] referent_slots name_slots (name_use rs n.name) place (refer n) listed (λ x. refl)
+
+  pub name_lists : (rs : List Block) (bs : List BlockParts) (n : Identifier) → Lists rs bs [] name_slots (name_use rs n.name) (bound_at file bs n)
+  unfolding bound_at
   name_lists rs [] n opened s t x inside fits h = absurd inside
-  name_lists rs (block ∷ bs) n opened s t x inside fits h =
-      lists_given rs (block ∷ bs) target_slots (use_among rs n.name) (fault_of f.UnknownName n) (place_of (use_of file (block ∷ bs) n.name)) (λ opened round. place_are n.name opened rs (block ∷ bs) round) opened s t x inside fits h
+  name_lists rs (block ∷ bs) n opened s t x inside fits h = place_lists rs (block ∷ bs) n opened s t x inside fits h
 
   -- ---- `native` and `attr`
 
@@ -159,7 +165,7 @@ module _ (file : FileParts) where
   unbound_is opened rs bs name round h =
       no_uses opened (use_among rs name) (subst (λ (o : Option ℕ). Are opened (use_among rs name) o) (no_slot name bs h) (among name opened rs bs round))
 
-  unbound_by : (o : Option Binding) → is_unbound o ≡ true → o ≡ None
+  unbound_by : (o : Option Referent) → is_unbound o ≡ true → o ≡ None
   unbound_by None h = refl
   unbound_by (Some x) h = absurd (false≢true h)
 
@@ -171,10 +177,15 @@ module _ (file : FileParts) where
   chosen true o space h = refl
   chosen false o space h = absurd (let no : ⊥ = cc in no)
 
-  pub namespace_is : (bs : List BlockParts) (o : ExprLayer) (space : Namespace) → namespace_at file bs o ≡ Some space → (n : Identifier) × (o ≡ Expr-F.Expr::Name n) × (use_of file bs n.name ≡ None)
-  namespace_is bs (Expr-F.Expr::Name n) space h =
+  space_is : (bs : List BlockParts) (n : Identifier) (o : Option Namespace) (space : NamedSpace) → space_of file bs n ≡ o → with_space n o ≡ Some space → use_of file bs n.name ≡ None
+  unfolding space_of
+  space_is bs n None space is h = absurd (let no : ⊥ = cc in no)
+  space_is bs n (Some there) space is h =
       let t : Bool = is_bzl file.universe.kind && is_unbound (use_of file bs n.name) in
-      (n, refl, unbound_by (use_of file bs n.name) (second (is_bzl file.universe.kind) (is_unbound (use_of file bs n.name)) (chosen t (namespace_named n.name) space h)))
+      unbound_by (use_of file bs n.name) (second (is_bzl file.universe.kind) (is_unbound (use_of file bs n.name)) (chosen t (namespace_named n.name) there is))
+
+  pub namespace_is : (bs : List BlockParts) (o : ExprLayer) (space : NamedSpace) → namespace_at file bs o ≡ Some space → (n : Identifier) × (o ≡ Expr-F.Expr::Name n) × (use_of file bs n.name ≡ None)
+  namespace_is bs (Expr-F.Expr::Name n) space h = (n, refl, space_is bs n (space_of file bs n) space refl h)
   namespace_is bs (Expr-F.Int i) space h = absurd (let no : ⊥ = cc in no)
   namespace_is bs (Expr-F.String s) space h = absurd (let no : ⊥ = cc in no)
   namespace_is bs (Expr-F.Expr::List xs) space h = absurd (let no : ⊥ = cc in no)

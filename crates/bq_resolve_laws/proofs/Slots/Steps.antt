@@ -1,114 +1,108 @@
 -- The slots of a made node.
-use Rattle.std.proofs.Common.{◌≡◌, ℕ, ◌++◌, ℤ, List, [], ◌∷◌, map, Option, Some, None, rules}
+use Rattle.std.proofs.Common.{◌≡◌, ℕ, ◌++◌, ℤ, List, [], map, Option, Some, None, rules}
+use Rattle.bq_parse_grammar.specs.declared.tree.Argument.{Argument}
+use Rattle.bq_parse_grammar.specs.declared.tree.Argument.TheVariants as a
+use Rattle.bq_parse_grammar.specs.declared.tree.Branch.{Branch, roll-Branch}
+use Rattle.bq_parse_grammar.specs.declared.tree.Choice.{Choice, roll-Choice}
+use Rattle.bq_parse_grammar.specs.declared.tree.Clause.{Clause}
+use Rattle.bq_parse_grammar.specs.declared.tree.Clause.TheVariants as cl
 use Rattle.bq_parse_grammar.specs.declared.tree.Comparison.{Comparison}
+use Rattle.bq_parse_grammar.specs.declared.tree.ComprehensionFrame.TheVariants as frame
+use Rattle.bq_parse_grammar.specs.declared.tree.Expr.{Expr, the_lemmas}
+use Rattle.bq_parse_grammar.specs.declared.tree.Expr.TheVariants as e
+use Rattle.bq_parse_grammar.specs.declared.tree.Identifier.{Identifier}
+use Rattle.bq_parse_grammar.specs.declared.tree.Operation.{Operation, roll-Operation}
 use Rattle.bq_parse_grammar.specs.declared.tree.Operator.{Operator}
+use Rattle.bq_parse_grammar.specs.declared.tree.Pair.{Pair, roll-Pair}
+use Rattle.bq_parse_grammar.specs.declared.tree.SmallStmt.{SmallStmt}
+use Rattle.bq_parse_grammar.specs.declared.tree.Stmt as stmt
+use Rattle.bq_parse_grammar.specs.declared.tree.Stmt.{Stmt}
+use Rattle.bq_parse_grammar.specs.declared.tree.Stmt.TheVariants as st
+use Rattle.bq_parse_grammar.specs.declared.tree.Suffix.{Suffix}
+use Rattle.bq_parse_grammar.specs.declared.tree.Suffix.TheVariants as s
+use Rattle.bq_parse_grammar.specs.declared.tree.TargetExpr.{TargetExpr}
+use Rattle.bq_parse_grammar.specs.declared.tree.TargetExpr.TheVariants as t
 use Rattle.bq_parse_grammar.specs.declared.tree.UnaryOperator.{UnaryOperator}
-use Rattle.bq_resolve_predeclared.specs.declared.predeclared.Predeclared.{Predeclared}
-use Rattle.bq_resolve_scope.specs.declared.code.Binding.{Binding}
-use Rattle.bq_resolve_scope.specs.declared.code.Code.{Code, the_lemmas}
-use Rattle.bq_resolve_scope.specs.declared.code.Code.TheVariants as c
-use Rattle.bq_resolve_scope.specs.declared.code.CodeArgument.{CodeArgument}
-use Rattle.bq_resolve_scope.specs.declared.code.CodeArgument.TheVariants as a
-use Rattle.bq_resolve_scope.specs.declared.code.CodeChoice.{CodeChoice, roll-CodeChoice}
-use Rattle.bq_resolve_scope.specs.declared.code.CodeClause.{CodeClause}
-use Rattle.bq_resolve_scope.specs.declared.code.CodeClause.TheVariants as cl
-use Rattle.bq_resolve_scope.specs.declared.code.CodeOperation.{CodeOperation, roll-CodeOperation}
-use Rattle.bq_resolve_scope.specs.declared.code.CodePair.{CodePair, roll-CodePair}
-use Rattle.bq_resolve_scope.specs.declared.code.CodeSuffix.{CodeSuffix}
-use Rattle.bq_resolve_scope.specs.declared.code.CodeSuffix.TheVariants as s
-use Rattle.bq_resolve_scope.specs.declared.code.CodeTarget.{CodeTarget}
-use Rattle.bq_resolve_scope.specs.declared.code.CodeTarget.TheVariants as t
-use Rattle.bq_resolve_scope.specs.declared.code.CodeBranch.{CodeBranch, roll-CodeBranch}
-use Rattle.bq_resolve_scope.specs.declared.code.CodeSmall.{CodeSmall}
-use Rattle.bq_resolve_scope.specs.declared.code.CodeStmt as stmt
-use Rattle.bq_resolve_scope.specs.declared.code.CodeStmt.{CodeStmt}
-use Rattle.bq_resolve_scope.specs.declared.code.CodeStmt.TheVariants as st
-use Rattle.bq_resolve_laws.specs.Slots.Slots.{all, binding_slots, code_slots, argument_slots, clause_slots, suffix_slots, target_slots, choice_slots, operation_slots, pair_slots, small_slots, stmt_slots, branch_slots}
+use Rattle.bq_resolve_laws.specs.Slots.Slots.{all, name_slots, expr_slots, argument_slots, clause_slots, suffix_slots, target_slots, choice_slots, operation_slots, pair_slots, small_slots, stmt_slots, branch_slots}
 
-pub slots-Use : (x : Binding) → code_slots (c.Use x) ≡ binding_slots x
-slots-Use x = search (rules, the_lemmas)
+pub slots-Name : (n : Identifier) → expr_slots (e.Name n) ≡ name_slots n
+slots-Name n = search (rules, the_lemmas)
 
-pub slots-Member : (p : Predeclared) → code_slots (c.Member p) ≡ []
-slots-Member p = search (rules, the_lemmas)
-
-pub slots-Int : (i : ℤ) → code_slots (c.Int i) ≡ []
+pub slots-Int : (i : ℤ) → expr_slots (e.Int i) ≡ []
 slots-Int i = search (rules, the_lemmas)
 
-pub slots-String : (b : List ℕ) → code_slots (c.String b) ≡ []
+pub slots-String : (b : List ℕ) → expr_slots (e.String b) ≡ []
 slots-String b = search (rules, the_lemmas)
 
-pub slots-List : (xs : List Code) → code_slots (c.List xs) ≡ all (map code_slots xs)
+pub slots-List : (xs : List Expr) → expr_slots (e.List xs) ≡ all (map expr_slots xs)
 slots-List xs = search (rules, the_lemmas)
 
-pub slots-Tuple : (xs : List Code) → code_slots (c.Tuple xs) ≡ all (map code_slots xs)
+pub slots-Tuple : (xs : List Expr) → expr_slots (e.Tuple xs) ≡ all (map expr_slots xs)
 slots-Tuple xs = search (rules, the_lemmas)
 
-pub slots-Dict : (xs : List CodePair) → code_slots (c.Dict xs) ≡ all (map pair_slots xs)
+pub slots-Dict : (xs : List Pair) → expr_slots (e.Dict xs) ≡ all (map pair_slots xs)
 slots-Dict xs = search (rules, the_lemmas)
 
-pub slots-ListComprehension : (x : Code) (cs : List CodeClause) → code_slots (c.ListComprehension x cs) ≡ code_slots x ++ all (map clause_slots cs)
+pub slots-ListComprehension : (x : Expr) (cs : List Clause) → expr_slots (e.ListComprehension x cs frame.Shared) ≡ expr_slots x ++ all (map clause_slots cs)
 slots-ListComprehension x cs = search (rules, the_lemmas)
 
-pub slots-DictComprehension : (x : CodePair) (cs : List CodeClause) → code_slots (c.DictComprehension x cs) ≡ pair_slots x ++ all (map clause_slots cs)
+pub slots-DictComprehension : (x : Pair) (cs : List Clause) → expr_slots (e.DictComprehension x cs frame.Shared) ≡ pair_slots x ++ all (map clause_slots cs)
 slots-DictComprehension x cs = search (rules, the_lemmas)
 
-pub slots-Framed : (n : ℕ) (x : Code) → code_slots (c.Framed n x) ≡ []
-slots-Framed n x = search (rules, the_lemmas)
-
-pub slots-Primary : (x : Code) (xs : List CodeSuffix) → code_slots (c.Primary x xs) ≡ code_slots x ++ all (map suffix_slots xs)
+pub slots-Primary : (x : Expr) (xs : List Suffix) → expr_slots (e.Primary x xs) ≡ expr_slots x ++ all (map suffix_slots xs)
 slots-Primary x xs = search (rules, the_lemmas)
 
-pub slots-Unary : (os : List UnaryOperator) (x : Code) → code_slots (c.Unary os x) ≡ code_slots x
+pub slots-Unary : (os : List UnaryOperator) (x : Expr) → expr_slots (e.Unary os x) ≡ expr_slots x
 slots-Unary os x = search (rules, the_lemmas)
 
-pub slots-Binary : (x : Code) (os : List CodeOperation) → code_slots (c.Binary x os) ≡ code_slots x ++ all (map operation_slots os)
+pub slots-Binary : (x : Expr) (os : List Operation) → expr_slots (e.Binary x os) ≡ expr_slots x ++ all (map operation_slots os)
 slots-Binary x os = search (rules, the_lemmas)
 
-pub slots-Compare : (x : Code) (o : Comparison) (y : Code) → code_slots (c.Compare x o y) ≡ code_slots x ++ code_slots y
+pub slots-Compare : (x : Expr) (o : Comparison) (y : Expr) → expr_slots (e.Compare x o y) ≡ expr_slots x ++ expr_slots y
 slots-Compare x o y = search (rules, the_lemmas)
 
-pub slots-Conditional : (xs : List CodeChoice) (x : Code) → code_slots (c.Conditional xs x) ≡ all (map choice_slots xs) ++ code_slots x
+pub slots-Conditional : (xs : List Choice) (x : Expr) → expr_slots (e.Conditional xs x) ≡ all (map choice_slots xs) ++ expr_slots x
 slots-Conditional xs x = search (rules, the_lemmas)
 
-pub slots-Lambda : code_slots c.Lambda ≡ []
+pub slots-Lambda : expr_slots e.Lambda ≡ []
 slots-Lambda = search (rules, the_lemmas)
 
-pub slots-Positional : (x : Code) → argument_slots (a.Positional x) ≡ code_slots x
+pub slots-Positional : (x : Expr) → argument_slots (a.Positional x) ≡ expr_slots x
 slots-Positional x = search (rules, the_lemmas)
 
-pub slots-Named : (b : List ℕ) (x : Code) → argument_slots (a.Named b x) ≡ code_slots x
+pub slots-Named : (b : List ℕ) (x : Expr) → argument_slots (a.Named b x) ≡ expr_slots x
 slots-Named b x = search (rules, the_lemmas)
 
-pub slots-Star : (x : Code) → argument_slots (a.Star x) ≡ code_slots x
+pub slots-Star : (x : Expr) → argument_slots (a.Star x) ≡ expr_slots x
 slots-Star x = search (rules, the_lemmas)
 
-pub slots-StarStar : (x : Code) → argument_slots (a.StarStar x) ≡ code_slots x
+pub slots-StarStar : (x : Expr) → argument_slots (a.StarStar x) ≡ expr_slots x
 slots-StarStar x = search (rules, the_lemmas)
 
-pub slots-For : (t : CodeTarget) (x : Code) → clause_slots (cl.For t x) ≡ target_slots t ++ code_slots x
+pub slots-For : (t : TargetExpr) (x : Expr) → clause_slots (cl.For t x) ≡ target_slots t ++ expr_slots x
 slots-For t x = search (rules, the_lemmas)
 
-pub slots-If : (x : Code) → clause_slots (cl.If x) ≡ code_slots x
+pub slots-If : (x : Expr) → clause_slots (cl.If x) ≡ expr_slots x
 slots-If x = search (rules, the_lemmas)
 
-pub slots-Call : (xs : List CodeArgument) → suffix_slots (s.Call xs) ≡ all (map argument_slots xs)
+pub slots-Call : (xs : List Argument) → suffix_slots (s.Call xs) ≡ all (map argument_slots xs)
 slots-Call xs = search (rules, the_lemmas)
 
-pub slots-Method : (b : List ℕ) (xs : List CodeArgument) → suffix_slots (s.Method b xs) ≡ all (map argument_slots xs)
-slots-Method b xs = search (rules, the_lemmas)
+pub slots-Method : (n : Identifier) (xs : List Argument) → suffix_slots (s.Method n xs) ≡ all (map argument_slots xs)
+slots-Method n xs = search (rules, the_lemmas)
 
-pub slots-Attribute : (b : List ℕ) → suffix_slots (s.Attribute b) ≡ []
-slots-Attribute b = search (rules, the_lemmas)
+pub slots-Attribute : (n : Identifier) → suffix_slots (s.Attribute n) ≡ []
+slots-Attribute n = search (rules, the_lemmas)
 
-pub slots-Index : (x : Code) → suffix_slots (s.Index x) ≡ code_slots x
+pub slots-Index : (x : Expr) → suffix_slots (s.Index x) ≡ expr_slots x
 slots-Index x = search (rules, the_lemmas)
 
 -- of an optional part
-abbrev pub part_slots : Option Code → List ℕ
+abbrev pub part_slots : Option Expr → List ℕ
 part_slots None = []
-part_slots (Some x) = code_slots x
+part_slots (Some x) = expr_slots x
 
-pub slots-Slice : (x y z : Option Code) → suffix_slots (s.Slice x y z) ≡ part_slots x ++ (part_slots y ++ part_slots z)
+pub slots-Slice : (x y z : Option Expr) → suffix_slots (s.Slice x y z) ≡ part_slots x ++ (part_slots y ++ part_slots z)
 slots-Slice None None None = search (rules, the_lemmas)
 slots-Slice None None (Some z) = search (rules, the_lemmas)
 slots-Slice None (Some y) None = search (rules, the_lemmas)
@@ -118,38 +112,35 @@ slots-Slice (Some x) None (Some z) = search (rules, the_lemmas)
 slots-Slice (Some x) (Some y) None = search (rules, the_lemmas)
 slots-Slice (Some x) (Some y) (Some z) = search (rules, the_lemmas)
 
-pub slots-target_Local : (k : ℕ) → target_slots (t.Local k) ≡ k ∷ []
-slots-target_Local k = search (rules, the_lemmas)
+pub slots-target_Name : (n : Identifier) → target_slots (t.Name n) ≡ name_slots n
+slots-target_Name n = search (rules, the_lemmas)
 
-pub slots-target_Global : (k : ℕ) → target_slots (t.Global k) ≡ []
-slots-target_Global k = search (rules, the_lemmas)
-
-pub slots-target_Index : (x : Code) (y : Code) → target_slots (t.Index x y) ≡ code_slots x ++ code_slots y
+pub slots-target_Index : (x : Expr) (y : Expr) → target_slots (t.Index x y) ≡ expr_slots x ++ expr_slots y
 slots-target_Index x y = search (rules, the_lemmas)
 
-pub slots-target_Tuple : (xs : List CodeTarget) → target_slots (t.Tuple xs) ≡ all (map target_slots xs)
+pub slots-target_Tuple : (xs : List TargetExpr) → target_slots (t.Tuple xs) ≡ all (map target_slots xs)
 slots-target_Tuple xs = search (rules, the_lemmas)
 
-pub slots-target_List : (xs : List CodeTarget) → target_slots (t.List xs) ≡ all (map target_slots xs)
+pub slots-target_List : (xs : List TargetExpr) → target_slots (t.List xs) ≡ all (map target_slots xs)
 slots-target_List xs = search (rules, the_lemmas)
 
-pub slots-choice : (x : Code) (y : Code) → choice_slots (roll-CodeChoice (record { value = x; condition = y })) ≡ code_slots x ++ code_slots y
+pub slots-choice : (x : Expr) (y : Expr) → choice_slots (roll-Choice (record { value = x; condition = y })) ≡ expr_slots x ++ expr_slots y
 slots-choice x y = search (rules, the_lemmas)
 
-pub slots-operation : (o : Operator) (x : Code) → operation_slots (roll-CodeOperation (record { operator = o; operand = x })) ≡ code_slots x
+pub slots-operation : (o : Operator) (x : Expr) → operation_slots (roll-Operation (record { operator = o; operand = x })) ≡ expr_slots x
 slots-operation o x = search (rules, the_lemmas)
 
-pub slots-pair : (x : Code) (y : Code) → pair_slots (roll-CodePair (record { key = x; value = y })) ≡ code_slots x ++ code_slots y
+pub slots-pair : (x : Expr) (y : Expr) → pair_slots (roll-Pair (record { key = x; value = y })) ≡ expr_slots x ++ expr_slots y
 slots-pair x y = search (rules, the_lemmas)
 
-pub slots-Simple : (xs : List CodeSmall) → stmt_slots (st.Simple xs) ≡ all (map small_slots xs)
+pub slots-Simple : (xs : List SmallStmt) → stmt_slots (st.Simple xs) ≡ all (map small_slots xs)
 slots-Simple xs = search (rules, stmt.the_lemmas)
 
-pub slots-stmt_If : (bs : List CodeBranch) (xs : List CodeStmt) → stmt_slots (st.If bs xs) ≡ all (map branch_slots bs) ++ all (map stmt_slots xs)
+pub slots-stmt_If : (bs : List Branch) (xs : List Stmt) → stmt_slots (st.If bs xs) ≡ all (map branch_slots bs) ++ all (map stmt_slots xs)
 slots-stmt_If bs xs = search (rules, stmt.the_lemmas)
 
-pub slots-stmt_For : (t : CodeTarget) (x : Code) (xs : List CodeStmt) → stmt_slots (st.For t x xs) ≡ target_slots t ++ (code_slots x ++ all (map stmt_slots xs))
+pub slots-stmt_For : (t : TargetExpr) (x : Expr) (xs : List Stmt) → stmt_slots (st.For t x xs) ≡ target_slots t ++ (expr_slots x ++ all (map stmt_slots xs))
 slots-stmt_For t x xs = search (rules, stmt.the_lemmas)
 
-pub slots-branch : (x : Code) (xs : List CodeStmt) → branch_slots (roll-CodeBranch (record { condition = x; block = xs })) ≡ code_slots x ++ all (map stmt_slots xs)
+pub slots-branch : (x : Expr) (xs : List Stmt) → branch_slots (roll-Branch (record { condition = x; block = xs })) ≡ expr_slots x ++ all (map stmt_slots xs)
 slots-branch x xs = search (rules, stmt.the_lemmas)

@@ -5,8 +5,8 @@ use Rattle.bq_parse_grammar.specs.declared.tree.Parameter.{Parameter}
 use Rattle.bq_parse_grammar.specs.declared.tree.Stmt.{Stmt, out-Stmt}
 use Rattle.bq_parse_grammar.specs.declared.tree.Stmt.TheOpen.{Stmt-F}
 use Rattle.bq_parse_grammar.specs.declared.tree.TopLevel.{TopLevel}
-use Rattle.bq_resolve_scope.specs.declared.code.CodeFunction.{CodeFunction}
-use Rattle.bq_resolve_scope.specs.declared.code.Resolved.{Resolved}
+use Rattle.bq_resolve_scope.specs.declared.file.Function.{Function}
+use Rattle.bq_resolve_scope.specs.declared.file.ResolvedFile.{ResolvedFile}
 use Rattle.bq_resolve_scope.specs.Files.{resolved}
 use Rattle.bq_resolve_scope.specs.Names.{function_names}
 use Rattle.bq_resolve_scope.specs.Universe.{UniverseParts}
@@ -20,24 +20,24 @@ pub record AreShared (slots : List ℕ) (uses : List Use) : Type 0 where
   pub share : (i j : ℕ) → i < length uses → j < length uses → (slice_get slots i ≡ slice_get slots j) ↔ (slice_get uses i ≡ slice_get uses j)
 
 -- a `def` of a file
-pub record Def : Type 0 where
+pub record WrittenDef : Type 0 where
   pub parameters : List Parameter
   pub body : List Stmt
 
-abbrev pub def_by : Stmt-F Stmt Branch → List Def
+abbrev pub def_by : Stmt-F Stmt Branch → List WrittenDef
 def_by (Stmt-F.Def n ps body) = record { parameters = ps; body = body } ∷ []
 def_by (Stmt-F.Simple xs) = []
 def_by (Stmt-F.If bs zs) = []
 def_by (Stmt-F.For t x body) = []
 
 -- those of these statements, in their order
-abbrev pub defs_of : List TopLevel → List Def
+abbrev pub defs_of : List TopLevel → List WrittenDef
 defs_of [] = []
 defs_of (t ∷ ts) = def_by (out-Stmt t.statement) ++ defs_of ts
 
 -- the function that a `def` resolves to
-abbrev pub SharesSlots : Def → CodeFunction → Type 0
+abbrev pub SharesSlots : WrittenDef → Function → Type 0
 SharesSlots d f = AreShared (all (map stmt_slots f.body)) (body_uses (function_names d.parameters d.body) d.body)
 
 abbrev pub SlotsAreShared : Type 0
-SlotsAreShared = (universe : UniverseParts) (ts : List TopLevel) (r : Resolved) → resolved universe ts ≡ Ok r → InOrder SharesSlots (defs_of ts) r.functions
+SlotsAreShared = (universe : UniverseParts) (ts : List TopLevel) (r : ResolvedFile) → resolved universe ts ≡ Ok r → InOrder SharesSlots (defs_of ts) r.functions

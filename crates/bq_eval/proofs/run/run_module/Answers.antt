@@ -1,4 +1,4 @@
-use Rattle.std.proofs.Common.{◌∙◌, ap, subst}
+use Rattle.std.proofs.Common.{subst}
 use Rattle.bq_builtin_machine.specs.Action.{Run}
 use Rattle.bq_eval_meaning_spec.specs.Frame.{Frame}
 use Rattle.bq_eval_frame.specs.Slots.{slots_of}
@@ -12,6 +12,6 @@ returns g c =
     let h = g.R.Runtime in
     let x = c.args.module.now in
     let p : Program = record { number = x.number; functions = c.as_slice.result; loaded = x.imports; code = x.code; frozen = x.loaded } in
-    let e = module_of_program h.means p x.file.now c.as_slice-loads.result.now c.as_slice-stmts.result.now (h.seen c.args.runtime.now) (c.as_slice.ensures ∙ ap (λ f. f.functions) c.file.view_is) (c.as_slice-loads.ensures ∙ ap (λ f. f.loads) c.file.view_is) (c.as_slice-stmts.ensures ∙ ap (λ f. f.statements) c.file.view_is) in
+    let e = module_of_program h.means p x.file.now c.as_slice-loads.result.now c.as_slice-stmts.result.now (h.seen c.args.runtime.now) c.as_slice.ensures c.as_slice-loads.ensures c.as_slice-stmts.ensures in
     let P : Run h.State Frame → Type 0 = λ run. Acts h.means slots_of c.run_program.result (h.seen c.run_program.new.runtime) run in
     subst P e c.run_program.ensures

@@ -1,15 +1,15 @@
-use Rattle.std.proofs.Common.{◌∙◌, map, ap, sym, subst, arith}
+use Rattle.std.proofs.Common.{◌∙◌, ap, sym, subst, arith}
 use Rattle.std.proofs.lemmas.Grind.{common_steps}
-use Rattle.bq_resolve_scope.specs.Codes.{stmt_code}
 use Rattle.bq_value.specs.Datum.{Datum, list_of_data_of}
 use Rattle.bq_builtin_machine.specs.Action.{Run, done}
+use Rattle.bq_eval_language_spec.specs.Slots.{by_slots}
 use Rattle.bq_eval_frame.specs.Slots.{slots_of}
 use Rattle.bq_eval_rules.specs.Acts.{Acts}
 use Rattle.bq_eval_rules.specs.Round.{evals, in_function, inside, round_of, units_at, globals_of}
-use Rattle.bq_eval_rules.specs.CodeUnits.{unit_of}
+use Rattle.bq_eval_rules.specs.TreeUnits.{unit_of}
 use Rattle.bq_eval_rules.specs.Flows.{flow_of}
 use Rattle.bq_eval_rules.proofs.CallSteps.{calls_step, known_function, no_body, no_function, no_unit, ran_body}
-use Rattle.bq_eval_meaning_spec.specs.Calls.{apply, call_function, inner_calls}
+use Rattle.bq_eval_language_spec.specs.Calls.{apply, call_function, inner_calls}
 use Rattle.bq_eval_rules.proofs.calls.+calls.Goals as goal
 
 pub run_body-returns-then-context-eq0 : goal.run_body-returns-then-context-eq0
@@ -23,7 +23,7 @@ unfolding evals in_function inside round_of
 run_body-returns g t c =
     let h = g.R.Runtime in
     let x = c.args.context.now in
-    let ran = ran_body x.left h.means (units_at x.program.now (globals_of x.own)) (unit_of c.args.unit.now) c.args.function.now (slots_of c.args.frame.now) (h.seen c.args.runtime.now) (flow_of c.in_ok-flow.flow) (slots_of c.run_block.new.frame) (h.seen c.run_block.new.runtime) (map stmt_code c.as_slice.result.now) (omega (arith, c.if-context-eq0.false)) (ap (λ xs. map stmt_code xs) c.as_slice.ensures ∙ ap (λ d. d.body) c.function.view_is) c.in_ok-flow.ensures in
+    let ran = ran_body x.left h.means (units_at x.program.now (globals_of x.own)) (unit_of c.args.unit.now) c.args.function.now (slots_of c.args.frame.now) (h.seen c.args.runtime.now) (flow_of c.in_ok-flow.flow) (slots_of c.run_block.new.frame) (h.seen c.run_block.new.runtime) c.as_slice.result.now (omega (arith, c.if-context-eq0.false)) c.as_slice.ensures c.in_ok-flow.ensures in
     ran ∙ ap (λ v. done v (h.seen c.run_block.new.runtime)) (sym c.answered.ensures)
 
 pub call_function-returns-in_err-frame : goal.call_function-returns-in_err-frame
@@ -89,14 +89,14 @@ call_at-returns-in-None g t c =
     let h = g.R.Runtime in
     let x = c.args.context.now in
     let units = units_at x.program.now (globals_of x.own) in
-    no_unit h.means units (inner_calls x.left h.means units) c.args.called.now.«module» c.args.called.now.place c.args.called.now.defaults.items c.args.args (h.seen c.args.runtime.now) c.in-None.ensures
+    no_unit h.means units (inner_calls x.left h.means by_slots units) c.args.called.now.«module» c.args.called.now.place c.args.called.now.defaults.items c.args.args (h.seen c.args.runtime.now) c.in-None.ensures
 
 pub call_at-returns-in-None-get : goal.call_at-returns-in-None-get
 call_at-returns-in-None-get g t c =
     let h = g.R.Runtime in
     let x = c.args.context.now in
     let units = units_at x.program.now (globals_of x.own) in
-    no_function h.means units (inner_calls x.left h.means units) c.args.called.now.«module» c.args.called.now.place c.args.called.now.defaults.items c.args.args (h.seen c.args.runtime.now) (unit_of c.in-Some.unit) c.in-Some.ensures c.in-None-get.ensures.lookup.3
+    no_function h.means units (inner_calls x.left h.means by_slots units) c.args.called.now.«module» c.args.called.now.place c.args.called.now.defaults.items c.args.args (h.seen c.args.runtime.now) (unit_of c.in-Some.unit) c.in-Some.ensures c.in-None-get.ensures.lookup.3
 
 pub call_at-returns-in-Some-get : goal.call_at-returns-in-Some-get
 call_at-returns-in-Some-get g t c =
@@ -104,6 +104,6 @@ call_at-returns-in-Some-get g t c =
     let x = c.args.context.now in
     let units = units_at x.program.now (globals_of x.own) in
     let d = c.in-Some-get.function.now in
-    let at = known_function h.means units (inner_calls x.left h.means units) c.args.called.now.«module» c.args.called.now.place c.args.called.now.defaults.items c.args.args (h.seen c.args.runtime.now) (unit_of c.in-Some.unit) d c.in-Some.ensures c.in-Some-get.ensures.lookup.3.0 (c.in-Some-get.ensures.lookup.3.1 d) in
+    let at = known_function h.means units (inner_calls x.left h.means by_slots units) c.args.called.now.«module» c.args.called.now.place c.args.called.now.defaults.items c.args.args (h.seen c.args.runtime.now) (unit_of c.in-Some.unit) d c.in-Some.ensures c.in-Some-get.ensures.lookup.3.0 (c.in-Some-get.ensures.lookup.3.1 d) in
     let P : Run h.State Datum → Type 0 = λ run. Acts h.means (λ v. v) c.call_function.result (h.seen c.call_function.new.runtime) run in
     subst P (sym at) c.call_function.ensures

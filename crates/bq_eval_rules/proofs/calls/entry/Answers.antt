@@ -1,6 +1,5 @@
-use Rattle.std.proofs.Common.{◌∙◌, ap, sym, arith}
+use Rattle.std.proofs.Common.{arith}
 use Rattle.std.proofs.lemmas.Grind.{common_steps}
-use Rattle.bq_builtin_machine.specs.Action.{done}
 use Rattle.bq_eval_rules.proofs.Straight.{straight}
 use Rattle.bq_eval_rules.proofs.calls.entry.Goals as goal
 

@@ -1,14 +1,14 @@
-use Rattle.std.proofs.Common.{◌≡◌, ◌+◌, ◌*◌, drop, map}
-use Rattle.bq_resolve_scope.specs.Codes.{target_code}
-use Rattle.bq_eval_meaning_spec.specs.Targets.{bind_each, bind_to}
+use Rattle.std.proofs.Common.{◌≡◌, ◌+◌, ◌*◌, drop}
+use Rattle.bq_eval_language_spec.specs.Targets.{bind_each, bind_to}
+use Rattle.bq_eval_language_spec.specs.Slots.{by_slots}
 use Rattle.bq_eval_frame.specs.Slots.{slots_of}
 use Rattle.bq_eval_rules.proofs.targets.+targets.Given as goal
 
 abbrev pub invariant-bind_each-loop-target : goal.invariant-bind_each-loop-target
 invariant-bind_each-loop-target g l =
     let h = g.R.Runtime in
-    let f = bind_to h.means l.depth in
-    bind_each h.means f (map target_code (drop l.target-index l.targets)) l.elements (slots_of l.frame) l.places (h.seen l.runtime) ≡ bind_each h.means f (map target_code l.targets) l.fn.elements (slots_of l.fn.frame) l.fn.places (h.seen l.fn.runtime)
+    let f = bind_to h.means by_slots l.depth in
+    bind_each h.means f (drop l.target-index l.targets) l.elements (slots_of l.frame) l.places (h.seen l.runtime) ≡ bind_each h.means f l.targets l.fn.elements (slots_of l.fn.frame) l.fn.places (h.seen l.fn.runtime)
 
 abbrev pub decreases-bind_to : goal.decreases-bind_to
 decreases-bind_to g l = 4 * l.depth

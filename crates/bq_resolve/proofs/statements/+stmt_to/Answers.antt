@@ -1,4 +1,3 @@
-use Rattle.bq_resolve_scope.specs.Codes.{stmt_code}
 use Rattle.bq_resolve.proofs.Layers.{writes_layer, writes_no_layer}
 use Rattle.bq_resolve.proofs.statements.+stmt_to.Goals as goal
 
@@ -8,4 +7,4 @@ returns-then-layers-eq0 t c why =
 
 pub returns : goal.returns
 returns t c =
-    writes_layer c.args.scope.now.file.now c.args.layers c.args.scope.now.blocks.now c.args.looping c.args.statement.now c.args.walk.now c.stmt.new.walk (stmt_code c.stmt.new.statement) c.stmt.result c.if-layers-eq0.false c.stmt.ensures
+    writes_layer c.args.scope.now.file.now c.args.layers c.args.scope.now.blocks.now c.args.looping c.args.statement.now c.args.walk.now c.stmt.new.walk c.stmt.new.statement c.stmt.result c.if-layers-eq0.false c.stmt.ensures

@@ -1,7 +1,6 @@
 use Rattle.std.proofs.Common.{◌≡◌, ◌∷◌}
-use Rattle.bq_eval_meaning_spec.specs.Comprehensions.{body}
 use Rattle.bq_eval_frame.specs.Slots.{slots_of}
-use Rattle.bq_eval_rules.specs.ComprehensionClauses.{comprehension_code}
+use Rattle.bq_eval_rules.specs.ComprehensionClauses.{element_in}
 use Rattle.bq_eval_rules.specs.Nests.{nested}
 use Rattle.bq_eval_rules.specs.OpenLoops.{loop_left, loop_of, loops_count, loops_left, loops_of}
 use Rattle.bq_eval_rules.proofs.comprehensions.Comprehension.turns.Given as goal
@@ -11,7 +10,7 @@ abbrev pub invariant-loop-innermost : goal.invariant-loop-innermost
 invariant-loop-innermost g l =
     let h = g.R.Runtime in
     let e = nested h.means l.self.rules.now.depth l.self.rules.now.context.now in
-    let b = body h.means e (comprehension_code l.self.code.now) in
+    let b = element_in h.means l.self.rules.now l.self.element in
     loops_left h.means e b (loop_of l.innermost ∷ loops_of l.outer.items) (slots_of l.frame) l.content (h.seen l.runtime)
     ≡ loop_left h.means e b (loop_of l.fn.first) (slots_of l.fn.frame) l.fn.content (h.seen l.fn.runtime)
 
@@ -20,4 +19,4 @@ abbrev pub decreases-loop-innermost : goal.decreases-loop-innermost
 decreases-loop-innermost g l =
     let h = g.R.Runtime in
     let e = nested h.means l.self.rules.now.depth l.self.rules.now.context.now in
-    loops_count h.means e (body h.means e (comprehension_code l.self.code.now)) (loop_of l.innermost ∷ loops_of l.outer.items) (slots_of l.frame) l.content (h.seen l.runtime)
+    loops_count h.means e (element_in h.means l.self.rules.now l.self.element) (loop_of l.innermost ∷ loops_of l.outer.items) (slots_of l.frame) l.content (h.seen l.runtime)

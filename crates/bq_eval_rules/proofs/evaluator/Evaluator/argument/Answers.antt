@@ -1,7 +1,7 @@
 use Rattle.std.proofs.Common.{arith}
 use Rattle.std.proofs.lemmas.Grind.{common_steps}
 use Rattle.bq_eval_rules.specs.Evaluators.{evals_in, frame_of}
-use Rattle.bq_eval_rules.proofs.Codes.{positional_by, named_by, star_by, star_star_by}
+use Rattle.bq_eval_rules.proofs.Forms.{positional_by, named_by, star_by, star_star_by}
 use Rattle.bq_eval_rules.proofs.evaluator.Evaluator.argument.Goals as goal
 
 pub returns-in_err-value-in-Positional : goal.returns-in_err-value-in-Positional

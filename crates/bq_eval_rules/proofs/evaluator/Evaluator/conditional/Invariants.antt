@@ -1,6 +1,5 @@
-use Rattle.std.proofs.Common.{◌≡◌, drop, map}
-use Rattle.bq_resolve_scope.specs.Codes.{choice_code, expr_code}
-use Rattle.bq_eval_meaning_spec.specs.Expressions.{conditional}
+use Rattle.std.proofs.Common.{◌≡◌, drop}
+use Rattle.bq_eval_language_spec.specs.Expressions.{conditional}
 use Rattle.bq_eval_frame.specs.Slots.{slots_of}
 use Rattle.bq_eval_rules.specs.Nests.{nested}
 use Rattle.bq_eval_rules.proofs.evaluator.Evaluator.conditional.Given as goal
@@ -9,4 +8,4 @@ abbrev pub invariant-loop-choice : goal.invariant-loop-choice
 invariant-loop-choice g l =
     let h = g.R.Runtime in
     let e = nested h.means l.self.depth l.self.context.now in
-    conditional h.means e (map choice_code (drop l.choice-index l.choices)) (expr_code l.otherwise) (slots_of l.self.frame.now) (h.seen l.runtime) ≡ conditional h.means e (map choice_code l.choices) (expr_code l.otherwise) (slots_of l.self.frame.now) (h.seen l.fn.runtime)
+    conditional h.means e (drop l.choice-index l.choices) l.otherwise (slots_of l.self.frame.now) (h.seen l.runtime) ≡ conditional h.means e l.choices l.otherwise (slots_of l.self.frame.now) (h.seen l.fn.runtime)

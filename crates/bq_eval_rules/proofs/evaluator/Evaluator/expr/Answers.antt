@@ -2,25 +2,25 @@ use Rattle.std.proofs.Common.{rules, ◌≡◌, ◌∙◌, ap, arith, sym, subst
 use Rattle.std.proofs.lemmas.Grind.{common_steps}
 use Rattle.bq_value.specs.Datum.{Datum, int}
 use Rattle.bq_builtin_machine.specs.Action.{Run}
-use Rattle.bq_eval_meaning_spec.specs.Expressions.{literal}
+use Rattle.bq_eval_language_spec.specs.Expressions.{literal}
 use Rattle.bq_eval_frame.specs.Slots.{slots_of}
 use Rattle.bq_eval_rules.specs.Acts.{Acts}
 use Rattle.bq_eval_rules.specs.Nests.{nested}
 use Rattle.bq_eval_rules.specs.Round.{inside, round_of}
-use Rattle.bq_eval_rules.proofs.Codes.{binary_by, compare_by, conditional_by, dict_by, int_by, list_by, name_by, own_dict, own_list, primary_by, shared_dict, shared_list, string_by, tuple_by, unary_by}
+use Rattle.bq_eval_rules.proofs.Forms.{binary_by, compare_by, conditional_by, dict_by, dict_comprehension_by, int_by, list_by, list_comprehension_by, name_by, primary_by, string_by, tuple_by, unary_by}
 use Rattle.bq_eval_rules.proofs.evaluator.Evaluator.expr.Goals as goal
 
 pub returns-in_err-use_of-in-Name : goal.returns-in_err-use_of-in-Name
 returns-in_err-use_of-in-Name g c =
     let h = g.R.Runtime in
     let e = nested h.means c.args.self.now.depth c.args.self.now.context.now in
-    rw (name_by h.means e (inside h.means c.args.self.now.context.now) (round_of c.args.self.now.context.now) c.args.code.now _ (slots_of c.args.self.now.frame.now) (h.seen c.args.runtime.now) c.in-Name.is) (grind (arith, common_steps))
+    rw (name_by h.means e (inside h.means c.args.self.now.context.now) (round_of c.args.self.now.context.now) c.args.code.now (slots_of c.args.self.now.frame.now) (h.seen c.args.runtime.now) _ c.in-Name.is) (grind (arith, common_steps))
 
 pub returns-in_ok-own-in-Name : goal.returns-in_ok-own-in-Name
 returns-in_ok-own-in-Name g c =
     let h = g.R.Runtime in
     let e = nested h.means c.args.self.now.depth c.args.self.now.context.now in
-    rw (name_by h.means e (inside h.means c.args.self.now.context.now) (round_of c.args.self.now.context.now) c.args.code.now _ (slots_of c.args.self.now.frame.now) (h.seen c.args.runtime.now) c.in-Name.is) (grind (arith, common_steps))
+    rw (name_by h.means e (inside h.means c.args.self.now.context.now) (round_of c.args.self.now.context.now) c.args.code.now (slots_of c.args.self.now.frame.now) (h.seen c.args.runtime.now) _ c.in-Name.is) (grind (arith, common_steps))
 
 pub returns-in-Int : goal.returns-in-Int
 returns-in-Int g c =
@@ -56,29 +56,17 @@ returns-in-Dict g c =
     let e = nested h.means c.args.self.now.depth c.args.self.now.context.now in
     rw (dict_by h.means e (inside h.means c.args.self.now.context.now) (round_of c.args.self.now.context.now) c.args.code.now (slots_of c.args.self.now.frame.now) (h.seen c.args.runtime.now) _ c.in-Dict.is) (search rules)
 
-pub returns-in-Shared : goal.returns-in-Shared
-returns-in-Shared g c =
+pub returns-in-ListComprehension : goal.returns-in-ListComprehension
+returns-in-ListComprehension g c =
     let h = g.R.Runtime in
     let e = nested h.means c.args.self.now.depth c.args.self.now.context.now in
-    rw (shared_list c.args.code.now _ _ h.means e (inside h.means c.args.self.now.context.now) (round_of c.args.self.now.context.now) (slots_of c.args.self.now.frame.now) (h.seen c.args.runtime.now) _ c.in-ListComprehension.is c.in-Shared.is) (search rules)
+    rw (list_comprehension_by h.means e (inside h.means c.args.self.now.context.now) (round_of c.args.self.now.context.now) c.args.code.now (slots_of c.args.self.now.frame.now) (h.seen c.args.runtime.now) _ _ _ c.in-ListComprehension.is) (search rules)
 
-pub returns-in-Own : goal.returns-in-Own
-returns-in-Own g c =
+pub returns-in-DictComprehension : goal.returns-in-DictComprehension
+returns-in-DictComprehension g c =
     let h = g.R.Runtime in
     let e = nested h.means c.args.self.now.depth c.args.self.now.context.now in
-    rw (own_list c.args.code.now _ _ h.means e (inside h.means c.args.self.now.context.now) (round_of c.args.self.now.context.now) (slots_of c.args.self.now.frame.now) (h.seen c.args.runtime.now) _ _ c.in-ListComprehension.is c.in-Own.is) (search rules)
-
-pub returns-in-Shared-frame : goal.returns-in-Shared-frame
-returns-in-Shared-frame g c =
-    let h = g.R.Runtime in
-    let e = nested h.means c.args.self.now.depth c.args.self.now.context.now in
-    rw (shared_dict c.args.code.now _ _ h.means e (inside h.means c.args.self.now.context.now) (round_of c.args.self.now.context.now) (slots_of c.args.self.now.frame.now) (h.seen c.args.runtime.now) _ c.in-DictComprehension.is c.in-Shared-frame.is) (search rules)
-
-pub returns-in-Own-frame : goal.returns-in-Own-frame
-returns-in-Own-frame g c =
-    let h = g.R.Runtime in
-    let e = nested h.means c.args.self.now.depth c.args.self.now.context.now in
-    rw (own_dict c.args.code.now _ _ h.means e (inside h.means c.args.self.now.context.now) (round_of c.args.self.now.context.now) (slots_of c.args.self.now.frame.now) (h.seen c.args.runtime.now) _ _ c.in-DictComprehension.is c.in-Own-frame.is) (search rules)
+    rw (dict_comprehension_by h.means e (inside h.means c.args.self.now.context.now) (round_of c.args.self.now.context.now) c.args.code.now (slots_of c.args.self.now.frame.now) (h.seen c.args.runtime.now) _ _ _ c.in-DictComprehension.is) (search rules)
 
 pub returns-in-Primary : goal.returns-in-Primary
 returns-in-Primary g c =

@@ -1,6 +1,5 @@
-use Rattle.std.proofs.Common.{◌≡◌, drop, map}
-use Rattle.bq_resolve_scope.specs.Codes.{operation_code}
-use Rattle.bq_eval_meaning_spec.specs.Expressions.{operations}
+use Rattle.std.proofs.Common.{◌≡◌, drop}
+use Rattle.bq_eval_language_spec.specs.Expressions.{operations}
 use Rattle.bq_eval_frame.specs.Slots.{slots_of}
 use Rattle.bq_eval_rules.specs.Nests.{nested}
 use Rattle.bq_eval_rules.proofs.evaluator.Evaluator.operations.Given as goal
@@ -9,4 +8,4 @@ abbrev pub invariant-loop-operation : goal.invariant-loop-operation
 invariant-loop-operation g l =
     let h = g.R.Runtime in
     let e = nested h.means l.self.depth l.self.context.now in
-    operations h.means e (map operation_code (drop l.operation-index l.operations)) (slots_of l.self.frame.now) l.value (h.seen l.runtime) ≡ operations h.means e (map operation_code l.operations) (slots_of l.self.frame.now) l.fn.first (h.seen l.fn.runtime)
+    operations h.means e (drop l.operation-index l.operations) (slots_of l.self.frame.now) l.value (h.seen l.runtime) ≡ operations h.means e l.operations (slots_of l.self.frame.now) l.fn.first (h.seen l.fn.runtime)

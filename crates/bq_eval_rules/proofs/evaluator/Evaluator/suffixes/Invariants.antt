@@ -1,6 +1,5 @@
-use Rattle.std.proofs.Common.{◌≡◌, drop, map}
-use Rattle.bq_resolve_scope.specs.Codes.{suffix_code}
-use Rattle.bq_eval_meaning_spec.specs.Expressions.{suffixes}
+use Rattle.std.proofs.Common.{◌≡◌, drop}
+use Rattle.bq_eval_language_spec.specs.Expressions.{suffixes}
 use Rattle.bq_eval_frame.specs.Slots.{slots_of}
 use Rattle.bq_eval_rules.specs.Round.{inside}
 use Rattle.bq_eval_rules.specs.Nests.{nested}
@@ -11,4 +10,4 @@ invariant-loop-suffix g l =
     let h = g.R.Runtime in
     let e = nested h.means l.self.depth l.self.context.now in
     let k = inside h.means l.self.context.now in
-    suffixes h.means e k (map suffix_code (drop l.suffix-index l.suffixes)) (slots_of l.self.frame.now) l.value (h.seen l.runtime) ≡ suffixes h.means e k (map suffix_code l.suffixes) (slots_of l.self.frame.now) l.fn.first (h.seen l.fn.runtime)
+    suffixes h.means e k (drop l.suffix-index l.suffixes) (slots_of l.self.frame.now) l.value (h.seen l.runtime) ≡ suffixes h.means e k l.suffixes (slots_of l.self.frame.now) l.fn.first (h.seen l.fn.runtime)

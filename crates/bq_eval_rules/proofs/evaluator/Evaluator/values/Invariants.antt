@@ -1,6 +1,5 @@
-use Rattle.std.proofs.Common.{◌≡◌, drop, map, []}
-use Rattle.bq_resolve_scope.specs.Codes.{expr_code}
-use Rattle.bq_eval_meaning_spec.specs.Expressions.{values}
+use Rattle.std.proofs.Common.{◌≡◌, drop, []}
+use Rattle.bq_eval_language_spec.specs.Expressions.{values}
 use Rattle.bq_eval_frame.specs.Slots.{slots_of}
 use Rattle.bq_eval_rules.specs.Nests.{nested}
 use Rattle.bq_eval_rules.proofs.evaluator.Evaluator.values.Given as goal
@@ -9,4 +8,4 @@ abbrev pub invariant-loop-code : goal.invariant-loop-code
 invariant-loop-code g l =
     let h = g.R.Runtime in
     let e = nested h.means l.self.depth l.self.context.now in
-    values h.means e (map expr_code (drop l.code-index l.codes)) (slots_of l.self.frame.now) l.all.items (h.seen l.runtime) ≡ values h.means e (map expr_code l.codes) (slots_of l.self.frame.now) [] (h.seen l.fn.runtime)
+    values h.means e (drop l.code-index l.codes) (slots_of l.self.frame.now) l.all.items (h.seen l.runtime) ≡ values h.means e l.codes (slots_of l.self.frame.now) [] (h.seen l.fn.runtime)

@@ -1,6 +1,5 @@
-use Rattle.std.proofs.Common.{◌≡◌, ◌+◌, ◌*◌, drop, map}
-use Rattle.bq_resolve_scope.specs.Codes.{target_code}
-use Rattle.bq_eval_meaning_spec.specs.Targets.{places_each, places_to}
+use Rattle.std.proofs.Common.{◌≡◌, ◌+◌, ◌*◌, drop}
+use Rattle.bq_eval_language_spec.specs.Targets.{places_each, places_to}
 use Rattle.bq_eval_frame.specs.Slots.{slots_of}
 use Rattle.bq_eval_rules.specs.Round.{evals}
 use Rattle.bq_eval_rules.proofs.reader.Reader.+places.Given as goal
@@ -10,7 +9,7 @@ invariant-places_each-loop-target g l =
     let h = g.R.Runtime in
     let e = evals h.means l.self.context.now in
     let f = places_to h.means e l.depth in
-    places_each h.means e f (map target_code (drop l.target-index l.targets)) (slots_of l.frame) l.places.items (h.seen l.runtime) ≡ places_each h.means e f (map target_code l.targets) (slots_of l.frame) l.fn.places.items (h.seen l.fn.runtime)
+    places_each h.means e f (drop l.target-index l.targets) (slots_of l.frame) l.places.items (h.seen l.runtime) ≡ places_each h.means e f l.targets (slots_of l.frame) l.fn.places.items (h.seen l.fn.runtime)
 
 abbrev pub decreases-places_to : goal.decreases-places_to
 decreases-places_to g l = 3 * l.depth

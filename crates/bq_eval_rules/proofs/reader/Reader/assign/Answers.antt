@@ -1,11 +1,12 @@
-use Rattle.std.proofs.Common.{◌≡◌, ◌∙◌, ap}
-use Rattle.bq_parse_grammar.specs.declared.tree.TargetExpr.{out-TargetExpr}
-use Rattle.bq_parse_grammar.specs.declared.tree.TargetExpr.TheVariants.{outs-Name}
-use Rattle.bq_resolve_scope.proofs.Codes.{target_is, target_layer}
-use Rattle.bq_resolve_scope.specs.Codes.{target_code, variable_code}
+use Rattle.std.proofs.Common.{arith}
+use Rattle.std.proofs.lemmas.Grind.{common_steps}
+use Rattle.bq_eval_frame.specs.Slots.{slots_of}
+use Rattle.bq_eval_rules.specs.Round.{evals}
+use Rattle.bq_eval_rules.proofs.Assigning.{variable_assigned}
 use Rattle.bq_eval_rules.proofs.reader.Reader.assign.Goals as goal
 
-pub returns-in-Name : goal.returns-in-Name
-returns-in-Name g c =
-    let is : target_code c.args.target.now ≡ variable_code c.in-Name.name.referent = target_is c.args.target.now ∙ ap target_layer (ap out-TargetExpr c.in-Name.is ∙ outs-Name c.in-Name.name) in
-    rw is c.assign_name.ensures
+pub returns-in_ok-fill-in-Name : goal.returns-in_ok-fill-in-Name
+returns-in_ok-fill-in-Name g c =
+    let h = g.R.Runtime in
+    let known = variable_assigned h.means (evals h.means c.args.self.now.context.now) c.args.target.now c.in-Name.name c.args.value (slots_of c.args.frame.now) (h.seen c.args.runtime.now) c.in-Name.is in
+    grind (arith, common_steps)

@@ -1,6 +1,6 @@
-use Rattle.std.proofs.Common.{◌≡◌, drop, map}
-use Rattle.bq_resolve_scope.specs.Codes.{small_code}
-use Rattle.bq_eval_meaning_spec.specs.Statements.{line}
+use Rattle.std.proofs.Common.{◌≡◌, drop}
+use Rattle.bq_eval_language_spec.specs.Statements.{line}
+use Rattle.bq_eval_language_spec.specs.Slots.{by_slots}
 use Rattle.bq_eval_frame.specs.Slots.{slots_of}
 use Rattle.bq_eval_rules.specs.Round.{evals}
 use Rattle.bq_eval_rules.proofs.reader.Reader.line.Given as goal
@@ -9,4 +9,4 @@ abbrev pub invariant-loop-stmt : goal.invariant-loop-stmt
 invariant-loop-stmt g l =
     let h = g.R.Runtime in
     let e = evals h.means l.self.context.now in
-    line h.means e (map small_code (drop l.stmt-index l.stmts)) (slots_of l.frame) (h.seen l.runtime) ≡ line h.means e (map small_code l.stmts) (slots_of l.fn.frame) (h.seen l.fn.runtime)
+    line h.means by_slots e (drop l.stmt-index l.stmts) (slots_of l.frame) (h.seen l.runtime) ≡ line h.means by_slots e l.stmts (slots_of l.fn.frame) (h.seen l.fn.runtime)

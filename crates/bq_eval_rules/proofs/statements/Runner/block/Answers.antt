@@ -1,6 +1,6 @@
 use Rattle.std.proofs.Common.{arith}
 use Rattle.std.proofs.lemmas.Grind.{common_steps}
-use Rattle.bq_eval_meaning_spec.specs.Statements.{block}
+use Rattle.bq_eval_language_spec.specs.Statements.{block}
 use Rattle.bq_eval_rules.proofs.statements.Runner.block.Goals as goal
 
 pub loop-stmt-init : goal.loop-stmt-init

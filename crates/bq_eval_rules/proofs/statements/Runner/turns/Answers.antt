@@ -1,6 +1,6 @@
 use Rattle.std.proofs.Common.{arith}
 use Rattle.std.proofs.lemmas.Grind.{common_steps}
-use Rattle.bq_eval_meaning_spec.specs.Statements.{turns}
+use Rattle.bq_eval_language_spec.specs.Statements.{turns}
 use Rattle.bq_eval_rules.proofs.statements.Runner.turns.Goals as goal
 
 pub loop-value-init : goal.loop-value-init

@@ -1,26 +1,25 @@
 use Rattle.std.proofs.Common.{◌≡◌, ◌∙◌, ◌≤◌, length, Ok, length-set, arith}
 use Rattle.std.proofs.lemmas.Grind.{common_steps}
 use Rattle.bq_resolve.specs.Inner.{inner}
-use Rattle.bq_resolve_scope.specs.Codes.{stmt_code}
 use Rattle.bq_resolve_expression.proofs.Each.{each_more, each_fault, each_end}
 use Rattle.bq_resolve.proofs.blocks.BlockResolver.block.Goals as goal
 
 pub loop-at-preserved : goal.loop-at-preserved
 loop-at-preserved g c =
     let one = inner c.args.self.now.scope c.args.self.now.layers c.args.looping in
-    let went : one c.item_mut.result.now c.loop-at.walk ≡ Ok (stmt_code c.statement.new.statement, c.statement.new.walk) = grind (arith, common_steps) in
+    let went : one c.item_mut.result.now c.loop-at.walk ≡ Ok (c.statement.new.statement, c.statement.new.walk) = grind (arith, common_steps) in
     let len : c.len-at-end.result ≡ length c.loop-at.statements = c.loop-at.invariant.0 in
-    (grind (arith, common_steps, length-set), each_more one stmt_code c.loop-at.statements c.loop-at.at c.item_mut.result.now c.loop-at.walk c.item_mut.ensures.value c.statement.new.statement c.statement.new.walk went ∙ c.loop-at.invariant.1)
+    (grind (arith, common_steps, length-set), each_more one c.loop-at.statements c.loop-at.at c.item_mut.result.now c.loop-at.walk c.item_mut.ensures.value c.statement.new.statement c.statement.new.walk went ∙ c.loop-at.invariant.1)
 
 pub returns-in_err-statement : goal.returns-in_err-statement
 returns-in_err-statement g c =
     let one = inner c.args.self.now.scope c.args.self.now.layers c.args.looping in
-    let fault = each_fault one stmt_code c.loop-at.statements c.loop-at.at c.item_mut.result.now c.loop-at.walk c.item_mut.ensures.value in
+    let fault = each_fault one c.loop-at.statements c.loop-at.at c.item_mut.result.now c.loop-at.walk c.item_mut.ensures.value in
     grind (arith, common_steps, fault)
 
 pub returns : goal.returns
 returns g c =
     let one = inner c.args.self.now.scope c.args.self.now.layers c.args.looping in
     let past : length c.loop-at.statements ≤ c.loop-at.at = grind (arith, common_steps) in
-    let end = each_end one stmt_code c.loop-at.statements c.loop-at.at c.loop-at.walk past in
+    let end = each_end one c.loop-at.statements c.loop-at.at c.loop-at.walk past in
     grind (arith, common_steps, end)

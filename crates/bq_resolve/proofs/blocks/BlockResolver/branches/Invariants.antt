@@ -1,9 +1,8 @@
-use Rattle.std.proofs.Common.{◌≡◌, [], drop, length, map, take}
+use Rattle.std.proofs.Common.{◌≡◌, [], drop, length, take}
 use Rattle.bq_resolve_scope.specs.Statements.{branch}
 use Rattle.bq_resolve.specs.Inner.{inner}
-use Rattle.bq_resolve_scope.specs.Codes.{branch_code}
 use Rattle.bq_resolve_scope.specs.Visit.{each}
 use Rattle.bq_resolve.proofs.blocks.BlockResolver.branches.Given as goal
 
 abbrev pub invariant-loop-at : goal.invariant-loop-at
-invariant-loop-at g l = (l.at-end ≡ length l.branches) × (each (branch l.self.scope.file.now (inner l.self.scope l.self.layers l.looping) l.self.scope.blocks.now) (map branch_code (take l.at l.branches)) (drop l.at l.branches) l.walk ≡ each (branch l.self.scope.file.now (inner l.self.scope l.self.layers l.looping) l.self.scope.blocks.now) [] l.fn.branches l.fn.walk)
+invariant-loop-at g l = (l.at-end ≡ length l.branches) × (each (branch l.self.scope.file.now (inner l.self.scope l.self.layers l.looping) l.self.scope.blocks.now) (take l.at l.branches) (drop l.at l.branches) l.walk ≡ each (branch l.self.scope.file.now (inner l.self.scope l.self.layers l.looping) l.self.scope.blocks.now) [] l.fn.branches l.fn.walk)

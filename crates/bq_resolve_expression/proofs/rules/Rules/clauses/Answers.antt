@@ -1,7 +1,6 @@
 use Rattle.std.proofs.Common.{◌≡◌, Ok, arith}
 use Rattle.std.proofs.lemmas.Grind.{common_steps}
 use Rattle.bq_parse_grammar.specs.declared.tree.Clause.{out-Clause}
-use Rattle.bq_resolve_scope.specs.Codes.{clause_code}
 use Rattle.bq_resolve_scope.specs.Expressions.{clause_by, expr_to}
 use Rattle.bq_resolve_expression.proofs.Each.{clauses_more, clauses_fault}
 use Rattle.bq_resolve_expression.proofs.rules.Rules.clauses.Goals as goal
@@ -13,5 +12,5 @@ returns-in_err-clause g c =
 
 pub returns : goal.returns
 returns g c =
-    let went : clause_by c.args.self.now.scope.file.now (expr_to c.args.self.now.depth c.args.self.now.scope.file.now) c.args.round.now c.args.self.now.scope.blocks.now (out-Clause c.item_mut.result.now) c.args.walk.now ≡ Ok (clause_code c.clause.new.clause, c.clause.new.walk) = grind (arith, common_steps) in
+    let went : clause_by c.args.self.now.scope.file.now (expr_to c.args.self.now.depth c.args.self.now.scope.file.now) c.args.round.now c.args.self.now.scope.blocks.now (out-Clause c.item_mut.result.now) c.args.walk.now ≡ Ok (c.clause.new.clause, c.clause.new.walk) = grind (arith, common_steps) in
     rw (clauses_more c.args.self.now.scope.file.now (expr_to c.args.self.now.depth c.args.self.now.scope.file.now) c.args.round.now c.args.self.now.scope.blocks.now c.args.clauses.now c.item_mut.result.now c.clause.new.clause c.args.walk.now c.clause.new.walk c.item_mut.ensures.value went) c.further_clauses.ensures

@@ -1,2 +1,0 @@
--- clauses of the definitions, by words of their own
-pub mod Forms
