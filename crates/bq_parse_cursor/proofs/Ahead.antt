@@ -1,5 +1,5 @@
 -- What a place in the tokens shows.
-use Rattle.std.proofs.Common.{◌≡◌, ◌∙◌, ℕ, zero, suc, ◌-◌, Bool, true, false, ◌&&◌, List, [], ◌∷◌, length, drop, Some, refl, ap, sym, All}
+use Rattle.std.proofs.Common.{◌≡◌, ◌∙◌, ℕ, zero, suc, ◌-◌, Bool, true, false, ◌&&◌, List, [], ◌∷◌, length, drop, if◌then◌else◌, Option, Some, Ok, Err, refl, ap, sym, All}
 use Rattle.std.proofs.lemmas.List.Elements.{All-head}
 use Rattle.std.specs.Prelude.{IsSome}
 use Rattle.bq_source.specs.declared.token.TokenKind.{TokenKind}
@@ -9,10 +9,14 @@ use Rattle.bq_source.specs.Spelling.{Lies}
 use Rattle.bq_source.specs.StringLiteral.{string_value}
 use Rattle.bq_source.specs.Token.{same_kind}
 use Rattle.bq_parse_grammar.specs.Lexeme.{Lexeme, lexemes}
-use Rattle.bq_parse_grammar.specs.Turns.{sees, next}
+use Rattle.bq_parse_grammar.specs.Literals.{identifier, named}
+use Rattle.bq_parse_grammar.specs.Statements.{line_of}
+use Rattle.bq_parse_grammar.specs.declared.refusal.SyntaxErr.TheVariants.{Syntax}
+use Rattle.bq_parse_grammar.specs.declared.tree.Identifier.{Identifier}
+use Rattle.bq_parse_grammar.specs.Turns.{Found, sees, next}
 use Rattle.bq_parse_grammar.specs.Operators.{binary_operator, operator_at}
 use Rattle.bq_parse_grammar.proofs.Cases.{of_level}
-use Rattle.bq_parse_grammar.specs.Reading.{has, is_known, known, looked_up, spelling_of, is_named}
+use Rattle.bq_parse_grammar.specs.Reading.{has, is_known, known, looked_up, spelling_of, is_named, word}
 use Rattle.bq_parse_cursor.specs.Tokens.{kind_ahead, known_by}
 
 pub as_many : (text : List ℕ) (ts : List Token) → length (lexemes text ts) ≡ length ts
@@ -55,3 +59,24 @@ level_ahead level (t ∷ ts) = refl
 pub level_known : (level : ℕ) (ts : List Lexeme) → looked_up (operator_at level) ts ≡ known (of_level level (known_by binary_operator (kind_ahead ts))) (next ts)
 level_known level [] = refl
 level_known level (t ∷ ts) = refl
+
+-- what a table says of the next token
+pub has_by : {B : Type 0} (table : TokenKind → Option B) (ts : List Lexeme) → has table ts ≡ is_known (known_by table (kind_ahead ts))
+has_by table [] = refl
+has_by table (t ∷ ts) = refl
+
+pub looked_up_by : {B : Type 0} (table : TokenKind → Option B) (ts : List Lexeme) → looked_up table ts ≡ known (known_by table (kind_ahead ts)) (next ts)
+looked_up_by table [] = refl
+looked_up_by table (t ∷ ts) = refl
+
+abbrev word_if : Lexeme → List Lexeme → Bool → Found Identifier
+word_if t ts b = if b then Ok (identifier t, ts) else Err Syntax
+
+-- a word, by whether one comes next
+pub word_seen : (ts : List Lexeme) → sees k.Identifier ts ≡ true → word ts ≡ Ok (named (spelling_of ts) (line_of ts), next ts)
+word_seen [] e = absurd (cc)
+word_seen (t ∷ ts) e = ap (word_if t ts) e
+
+pub word_unseen : (ts : List Lexeme) → sees k.Identifier ts ≡ false → word ts ≡ Err Syntax
+word_unseen [] e = refl
+word_unseen (t ∷ ts) e = ap (word_if t ts) e

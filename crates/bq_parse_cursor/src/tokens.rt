@@ -208,21 +208,20 @@ impl<'a> Tokens<'a> {
     }
 
     /// Reads a word, and returns what it names.
+    #[tactic(auto, using(crate::proofs::Ahead::word_seen, crate::proofs::Ahead::word_unseen))]
     pub fn word(&mut self, alloc: Global) -> Result<Identifier, SyntaxErr>
         ensures { Reads (reading.word self.old) result self.new }
     {
-        match self.rest.first() {
-            Some(token) if token.kind.is(TokenKind::Identifier) => {
-                let line = token.line;
-                let name = Bytes::from_slice(alloc, self.spelling())?;
-                self.advance();
-                Ok(Identifier {
-                    name,
-                    referent: Referent::Unresolved(line),
-                })
-            }
-            _ => Err(SyntaxErr::Syntax),
+        if !self.sees(TokenKind::Identifier) {
+            return Err(SyntaxErr::Syntax);
         }
+        let line = self.line();
+        let name = Bytes::from_slice(alloc, self.spelling())?;
+        self.advance();
+        Ok(Identifier {
+            name,
+            referent: Referent::Unresolved(line),
+        })
     }
 
     /// Reads an integer literal, and returns its number.
@@ -324,20 +323,22 @@ impl<'a> Tokens<'a> {
     }
 
     /// Returns whether the operator of an augmented assignment comes next.
+    #[tactic(auto, using(crate::proofs::Ahead::has_by))]
     pub fn sees_augmented(&self) -> bool
         ensures { result ≡ reading.has operators.augmented self.now }
     {
-        match self.rest.first() {
-            Some(token) => augmented(token.kind).is_some(),
+        match self.peek() {
+            Some(kind) => augmented(kind).is_some(),
             None => false,
         }
     }
 
+    #[tactic(auto, using(crate::proofs::Ahead::looked_up_by))]
     pub fn augmented(&mut self) -> Result<Operator, SyntaxErr>
         ensures { Reads (reading.looked_up operators.augmented self.old) result self.new }
     {
-        match self.rest.first() {
-            Some(token) => match augmented(token.kind) {
+        match self.peek() {
+            Some(kind) => match augmented(kind) {
                 Some(found) => {
                     self.advance();
                     Ok(found)
