@@ -10,6 +10,7 @@ pub mod LiteralLaws
 pub mod Quoted
 pub mod NumberLaws
 -- How far runs and pieces go.
+pub mod Blocks
 pub mod Runs
 pub mod Fitting
 -- Words of another first byte or length than each keyword are no keywords.

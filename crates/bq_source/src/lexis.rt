@@ -1,10 +1,15 @@
 //! How blanks, line ends and words are spelled.
 
-ghost use Rattle.std.specs.Prelude.{◌≡◌, ◌≤◌, length};
+ghost use Rattle.std.specs.Prelude.{◌≡◌, ◌≤◌, length, map, not};
 ghost use Rattle.std.specs.List.{prefix_len};
+ghost use Rattle.std.specs.Simd.Lanes.{mask_l};
 ghost use Rattle.bq_source.specs.Lexis.{is_letter, is_word, has, newlines, newline_len, comment_len, word_kind};
 
 use crate::token::TokenKind;
+use std::simd::prelude::*;
+
+/// How many bytes of a run are looked at at once.
+const BLOCK_LEN: usize = 16;
 
 /// Returns whether a word may begin with the byte.
 pub fn is_letter(b: u8) -> bool
@@ -39,6 +44,37 @@ fn has(class: RunClass, b: u8) -> bool
     }
 }
 
+/// Returns a bit for each byte of the block that isn't of the class, the first in the lowest place.
+#[inline(always)]
+fn others(class: RunClass, block: u8x16) -> u64
+    ensures { result ≡ mask_l (map (λ b. not (has class b)) block) }
+{
+    let spaces = u8x16::splat(b' ');
+    match class {
+        RunClass::Space => block.simd_ne(spaces).to_bitmask(),
+        RunClass::Blank => {
+            (block.simd_ne(spaces) & block.simd_ne(u8x16::splat(b'\t'))).to_bitmask()
+        }
+        RunClass::Word => {
+            // The bit that a small letter has and its capital hasn't.
+            let letters = (block | u8x16::splat(0x20)) - u8x16::splat(b'a');
+            let digits = block - u8x16::splat(b'0');
+            (letters.simd_ge(u8x16::splat(26))
+                & digits.simd_ge(u8x16::splat(10))
+                & block.simd_ne(u8x16::splat(b'_'))).to_bitmask()
+        }
+    }
+}
+
+/// Returns how many bytes at the front are of the class, where fewer are left than a block has.
+#[inline(never)]
+fn short_run_len(bytes: &[u8], class: RunClass) -> usize
+    ensures run { result ≡ prefix_len (has class) bytes.now }
+    ensures within { result ≤ length bytes.now }
+{
+    bytes.iter().take_while(|b| has(class, **b)).count()
+}
+
 /// Returns how many bytes at the front are of the class.
 #[inline(always)]
 pub fn run_len(bytes: &[u8], class: RunClass) -> usize
@@ -46,10 +82,14 @@ pub fn run_len(bytes: &[u8], class: RunClass) -> usize
     ensures within { result ≤ length bytes.now }
 {
     let mut n = 0;
-    while n < bytes.len() && has(class, bytes[n]) {
-        n += 1;
+    while bytes.len() - n >= BLOCK_LEN {
+        let found = others(class, u8x16::from_slice(&bytes[n..]));
+        if found != 0 {
+            return n + found.trailing_zeros() as usize;
+        }
+        n += BLOCK_LEN;
     }
-    n
+    n + short_run_len(&bytes[n..], class)
 }
 
 pub fn newlines(bytes: &[u8]) -> usize
