@@ -1,7 +1,8 @@
 //! The pieces that BUILD files are full of: each is known by its first byte, and needs no look at the other rules of the lexis.
 
-ghost use Rattle.std.specs.Prelude.{◌≡◌, ◌≤◌, length};
+ghost use Rattle.std.specs.Prelude.{◌≡◌, ◌≤◌, length, map, not};
 ghost use Rattle.std.specs.List.{prefix_len};
+ghost use Rattle.std.specs.Simd.Lanes.{mask_l};
 ghost use Rattle.bq_source.specs.Piece as spec;
 ghost use Rattle.bq_source.specs.StringLiteral as literal;
 ghost use Rattle.bq_source.specs.declared.piece.Piece.TheVariants.{Lexed};
@@ -9,16 +10,36 @@ ghost use Rattle.bq_source.specs.declared.piece.Piece.TheVariants.{Lexed};
 use bq_source::{
     Extent, Lexeme, Piece, RunClass, TokenKind, is_letter, next_piece, run_len, word_kind,
 };
+use std::simd::prelude::*;
 
-/// Returns whether the byte stands for itself between two double quotes. Most are above the quote.
+/// How many bytes of a literal are looked at at once.
+const BLOCK_LEN: usize = 16;
+
+/// Returns whether the byte stands for itself between two double quotes.
 fn is_plain(b: u8) -> bool
     ensures { result ≡ literal.is_plain 34 b }
 {
-    if b > b'"' {
-        b != b'\\'
-    } else {
-        b != b'"' && b != b'\n' && b != b'\r'
-    }
+    b != b'"' && b != b'\\' && b != b'\n' && b != b'\r'
+}
+
+/// Returns a bit for each byte of the block that doesn't stand for itself between two double quotes, the first in the lowest place.
+#[inline(always)]
+fn others(block: u8x16) -> u64
+    ensures { result ≡ mask_l (map (λ b. not (literal.is_plain 34 b)) block) }
+{
+    (block.simd_eq(u8x16::splat(b'"'))
+        | block.simd_eq(u8x16::splat(b'\\'))
+        | block.simd_eq(u8x16::splat(b'\n'))
+        | block.simd_eq(u8x16::splat(b'\r'))).to_bitmask()
+}
+
+/// Returns how many bytes at the front stand for themselves between two double quotes, where fewer are left than a block has.
+#[inline(never)]
+fn short_plain_len(bytes: &[u8]) -> usize
+    ensures run { result ≡ prefix_len (literal.is_plain 34) bytes.now }
+    ensures within { result ≤ length bytes.now }
+{
+    bytes.iter().take_while(|b| is_plain(**b)).count()
 }
 
 /// Returns how many bytes at the front stand for themselves between two double quotes.
@@ -28,10 +49,14 @@ fn plain_len(bytes: &[u8]) -> usize
     ensures within { result ≤ length bytes.now }
 {
     let mut n = 0;
-    while n < bytes.len() && is_plain(bytes[n]) {
-        n += 1;
+    while bytes.len() - n >= BLOCK_LEN {
+        let found = others(u8x16::from_slice(&bytes[n..]));
+        if found != 0 {
+            return n + found.trailing_zeros() as usize;
+        }
+        n += BLOCK_LEN;
     }
-    n
+    n + short_plain_len(&bytes[n..])
 }
 
 /// Returns what a text with a double quote in front begins with. In most literals each byte up to the next quote stands for itself.
