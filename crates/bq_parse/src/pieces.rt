@@ -39,26 +39,22 @@ fn line_after(kind: TokenKind, indents: usize) -> (bool, usize)
 }
 
 /// Returns how many tokens the first top-level statement has.
-#[tactic(auto, using(crate::proofs::Cutting::rest_len_ahead, crate::proofs::Cutting::rest_len_over, crate::proofs::Ahead::one_less))]
+#[tactic(auto, using(crate::proofs::Cutting::rest_len_ahead, crate::proofs::Cutting::rest_len_over, crate::proofs::Ahead::one_less, crate::proofs::Ahead::none_left))]
 pub fn piece_len(tokens: &Tokens<'_>) -> usize
     ensures len { result ≡ spec.piece_len tokens.now }
     ensures within { result ≤ length tokens.now }
 {
+    let all = tokens.left();
     let mut rest = tokens.here();
     let mut line = false;
     let mut indents = 0;
     // No more indents are open than tokens were passed.
-    for len in 0..tokens.left() {
-        match rest.peek() {
-            Some(kind) => {
-                if begins(line, indents, kind) {
-                    return len;
-                }
-                (line, indents) = line_after(kind, indents);
-                rest.advance();
-            }
-            None => return len,
+    'tokens: while let Some(kind) = rest.peek() {
+        if begins(line, indents, kind) {
+            return all - rest.left();
         }
+        (line, indents) = line_after(kind, indents);
+        rest.advance();
     }
-    tokens.left()
+    all
 }
