@@ -17,6 +17,7 @@ use Rattle.bq_resolve_scope.specs.Names.{Name, TargetLayer, ClauseLayer, max_lay
 use Rattle.bq_resolve_scope.proofs.Cases.{with_small_by, with_load_by}
 use Rattle.bq_resolve_by_name.specs.Binds.{AnyOf, target_binds_by, TargetBindsTo, TargetBinds, clause_binds_by, ClauseBinds, kind_binds, SmallBinds, stmt_binds_by, StmtBindsTo, StmtBinds, ParameterBinds, load_binds_by, loads_bind_by, ComprehensionBinds, FunctionBinds, FileBinds, LoadsBind}
 
+-- the names hold this one
 abbrev Held : List Name → Name → Type 0
 Held names name = has names name ≡ true
 
@@ -281,9 +282,11 @@ loads_adds : Adds with_loads (λ name t. loads_bind_by name (out-Stmt t.statemen
 unfolding with_loads
 loads_adds = record { from = λ names t name h. loads_from names (out-Stmt t.statement) name h; into = λ names t name h. loads_into names (out-Stmt t.statement) name h }
 
+-- the names of a file, with those that a statement outside functions binds
 abbrev with_top : List Name → TopLevel → List Name
 with_top names t = with_stmt names t.statement
 
+-- a statement outside functions binds the name
 abbrev TopBinds : Name → TopLevel → Type 0
 TopBinds name t = StmtBinds name t.statement
 

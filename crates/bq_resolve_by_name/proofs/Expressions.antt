@@ -25,7 +25,6 @@ use Rattle.bq_resolve_predeclared.specs.declared.predeclared.Predeclared.{Predec
 use Rattle.bq_parse_grammar.specs.declared.tree.ComprehensionFrame.{ComprehensionFrame}
 use Rattle.bq_parse_grammar.specs.declared.tree.ComprehensionFrame.TheVariants as frame
 use Rattle.bq_parse_grammar.specs.declared.tree.Referent.TheVariants as b
-use Rattle.bq_resolve_by_name.specs.Resolution.{Unframed}
 use Rattle.bq_resolve_scope.specs.Universe.{member_named}
 use Rattle.bq_resolve_scope.specs.Visit.{Passed, Visit, ◌>>=◌, pure, given, fault_of, each, optional}
 use Rattle.bq_resolve_scope.specs.Expressions.{refer, bound_at, framed, NamedSpace, MemberCall, member_call, namespace_at, use_at, target_by, target_to, pair, operation, choice, argument_by, arguments, suffix_by, suffixes, operand, call_member, primary_by, primary, clause_by, clauses, in_block, comprehension, expr_by, expr_to}
@@ -47,22 +46,22 @@ abbrev each_clause : Clause → ℕ
 each_clause c = both_slots (clause_slots c)
 
 -- of what is made of a frame, where that is the one around
-abbrev shared_slots : Unframed → ℕ
+abbrev shared_slots : (ComprehensionFrame → Expr) → ℕ
 shared_slots w = expr_slots (w frame.Shared)
 
 -- where a block was opened: what is made needs no more than what the frame then has
-record Opened (s t : Passed) (w : Unframed) : Type 0 where
+record Opened (s t : Passed) (w : ComprehensionFrame → Expr) : Type 0 where
   kept : s.slots ≤ t.slots
   same : t.functions ≡ s.functions
   fits : shared_slots w ≤ t.slots
 
 -- the same outside all blocks: in a frame of its own it needs nothing of the one around
-record Alone (s t : Passed) (w : Unframed) : Type 0 where
+record Alone (s t : Passed) (w : ComprehensionFrame → Expr) : Type 0 where
   same : t.functions ≡ s.functions
   fits : expr_slots (w (frame.Own t.slots)) ≤ 0
 
 -- a comprehension outside all blocks has a frame of its own, with all slots that it needs
-framed_by : (v : Visit Unframed) → ((s t : Passed) (w : Unframed) → v s ≡ Ok (w, t) → Alone s t w) → (s t : Passed) (x : Expr) (r : Result (Unframed × Passed) Fault) → v (record s { slots = 0 }) ≡ r
+framed_by : (v : Visit (ComprehensionFrame → Expr)) → ((s t : Passed) (w : ComprehensionFrame → Expr) → v s ≡ Ok (w, t) → Alone s t w) → (s t : Passed) (x : Expr) (r : Result ((ComprehensionFrame → Expr) × Passed) Fault) → v (record s { slots = 0 }) ≡ r
     → framed s.slots r ≡ Ok (x, t) → Made expr_slots [] s t x
 framed_by v alone s t x (Err why) d h = absurd (let no : ⊥ = cc in no)
 framed_by v alone s t x (Ok p) d h =
@@ -175,6 +174,7 @@ module _ (file : FileParts) (visit : List BlockParts → Expr → Visit Expr) (v
       needs_two blocks expr_slots (λ ys. most (map suffix_slots ys)) expr_slots (visit blocks x) (suffixes file visit blocks [] ss) (λ y ts. tree.Primary y ts)
       (visits blocks x) (suffixes_need blocks 0 [] ss (omega arith)) (λ y ts. omega (arith, S.slots-Primary y ts))
 
+  -- the call of a member, which takes the place of the first suffix
   abbrev called : Identifier → Predeclared → List Argument → List Suffix
   called m p ys = s.Method (refer m (b.Member p)) ys ∷ []
 
@@ -232,14 +232,14 @@ module _ (file : FileParts) (visit : List BlockParts → Expr → Visit Expr) (v
       (λ y. needs_each blocks each_clause (λ z. clause_by file visit blocks blocks (out-Clause z)) (λ z. clause_by_needs blocks blocks (visits blocks) (out-Clause z)) (max 0 (each_clause y)) (y ∷ []) xs (first_clause y))
 
   -- what makes a comprehension of its element, its clauses and its frame
-  abbrev Measures : {A : Type 0} → (A → ℕ) → (A → List Clause → Unframed) → Type 0
+  abbrev Measures : {A : Type 0} → (A → ℕ) → (A → List Clause → ComprehensionFrame → Expr) → Type 0
   Measures {A = A} g make = (x : A) (ys : List Clause) (own : ComprehensionFrame) → expr_slots (make x ys own) ≡ comprehension_slots own (g x) (map clause_slots ys)
 
-  shared_fits : {A : Type 0} (make : A → List Clause → Unframed) (g : A → ℕ) → Measures g make → (x : A) (ys : List Clause) → shared_slots (make x ys) ≤ max (g x) (most (map each_clause ys))
+  shared_fits : {A : Type 0} (make : A → List Clause → ComprehensionFrame → Expr) (g : A → ℕ) → Measures g make → (x : A) (ys : List Clause) → shared_slots (make x ys) ≤ max (g x) (most (map each_clause ys))
   shared_fits make g measures x ys = omega (arith, measures x ys frame.Shared, all_clauses ys)
 
-  block_needs : {A : Type 0} (element : List BlockParts → Visit A) (make : A → List Clause → Unframed) (g : A → ℕ) → ((bs : List BlockParts) → Needs bs 0 g (element bs))
-      → Measures g make → (blocks : List BlockParts) (xs : List Clause) (s t : Passed) (w : Unframed)
+  block_needs : {A : Type 0} (element : List BlockParts → Visit A) (make : A → List Clause → ComprehensionFrame → Expr) (g : A → ℕ) → ((bs : List BlockParts) → Needs bs 0 g (element bs))
+      → Measures g make → (blocks : List BlockParts) (xs : List Clause) (s t : Passed) (w : ComprehensionFrame → Expr)
       → Within blocks s.slots → in_block file visit element make blocks xs s ≡ Ok (w, t) → Opened s t w
   unfolding in_block
   block_needs element make g elements measures blocks xs s t w within h =
@@ -278,7 +278,7 @@ module _ (file : FileParts) (visit : List BlockParts → Expr → Visit Expr) (v
       let b : (zs : List Clause) × (ys ≡ a.0.0 ∷ zs) = begun (λ z. clause_by file visit blocks blocks (out-Clause z)) a.0.0 [] xs a.0.1 t ys a.2 in
       subst (λ zs. outer_slots (map clause_slots zs) ≤ 0) (sym b.1) (clause_outer blocks (out-Clause x) s a.0.1 a.0.0 a.1)
 
-  own_fits : {A : Type 0} (make : A → List Clause → Unframed) (g : A → ℕ) → Measures g make → (x : A) (ys : List Clause) (slots : ℕ) → shared_slots (make x ys) ≤ slots → outer_slots (map clause_slots ys) ≤ 0
+  own_fits : {A : Type 0} (make : A → List Clause → ComprehensionFrame → Expr) (g : A → ℕ) → Measures g make → (x : A) (ys : List Clause) (slots : ℕ) → shared_slots (make x ys) ≤ slots → outer_slots (map clause_slots ys) ≤ 0
       → expr_slots (make x ys (frame.Own slots)) ≤ 0
   own_fits make g measures x ys slots fits outer =
       let zs : List ClauseSlots = map clause_slots ys in
@@ -287,8 +287,8 @@ module _ (file : FileParts) (visit : List BlockParts → Expr → Visit Expr) (v
       let d : expr_slots (make x ys (frame.Own slots)) ≡ max (outer_slots zs) (framed_slots slots (max (g x) (inner_slots zs))) = measures x ys (frame.Own slots) in
       omega arith
 
-  alone_needs : {A : Type 0} (element : List BlockParts → Visit A) (make : A → List Clause → Unframed) (g : A → ℕ) → ((bs : List BlockParts) → Needs bs 0 g (element bs))
-      → Measures g make → (xs : List Clause) (s t : Passed) (w : Unframed) → in_block file visit element make [] xs s ≡ Ok (w, t) → Alone s t w
+  alone_needs : {A : Type 0} (element : List BlockParts → Visit A) (make : A → List Clause → ComprehensionFrame → Expr) (g : A → ℕ) → ((bs : List BlockParts) → Needs bs 0 g (element bs))
+      → Measures g make → (xs : List Clause) (s t : Passed) (w : ComprehensionFrame → Expr) → in_block file visit element make [] xs s ≡ Ok (w, t) → Alone s t w
   unfolding in_block
   alone_needs element make g elements measures xs s t w h =
       let o : Opened s t w = block_needs element make g elements measures [] xs s t w tt h in
@@ -300,7 +300,7 @@ module _ (file : FileParts) (visit : List BlockParts → Expr → Visit Expr) (v
       let fits : shared_slots (make a.0.0 b.0.0) ≤ t.slots = subst (λ z. shared_slots z ≤ t.slots) (sym p.0) o.fits in
       record { same = o.same; fits = subst (λ z. expr_slots (z (frame.Own t.slots)) ≤ 0) p.0 (own_fits make g measures a.0.0 b.0.0 t.slots fits outer) }
 
-  comprehension_needs : {A : Type 0} (element : List BlockParts → Visit A) (make : A → List Clause → Unframed) (g : A → ℕ) → ((bs : List BlockParts) → Needs bs 0 g (element bs))
+  comprehension_needs : {A : Type 0} (element : List BlockParts → Visit A) (make : A → List Clause → ComprehensionFrame → Expr) (g : A → ℕ) → ((bs : List BlockParts) → Needs bs 0 g (element bs))
       → Measures g make → (blocks : List BlockParts) (xs : List Clause) → Needs blocks 0 expr_slots (comprehension file visit element make blocks xs)
   unfolding comprehension
   comprehension_needs element make g elements measures [] xs = λ s t x w h e.

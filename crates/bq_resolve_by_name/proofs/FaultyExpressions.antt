@@ -22,9 +22,9 @@ use Rattle.bq_parse_grammar.specs.declared.tree.TargetExpr.TheVariants as t
 use Rattle.bq_resolve_scope.specs.Names.{Name, TargetLayer, ClauseLayer, max_layers, comprehension_names}
 use Rattle.bq_resolve_scope.specs.Scope.{BlockParts, FileParts}
 use Rattle.bq_resolve_predeclared.specs.declared.predeclared.Predeclared.{Predeclared}
+use Rattle.bq_parse_grammar.specs.declared.tree.ComprehensionFrame.{ComprehensionFrame}
 use Rattle.bq_parse_grammar.specs.declared.tree.ComprehensionFrame.TheVariants as frame
 use Rattle.bq_parse_grammar.specs.declared.tree.Referent.TheVariants as b
-use Rattle.bq_resolve_by_name.specs.Resolution.{Unframed}
 use Rattle.bq_resolve_scope.specs.Universe.{member_named}
 use Rattle.bq_resolve_scope.specs.Visit.{Passed, Visit, ◌>>=◌, pure, given, fault_of, each, optional}
 use Rattle.bq_resolve_scope.specs.Expressions.{refer, bound_at, framed, in_frame, NamedSpace, member_by, member_call, namespace_at, use_at, target_by, target_to, pair, operation, choice, argument_by, arguments, suffix_by, suffixes, operand, call_member, primary_by, primary, clause_by, clauses, in_block, comprehension, expr_by, expr_to}
@@ -36,11 +36,11 @@ use Rattle.bq_resolve_by_name.proofs.UnknownNames.{around_of, use_finds, the_spa
 
 -- ---- frames
 
-framed_finds : (slots : ℕ) (r : Result (Unframed × Passed) Fault) (faults : List Fault) (b : Before) → Finding {A = Unframed} faults b r → Finding {A = Expr} faults b (framed slots r)
+framed_finds : (slots : ℕ) (r : Result ((ComprehensionFrame → Expr) × Passed) Fault) (faults : List Fault) (b : Before) → Finding {A = ComprehensionFrame → Expr} faults b r → Finding {A = Expr} faults b (framed slots r)
 framed_finds slots (Err why) faults b h = h
 framed_finds slots (Ok p) faults b h = h
 
-frame_finds : (blocks : List BlockParts) (v : Visit Unframed) (faults : List Fault) → Finds {A = Unframed} faults v → Finds {A = Expr} faults (in_frame blocks v)
+frame_finds : (blocks : List BlockParts) (v : Visit (ComprehensionFrame → Expr)) (faults : List Fault) → Finds {A = ComprehensionFrame → Expr} faults v → Finds {A = Expr} faults (in_frame blocks v)
 frame_finds [] v faults h = λ u. framed_finds u.slots (v (record u { slots = 0 })) faults (before u) (h (record u { slots = 0 }))
 frame_finds (b ∷ bs) v faults h = finds_map v (λ w. w frame.Shared) faults h
 
@@ -184,8 +184,8 @@ module _ (file : FileParts) (visit : List BlockParts → Expr → Visit Expr) (i
       (λ y. finds_held block.names (λ z. clause_by file visit own own (out-Clause z)) (λ z. in_clause_by file inner (around_of own) (around_of own) (out-Clause z)) ClauseBinds
       (λ z h. clause_finds own block blocks z h) (y ∷ []) xs (λ name p. held name (inr p)))
 
-  block_finds : {A : Type 0} (element : List BlockParts → Visit A) (F : Around → List Fault) (make : A → List Clause → Unframed) → ((bs : List BlockParts) → Finds {A = A} (F (around_of bs)) (element bs))
-      → (blocks : List BlockParts) (xs : List Clause) → Finds {A = Unframed} (in_comprehension file inner F (around_of blocks) xs) (in_block file visit element make blocks xs)
+  block_finds : {A : Type 0} (element : List BlockParts → Visit A) (F : Around → List Fault) (make : A → List Clause → ComprehensionFrame → Expr) → ((bs : List BlockParts) → Finds {A = A} (F (around_of bs)) (element bs))
+      → (blocks : List BlockParts) (xs : List Clause) → Finds {A = ComprehensionFrame → Expr} (in_comprehension file inner F (around_of blocks) xs) (in_block file visit element make blocks xs)
   unfolding in_comprehension in_block
   block_finds element F make elements blocks xs u =
       let names : List Name = comprehension_names xs in
@@ -193,7 +193,7 @@ module _ (file : FileParts) (visit : List BlockParts → Expr → Visit Expr) (i
       finds_two (element (block ∷ blocks)) (clauses file visit blocks (block ∷ blocks) xs) make (F (names ∷ around_of blocks)) (in_clauses file inner (around_of blocks) (names ∷ around_of blocks) xs)
       (elements (block ∷ blocks)) (clauses_find blocks block blocks xs (λ name p. (comprehension_binds xs name).1 p)) (record u { slots = u.slots + length names })
 
-  comprehension_finds : {A : Type 0} (element : List BlockParts → Visit A) (F : Around → List Fault) (make : A → List Clause → Unframed) → ((bs : List BlockParts) → Finds {A = A} (F (around_of bs)) (element bs))
+  comprehension_finds : {A : Type 0} (element : List BlockParts → Visit A) (F : Around → List Fault) (make : A → List Clause → ComprehensionFrame → Expr) → ((bs : List BlockParts) → Finds {A = A} (F (around_of bs)) (element bs))
       → (blocks : List BlockParts) (xs : List Clause) → Finds {A = Expr} (in_comprehension file inner F (around_of blocks) xs) (comprehension file visit element make blocks xs)
   unfolding comprehension
   comprehension_finds element F make elements blocks xs =

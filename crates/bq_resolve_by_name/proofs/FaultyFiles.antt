@@ -166,6 +166,7 @@ module _ (file : FileParts) where
 
   -- ---- parameters, and the names of those so far
 
+  -- the fault is the first of these; where there is none, these are the names of the parameters so far
   abbrev Naming : List Fault → Before → List Name → Result (ParameterParts × Passed) Fault → Type 0
   Naming faults b names (Err why) = first faults ≡ Some why
   Naming faults b names (Ok p) = (faults ≡ []) × (before p.1 ≡ b) × (p.0.names ≡ names)
@@ -207,6 +208,7 @@ module _ (file : FileParts) where
   next_finds l (parameter.Star n) u = named_finds l n (formal.Star (refer n (b.Local (length l.names)))) u
   next_finds l (parameter.StarStar n) u = named_finds l n (formal.StarStar (refer n (b.Local (length l.names)))) u
 
+  -- the faults in parameters, after those of these names
   abbrev in_parameters : List Name → List Parameter → List Fault
   in_parameters names ps = in_turn (in_parameter file) with_parameter names ps
 
@@ -232,6 +234,7 @@ module _ (file : FileParts) where
   function_by name ps slots (Err why) faults b h = h
   function_by name ps slots (Ok p) faults b h = h
 
+  -- the faults in the statements of a function
   abbrev in_body : List Name → List Stmt → List Fault
   in_body names body = flat_map (in_stmt_to file max_layers (names ∷ []) false) body
 

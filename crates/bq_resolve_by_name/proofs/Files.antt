@@ -33,6 +33,7 @@ use Rattle.bq_resolve_by_name.proofs.Uses.{name_slots, name_needs}
 use Rattle.bq_resolve_by_name.proofs.Growth.{parameters_among}
 use Rattle.bq_resolve_by_name.proofs.Statements.{an_expr_needs, small_needs, stmt_needs}
 
+-- each function fits its frame
 abbrev AllFit : List Function → Type 0
 AllFit fs = AllByRecursion FitsItsFrame fs
 
@@ -42,10 +43,12 @@ all_more (x ∷ xs) g all fits = (all.0, all_more xs g all.1 fits)
 
 -- ---- parameters: their slots are the first of the function, and their defaults lie outside it
 
+-- the parameters are in the slots of their names, and the defaults have none
 record Fitting (l : ParameterParts) : Type 0 where
   slots : most (map parameter_slots l.parameters) ≤ length l.names
   defaults : most (map expr_slots l.defaults) ≤ 0
 
+-- after a parameter: these names, and no function more
 record Next (l : ParameterParts) (names : List Name) (u t : Passed) (m : ParameterParts) : Type 0 where
   fitting : Fitting m
   bound : m.names ≡ names
@@ -140,6 +143,7 @@ module _ (file : FileParts) where
 
   -- ---- what stands outside functions
 
+  -- what stands outside functions needs no slot, and all functions still fit
   record Stands {A : Type 0} (g : A → ℕ) (t : Passed) (x : A) : Type 0 where
     all : AllFit t.functions
     none : g x ≤ 0

@@ -7,6 +7,7 @@ use Rattle.bq_resolve_scope.specs.Visit.{Passed, Visit, following, ◌>>=◌, pu
 use Rattle.bq_resolve_by_name.specs.Binds.{AnyOf}
 use Rattle.bq_resolve_by_name.specs.Violations.{first, of_part, in_turn, unless, Before}
 
+-- the names that were passed
 abbrev pub before : Passed → Before
 before s = record { bound = s.bound; loaded = s.loaded }
 
@@ -15,6 +16,7 @@ abbrev pub Finding : {A : Type 0} → List Fault → Before → Result (A × Pas
 Finding faults after (Err why) = first faults ≡ Some why
 Finding faults after (Ok p) = (faults ≡ []) × (before p.1 ≡ after)
 
+-- the fault of a walk is the first of these, wherever it begins
 abbrev pub Tells : {A : Type 0} → (Before → List Fault) → (Before → Before) → Visit A → Type 0
 Tells {A = A} faults after v = (s : Passed) → Finding {A = A} (faults (before s)) (after (before s)) (v s)
 

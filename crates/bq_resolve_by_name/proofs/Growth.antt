@@ -12,6 +12,7 @@ use Rattle.bq_parse_grammar.specs.declared.tree.TargetExpr.{TargetExpr, out-Targ
 use Rattle.bq_resolve_scope.specs.Names.{Name, TargetLayer, max_layers, has, with_name, with_each, with_target_by, with_target_to, with_target, with_small, with_branch, with_stmt_by, with_stmt_to, with_stmt, with_parameter, function_names}
 use Rattle.bq_resolve_scope.proofs.Cases.{with_small_by}
 
+-- names are added, and none is lost
 abbrev Grows : {A : Type 0} → (List Name → A → List Name) → Type 0
 Grows {A = A} add = (names : List Name) (x : A) → length names ≤ length (add names x)
 

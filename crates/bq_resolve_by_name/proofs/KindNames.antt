@@ -44,6 +44,7 @@ one_of true t x h = inl refl
 one_of false true x h = inr refl
 one_of false false x h = absurd (let no : ⊥ = cc in no)
 
+-- no .bzl file has the name without binding it
 abbrev IsNoValue : List Name → Name → Type 0
 IsNoValue rules name = universe_has (record { kind = kinds.Bzl; rules = rules }) name ≡ None
 

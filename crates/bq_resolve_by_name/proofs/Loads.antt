@@ -23,6 +23,7 @@ use Rattle.bq_resolve_by_name.specs.Laws.{LoadsAreKept, GlobalsAreKept}
 use Rattle.bq_resolve_by_name.specs.Loads.{WrittenLoad, written_load, loads_by, file_loads}
 use Rattle.bq_resolve_by_name.proofs.Cases.{line_loads, stmt_loads}
 
+-- loads as they are written
 abbrev lines : List LoadStmt → List WrittenLoad
 lines ls = map written_load ls
 
@@ -43,6 +44,7 @@ module _ (file : FileParts) where
   symbols_same [] (x ∷ xs) h = absurd h
   symbols_same (c ∷ cs) [] h = absurd h
 
+  -- a load with these symbols
   abbrev load_with : ℕ → List ℕ → List Name → WrittenLoad
   load_with line label names = record { line = line; label = label; symbols = names }
 

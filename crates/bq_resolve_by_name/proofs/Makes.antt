@@ -20,10 +20,12 @@ append_all (x ∷ xs) ys zs = ap (λ ws. x ∷ ws) (append_all xs ys zs)
 
 -- ---- walks that add no function and no load
 
+-- what a walk from here gave holds `P`, and it added no function and no load
 abbrev pub Making : {A : Type 0} → (A → Type 0) → Passed → Result (A × Passed) Fault → Type 0
 Making P s (Err why) = Unit {0}
 Making P s (Ok p) = P p.0 × (p.1.functions ≡ s.functions) × (p.1.loads ≡ s.loads)
 
+-- what a walk makes holds `P`, wherever it begins
 abbrev pub Makes : {A : Type 0} → (A → Type 0) → Visit A → Type 0
 Makes {A = A} P v = (s : Passed) → Making {A = A} P s (v s)
 
@@ -88,10 +90,12 @@ makes_optional {A = A} R one ones (Some x) =
 
 -- ---- walks that add these functions and loads
 
+-- a walk from here added these functions and loads: `P` holds of them, of what it made, and of how many functions stood before
 abbrev pub Gaining : {A : Type 0} → (ℕ → A → List Function → List LoadStmt → Type 0) → Passed → Result (A × Passed) Fault → Type 0
 Gaining P s (Err why) = Unit {0}
 Gaining P s (Ok p) = (f : List Function) × (l : List LoadStmt) × P (length s.functions) p.0 f l × (p.1.functions ≡ s.functions ++ f) × (p.1.loads ≡ s.loads ++ l)
 
+-- the same of a walk, wherever it begins
 abbrev pub Gains : {A : Type 0} → (ℕ → A → List Function → List LoadStmt → Type 0) → Visit A → Type 0
 Gains {A = A} P v = (s : Passed) → Gaining {A = A} P s (v s)
 

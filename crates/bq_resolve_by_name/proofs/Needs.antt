@@ -39,6 +39,7 @@ room_more (b ∷ bs) m n h = h
 pub weaker : {A : Type 0} (blocks : List BlockParts) (m : ℕ) (f : A → ℕ) (v : Visit A) → Needs blocks 0 f v → Needs blocks m f v
 weaker blocks m f v n s t x w h e = n s t x w (omega arith) e
 
+-- a walk that ends here, with this
 abbrev pub ends : {A : Type 0} → A → Passed → Result (A × Passed) Fault
 ends x s = Ok (x, s)
 

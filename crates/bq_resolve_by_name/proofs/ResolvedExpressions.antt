@@ -23,13 +23,14 @@ use Rattle.bq_parse_grammar.specs.declared.tree.TargetExpr.TheVariants as t
 use Rattle.bq_resolve_scope.specs.Names.{Name, TargetLayer, ClauseLayer, max_layers, comprehension_names, has, with_name}
 use Rattle.bq_resolve_scope.specs.Scope.{BlockParts, FileParts, use_of}
 use Rattle.bq_resolve_predeclared.specs.declared.predeclared.Predeclared.{Predeclared}
+use Rattle.bq_parse_grammar.specs.declared.tree.ComprehensionFrame.{ComprehensionFrame}
 use Rattle.bq_parse_grammar.specs.declared.tree.ComprehensionFrame.TheVariants as frame
 use Rattle.bq_parse_grammar.specs.declared.tree.Referent.TheVariants as b
 use Rattle.bq_resolve_scope.specs.Universe.{member_named}
 use Rattle.bq_resolve_scope.specs.Visit.{Passed, Visit, following, ◌>>=◌, pure, given, fault_of, each, optional}
 use Rattle.bq_parse_grammar.specs.declared.tree.FileKind.{FileKind}
 use Rattle.bq_resolve_scope.specs.Expressions.{refer, place_of, is_bzl, bind_global, bind_in, bound_at, framed, NamedSpace, MemberCall, member_call, namespace_at, use_at, target_by, target_to, pair, operation, choice, argument_by, arguments, suffix_by, suffixes, operand, call_member, primary_by, primary, clause_by, clauses, in_block, comprehension, expr_by, expr_to}
-use Rattle.bq_resolve_by_name.specs.Resolution.{InOrder, Maybe, Unframed, target_is_by, TargetTo, PairIs, OperationIs, ChoiceIs, argument_is_by, ArgumentsAre, suffix_is_by, SuffixesAre, primary_is_by, clause_is_by, ClausesAre, in_block_is, comprehension_is, expr_is_by, ExprTo}
+use Rattle.bq_resolve_by_name.specs.Resolution.{InOrder, Maybe, target_is_by, TargetTo, PairIs, OperationIs, ChoiceIs, argument_is_by, ArgumentsAre, suffix_is_by, SuffixesAre, primary_is_by, clause_is_by, ClausesAre, frame_is, comprehension_is, expr_is_by, ExprTo}
 use Rattle.bq_resolve_by_name.proofs.Makes.{Making, Makes, After, from, makes_bind, makes_weaker, makes_map, makes_two, makes_three, makes_given, makes_each, makes_all, makes_optional}
 
 -- ---- names
@@ -64,13 +65,6 @@ named_makes : {B : Type 0} (o : Option Referent) (n : Identifier) (v : Visit Ide
 named_makes {B = B} o n v make h =
     makes_weaker {A = B} (λ z. (m : Identifier) × ((x : Referent) × (o ≡ Some x) × (m ≡ refer n x)) × (z ≡ make m)) (λ z. (x : Referent) × (o ≡ Some x) × (z ≡ make (refer n x)))
     (v >>= λ m. pure (make m)) (λ z g. (g.1.0, g.1.1, g.2 ∙ ap make g.1.2)) (makes_map {A = Identifier} {B = B} (λ m. (x : Referent) × (o ≡ Some x) × (m ≡ refer n x)) v make h)
-
--- ---- frames
-
-framed_by : (P : Unframed → Type 0) (u old : Passed) (r : Result (Unframed × Passed) Fault) → u.functions ≡ old.functions → u.loads ≡ old.loads → Making {A = Unframed} P u r
-    → Making {A = Expr} (λ z. (slots : ℕ) × (w : Unframed) × P w × (z ≡ w (frame.Own slots))) old (framed old.slots r)
-framed_by P u old (Err why) g l h = tt
-framed_by P u old (Ok p) g l h = ((p.1.slots, p.0, h.0, refl), h.1 ∙ g, h.2 ∙ l)
 
 module _ (file : FileParts) (visit : List BlockParts → Expr → Visit Expr) (Is : List BlockParts → Expr → Expr → Type 0) (visits : (blocks : List BlockParts) (x : Expr) → Makes (Is blocks x) (visit blocks x)) where
   -- ---- targets
@@ -184,31 +178,42 @@ module _ (file : FileParts) (visit : List BlockParts → Expr → Visit Expr) (I
       (λ zs g. subst (λ ws. ClausesAre file Is round blocks (x ∷ xs) ws) (sym g.2) (r, g.1))
       (makes_each (λ z w. clause_is_by file Is blocks blocks (out-Clause z) w) (λ z. clause_by file visit blocks blocks (out-Clause z)) (λ z. clause_by_makes blocks blocks (out-Clause z)) (y ∷ []) xs))
 
-  block_makes : {A : Type 0} (element : List BlockParts → Visit A) (E : List BlockParts → A → Type 0) (make : A → List Clause → Unframed) → ((bs : List BlockParts) → Makes {A = A} (E bs) (element bs))
-      → (blocks : List BlockParts) (xs : List Clause) (u : Passed)
-      → Making {A = Unframed} (in_block_is file Is E make (record { base = u.slots; names = comprehension_names xs }) blocks xs) u (in_block file visit element make blocks xs u)
-  unfolding in_block
-  block_makes element E make elements blocks xs u =
-      let names : List Name = comprehension_names xs in
-      let block : BlockParts = record { base = u.slots; names = names } in
-      let opened : Passed = record u { slots = u.slots + length names } in
-      from (in_block_is file Is E make block blocks xs) u opened ((element (block ∷ blocks) >>= λ x. clauses file visit blocks (block ∷ blocks) xs >>= λ ys. pure (make x ys)) opened) refl refl
-      (makes_two (E (block ∷ blocks)) (ClausesAre file Is blocks (block ∷ blocks) xs) (element (block ∷ blocks)) (clauses file visit blocks (block ∷ blocks) xs) make
-      (elements (block ∷ blocks)) (clauses_make blocks (block ∷ blocks) xs) opened)
+  module _ {A : Type 0} (element : List BlockParts → Visit A) (E : List BlockParts → A → Type 0) (make : A → List Clause → ComprehensionFrame → Expr) (elements : (bs : List BlockParts) → Makes {A = A} (E bs) (element bs)) where
+    -- its names, in the slots from `base` on
+    abbrev block_of : List Clause → ℕ → BlockParts
+    block_of xs base = record { base = base; names = comprehension_names xs }
 
-  based_by : {A : Type 0} (E : List BlockParts → A → Type 0) (make : A → List Clause → Unframed) (b : BlockParts) (bs : List BlockParts) (xs : List Clause) (u : Passed) (r : Result (Unframed × Passed) Fault)
-      → Making {A = Unframed} (in_block_is file Is E make (record { base = u.slots; names = comprehension_names xs }) (b ∷ bs) xs) u r
-      → Making {A = Expr} (comprehension_is file Is E make (b ∷ bs) xs) u (following r (λ w. pure (w frame.Shared)))
-  based_by E make b bs xs u (Err why) h = tt
-  based_by E make b bs xs u (Ok p) h = ((u.slots, p.0, h.0, refl), h.1, h.2)
+    -- what is made of a comprehension's frame
+    abbrev OfFrame : List BlockParts → List Clause → ℕ → (ComprehensionFrame → Expr) → Type 0
+    OfFrame blocks xs base w = (x : A) × (ys : List Clause) × E (block_of xs base ∷ blocks) x × ClausesAre file Is blocks (block_of xs base ∷ blocks) xs ys × (w ≡ make x ys)
 
-  comprehension_makes : {A : Type 0} (element : List BlockParts → Visit A) (E : List BlockParts → A → Type 0) (make : A → List Clause → Unframed) → ((bs : List BlockParts) → Makes {A = A} (E bs) (element bs))
-      → (blocks : List BlockParts) (xs : List Clause) → Makes {A = Expr} (comprehension_is file Is E make blocks xs) (comprehension file visit element make blocks xs)
-  unfolding comprehension
-  comprehension_makes element E make elements [] xs = λ u.
-      framed_by (in_block_is file Is E make (record { base = 0; names = comprehension_names xs }) [] xs) (record u { slots = 0 }) u (in_block file visit element make [] xs (record u { slots = 0 })) refl refl
-      (block_makes element E make elements [] xs (record u { slots = 0 }))
-  comprehension_makes element E make elements (b ∷ bs) xs = λ u. based_by E make b bs xs u (in_block file visit element make (b ∷ bs) xs u) (block_makes element E make elements (b ∷ bs) xs u)
+    block_makes : (blocks : List BlockParts) (xs : List Clause) (u : Passed) → Making {A = ComprehensionFrame → Expr} (OfFrame blocks xs u.slots) u (in_block file visit element make blocks xs u)
+    unfolding in_block
+    block_makes blocks xs u =
+        let block : BlockParts = block_of xs u.slots in
+        let opened : Passed = record u { slots = u.slots + length block.names } in
+        from (OfFrame blocks xs u.slots) u opened ((element (block ∷ blocks) >>= λ x. clauses file visit blocks (block ∷ blocks) xs >>= λ ys. pure (make x ys)) opened) refl refl
+        (makes_two (E (block ∷ blocks)) (ClausesAre file Is blocks (block ∷ blocks) xs) (element (block ∷ blocks)) (clauses file visit blocks (block ∷ blocks) xs) make
+        (elements (block ∷ blocks)) (clauses_make blocks (block ∷ blocks) xs) opened)
+
+    in_frame_makes : (blocks : List BlockParts) (xs : List Clause) (base : ℕ) (w : ComprehensionFrame → Expr) (own : ComprehensionFrame) → OfFrame blocks xs base w → frame_is blocks base own
+        → comprehension_is file Is E make blocks xs (w own)
+    in_frame_makes blocks xs base w own h is = (block_of xs base, h.0, h.1, own, refl, is, h.2, h.3, ap (λ m. m own) h.4)
+
+    own_by : (xs : List Clause) (u : Passed) (r : Result ((ComprehensionFrame → Expr) × Passed) Fault) → Making {A = ComprehensionFrame → Expr} (OfFrame [] xs 0) (record u { slots = 0 }) r
+        → Making {A = Expr} (comprehension_is file Is E make [] xs) u (framed u.slots r)
+    own_by xs u (Err why) h = tt
+    own_by xs u (Ok p) h = (in_frame_makes [] xs 0 p.0 (frame.Own p.1.slots) h.0 (p.1.slots, refl, refl), h.1, h.2)
+
+    shared_by : (b : BlockParts) (bs : List BlockParts) (xs : List Clause) (u : Passed) (r : Result ((ComprehensionFrame → Expr) × Passed) Fault) → Making {A = ComprehensionFrame → Expr} (OfFrame (b ∷ bs) xs u.slots) u r
+        → Making {A = Expr} (comprehension_is file Is E make (b ∷ bs) xs) u (following r (λ w. pure (w frame.Shared)))
+    shared_by b bs xs u (Err why) h = tt
+    shared_by b bs xs u (Ok p) h = (in_frame_makes (b ∷ bs) xs u.slots p.0 frame.Shared h.0 refl, h.1, h.2)
+
+    comprehension_makes : (blocks : List BlockParts) (xs : List Clause) → Makes {A = Expr} (comprehension_is file Is E make blocks xs) (comprehension file visit element make blocks xs)
+    unfolding comprehension
+    comprehension_makes [] xs u = let opened : Passed = record u { slots = 0 } in own_by xs u (in_block file visit element make [] xs opened) (block_makes [] xs opened)
+    comprehension_makes (b ∷ bs) xs u = shared_by b bs xs u (in_block file visit element make (b ∷ bs) xs u) (block_makes (b ∷ bs) xs u)
 
   -- ---- expressions
 
@@ -223,7 +228,7 @@ module _ (file : FileParts) (visit : List BlockParts → Expr → Visit Expr) (I
   expr_by_makes blocks (Expr-F.Expr::Tuple xs) = makes_map (λ ys. InOrder (Is blocks) xs ys) (each (visit blocks) [] xs) (λ ys. tree.Tuple ys) (all_make blocks xs)
   expr_by_makes blocks (Expr-F.Dict ps) =
       makes_map (λ qs. InOrder (PairIs file Is blocks) ps qs) (each (pair file visit blocks) [] ps) (λ qs. tree.Dict qs) (makes_all (PairIs file Is blocks) (pair file visit blocks) (pair_makes blocks) ps)
-  expr_by_makes blocks (Expr-F.ListComprehension x xs own) = comprehension_makes (λ bs. visit bs x) (λ bs y. Is bs x y) (λ y ys own. tree.ListComprehension y ys own) (λ bs. visits bs x) blocks xs
+  expr_by_makes blocks (Expr-F.ListComprehension x xs own) = comprehension_makes {A = Expr} (λ bs. visit bs x) (λ bs y. Is bs x y) (λ y ys own. tree.ListComprehension y ys own) (λ bs. visits bs x) blocks xs
   expr_by_makes blocks (Expr-F.DictComprehension p xs own) =
       comprehension_makes (λ bs. pair file visit bs p) (λ bs q. PairIs file Is bs p q) (λ y ys own. tree.DictComprehension y ys own) (λ bs. pair_makes bs p) blocks xs
   expr_by_makes blocks (Expr-F.Primary x ss) = primary_makes blocks x ss

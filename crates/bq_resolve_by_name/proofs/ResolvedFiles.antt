@@ -54,6 +54,7 @@ module _ (file : FileParts) where
       clause_by (has u.loaded x.local.name) (is_bzl file.universe.kind && has u.bound x.local.name) (fault_of f.BoundTwice x.local) (fault_of f.Rebound x.local)
       (record { local = x.local.name; symbol = x.symbol; global = place_among x.local.name file.globals }) (with_name u.loaded x.local.name) u
 
+  -- a small statement outside functions: it adds its load, if it is one, and no function
   abbrev outer : ℕ → SmallKind → ℕ → SmallKind → List Function → List LoadStmt → Type 0
   outer line k n z fs ls = kind_is file [] k z × (fs ≡ []) × loads_are file line k ls
 
@@ -94,9 +95,11 @@ module _ (file : FileParts) where
 
   -- ---- parameters
 
+  -- `m` is `l` and a parameter with a name, which becomes `x`
   abbrev Row : ParameterParts → Formal → ParameterParts → Type 0
   Row l x m = (length m.names ≡ length l.names + 1) × (m.parameters ≡ l.parameters ++ x ∷ []) × (m.defaults ≡ l.defaults)
 
+  -- `m` is `l` and this parameter
   abbrev Step : ParameterParts → Parameter → ParameterParts → Type 0
   Step l (parameter.Plain n) m = Row l (formal.Plain (refer n (b.Local (length l.names)))) m
   Step l (parameter.Default n x) m =
@@ -105,6 +108,7 @@ module _ (file : FileParts) where
   Step l (parameter.Star n) m = Row l (formal.Star (refer n (b.Local (length l.names)))) m
   Step l (parameter.StarStar n) m = Row l (formal.StarStar (refer n (b.Local (length l.names)))) m
 
+  -- `m` is `l` and these parameters
   abbrev Rows : ParameterParts → List Parameter → ParameterParts → Type 0
   Rows l ps m = (ys : List Formal) × (ds : List Expr) × ParametersAre file (length l.names) ps ys × DefaultsAre file ps ds × (m.parameters ≡ l.parameters ++ ys) × (m.defaults ≡ l.defaults ++ ds)
 
@@ -178,6 +182,7 @@ module _ (file : FileParts) where
 
   -- ---- functions
 
+  -- `z` is the number of the function that is added
   abbrev Counted : Identifier → List Parameter → List Stmt → ℕ → ℕ → List Function → List LoadStmt → Type 0
   Counted n ps body k z fs ls = (z ≡ k) × ((g : Function) × FunctionIs file n ps body g × (fs ≡ g ∷ [])) × (ls ≡ [])
 
@@ -203,9 +208,11 @@ module _ (file : FileParts) where
 
   -- ---- what stands outside functions
 
+  -- a `def`
   abbrev defined : Identifier → List Parameter → List Stmt → ℕ → Outside → List Function → List LoadStmt → Type 0
   defined n ps body k z fs ls = file_stmt_is file k (Stmt-F.Def n ps body) z fs ls
 
+  -- a name that is bound outside functions, with what it refers to
   abbrev Bound : Identifier → Identifier → Type 0
   Bound n m = (x : Referent) × (place_of (use_of file [] n.name) ≡ Some x) × (m ≡ refer n x)
 

@@ -37,13 +37,16 @@ target_binds_by inner name (TargetExpr-F.TargetExpr::Index x i) = ⊥
 target_binds_by inner name (TargetExpr-F.TargetExpr::Tuple ts) = AnyOf inner ts
 target_binds_by inner name (TargetExpr-F.TargetExpr::List ts) = AnyOf inner ts
 
+-- a target of at most this many layers
 unfoldable pub TargetBindsTo : ℕ → Name → TargetExpr → Type 0
 TargetBindsTo zero name t = ⊥
 TargetBindsTo (suc layers) name t = target_binds_by (TargetBindsTo layers name) name (out-TargetExpr t)
 
+-- a target binds the name
 unfoldable pub TargetBinds : Name → TargetExpr → Type 0
 TargetBinds name t = TargetBindsTo max_layers name t
 
+-- a clause, by its form
 abbrev pub clause_binds_by : Name → ClauseLayer → Type 0
 clause_binds_by name (Clause-F.For t x) = TargetBinds name t
 clause_binds_by name (Clause-F.If x) = ⊥
@@ -52,6 +55,7 @@ clause_binds_by name (Clause-F.If x) = ⊥
 unfoldable pub ClauseBinds : Name → Clause → Type 0
 ClauseBinds name c = clause_binds_by name (out-Clause c)
 
+-- a small statement, by its form
 abbrev pub kind_binds : Name → SmallKind → Type 0
 kind_binds name (small.Assign t x) = TargetBinds name t
 kind_binds name (small.Augment t o x) = TargetBinds name t
@@ -68,13 +72,16 @@ stmt_binds_by inner name (Stmt-F.If bs zs) = AnyOf (λ b. AnyOf inner (out-Branc
 stmt_binds_by inner name (Stmt-F.For t x xs) = TargetBinds name t ⊎ AnyOf inner xs
 stmt_binds_by inner name (Stmt-F.Def n ps xs) = name ≡ n.name
 
+-- a statement of at most this many layers
 unfoldable pub StmtBindsTo : ℕ → Name → Stmt → Type 0
 StmtBindsTo zero name x = ⊥
 StmtBindsTo (suc layers) name x = stmt_binds_by (StmtBindsTo layers name) name (out-Stmt x)
 
+-- a statement binds the name
 unfoldable pub StmtBinds : Name → Stmt → Type 0
 StmtBinds name x = StmtBindsTo max_layers name x
 
+-- each parameter but `*` binds its own name
 abbrev pub ParameterBinds : Name → Parameter → Type 0
 ParameterBinds name (parameter.Plain n) = name ≡ n.name
 ParameterBinds name (parameter.Default n x) = name ≡ n.name
@@ -82,10 +89,12 @@ ParameterBinds name parameter.BareStar = ⊥
 ParameterBinds name (parameter.Star n) = name ≡ n.name
 ParameterBinds name (parameter.StarStar n) = name ≡ n.name
 
+-- a load binds the local names of its clauses
 abbrev pub load_binds_by : Name → SmallKind → Type 0
 load_binds_by name (small.Load l) = AnyOf (λ c. name ≡ c.local.name) l.clauses
 load_binds_by name _ = ⊥
 
+-- loads stand among the small statements of a line
 abbrev pub loads_bind_by : Name → Stmt-F Stmt Branch → Type 0
 loads_bind_by name (Stmt-F.Simple xs) = AnyOf (λ x. load_binds_by name x.kind) xs
 loads_bind_by name _ = ⊥

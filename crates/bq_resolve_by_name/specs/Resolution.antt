@@ -56,48 +56,58 @@ InOrder R [] [] = Unit {0}
 InOrder R (x ∷ xs) (y ∷ ys) = R x y × InOrder R xs ys
 InOrder R _ _ = ⊥
 
+-- both are missing, or the one to the other
 abbrev pub Maybe : {A B : Type 0} → (A → B → Type 0) → Option A → Option B → Type 0
 Maybe R None None = Unit {0}
 Maybe R (Some x) (Some y) = R x y
 Maybe R _ _ = ⊥
 
--- a comprehension, before it is said which frame has its slots
-abbrev pub Unframed : Type 0
-Unframed = ComprehensionFrame → Expr
+-- outside functions a comprehension has a frame of its own, in which its slots begin at 0, and else its slots are in the frame around it
+abbrev pub frame_is : List BlockParts → ℕ → ComprehensionFrame → Type 0
+frame_is [] base own = (slots : ℕ) × (base ≡ 0) × (own ≡ frame.Own slots)
+frame_is (block ∷ blocks) base own = own ≡ frame.Shared
 
 module _ (file : FileParts) where
   -- ---- expressions: `Is` relates those inside
 
   module _ (Is : List BlockParts → Expr → Expr → Type 0) where
+    -- a target, by its form: its names are slots or globals
     abbrev pub target_is_by : (TargetExpr → TargetExpr → Type 0) → List BlockParts → TargetLayer → TargetExpr → Type 0
     target_is_by inner blocks (TargetExpr-F.TargetExpr::Name n) z = (x : Referent) × (place_of (use_of file blocks n.name) ≡ Some x) × (z ≡ target.Name (refer n x))
     target_is_by inner blocks (TargetExpr-F.TargetExpr::Index x i) z = (y : Expr) × (j : Expr) × Is blocks x y × Is blocks i j × (z ≡ target.Index y j)
     target_is_by inner blocks (TargetExpr-F.TargetExpr::Tuple ts) z = (us : List TargetExpr) × InOrder inner ts us × (z ≡ target.Tuple us)
     target_is_by inner blocks (TargetExpr-F.TargetExpr::List ts) z = (us : List TargetExpr) × InOrder inner ts us × (z ≡ target.List us)
 
+    -- a target of at most this many layers
     unfoldable pub TargetTo : ℕ → List BlockParts → TargetExpr → TargetExpr → Type 0
     TargetTo zero blocks t z = ⊥
     TargetTo (suc layers) blocks t z = target_is_by (TargetTo layers blocks) blocks (out-TargetExpr t) z
 
+    -- a pair of a dict
     abbrev pub PairIs : List BlockParts → Pair → Pair → Type 0
     PairIs blocks p z = (k : Expr) × (v : Expr) × Is blocks (out-Pair p).key k × Is blocks (out-Pair p).value v × (z ≡ roll-Pair (record { key = k; value = v }))
 
+    -- an operator and its right operand
     abbrev pub OperationIs : List BlockParts → Operation → Operation → Type 0
     OperationIs blocks o z = (x : Expr) × Is blocks (out-Operation o).operand x × (z ≡ roll-Operation (record { operator = (out-Operation o).operator; operand = x }))
 
+    -- `value if condition`
     abbrev pub ChoiceIs : List BlockParts → Choice → Choice → Type 0
     ChoiceIs blocks o z =
         (v : Expr) × (x : Expr) × Is blocks (out-Choice o).value v × Is blocks (out-Choice o).condition x × (z ≡ roll-Choice (record { value = v; condition = x }))
 
+    -- an argument, by its form
     abbrev pub argument_is_by : List BlockParts → Argument-F Argument Clause Expr Suffix TargetExpr Choice Operation Pair → Argument → Type 0
     argument_is_by blocks (Argument-F.Positional x) z = (y : Expr) × Is blocks x y × (z ≡ argument.Positional y)
     argument_is_by blocks (Argument-F.Named name x) z = (y : Expr) × Is blocks x y × (z ≡ argument.Named name y)
     argument_is_by blocks (Argument-F.Star x) z = (y : Expr) × Is blocks x y × (z ≡ argument.Star y)
     argument_is_by blocks (Argument-F.StarStar x) z = (y : Expr) × Is blocks x y × (z ≡ argument.StarStar y)
 
+    -- the arguments of a call
     abbrev pub ArgumentsAre : List BlockParts → List Argument → List Argument → Type 0
     ArgumentsAre blocks xs ys = InOrder (λ x y. argument_is_by blocks (out-Argument x) y) xs ys
 
+    -- a suffix, by its form
     abbrev pub suffix_is_by : List BlockParts → SuffixLayer → Suffix → Type 0
     suffix_is_by blocks (Suffix-F.Call xs) z = (ys : List Argument) × ArgumentsAre blocks xs ys × (z ≡ suffix.Call ys)
     suffix_is_by blocks (Suffix-F.Method m xs) z = (ys : List Argument) × ArgumentsAre blocks xs ys × (z ≡ suffix.Method m ys)
@@ -106,6 +116,7 @@ module _ (file : FileParts) where
     suffix_is_by blocks (Suffix-F.Slice i j k) z =
         (x : Option Expr) × (y : Option Expr) × (w : Option Expr) × Maybe (Is blocks) i x × Maybe (Is blocks) j y × Maybe (Is blocks) k w × (z ≡ suffix.Slice x y w)
 
+    -- what is done to an operand
     abbrev pub SuffixesAre : List BlockParts → List Suffix → List Suffix → Type 0
     SuffixesAre blocks ss ts = InOrder (λ s t. suffix_is_by blocks (out-Suffix s) t) ss ts
 
@@ -128,17 +139,13 @@ module _ (file : FileParts) where
     ClausesAre round blocks [] [] = Unit {0}
     ClausesAre round blocks _ _ = ⊥
 
-    abbrev pub in_block_is : {A : Type 0} → (List BlockParts → A → Type 0) → (A → List Clause → Unframed) → BlockParts → List BlockParts → List Clause → Unframed → Type 0
-    in_block_is {A = A} Element make block blocks xs w =
-        (x : A) × (ys : List Clause) × Element (block ∷ blocks) x × ClausesAre blocks (block ∷ blocks) xs ys × (w ≡ make x ys)
+    -- its element, its clauses and its frame: the element stands in a block of its names
+    abbrev pub comprehension_is : {A : Type 0} → (List BlockParts → A → Type 0) → (A → List Clause → ComprehensionFrame → Expr) → List BlockParts → List Clause → Expr → Type 0
+    comprehension_is {A = A} Element make blocks xs z =
+        (block : BlockParts) × (x : A) × (ys : List Clause) × (own : ComprehensionFrame) × (block.names ≡ comprehension_names xs) × frame_is blocks block.base own
+        × Element (block ∷ blocks) x × ClausesAre blocks (block ∷ blocks) xs ys × (z ≡ make x ys own)
 
-    -- outside functions a comprehension has a frame of its own
-    abbrev pub comprehension_is : {A : Type 0} → (List BlockParts → A → Type 0) → (A → List Clause → Unframed) → List BlockParts → List Clause → Expr → Type 0
-    comprehension_is Element make [] xs z =
-        (slots : ℕ) × (w : Unframed) × in_block_is Element make (record { base = 0; names = comprehension_names xs }) [] xs w × (z ≡ w (frame.Own slots))
-    comprehension_is Element make (block ∷ blocks) xs z =
-        (base : ℕ) × (w : Unframed) × in_block_is Element make (record { base = base; names = comprehension_names xs }) (block ∷ blocks) xs w × (z ≡ w frame.Shared)
-
+    -- an expression, by its form
     abbrev pub expr_is_by : List BlockParts → ExprLayer → Expr → Type 0
     expr_is_by blocks (Expr-F.Expr::Name n) z = (x : Referent) × (use_of file blocks n.name ≡ Some x) × (z ≡ e.Name (refer n x))
     expr_is_by blocks (Expr-F.Int i) z = z ≡ e.Int i
@@ -155,18 +162,22 @@ module _ (file : FileParts) where
     expr_is_by blocks (Expr-F.Conditional xs w) z = (ys : List Choice) × (v : Expr) × InOrder (ChoiceIs blocks) xs ys × Is blocks w v × (z ≡ e.Conditional ys v)
     expr_is_by blocks Expr-F.Lambda z = z ≡ e.Lambda
 
+  -- an expression of at most this many layers
   unfoldable pub ExprTo : ℕ → List BlockParts → Expr → Expr → Type 0
   ExprTo zero blocks x z = ⊥
   ExprTo (suc layers) blocks x z = expr_is_by (ExprTo layers) blocks (out-Expr x) z
 
+  -- an expression among these blocks
   unfoldable pub ExprIs : List BlockParts → Expr → Expr → Type 0
   ExprIs blocks x z = ExprTo max_layers blocks x z
 
+  -- a target among these blocks
   unfoldable pub TargetIs : List BlockParts → TargetExpr → TargetExpr → Type 0
   TargetIs blocks t z = TargetTo (ExprTo max_layers) max_layers blocks t z
 
   -- ---- statements
 
+  -- a small statement, by its form; a load stays as it is
   abbrev pub kind_is : List BlockParts → SmallKind → SmallKind → Type 0
   kind_is blocks (small.Expr x) z = (y : Expr) × ExprIs blocks x y × (z ≡ small.Expr y)
   kind_is blocks (small.Assign t x) z = (u : TargetExpr) × (y : Expr) × TargetIs blocks t u × ExprIs blocks x y × (z ≡ small.Assign u y)
@@ -177,12 +188,15 @@ module _ (file : FileParts) where
   kind_is blocks small.Pass z = z ≡ small.Pass
   kind_is blocks (small.Load l) z = z ≡ small.Load l
 
+  -- a small statement, on its line
   unfoldable pub SmallIs : List BlockParts → SmallStmt → SmallStmt → Type 0
   SmallIs blocks x z = (k : SmallKind) × kind_is blocks x.kind k × (z ≡ record x { kind = k })
 
+  -- a condition and its block
   unfoldable pub BranchIs : (Stmt → Stmt → Type 0) → List BlockParts → Branch → Branch → Type 0
   BranchIs inner blocks b z = (x : Expr) × (ys : List Stmt) × ExprIs blocks (out-Branch b).condition x × InOrder inner (out-Branch b).block ys × (z ≡ roll-Branch (record { condition = x; block = ys }))
 
+  -- a statement of a function, by its form; no `def` stands in one
   abbrev pub stmt_is_by : (Stmt → Stmt → Type 0) → List BlockParts → Stmt-F Stmt Branch → Stmt → Type 0
   stmt_is_by inner blocks (Stmt-F.Simple xs) z = (ys : List SmallStmt) × InOrder (SmallIs blocks) xs ys × (z ≡ stmt.Simple ys)
   stmt_is_by inner blocks (Stmt-F.If bs zs) z = (xs : List Branch) × (ys : List Stmt) × InOrder (BranchIs inner blocks) bs xs × InOrder inner zs ys × (z ≡ stmt.If xs ys)
@@ -190,6 +204,7 @@ module _ (file : FileParts) where
       (u : TargetExpr) × (y : Expr) × (ys : List Stmt) × TargetIs blocks t u × ExprIs blocks x y × InOrder inner body ys × (z ≡ stmt.For u y ys)
   stmt_is_by inner blocks (Stmt-F.Def n ps body) z = ⊥
 
+  -- a statement of a function, of at most this many layers
   unfoldable pub StmtTo : ℕ → List BlockParts → Stmt → Stmt → Type 0
   StmtTo zero blocks x z = ⊥
   StmtTo (suc layers) blocks x z = stmt_is_by (StmtTo layers blocks) blocks (out-Stmt x) z
@@ -214,6 +229,7 @@ module _ (file : FileParts) where
   DefaultsAre (parameter.Star n ∷ ps) ys = DefaultsAre ps ys
   DefaultsAre (parameter.StarStar n ∷ ps) ys = DefaultsAre ps ys
 
+  -- its statements stand in a block of its names, which have the first slots
   unfoldable pub FunctionIs : Identifier → List Parameter → List Stmt → Function → Type 0
   FunctionIs n ps body z =
       (rows : List Formal) × (slots : ℕ) × (ys : List Stmt) × ParametersAre 0 ps rows
@@ -222,16 +238,20 @@ module _ (file : FileParts) where
 
   -- ---- what stands outside functions: `k` functions stand before it, and it has these functions and loads
 
+  -- a clause of a load, with the place of the global of its name, if there is one
   abbrev pub SymbolIs : LoadClause → LoadedSymbol → Type 0
   SymbolIs x z = z ≡ record { local = x.local.name; symbol = x.symbol; global = place_among x.local.name file.globals }
 
+  -- a load, on its line
   unfoldable pub LoadIs : ℕ → Load → LoadStmt → Type 0
   LoadIs line l z = (xs : List LoadedSymbol) × InOrder SymbolIs l.clauses xs × (z ≡ record { label = l.label; line = line; clauses = xs })
 
+  -- the load that a small statement is, if it is one
   abbrev pub loads_are : ℕ → SmallKind → List LoadStmt → Type 0
   loads_are line (small.Load l) ls = (z : LoadStmt) × LoadIs line l z × (ls ≡ z ∷ [])
   loads_are line _ ls = ls ≡ []
 
+  -- a small statement outside functions
   unfoldable pub OuterIs : ℕ → SmallStmt → SmallStmt → List Function → List LoadStmt → Type 0
   OuterIs k x z fs ls = SmallIs [] x z × (fs ≡ []) × loads_are x.line x.kind ls
 
@@ -243,6 +263,7 @@ InTurn {B = B} R k (x ∷ xs) ys fs ls =
     × R k x y f l × InTurn R (k + length f) xs zs gs ms × (ys ≡ y ∷ zs) × (fs ≡ f ++ gs) × (ls ≡ l ++ ms)
 
 module _ (file : FileParts) where
+  -- what stands on a line outside functions, by its form: a `def` has one function, the next of the file
   abbrev pub file_stmt_is : ℕ → Stmt-F Stmt Branch → Outside → List Function → List LoadStmt → Type 0
   file_stmt_is k (Stmt-F.Simple xs) z fs ls = (ys : List SmallStmt) × InTurn (OuterIs file) k xs ys fs ls × (z ≡ top.Simple ys)
   file_stmt_is k (Stmt-F.If bs zs) z fs ls = ⊥
@@ -251,6 +272,7 @@ module _ (file : FileParts) where
       (x : Referent) × (ds : List Expr) × (f : Function) × (place_of (use_of file [] n.name) ≡ Some x) × DefaultsAre file ps ds × FunctionIs file n ps body f
       × (z ≡ top.Def (record { name = refer n x; function = k; defaults = ds })) × (fs ≡ f ∷ []) × (ls ≡ [])
 
+  -- a line outside functions
   unfoldable pub TopLevelIs : ℕ → TopLevel → FileLine → List Function → List LoadStmt → Type 0
   TopLevelIs k t z fs ls = (x : Outside) × file_stmt_is k (out-Stmt t.statement) x fs ls × (z ≡ record { line = t.line; statement = x })
 

@@ -38,10 +38,12 @@ abbrev pub most : List ℕ → ℕ
 most [] = 0
 most (n ∷ ns) = max n (most ns)
 
+-- of a part that may be missing
 abbrev pub optional_slots : Option ℕ → ℕ
 optional_slots None = 0
 optional_slots (Some n) = n
 
+-- a slot and all below it; what is not in the frame needs none
 abbrev pub referent_slots : Referent → ℕ
 referent_slots (b.Local slot) = slot + 1
 referent_slots _ = 0
@@ -61,6 +63,7 @@ pub record ClauseSlots : Type 0 where
   pub iterable : ℕ
   pub rest : ℕ
 
+-- of a whole clause
 abbrev pub both_slots : ClauseSlots → ℕ
 both_slots x = max x.iterable x.rest
 
@@ -79,21 +82,25 @@ abbrev pub own_slots : ComprehensionFrame → ℕ → ℕ
 own_slots frame.Shared n = n
 own_slots (frame.Own slots) n = framed_slots slots n
 
+-- a comprehension, whose element needs `n`: its first iterable is read in the frame around
 abbrev pub comprehension_slots : ComprehensionFrame → ℕ → List ClauseSlots → ℕ
 comprehension_slots own n xs = max (outer_slots xs) (own_slots own (max n (inner_slots xs)))
 
 -- ---- one node, with what each child needs in its place
 
+-- an argument, by its form
 abbrev pub argument_step : Argument-F ℕ ClauseSlots ℕ ℕ ℕ ℕ ℕ ℕ → ℕ
 argument_step (Argument-F.Positional n) = n
 argument_step (Argument-F.Named b n) = n
 argument_step (Argument-F.Star n) = n
 argument_step (Argument-F.StarStar n) = n
 
+-- a clause, by its form
 abbrev pub clause_step : Clause-F ℕ ClauseSlots ℕ ℕ ℕ ℕ ℕ ℕ → ClauseSlots
 clause_step (Clause-F.For m n) = record { iterable = n; rest = m }
 clause_step (Clause-F.If n) = record { iterable = 0; rest = n }
 
+-- an expression, by its form
 abbrev pub expr_step : Expr-F ℕ ClauseSlots ℕ ℕ ℕ ℕ ℕ ℕ → ℕ
 expr_step (Expr-F.Expr::Name n) = referent_slots n.referent
 expr_step (Expr-F.Int i) = 0
@@ -110,6 +117,7 @@ expr_step (Expr-F.Compare m o n) = max m n
 expr_step (Expr-F.Conditional ms n) = max (most ms) n
 expr_step Expr-F.Lambda = 0
 
+-- a suffix, by its form
 abbrev pub suffix_step : Suffix-F ℕ ClauseSlots ℕ ℕ ℕ ℕ ℕ ℕ → ℕ
 suffix_step (Suffix-F.Call ns) = most ns
 suffix_step (Suffix-F.Method m ns) = most ns
@@ -117,20 +125,26 @@ suffix_step (Suffix-F.Attribute m) = 0
 suffix_step (Suffix-F.Suffix::Index n) = n
 suffix_step (Suffix-F.Slice l m n) = max (optional_slots l) (max (optional_slots m) (optional_slots n))
 
+-- a target, by its form
 abbrev pub target_step : TargetExpr-F ℕ ClauseSlots ℕ ℕ ℕ ℕ ℕ ℕ → ℕ
 target_step (TargetExpr-F.TargetExpr::Name n) = referent_slots n.referent
 target_step (TargetExpr-F.TargetExpr::Index m n) = max m n
 target_step (TargetExpr-F.TargetExpr::Tuple ns) = most ns
 target_step (TargetExpr-F.TargetExpr::List ns) = most ns
 
+-- `value if condition`
 abbrev pub choice_step : Choice-F ℕ ClauseSlots ℕ ℕ ℕ ℕ ℕ ℕ → ℕ
 choice_step x = max x.value x.condition
 
+-- an operator and its right operand
 abbrev pub operation_step : Operation-F ℕ ClauseSlots ℕ ℕ ℕ ℕ ℕ ℕ → ℕ
 operation_step x = x.operand
 
+-- a pair of a dict
 abbrev pub pair_step : Pair-F ℕ ClauseSlots ℕ ℕ ℕ ℕ ℕ ℕ → ℕ
 pair_step x = max x.key x.value
+
+-- ---- whole trees, of each kind
 
 abbrev pub argument_slots : Argument → ℕ
 argument_slots = fold-Argument ℕ ClauseSlots ℕ ℕ ℕ ℕ ℕ ℕ argument_step clause_step expr_step suffix_step target_step choice_step operation_step pair_step
@@ -158,6 +172,7 @@ pair_slots = fold-Pair ℕ ClauseSlots ℕ ℕ ℕ ℕ ℕ ℕ argument_step cla
 
 -- ---- statements
 
+-- a small statement, by its form
 abbrev pub kind_slots : SmallKind → ℕ
 kind_slots (small.Expr x) = expr_slots x
 kind_slots (small.Assign t x) = max (target_slots t) (expr_slots x)
@@ -165,6 +180,7 @@ kind_slots (small.Augment t o x) = max (target_slots t) (expr_slots x)
 kind_slots (small.Return (Some x)) = expr_slots x
 kind_slots _ = 0
 
+-- a small statement
 abbrev pub small_slots : SmallStmt → ℕ
 small_slots x = kind_slots x.kind
 
@@ -175,15 +191,19 @@ stmt_step (Stmt-F.If ms ns) = max (most ms) (most ns)
 stmt_step (Stmt-F.For t x ns) = max (target_slots t) (max (expr_slots x) (most ns))
 stmt_step (Stmt-F.Def n ps ns) = too_many
 
+-- a condition and its block
 abbrev pub branch_step : Branch-F ℕ ℕ → ℕ
 branch_step x = max (expr_slots x.condition) (most x.block)
 
+-- a statement of a function
 abbrev pub stmt_slots : Stmt → ℕ
 stmt_slots = fold-Stmt ℕ ℕ stmt_step branch_step
 
+-- the same of a branch
 abbrev pub branch_slots : Branch → ℕ
 branch_slots = fold-Branch ℕ ℕ stmt_step branch_step
 
+-- a parameter is in the slot of its name; its default stands outside the function
 abbrev pub parameter_slots : Formal → ℕ
 parameter_slots (formal.Plain n) = referent_slots n.referent
 parameter_slots (formal.Default n) = referent_slots n.referent
@@ -198,10 +218,12 @@ pub record FitsItsFrame (f : Function) : Type 0 where
   pub parameters : most (map parameter_slots f.parameters) ≤ f.slots
   pub body : most (map stmt_slots f.body) ≤ f.slots
 
+-- what stands on a line outside functions, by its form
 abbrev pub file_stmt_slots : Outside → ℕ
 file_stmt_slots (file.Simple xs) = most (map small_slots xs)
 file_stmt_slots (file.Def d) = max (referent_slots d.name.referent) (most (map expr_slots d.defaults))
 
+-- a line outside functions
 abbrev pub top_level_slots : FileLine → ℕ
 top_level_slots t = file_stmt_slots t.statement
 
@@ -210,5 +232,6 @@ top_level_slots t = file_stmt_slots t.statement
 abbrev pub SlotsAreBelow : ResolvedFile → Type 0
 SlotsAreBelow r = AllByRecursion FitsItsFrame r.functions × (most (map top_level_slots r.statements) ≡ 0)
 
+-- so are those of each file that resolves
 abbrev pub EverySlotIsBelow : Type 0
 EverySlotIsBelow = (universe : UniverseParts) (ts : List TopLevel) (r : ResolvedFile) → resolved universe ts ≡ Ok r → SlotsAreBelow r
