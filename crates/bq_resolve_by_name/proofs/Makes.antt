@@ -83,6 +83,12 @@ pub makes_all : {A B : Type 0} (R : B → A → Type 0) (one : B → Visit A) �
 makes_all R one ones xs =
     makes_weaker (After R [] xs) (λ ys. InOrder R xs ys) (each one [] xs) (λ zs a. subst (λ ys. InOrder R xs ys) (sym a.2) a.1) (makes_each R one ones [] xs)
 
+pub in_order_both : {A B : Type 0} (R : A → B → Type 0) (xs zs : List A) (ys ws : List B) → InOrder R xs ys → InOrder R zs ws → InOrder R (xs ++ zs) (ys ++ ws)
+in_order_both R [] zs [] ws h k = k
+in_order_both R (x ∷ xs) zs (y ∷ ys) ws h k = (h.0, in_order_both R xs zs ys ws h.1 k)
+in_order_both R [] zs (y ∷ ys) ws h k = absurd h
+in_order_both R (x ∷ xs) zs [] ws h k = absurd h
+
 pub makes_optional : {A B : Type 0} (R : B → A → Type 0) (one : B → Visit A) → ((x : B) → Makes {A = A} (R x) (one x)) → (o : Option B) → Makes {A = Option A} (λ y. Maybe R o y) (optional one o)
 makes_optional R one ones None = λ s. (tt, refl, refl)
 makes_optional {A = A} R one ones (Some x) =

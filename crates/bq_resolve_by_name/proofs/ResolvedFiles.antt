@@ -1,6 +1,7 @@
 -- What files resolve to is what the relation says.
 use Rattle.std.proofs.Common.{◌≡◌, ℕ, ◌+◌, Bool, true, false, ◌&&◌, List, [], ◌∷◌, ◌++◌, length, Some, Result, Ok, Err, refl, sym, ◌∙◌, ap, subst, arith, length-append}
 use Rattle.std.specs.Prelude.{if◌then◌else◌}
+use Rattle.std.specs.List.{flat_map}
 use Rattle.bq_base.specs.declared.fault.Fault.{Fault}
 use Rattle.bq_base.specs.declared.fault.FaultKind.TheVariants as f
 use Rattle.bq_parse_grammar.specs.declared.tree.Branch.{Branch}
@@ -34,8 +35,8 @@ use Rattle.bq_resolve_scope.specs.Expressions.{refer, place_of, is_bzl, bound_at
 use Rattle.bq_resolve_scope.specs.Statements as st
 use Rattle.bq_resolve_scope.specs.Statements.{ParameterParts, no_parameters, expr, load_clause, load, load_in, returned, small_by, small_stmt, stmt_to, named_parameter, default_parameter, next_parameter, parameters, statements_in, with_function, function}
 use Rattle.bq_resolve_scope.specs.Files.{file_names, def_stmt, file_stmt, top_level, resolved_by, resolved}
-use Rattle.bq_resolve_by_name.specs.Resolution.{InOrder, InTurn, ExprIs, SmallIs, StmtTo, kind_is, ParametersAre, DefaultsAre, FunctionIs, SymbolIs, LoadIs, loads_are, OuterIs, file_stmt_is, TopLevelIs, FilesResolveToThemselves}
-use Rattle.bq_resolve_by_name.proofs.Makes.{append_none, append_one, Making, Makes, makes_bind, makes_weaker, makes_map, makes_all, Gaining, Gains, Turns, gains_none, gains_map, gains_weaker, gains_each, gains_bind}
+use Rattle.bq_resolve_by_name.specs.Resolution.{InOrder, InTurn, ExprIs, SmallIs, StmtTo, kind_is, formal_at, slot_after, formals, default_of, FunctionIs, SymbolIs, LoadIs, loads_are, OuterIs, file_stmt_is, TopLevelIs, FilesResolveToThemselves}
+use Rattle.bq_resolve_by_name.proofs.Makes.{append_none, append_one, append_all, Making, Makes, makes_bind, makes_weaker, makes_map, makes_all, in_order_both, Gaining, Gains, Turns, gains_none, gains_map, gains_weaker, gains_each, gains_bind}
 use Rattle.bq_resolve_by_name.proofs.ResolvedExpressions.{name_makes}
 use Rattle.bq_resolve_by_name.proofs.ResolvedStatements.{an_expr_makes, assign_makes, augment_makes, returned_makes, in_loop_makes, stmt_makes}
 
@@ -95,89 +96,63 @@ module _ (file : FileParts) where
 
   -- ---- parameters
 
-  -- `m` is `l` and a parameter with a name, which becomes `x`
-  abbrev Row : ParameterParts → Formal → ParameterParts → Type 0
-  Row l x m = (length m.names ≡ length l.names + 1) × (m.parameters ≡ l.parameters ++ x ∷ []) × (m.defaults ≡ l.defaults)
+  -- `m` is `l`, this parameter and these defaults, and has so many slots
+  abbrev Row : ParameterParts → ℕ → Formal → List Expr → ParameterParts → Type 0
+  Row l k x ds m = (length m.names ≡ k) × (m.parameters ≡ l.parameters ++ x ∷ []) × (m.defaults ≡ l.defaults ++ ds)
 
-  -- `m` is `l` and this parameter
-  abbrev Step : ParameterParts → Parameter → ParameterParts → Type 0
-  Step l (parameter.Plain n) m = Row l (formal.Plain (refer n (b.Local (length l.names)))) m
-  Step l (parameter.Default n x) m =
-      (y : Expr) × ExprIs file [] x y × (length m.names ≡ length l.names + 1) × (m.parameters ≡ l.parameters ++ formal.Default (refer n (b.Local (length l.names))) ∷ []) × (m.defaults ≡ l.defaults ++ y ∷ [])
-  Step l parameter.BareStar m = (length m.names ≡ length l.names) × (m.parameters ≡ l.parameters ++ formal.BareStar ∷ []) × (m.defaults ≡ l.defaults)
-  Step l (parameter.Star n) m = Row l (formal.Star (refer n (b.Local (length l.names)))) m
-  Step l (parameter.StarStar n) m = Row l (formal.StarStar (refer n (b.Local (length l.names)))) m
+  -- `m` is `l` and what is made of a parameter
+  abbrev Step : ParameterParts → ℕ → Formal → List Expr → ParameterParts → Type 0
+  Step l k x es m = (ds : List Expr) × Row l k x ds m × InOrder (ExprIs file []) es ds
 
-  -- `m` is `l` and these parameters
+  -- `m` is `l` and what is made of these parameters
   abbrev Rows : ParameterParts → List Parameter → ParameterParts → Type 0
-  Rows l ps m = (ys : List Formal) × (ds : List Expr) × ParametersAre file (length l.names) ps ys × DefaultsAre file ps ds × (m.parameters ≡ l.parameters ++ ys) × (m.defaults ≡ l.defaults ++ ds)
+  Rows l ps m =
+      (ds : List Expr) × InOrder (ExprIs file []) (flat_map default_of ps) ds × (m.parameters ≡ l.parameters ++ formals (length l.names) ps) × (m.defaults ≡ l.defaults ++ ds)
 
   named_by : (t : Bool) (why : Fault) (l : ParameterParts) (n : Identifier) (x : Formal) (u : Passed)
-      → Making {A = ParameterParts} (Row l x) u (let go : Visit ParameterParts = if t then stop why else pure (record l { names = l.names ++ n.name ∷ []; parameters = l.parameters ++ x ∷ [] }) in go u)
+      → Making {A = ParameterParts} (Row l (length l.names + 1) x []) u (let go : Visit ParameterParts = if t then stop why else pure (record l { names = l.names ++ n.name ∷ []; parameters = l.parameters ++ x ∷ [] }) in go u)
   named_by true why l n x u = tt
-  named_by false why l n x u = ((omega (arith, length-append l.names (n.name ∷ [])), refl, refl), refl, refl)
+  named_by false why l n x u = ((omega (arith, length-append l.names (n.name ∷ [])), refl, append_none l.defaults), refl, refl)
 
-  named_makes : (l : ParameterParts) (n : Identifier) (x : Formal) → Makes (Row l x) (named_parameter file l n x)
+  named_makes : (l : ParameterParts) (n : Identifier) (x : Formal) → Makes (Row l (length l.names + 1) x []) (named_parameter file l n x)
   unfolding named_parameter
   named_makes l n x u = named_by (has l.names n.name) (fault_of f.DoubleParameter n) l n x u
 
-  default_makes : (l : ParameterParts) (n : Identifier) (x : Expr) → Makes (Step l (parameter.Default n x)) (default_parameter file l n x)
+  plain_makes : (l : ParameterParts) (n : Identifier) (x : Formal) → Makes (Step l (length l.names + 1) x []) (named_parameter file l n x)
+  plain_makes l n x = makes_weaker (Row l (length l.names + 1) x []) (Step l (length l.names + 1) x []) (named_parameter file l n x) (λ m h. ([], h, tt)) (named_makes l n x)
+
+  default_makes : (l : ParameterParts) (n : Identifier) (e : Expr) → Makes (Step l (length l.names + 1) (formal.Default (refer n (b.Local (length l.names)))) (e ∷ [])) (default_parameter file l n e)
   unfolding default_parameter
-  default_makes l n x =
-      makes_bind (Row l (formal.Default (refer n (b.Local (length l.names))))) (Step l (parameter.Default n x)) (named_parameter file l n (formal.Default (refer n (b.Local (length l.names)))))
-      (λ m. expr file [] x >>= λ y. pure (record m { defaults = m.defaults ++ y ∷ [] })) (named_makes l n (formal.Default (refer n (b.Local (length l.names)))))
-      (λ m h. makes_bind (ExprIs file [] x) (Step l (parameter.Default n x)) (expr file [] x) (λ y. pure (record m { defaults = m.defaults ++ y ∷ [] })) (an_expr_makes file [] x)
-      (λ y e u. ((y, e, h.0, h.1, ap (λ ds. ds ++ y ∷ []) h.2), refl, refl)))
+  default_makes l n e =
+      let x : Formal = formal.Default (refer n (b.Local (length l.names))) in
+      let k : ℕ = length l.names + 1 in
+      makes_bind (Row l k x []) (Step l k x (e ∷ [])) (named_parameter file l n x) (λ m. expr file [] e >>= λ y. pure (record m { defaults = m.defaults ++ y ∷ [] })) (named_makes l n x)
+      (λ m h. makes_bind (ExprIs file [] e) (Step l k x (e ∷ [])) (expr file [] e) (λ y. pure (record m { defaults = m.defaults ++ y ∷ [] })) (an_expr_makes file [] e)
+      (λ y is u. ((y ∷ [], (h.0, h.1, ap (λ ds. ds ++ y ∷ []) (h.2 ∙ sym (append_none l.defaults))), (is, tt)), refl, refl)))
 
-  next_makes : (l : ParameterParts) (q : Parameter) → Makes (Step l q) (next_parameter file l q)
+  next_makes : (l : ParameterParts) (q : Parameter) → Makes (Step l (slot_after (length l.names) q) (formal_at (length l.names) q) (default_of q)) (next_parameter file l q)
   unfolding next_parameter
-  next_makes l (parameter.Plain n) = named_makes l n (formal.Plain (refer n (b.Local (length l.names))))
+  next_makes l (parameter.Plain n) = plain_makes l n (formal.Plain (refer n (b.Local (length l.names))))
   next_makes l (parameter.Default n x) = default_makes l n x
-  next_makes l parameter.BareStar = λ u. ((refl, refl, refl), refl, refl)
-  next_makes l (parameter.Star n) = named_makes l n (formal.Star (refer n (b.Local (length l.names))))
-  next_makes l (parameter.StarStar n) = named_makes l n (formal.StarStar (refer n (b.Local (length l.names))))
+  next_makes l parameter.BareStar = λ u. (([], (refl, refl, append_none l.defaults), tt), refl, refl)
+  next_makes l (parameter.Star n) = plain_makes l n (formal.Star (refer n (b.Local (length l.names))))
+  next_makes l (parameter.StarStar n) = plain_makes l n (formal.StarStar (refer n (b.Local (length l.names))))
 
-  added : {A : Type 0} (l m z : List A) (x : A) (ys : List A) → z ≡ m ++ ys → m ≡ l ++ x ∷ [] → z ≡ l ++ x ∷ ys
-  added l m z x ys e g = e ∙ ap (λ w. w ++ ys) g ∙ append_one l x ys
-
-  kept : {A : Type 0} (l m z : List A) (ys : List A) → z ≡ m ++ ys → m ≡ l → z ≡ l ++ ys
-  kept l m z ys e g = e ∙ ap (λ w. w ++ ys) g
-
-  row_first : (l m z : ParameterParts) (x : Formal) (qs : List Parameter) (rows : Rows m qs z) → Row l x m
-      → ParametersAre file (length l.names + 1) qs rows.0 × (z.parameters ≡ l.parameters ++ x ∷ rows.0) × (z.defaults ≡ l.defaults ++ rows.1)
-  row_first l m z x qs rows h =
-      (subst (λ k. ParametersAre file k qs rows.0) h.0 rows.2, added l.parameters m.parameters z.parameters x rows.0 rows.4 h.1, kept l.defaults m.defaults z.defaults rows.1 rows.5 h.2)
-
-  joined : (l m z : ParameterParts) (q : Parameter) (qs : List Parameter) → Step l q m → Rows m qs z → Rows l (q ∷ qs) z
-  joined l m z (parameter.Plain n) qs h rows =
-      let x : Formal = formal.Plain (refer n (b.Local (length l.names))) in let g = row_first l m z x qs rows h in (x ∷ rows.0, rows.1, (rows.0, g.0, refl), rows.3, g.1, g.2)
-  joined l m z (parameter.Default n e) qs h rows =
-      let x : Formal = formal.Default (refer n (b.Local (length l.names))) in (
-        x ∷ rows.0,
-        h.0 ∷ rows.1,
-        (rows.0, subst (λ k. ParametersAre file k qs rows.0) h.2 rows.2, refl),
-        (h.0, rows.1, h.1, rows.3, refl),
-        added l.parameters m.parameters z.parameters x rows.0 rows.4 h.3,
-        added l.defaults m.defaults z.defaults h.0 rows.1 rows.5 h.4,
+  joined : (l m z : ParameterParts) (q : Parameter) (qs : List Parameter) → Step l (slot_after (length l.names) q) (formal_at (length l.names) q) (default_of q) m → Rows m qs z → Rows l (q ∷ qs) z
+  joined l m z q qs h rows =
+      let x : Formal = formal_at (length l.names) q in
+      let ys : List Formal = formals (slot_after (length l.names) q) qs in (
+        h.0 ++ rows.0,
+        in_order_both (ExprIs file []) (default_of q) (flat_map default_of qs) h.0 rows.0 h.2 rows.1,
+        rows.2 ∙ ap (λ k. m.parameters ++ formals k qs) h.1.0 ∙ ap (λ w. w ++ ys) h.1.1 ∙ append_one l.parameters x ys,
+        rows.3 ∙ ap (λ w. w ++ rows.0) h.1.2 ∙ append_all l.defaults h.0 rows.0,
       )
-  joined l m z parameter.BareStar qs h rows = (
-    formal.BareStar ∷ rows.0,
-    rows.1,
-    (rows.0, subst (λ k. ParametersAre file k qs rows.0) h.0 rows.2, refl),
-    rows.3,
-    added l.parameters m.parameters z.parameters formal.BareStar rows.0 rows.4 h.1,
-    kept l.defaults m.defaults z.defaults rows.1 rows.5 h.2,
-  )
-  joined l m z (parameter.Star n) qs h rows =
-      let x : Formal = formal.Star (refer n (b.Local (length l.names))) in let g = row_first l m z x qs rows h in (x ∷ rows.0, rows.1, (rows.0, g.0, refl), rows.3, g.1, g.2)
-  joined l m z (parameter.StarStar n) qs h rows =
-      let x : Formal = formal.StarStar (refer n (b.Local (length l.names))) in let g = row_first l m z x qs rows h in (x ∷ rows.0, rows.1, (rows.0, g.0, refl), rows.3, g.1, g.2)
 
   parameters_make : (ps : List Parameter) (l : ParameterParts) → Makes (Rows l ps) (parameters file l ps)
   unfolding parameters
-  parameters_make [] l = λ u. (([], [], refl, refl, append_none l.parameters, append_none l.defaults), refl, refl)
+  parameters_make [] l = λ u. (([], tt, append_none l.parameters, append_none l.defaults), refl, refl)
   parameters_make (q ∷ qs) l =
-      makes_bind (Step l q) (Rows l (q ∷ qs)) (next_parameter file l q) (λ m. parameters file m qs) (next_makes l q)
+      makes_bind (Step l (slot_after (length l.names) q) (formal_at (length l.names) q) (default_of q)) (Rows l (q ∷ qs)) (next_parameter file l q) (λ m. parameters file m qs) (next_makes l q)
       (λ m h. makes_weaker (Rows m qs) (Rows l (q ∷ qs)) (parameters file m qs) (λ z rows. joined l m z q qs h rows) (parameters_make qs m))
 
   -- ---- functions
@@ -187,16 +162,16 @@ module _ (file : FileParts) where
   Counted n ps body k z fs ls = (z ≡ k) × ((g : Function) × FunctionIs file n ps body g × (fs ≡ g ∷ [])) × (ls ≡ [])
 
   function_by : (n : Identifier) (ps : List Parameter) (rows : List Formal) (body : List Stmt) (u old : Passed) (r : Result (List Stmt × Passed) Fault) → u.functions ≡ old.functions → u.loads ≡ old.loads
-      → ParametersAre file 0 ps rows → Making {A = List Stmt} (λ ys. InOrder (StmtTo file max_layers (record { base = 0; names = function_names ps body } ∷ [])) body ys) u r
+      → rows ≡ formals 0 ps → Making {A = List Stmt} (λ ys. InOrder (StmtTo file max_layers (record { base = 0; names = function_names ps body } ∷ [])) body ys) u r
       → Gaining {A = ℕ} (Counted n ps body) old (with_function file n.name rows old.slots r)
   unfolding FunctionIs
   function_by n ps rows body u old (Err why) ef el are h = tt
   function_by n ps rows body u old (Ok p) ef el are h =
       let g : Function = record { name = n.name; parameters = rows; slots = p.1.slots; body = p.0 } in
       let same : p.1.functions ≡ old.functions = h.1 ∙ ef in
-      (g ∷ [], [], (ap length same, (g, (rows, p.1.slots, p.0, are, h.0, refl), refl), refl), ap (λ z. z ++ g ∷ []) same, (h.2 ∙ el) ∙ append_none old.loads)
+      (g ∷ [], [], (ap length same, (g, (p.1.slots, p.0, h.0, ap (λ fs. record { name = n.name; parameters = fs; slots = p.1.slots; body = p.0 }) are), refl), refl), ap (λ z. z ++ g ∷ []) same, (h.2 ∙ el) ∙ append_none old.loads)
 
-  function_gains : (n : Identifier) (ps : List Parameter) (rows : List Formal) (body : List Stmt) → ParametersAre file 0 ps rows
+  function_gains : (n : Identifier) (ps : List Parameter) (rows : List Formal) (body : List Stmt) → rows ≡ formals 0 ps
       → Gains (Counted n ps body) (function file n.name rows (function_names ps body) body)
   unfolding function
   function_gains n ps rows body are old =
@@ -216,7 +191,7 @@ module _ (file : FileParts) where
   abbrev Bound : Identifier → Identifier → Type 0
   Bound n m = (x : Referent) × (place_of (use_of file [] n.name) ≡ Some x) × (m ≡ refer n x)
 
-  made : (n : Identifier) (ps : List Parameter) (body : List Stmt) (m : Identifier) (l : ParameterParts) → Bound n m → DefaultsAre file ps l.defaults
+  made : (n : Identifier) (ps : List Parameter) (body : List Stmt) (m : Identifier) (l : ParameterParts) → Bound n m → InOrder (ExprIs file []) (flat_map default_of ps) l.defaults
       → (k : ℕ) (z : Outside) (fs : List Function) (ls : List LoadStmt) → ((x : ℕ) × Counted n ps body k x fs ls × (z ≡ s.Def (record { name = m; function = x; defaults = l.defaults })))
       → defined n ps body k z fs ls
   made n ps body m l e are k z fs ls h = (
@@ -242,9 +217,9 @@ module _ (file : FileParts) where
       (λ l. function file n.name l.parameters names body >>= λ k. pure (s.Def (record { name = m; function = k; defaults = l.defaults }))) (parameters_make ps no_parameters)
       (λ l rows u. gains_weaker (λ k z fs ls. (x : ℕ) × Counted n ps body k x fs ls × (z ≡ s.Def (record { name = m; function = x; defaults = l.defaults }))) (defined n ps body) u
       (following (function file n.name l.parameters names body u) (λ k. pure (s.Def (record { name = m; function = k; defaults = l.defaults }))))
-      (made n ps body m l e (subst (λ ds. DefaultsAre file ps ds) (sym rows.5) rows.3))
+      (made n ps body m l e (subst (λ ds. InOrder (ExprIs file []) (flat_map default_of ps) ds) (sym rows.3) rows.1))
       (gains_map (Counted n ps body) (function file n.name l.parameters names body) (λ k. s.Def (record { name = m; function = k; defaults = l.defaults }))
-      (function_gains n ps l.parameters body (subst (λ ys. ParametersAre file 0 ps ys) (sym rows.4) rows.2)) u)))
+      (function_gains n ps l.parameters body rows.2) u)))
 
   line_gains : (xs : List SmallStmt) → Gains (λ k z fs ls. (ys : List SmallStmt) × InTurn (OuterIs file) k xs ys fs ls × (z ≡ s.Simple ys)) (each (small_stmt file [] false) [] xs >>= λ ys. pure (s.Simple ys))
   line_gains xs u =

@@ -2,6 +2,7 @@
 -- name stands for among the blocks around it (`use_of`; `StandsFor` of bq_resolve_scope says it in words); all else of the resolved tree is
 -- that of the tree, in its order. The slots of a block begin anywhere; that they fit, and are a block's own, is said by other laws.
 use Rattle.std.specs.Prelude.{◌≡◌, ℕ, zero, suc, ◌+◌, List, [], ◌∷◌, ◌++◌, length, Option, Some, None, Ok}
+use Rattle.std.specs.List.{flat_map}
 use Rattle.bq_parse_grammar.specs.declared.tree.Argument.TheOpen.{Expr-F, Suffix-F, Argument-F, Clause-F, TargetExpr-F}
 use Rattle.bq_parse_grammar.specs.declared.tree.Argument.{Argument, out-Argument}
 use Rattle.bq_parse_grammar.specs.declared.tree.Branch.{Branch, out-Branch, roll-Branch}
@@ -66,6 +67,29 @@ Maybe R _ _ = ⊥
 abbrev pub frame_is : List BlockParts → ℕ → ComprehensionFrame → Type 0
 frame_is [] base own = (slots : ℕ) × (base ≡ 0) × (own ≡ frame.Own slots)
 frame_is (block ∷ blocks) base own = own ≡ frame.Shared
+
+-- a parameter, whose name has this slot
+abbrev pub formal_at : ℕ → Parameter → Formal
+formal_at slot (parameter.Plain n) = formal.Plain (refer n (b.Local slot))
+formal_at slot (parameter.Default n x) = formal.Default (refer n (b.Local slot))
+formal_at slot parameter.BareStar = formal.BareStar
+formal_at slot (parameter.Star n) = formal.Star (refer n (b.Local slot))
+formal_at slot (parameter.StarStar n) = formal.StarStar (refer n (b.Local slot))
+
+-- `*` has no slot
+abbrev pub slot_after : ℕ → Parameter → ℕ
+slot_after slot parameter.BareStar = slot
+slot_after slot _ = slot + 1
+
+-- parameters, in the slots from this one on
+abbrev pub formals : ℕ → List Parameter → List Formal
+formals slot [] = []
+formals slot (p ∷ ps) = formal_at slot p ∷ formals (slot_after slot p) ps
+
+-- the default of a parameter, if it has one
+abbrev pub default_of : Parameter → List Expr
+default_of (parameter.Default n x) = x ∷ []
+default_of _ = []
 
 module _ (file : FileParts) where
   -- ---- expressions: `Is` relates those inside
@@ -211,30 +235,11 @@ module _ (file : FileParts) where
 
   -- ---- functions
 
-  -- those with names have the slots from `next` on
-  abbrev pub ParametersAre : ℕ → List Parameter → List Formal → Type 0
-  ParametersAre next [] ys = ys ≡ []
-  ParametersAre next (parameter.Plain n ∷ ps) ys = (zs : List Formal) × ParametersAre (next + 1) ps zs × (ys ≡ formal.Plain (refer n (b.Local next)) ∷ zs)
-  ParametersAre next (parameter.Default n x ∷ ps) ys = (zs : List Formal) × ParametersAre (next + 1) ps zs × (ys ≡ formal.Default (refer n (b.Local next)) ∷ zs)
-  ParametersAre next (parameter.BareStar ∷ ps) ys = (zs : List Formal) × ParametersAre next ps zs × (ys ≡ formal.BareStar ∷ zs)
-  ParametersAre next (parameter.Star n ∷ ps) ys = (zs : List Formal) × ParametersAre (next + 1) ps zs × (ys ≡ formal.Star (refer n (b.Local next)) ∷ zs)
-  ParametersAre next (parameter.StarStar n ∷ ps) ys = (zs : List Formal) × ParametersAre (next + 1) ps zs × (ys ≡ formal.StarStar (refer n (b.Local next)) ∷ zs)
-
-  -- the defaults, which stand outside the function
-  abbrev pub DefaultsAre : List Parameter → List Expr → Type 0
-  DefaultsAre [] ys = ys ≡ []
-  DefaultsAre (parameter.Plain n ∷ ps) ys = DefaultsAre ps ys
-  DefaultsAre (parameter.Default n x ∷ ps) ys = (y : Expr) × (zs : List Expr) × ExprIs [] x y × DefaultsAre ps zs × (ys ≡ y ∷ zs)
-  DefaultsAre (parameter.BareStar ∷ ps) ys = DefaultsAre ps ys
-  DefaultsAre (parameter.Star n ∷ ps) ys = DefaultsAre ps ys
-  DefaultsAre (parameter.StarStar n ∷ ps) ys = DefaultsAre ps ys
-
   -- its statements stand in a block of its names, which have the first slots
   unfoldable pub FunctionIs : Identifier → List Parameter → List Stmt → Function → Type 0
   FunctionIs n ps body z =
-      (rows : List Formal) × (slots : ℕ) × (ys : List Stmt) × ParametersAre 0 ps rows
-      × InOrder (StmtTo max_layers (record { base = 0; names = function_names ps body } ∷ [])) body ys
-      × (z ≡ record { name = n.name; parameters = rows; slots = slots; body = ys })
+      (slots : ℕ) × (ys : List Stmt) × InOrder (StmtTo max_layers (record { base = 0; names = function_names ps body } ∷ [])) body ys
+      × (z ≡ record { name = n.name; parameters = formals 0 ps; slots = slots; body = ys })
 
   -- ---- what stands outside functions: `k` functions stand before it, and it has these functions and loads
 
@@ -269,7 +274,7 @@ module _ (file : FileParts) where
   file_stmt_is k (Stmt-F.If bs zs) z fs ls = ⊥
   file_stmt_is k (Stmt-F.For t x body) z fs ls = ⊥
   file_stmt_is k (Stmt-F.Def n ps body) z fs ls =
-      (x : Referent) × (ds : List Expr) × (f : Function) × (place_of (use_of file [] n.name) ≡ Some x) × DefaultsAre file ps ds × FunctionIs file n ps body f
+      (x : Referent) × (ds : List Expr) × (f : Function) × (place_of (use_of file [] n.name) ≡ Some x) × InOrder (ExprIs file []) (flat_map default_of ps) ds × FunctionIs file n ps body f
       × (z ≡ top.Def (record { name = refer n x; function = k; defaults = ds })) × (fs ≡ f ∷ []) × (ls ≡ [])
 
   -- a line outside functions
