@@ -32,13 +32,13 @@ use Rattle.bq_resolve_scope.specs.Universe.{UniverseParts}
 use Rattle.bq_eval_language_spec.specs.Trees.{ArgumentLayer, StmtLayer}
 use Rattle.bq_eval_meaning_laws.specs.Layers.{PairParts, OperationParts, ChoiceParts, ArgumentLayerParts, ArgumentParts, OptionalParts, SuffixLayerParts, SuffixParts, ClauseLayerParts, ClauseParts, ExprParts, TargetParts}
 use Rattle.bq_eval_depth_laws.specs.Fits.{IndexParts, TargetFits, VariablesOfLayer, Variables, VariableParts, ExprFitsTo, ExprFits, PlaceFits, KindFits, SmallFits, ParameterFits, BranchFits, StmtLayerFits, StmtFits, FunctionFits, OutsideFits, LineFits, FileFits}
-use Rattle.bq_eval_depth_laws.proofs.Measures.{Measure, StmtMeasure, argument_inside, clause_inside, suffix_inside, target_inside, expr_inside, stmt_inside, opened_argument, opened_clause, opened_suffix, opened_target, opened_expr, opened_pair, opened_operation, opened_choice, opened_stmt, opened_branch}
+use Rattle.bq_eval_depth_laws.proofs.Measures.{Steps, Measure, StmtSteps, StmtMeasure, argument_inside, clause_inside, suffix_inside, target_inside, expr_inside, stmt_inside, opened_argument, opened_clause, opened_suffix, opened_target, opened_expr, opened_pair, opened_operation, opened_choice, opened_stmt, opened_branch}
 use Rattle.bq_eval_depth_laws.proofs.KeptFiles.{ParameterIs, ParsedIs, FunctionIs, OutsideIs, FileIs, file_is}
 
 -- ---- the depth, as a measure
 
-abbrev pub depth : Measure ℕ ℕ ℕ ℕ ℕ ℕ ℕ ℕ
-depth = record {
+abbrev pub depths : Steps ℕ ℕ ℕ ℕ ℕ ℕ ℕ ℕ
+depths = record {
   argument_step = argument_step;
   clause_step = clause_step;
   expr_step = expr_step;
@@ -47,11 +47,20 @@ depth = record {
   choice_step = choice_step;
   operation_step = operation_step;
   pair_step = pair_step;
-  of_name = λ n r. refl;
+}
+
+abbrev pub depth : Measure ℕ ℕ ℕ ℕ ℕ ℕ ℕ ℕ
+depth = record {
+  after = depths;
+  expr_before = expr_step;
+  target_before = target_step;
+  of_name = λ n r refers. refl;
+  of_other = λ o other. refl;
   of_list = λ x cs own other. refl;
   of_dict = λ p cs own other. refl;
   of_method = λ n r xs. refl;
-  of_variable = λ n r. refl;
+  of_variable = λ n r refers. refl;
+  of_target = λ o other. refl;
 }
 
 pub return_depth : (line : ℕ) (x y : Option Expr) → option_map expr_depth y ≡ option_map expr_depth x
@@ -61,16 +70,20 @@ return_depth line None (Some y) h = absurd (let no : ⊥ = cc in no)
 return_depth line (Some x) None h = absurd (let no : ⊥ = cc in no)
 return_depth line (Some x) (Some y) h = cc
 
+abbrev pub stmt_depths : StmtSteps ℕ ℕ ℕ
+stmt_depths = record { small_step = small_depth; stmt_step = stmt_step; branch_step = branch_step }
+
 abbrev pub stmts_depth : StmtMeasure depth ℕ ℕ ℕ
 stmts_depth = record {
-  small_step = small_depth;
-  stmt_step = stmt_step;
-  branch_step = branch_step;
+  later = stmt_depths;
+  earlier = stmt_depths;
   of_expr = λ line x y h. h;
   of_assign = λ line t u x y h k. ap (λ n. max n (expr_depth y)) h ∙ ap (λ n. max (target_depth t) n) k;
   of_augment = λ line t u o x y h k. ap (λ n. max n (expr_depth y)) h ∙ ap (λ n. max (target_depth t) n) k;
   of_return = return_depth;
+  of_rest = λ line k none. refl;
   of_line = λ xs ys h. ap (λ ns. deepest ns + 1) h;
+  of_if = λ bs zs. refl;
   of_loop = λ t u x y body h k. ap (λ n. max n (max (expr_depth y) (deepest body)) + 1) h ∙ ap (λ n. max (target_depth t) (max n (deepest body)) + 1) k;
   of_branch = λ x y block h. ap (λ n. max n (deepest block)) h;
 }
@@ -90,13 +103,13 @@ part_depth (Some x) = expr_depth x
 
 -- ---- each has a layer
 
-pub target_is_deep : (o : TargetLayer) → 1 ≤ target_step (target_inside depth o)
+pub target_is_deep : (o : TargetLayer) → 1 ≤ target_step (target_inside depths o)
 target_is_deep (TargetExpr-F.TargetExpr::Name n) = omega arith
 target_is_deep (TargetExpr-F.TargetExpr::Index x i) = omega arith
 target_is_deep (TargetExpr-F.TargetExpr::Tuple ts) = omega arith
 target_is_deep (TargetExpr-F.TargetExpr::List ts) = omega arith
 
-pub expr_is_deep : (o : ExprLayer) → 1 ≤ expr_step (expr_inside depth o)
+pub expr_is_deep : (o : ExprLayer) → 1 ≤ expr_step (expr_inside depths o)
 expr_is_deep (Expr-F.Expr::Name n) = omega arith
 expr_is_deep (Expr-F.Int i) = omega arith
 expr_is_deep (Expr-F.String s) = omega arith
@@ -112,7 +125,7 @@ expr_is_deep (Expr-F.Compare x o y) = omega arith
 expr_is_deep (Expr-F.Conditional cs x) = omega arith
 expr_is_deep Expr-F.Lambda = omega arith
 
-pub stmt_is_deep : (o : StmtLayer) → 1 ≤ stmt_step (stmt_inside depth stmts_depth o)
+pub stmt_is_deep : (o : StmtLayer) → 1 ≤ stmt_step (stmt_inside stmt_depths o)
 stmt_is_deep (Stmt-F.Simple xs) = omega arith
 stmt_is_deep (Stmt-F.If bs zs) = omega arith
 stmt_is_deep (Stmt-F.For t x body) = omega arith
@@ -121,14 +134,14 @@ stmt_is_deep (Stmt-F.Def n ps body) = omega arith
 -- ---- expressions: `P` holds of those that are at most this deep
 
 module _ (n : ℕ) (P : Expr → Type 0) (fits : (x : Expr) → expr_depth x ≤ n → P x) where
-  argument : (o : ArgumentLayer) → argument_step (argument_inside depth o) ≤ n → ArgumentLayerParts P o
+  argument : (o : ArgumentLayer) → argument_step (argument_inside depths o) ≤ n → ArgumentLayerParts P o
   argument (Argument-F.Positional x) h = fits x h
   argument (Argument-F.Named name x) h = fits x h
   argument (Argument-F.Star x) h = fits x h
   argument (Argument-F.StarStar x) h = fits x h
 
   arguments : (xs : List Argument) → deepest (map argument_depth xs) ≤ n → AllByRecursion (ArgumentParts P) xs
-  arguments = each_of argument_depth n (ArgumentParts P) (λ x h. argument (out-Argument x) (omega (arith, opened_argument depth x)))
+  arguments = each_of argument_depth n (ArgumentParts P) (λ x h. argument (out-Argument x) (omega (arith, opened_argument depths x)))
 
   part : (x : Option Expr) → part_depth x ≤ n → OptionalParts P x
   part None h = tt
@@ -145,30 +158,30 @@ module _ (n : ℕ) (P : Expr → Type 0) (fits : (x : Expr) → expr_depth x ≤
   slice (Some i) (Some j) None h = (omega arith, omega arith, omega arith)
   slice (Some i) (Some j) (Some k) h = (omega arith, omega arith, omega arith)
 
-  suffix : (o : SuffixLayer) → suffix_step (suffix_inside depth o) ≤ n → SuffixLayerParts P o
+  suffix : (o : SuffixLayer) → suffix_step (suffix_inside depths o) ≤ n → SuffixLayerParts P o
   suffix (Suffix-F.Call xs) h = arguments xs h
   suffix (Suffix-F.Method name xs) h = arguments xs h
   suffix (Suffix-F.Attribute name) h = tt
   suffix (Suffix-F.Suffix::Index i) h = fits i h
   suffix (Suffix-F.Slice i j k) h = let all = slice i j k h in (part i all.0, part j all.1, part k all.2)
 
-  clause : (o : ClauseLayer) → clause_step (clause_inside depth o) ≤ n → ClauseLayerParts P o
+  clause : (o : ClauseLayer) → clause_step (clause_inside depths o) ≤ n → ClauseLayerParts P o
   clause (Clause-F.For t x) h = fits x (omega arith)
   clause (Clause-F.If x) h = fits x h
 
   clauses : (cs : List Clause) → deepest (map clause_depth cs) ≤ n → AllByRecursion (ClauseParts P) cs
-  clauses = each_of clause_depth n (ClauseParts P) (λ c h. clause (out-Clause c) (omega (arith, opened_clause depth c)))
+  clauses = each_of clause_depth n (ClauseParts P) (λ c h. clause (out-Clause c) (omega (arith, opened_clause depths c)))
 
   pair : (p : Pair) → pair_depth p ≤ n → PairParts P p
-  pair p h = (fits (out-Pair p).key (omega (arith, opened_pair depth p)), fits (out-Pair p).value (omega (arith, opened_pair depth p)))
+  pair p h = (fits (out-Pair p).key (omega (arith, opened_pair depths p)), fits (out-Pair p).value (omega (arith, opened_pair depths p)))
 
   choice : (c : Choice) → choice_depth c ≤ n → ChoiceParts P c
-  choice c h = (fits (out-Choice c).condition (omega (arith, opened_choice depth c)), fits (out-Choice c).value (omega (arith, opened_choice depth c)))
+  choice c h = (fits (out-Choice c).condition (omega (arith, opened_choice depths c)), fits (out-Choice c).value (omega (arith, opened_choice depths c)))
 
   operation : (o : Operation) → operation_depth o ≤ n → OperationParts P o
-  operation o h = fits (out-Operation o).operand (omega (arith, opened_operation depth o))
+  operation o h = fits (out-Operation o).operand (omega (arith, opened_operation depths o))
 
-  parts : (o : ExprLayer) → expr_step (expr_inside depth o) ≤ n + 1 → ExprParts P o
+  parts : (o : ExprLayer) → expr_step (expr_inside depths o) ≤ n + 1 → ExprParts P o
   parts (Expr-F.Expr::Name m) h = tt
   parts (Expr-F.Int i) h = tt
   parts (Expr-F.String s) h = tt
@@ -177,7 +190,7 @@ module _ (n : ℕ) (P : Expr → Type 0) (fits : (x : Expr) → expr_depth x ≤
   parts (Expr-F.Dict ps) h = each_of pair_depth n (PairParts P) pair ps (omega arith)
   parts (Expr-F.ListComprehension x cs own) h = (fits x (omega arith), clauses cs (omega arith))
   parts (Expr-F.DictComprehension p cs own) h = (pair p (omega arith), clauses cs (omega arith))
-  parts (Expr-F.Primary x ss) h = (fits x (omega arith), each_of suffix_depth n (SuffixParts P) (λ s k. suffix (out-Suffix s) (omega (arith, opened_suffix depth s))) ss (omega arith))
+  parts (Expr-F.Primary x ss) h = (fits x (omega arith), each_of suffix_depth n (SuffixParts P) (λ s k. suffix (out-Suffix s) (omega (arith, opened_suffix depths s))) ss (omega arith))
   parts (Expr-F.Unary os x) h = fits x (omega arith)
   parts (Expr-F.Binary x os) h = (fits x (omega arith), each_of operation_depth n (OperationParts P) operation os (omega arith))
   parts (Expr-F.Compare x o y) h = (fits x (omega arith), fits y (omega arith))
@@ -186,8 +199,8 @@ module _ (n : ℕ) (P : Expr → Type 0) (fits : (x : Expr) → expr_depth x ≤
 
   -- ---- targets
 
-  target_layer : (T : TargetExpr → Type 0) (layers : ℕ) → ((t : TargetExpr) → target_depth t ≤ layers → target_depth t ≤ n + 1 → T t) → (o : TargetLayer) → target_step (target_inside depth o) ≤ layers + 1
-      → target_step (target_inside depth o) ≤ n + 1 → TargetParts T o × IndexParts P o
+  target_layer : (T : TargetExpr → Type 0) (layers : ℕ) → ((t : TargetExpr) → target_depth t ≤ layers → target_depth t ≤ n + 1 → T t) → (o : TargetLayer) → target_step (target_inside depths o) ≤ layers + 1
+      → target_step (target_inside depths o) ≤ n + 1 → TargetParts T o × IndexParts P o
   target_layer T layers inners (TargetExpr-F.TargetExpr::Name m) h k = (tt, tt)
   target_layer T layers inners (TargetExpr-F.TargetExpr::Index x i) h k = (tt, (fits x (omega arith), fits i (omega arith)))
   target_layer T layers inners (TargetExpr-F.TargetExpr::Tuple ts) h k =
@@ -197,30 +210,30 @@ module _ (n : ℕ) (P : Expr → Type 0) (fits : (x : Expr) → expr_depth x ≤
 
   target_fits : (layers : ℕ) (t : TargetExpr) → target_depth t ≤ layers → target_depth t ≤ n + 1 → TargetFits P layers t
   unfolding TargetFits
-  target_fits zero t h k = absurd (omega (arith, opened_target depth t, target_is_deep (out-TargetExpr t)))
-  target_fits (suc layers) t h k = target_layer (TargetFits P layers) layers (target_fits layers) (out-TargetExpr t) (omega (arith, opened_target depth t)) (omega (arith, opened_target depth t))
+  target_fits zero t h k = absurd (omega (arith, opened_target depths t, target_is_deep (out-TargetExpr t)))
+  target_fits (suc layers) t h k = target_layer (TargetFits P layers) layers (target_fits layers) (out-TargetExpr t) (omega (arith, opened_target depths t)) (omega (arith, opened_target depths t))
 
   -- ---- variables of clauses
 
   module _ (few : n ≤ max_layers) where
-    variables_layer : (o : ClauseLayer) → clause_step (clause_inside depth o) ≤ n → VariablesOfLayer (TargetFits P max_layers) o
+    variables_layer : (o : ClauseLayer) → clause_step (clause_inside depths o) ≤ n → VariablesOfLayer (TargetFits P max_layers) o
     variables_layer (Clause-F.For t x) h = target_fits max_layers t (omega arith) (omega arith)
     variables_layer (Clause-F.If x) h = tt
 
     variables : (cs : List Clause) → deepest (map clause_depth cs) ≤ n → AllByRecursion (Variables (TargetFits P max_layers)) cs
-    variables = each_of clause_depth n (Variables (TargetFits P max_layers)) (λ c h. variables_layer (out-Clause c) (omega (arith, opened_clause depth c)))
+    variables = each_of clause_depth n (Variables (TargetFits P max_layers)) (λ c h. variables_layer (out-Clause c) (omega (arith, opened_clause depths c)))
 
-    variable_parts : (o : ExprLayer) → expr_step (expr_inside depth o) ≤ n + 1 → VariableParts (TargetFits P max_layers) o
+    variable_parts : (o : ExprLayer) → expr_step (expr_inside depths o) ≤ n + 1 → VariableParts (TargetFits P max_layers) o
     variable_parts (Expr-F.ListComprehension x cs own) h = variables cs (omega arith)
     variable_parts (Expr-F.DictComprehension p cs own) h = variables cs (omega arith)
     variable_parts o h = tt
 
 pub expr_fits : (n : ℕ) → n ≤ max_layers → (x : Expr) → expr_depth x ≤ n → ExprFitsTo n x
 unfolding ExprFitsTo
-expr_fits zero few x h = absurd (omega (arith, opened_expr depth x, expr_is_deep (out-Expr x)))
+expr_fits zero few x h = absurd (omega (arith, opened_expr depths x, expr_is_deep (out-Expr x)))
 expr_fits (suc n) few x h =
     let fewer : n ≤ max_layers = omega arith in
-    let layer : expr_step (expr_inside depth (out-Expr x)) ≤ n + 1 = omega (arith, opened_expr depth x) in
+    let layer : expr_step (expr_inside depths (out-Expr x)) ≤ n + 1 = omega (arith, opened_expr depths x) in
     (parts n (ExprFitsTo n) (expr_fits n fewer) (out-Expr x) layer, variable_parts n (ExprFitsTo n) (expr_fits n fewer) fewer (out-Expr x) layer)
 
 -- ---- statements
@@ -255,9 +268,9 @@ line_fits = each_of small_depth max_layers SmallFits (λ x. kind_fits x.kind)
 module _ (n : ℕ) (few : n ≤ max_layers) (inner : Stmt → Type 0) (inners : (x : Stmt) → stmt_depth x ≤ n → inner x) where
   branch_fits : (b : Branch) → branch_depth b ≤ n → BranchFits inner b
   branch_fits b h =
-      (an_expr_fits (out-Branch b).condition (omega (arith, opened_branch depth stmts_depth b)), each_of stmt_depth n inner inners (out-Branch b).block (omega (arith, opened_branch depth stmts_depth b)))
+      (an_expr_fits (out-Branch b).condition (omega (arith, opened_branch stmt_depths b)), each_of stmt_depth n inner inners (out-Branch b).block (omega (arith, opened_branch stmt_depths b)))
 
-  layer_fits : (o : StmtLayer) → stmt_step (stmt_inside depth stmts_depth o) ≤ n + 1 → StmtLayerFits inner o
+  layer_fits : (o : StmtLayer) → stmt_step (stmt_inside stmt_depths o) ≤ n + 1 → StmtLayerFits inner o
   layer_fits (Stmt-F.Simple xs) h = line_fits xs (omega arith)
   layer_fits (Stmt-F.If bs zs) h = (each_of branch_depth n (BranchFits inner) branch_fits bs (omega arith), each_of stmt_depth n inner inners zs (omega arith))
   layer_fits (Stmt-F.For t x body) h = (a_place_fits t (omega arith), an_expr_fits x (omega arith), each_of stmt_depth n inner inners body (omega arith))
@@ -265,10 +278,10 @@ module _ (n : ℕ) (few : n ≤ max_layers) (inner : Stmt → Type 0) (inners : 
 
 pub stmt_fits : (n : ℕ) → n ≤ max_layers → (x : Stmt) → stmt_depth x ≤ n → StmtFits n x
 unfolding StmtFits
-stmt_fits zero few x h = absurd (omega (arith, opened_stmt depth stmts_depth x, stmt_is_deep (out-Stmt x)))
+stmt_fits zero few x h = absurd (omega (arith, opened_stmt stmt_depths x, stmt_is_deep (out-Stmt x)))
 stmt_fits (suc n) few x h =
     let fewer : n ≤ max_layers = omega arith in
-    layer_fits n fewer (StmtFits n) (stmt_fits n fewer) (out-Stmt x) (omega (arith, opened_stmt depth stmts_depth x))
+    layer_fits n fewer (StmtFits n) (stmt_fits n fewer) (out-Stmt x) (omega (arith, opened_stmt stmt_depths x))
 
 -- ---- files
 
@@ -288,7 +301,7 @@ parameter_is parameter.BareStar h = tt
 parameter_is (parameter.Star n) h = tt
 parameter_is (parameter.StarStar n) h = tt
 
-parsed_is : (o : StmtLayer) → stmt_step (stmt_inside depth stmts_depth o) ≤ max_layers → ParsedIs depth stmts_depth IsFew IsFew IsFew o
+parsed_is : (o : StmtLayer) → stmt_step (stmt_inside stmt_depths o) ≤ max_layers → ParsedIs depth stmts_depth IsFew IsFew IsFew o
 parsed_is (Stmt-F.Simple xs) h = each_of small_depth max_layers (λ x. small_depth x ≤ max_layers) (λ x k. k) xs (omega arith)
 parsed_is (Stmt-F.If bs zs) h = tt
 parsed_is (Stmt-F.For t x body) h = tt
@@ -298,7 +311,7 @@ all_parsed : (ts : List TopLevel) → AllByRecursion (λ t. stmt_depth t.stateme
 all_parsed [] h = tt
 all_parsed (t ∷ ts) h =
     let a : stmt_depth t.statement ≤ max_depth = h.0 in
-    (parsed_is (out-Stmt t.statement) (omega (arith, opened_stmt depth stmts_depth t.statement, enough)), all_parsed ts h.1)
+    (parsed_is (out-Stmt t.statement) (omega (arith, opened_stmt stmt_depths t.statement, enough)), all_parsed ts h.1)
 
 every : {A : Type 0} (P Q : A → Type 0) → ((x : A) → P x → Q x) → (xs : List A) → AllByRecursion P xs → AllByRecursion Q xs
 every P Q weaker [] h = tt
@@ -306,11 +319,11 @@ every P Q weaker (x ∷ xs) h = (weaker x h.0, every P Q weaker xs h.1)
 
 outside_fits : (x : Outside) → OutsideIs depth stmts_depth IsFew IsFew IsFew x → OutsideFits x
 outside_fits (outside.Simple xs) h = every (λ x. small_depth x ≤ max_layers) SmallFits (λ x. kind_fits x.kind) xs h
-outside_fits (outside.Def d) h = every (λ x. expr_depth x ≤ max_layers) ExprFits an_expr_fits d.defaults h
+outside_fits (outside.Def d) h = every (λ x. expr_depth x ≤ max_layers) ExprFits an_expr_fits d.defaults h.1
 
 function_fits : (d : Function) → FunctionIs depth stmts_depth IsFew IsFew IsFew d → FunctionFits d
 unfolding FunctionFits
-function_fits d h = every (λ x. stmt_depth x ≤ max_layers) (StmtFits max_layers) (stmt_fits max_layers (omega arith)) d.body h
+function_fits d h = every (λ x. stmt_depth x ≤ max_layers) (StmtFits max_layers) (stmt_fits max_layers (omega arith)) d.body h.1
 
 pub file_is_few : (universe : UniverseParts) (ts : List TopLevel) (z : ResolvedFile) → AllByRecursion (λ t. stmt_depth t.statement ≤ max_depth) ts → resolved universe ts ≡ Ok z
     → FileIs depth stmts_depth IsFew IsFew IsFew z

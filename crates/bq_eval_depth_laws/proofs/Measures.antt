@@ -1,5 +1,5 @@
--- What is measured of a tree, node by node, whatever its names refer to and whichever frames its comprehensions have: so it is a measure of
--- the tree's form.
+-- What is measured of a tree, node by node. Of a tree as it is parsed no name counts by what it refers to; of a resolved one a name may count
+-- for more, if it refers to nothing; frames never count. So it is a measure of the tree's form.
 use Rattle.std.proofs.Common.{◌≡◌, ◌∙◌, ℕ, List, map, Option, Some, None, sym, ap, rules}
 use Rattle.std.specs.Option.{option_map}
 use Rattle.bq_parse_grammar.specs.declared.tree.Argument.TheFolds.{fold-Argument, fold-Choice, fold-Clause, fold-Expr, fold-Operation, fold-Pair, fold-Suffix, fold-TargetExpr}
@@ -15,6 +15,7 @@ use Rattle.bq_parse_grammar.specs.declared.tree.Operation.{Operation, out-Operat
 use Rattle.bq_parse_grammar.specs.declared.tree.Operator.{Operator}
 use Rattle.bq_parse_grammar.specs.declared.tree.Pair.{Pair, out-Pair, roll-Pair, roll-out-Pair}
 use Rattle.bq_parse_grammar.specs.declared.tree.Referent.{Referent}
+use Rattle.bq_parse_grammar.specs.declared.tree.SmallKind.{SmallKind}
 use Rattle.bq_parse_grammar.specs.declared.tree.SmallKind.TheVariants as small
 use Rattle.bq_parse_grammar.specs.declared.tree.SmallStmt.{SmallStmt}
 use Rattle.bq_parse_grammar.specs.declared.tree.Stmt as stmt
@@ -27,9 +28,10 @@ use Rattle.bq_parse_grammar.specs.Targets.{ExprLayer, SuffixLayer}
 use Rattle.bq_resolve_scope.specs.Expressions.{refer}
 use Rattle.bq_resolve_scope.specs.Names.{TargetLayer, ClauseLayer}
 use Rattle.bq_eval_language_spec.specs.Trees.{ArgumentLayer, StmtLayer}
+use Rattle.bq_eval_depth_laws.specs.Referents.{RefersToAny, RefersToPlace}
 
 -- of one node, with what is measured of each child in its place
-pub record Measure (A C E S T H O P : Type 0) : Type 0 where
+pub record Steps (A C E S T H O P : Type 0) : Type 0 where
   pub argument_step : Argument-F A C E S T H O P → A
   pub clause_step : Clause-F A C E S T H O P → C
   pub expr_step : Expr-F A C E S T H O P → E
@@ -38,13 +40,8 @@ pub record Measure (A C E S T H O P : Type 0) : Type 0 where
   pub choice_step : Choice-F A C E S T H O P → H
   pub operation_step : Operation-F A C E S T H O P → O
   pub pair_step : Pair-F A C E S T H O P → P
-  pub of_name : (n : Identifier) (r : Referent) → expr_step (Expr-F.Expr::Name (refer n r)) ≡ expr_step (Expr-F.Expr::Name n)
-  pub of_list : (x : E) (cs : List C) (own other : ComprehensionFrame) → expr_step (Expr-F.ListComprehension x cs own) ≡ expr_step (Expr-F.ListComprehension x cs other)
-  pub of_dict : (p : P) (cs : List C) (own other : ComprehensionFrame) → expr_step (Expr-F.DictComprehension p cs own) ≡ expr_step (Expr-F.DictComprehension p cs other)
-  pub of_method : (n : Identifier) (r : Referent) (xs : List A) → suffix_step (Suffix-F.Method (refer n r) xs) ≡ suffix_step (Suffix-F.Method n xs)
-  pub of_variable : (n : Identifier) (r : Referent) → target_step (TargetExpr-F.TargetExpr::Name (refer n r)) ≡ target_step (TargetExpr-F.TargetExpr::Name n)
 
-module _ {A C E S T H O P : Type 0} (M : Measure A C E S T H O P) where
+module _ {A C E S T H O P : Type 0} (M : Steps A C E S T H O P) where
   abbrev pub argument_of : Argument → A
   argument_of = fold-Argument A C E S T H O P M.argument_step M.clause_step M.expr_step M.suffix_step M.target_step M.choice_step M.operation_step M.pair_step
 
@@ -209,24 +206,67 @@ module _ {A C E S T H O P : Type 0} (M : Measure A C E S T H O P) where
   pub opened_choice : (o : Choice) → choice_of o ≡ M.choice_step (record { value = expr_of (out-Choice o).value; condition = expr_of (out-Choice o).condition })
   opened_choice o = sym (ap choice_of (roll-out-Choice o)) ∙ made_choice (out-Choice o).value (out-Choice o).condition
 
+-- ---- a measure: of trees before they are resolved, and after it. It differs for names alone, and doesn't see frames.
+
+-- another form than the use of a name
+abbrev pub IsOther : {A C E S T H O P : Type 0} → Expr-F A C E S T H O P → Type 0
+IsOther (Expr-F.Expr::Name n) = ⊥
+IsOther _ = Unit {0}
+
+-- another form of target than a name
+abbrev pub IsOtherTarget : {A C E S T H O P : Type 0} → TargetExpr-F A C E S T H O P → Type 0
+IsOtherTarget (TargetExpr-F.TargetExpr::Name n) = ⊥
+IsOtherTarget _ = Unit {0}
+
+pub record Measure (A C E S T H O P : Type 0) : Type 0 where
+  pub after : Steps A C E S T H O P
+  pub expr_before : Expr-F A C E S T H O P → E
+  pub target_before : TargetExpr-F A C E S T H O P → T
+  pub of_name : (n : Identifier) (r : Referent) → RefersToAny r → after.expr_step (Expr-F.Expr::Name (refer n r)) ≡ expr_before (Expr-F.Expr::Name n)
+  pub of_other : (o : Expr-F A C E S T H O P) → IsOther o → after.expr_step o ≡ expr_before o
+  pub of_list : (x : E) (cs : List C) (own other : ComprehensionFrame) → after.expr_step (Expr-F.ListComprehension x cs own) ≡ after.expr_step (Expr-F.ListComprehension x cs other)
+  pub of_dict : (p : P) (cs : List C) (own other : ComprehensionFrame) → after.expr_step (Expr-F.DictComprehension p cs own) ≡ after.expr_step (Expr-F.DictComprehension p cs other)
+  pub of_method : (n : Identifier) (r : Referent) (xs : List A) → after.suffix_step (Suffix-F.Method (refer n r) xs) ≡ after.suffix_step (Suffix-F.Method n xs)
+  pub of_variable : (n : Identifier) (r : Referent) → RefersToPlace r → after.target_step (TargetExpr-F.TargetExpr::Name (refer n r)) ≡ target_before (TargetExpr-F.TargetExpr::Name n)
+  pub of_target : (o : TargetExpr-F A C E S T H O P) → IsOtherTarget o → after.target_step o ≡ target_before o
+
+abbrev pub before : {A C E S T H O P : Type 0} → Measure A C E S T H O P → Steps A C E S T H O P
+before M = record M.after { expr_step = M.expr_before; target_step = M.target_before }
+
 -- ---- statements: what is measured of the expressions and targets in one is all that counts of them
 
-pub record StmtMeasure {A C E S T H O P : Type 0} (M : Measure A C E S T H O P) (W D B : Type 0) : Type 0 where
+-- a small statement without an expression or a target
+abbrev pub HasNoTree : SmallKind → Type 0
+HasNoTree small.Break = Unit {0}
+HasNoTree small.Continue = Unit {0}
+HasNoTree small.Pass = Unit {0}
+HasNoTree (small.Load l) = Unit {0}
+HasNoTree _ = ⊥
+
+pub record StmtSteps (W D B : Type 0) : Type 0 where
   pub small_step : SmallStmt → W
   pub stmt_step : Stmt-F D B → D
   pub branch_step : Branch-F D B → B
-  pub of_expr : (line : ℕ) (x y : Expr) → expr_of M y ≡ expr_of M x → small_step (record { line = line; kind = small.Expr y }) ≡ small_step (record { line = line; kind = small.Expr x })
-  pub of_assign : (line : ℕ) (t u : TargetExpr) (x y : Expr) → target_of M u ≡ target_of M t → expr_of M y ≡ expr_of M x
-      → small_step (record { line = line; kind = small.Assign u y }) ≡ small_step (record { line = line; kind = small.Assign t x })
-  pub of_augment : (line : ℕ) (t u : TargetExpr) (o : Operator) (x y : Expr) → target_of M u ≡ target_of M t → expr_of M y ≡ expr_of M x
-      → small_step (record { line = line; kind = small.Augment u o y }) ≡ small_step (record { line = line; kind = small.Augment t o x })
-  pub of_return : (line : ℕ) (x y : Option Expr) → option_map (expr_of M) y ≡ option_map (expr_of M) x
-      → small_step (record { line = line; kind = small.Return y }) ≡ small_step (record { line = line; kind = small.Return x })
-  pub of_line : (xs ys : List SmallStmt) → map small_step ys ≡ map small_step xs → stmt_step (Stmt-F.Simple ys) ≡ stmt_step (Stmt-F.Simple xs)
-  pub of_loop : (t u : TargetExpr) (x y : Expr) (body : List D) → target_of M u ≡ target_of M t → expr_of M y ≡ expr_of M x → stmt_step (Stmt-F.For u y body) ≡ stmt_step (Stmt-F.For t x body)
-  pub of_branch : (x y : Expr) (block : List D) → expr_of M y ≡ expr_of M x → branch_step (record { condition = y; block = block }) ≡ branch_step (record { condition = x; block = block })
 
-module _ {A C E S T H O P W D B : Type 0} (M : Measure A C E S T H O P) (N : StmtMeasure M W D B) where
+pub record StmtMeasure {A C E S T H O P : Type 0} (M : Measure A C E S T H O P) (W D B : Type 0) : Type 0 where
+  pub later : StmtSteps W D B
+  pub earlier : StmtSteps W D B
+  pub of_expr : (line : ℕ) (x y : Expr) → expr_of M.after y ≡ expr_of (before M) x → later.small_step (record { line = line; kind = small.Expr y }) ≡ earlier.small_step (record { line = line; kind = small.Expr x })
+  pub of_assign : (line : ℕ) (t u : TargetExpr) (x y : Expr) → target_of M.after u ≡ target_of (before M) t → expr_of M.after y ≡ expr_of (before M) x
+      → later.small_step (record { line = line; kind = small.Assign u y }) ≡ earlier.small_step (record { line = line; kind = small.Assign t x })
+  pub of_augment : (line : ℕ) (t u : TargetExpr) (o : Operator) (x y : Expr) → target_of M.after u ≡ target_of (before M) t → expr_of M.after y ≡ expr_of (before M) x
+      → later.small_step (record { line = line; kind = small.Augment u o y }) ≡ earlier.small_step (record { line = line; kind = small.Augment t o x })
+  pub of_return : (line : ℕ) (x y : Option Expr) → option_map (expr_of M.after) y ≡ option_map (expr_of (before M)) x
+      → later.small_step (record { line = line; kind = small.Return y }) ≡ earlier.small_step (record { line = line; kind = small.Return x })
+  pub of_rest : (line : ℕ) (k : SmallKind) → HasNoTree k → later.small_step (record { line = line; kind = k }) ≡ earlier.small_step (record { line = line; kind = k })
+  pub of_line : (xs ys : List SmallStmt) → map later.small_step ys ≡ map earlier.small_step xs → later.stmt_step (Stmt-F.Simple ys) ≡ earlier.stmt_step (Stmt-F.Simple xs)
+  pub of_if : (bs : List B) (zs : List D) → later.stmt_step (Stmt-F.If bs zs) ≡ earlier.stmt_step (Stmt-F.If bs zs)
+  pub of_loop : (t u : TargetExpr) (x y : Expr) (body : List D) → target_of M.after u ≡ target_of (before M) t → expr_of M.after y ≡ expr_of (before M) x
+      → later.stmt_step (Stmt-F.For u y body) ≡ earlier.stmt_step (Stmt-F.For t x body)
+  pub of_branch : (x y : Expr) (block : List D) → expr_of M.after y ≡ expr_of (before M) x
+      → later.branch_step (record { condition = y; block = block }) ≡ earlier.branch_step (record { condition = x; block = block })
+
+module _ {W D B : Type 0} (N : StmtSteps W D B) where
   abbrev pub stmt_of : Stmt → D
   stmt_of = fold-Stmt D B N.stmt_step N.branch_step
 

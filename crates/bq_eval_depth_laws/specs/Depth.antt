@@ -53,8 +53,10 @@ module _ {S R V : Type 0} (m : Primitives S) (scoping : Scoping R V) where
 
   abbrev pub BindingsNeedNoMore : Type 0
   BindingsNeedNoMore =
-      (inner k : ℕ) (t : TargetExpr) (v : Datum) (env : V) (ps : Places) (s : S) → TargetFits (ExprFitsTo inner) max_layers t → max_layers ≤ k → bind_to m scoping max_layers t v env ps s ≡ bind_to m scoping k t v env ps s
+      (inner k : ℕ) (t : TargetExpr) (v : Datum) (env : V) (ps : Places) (s : S) → TargetFits (ExprFitsTo inner) max_layers t → max_layers ≤ k
+      → bind_to m scoping max_layers t v env ps s ≡ bind_to m scoping k t v env ps s
 
   abbrev pub PlacesNeedNoMore : Type 0
   PlacesNeedNoMore =
-      (eval : Eval S V) (inner k : ℕ) (t : TargetExpr) (env : V) (ps : Places) (s : S) → TargetFits (ExprFitsTo inner) max_layers t → max_layers ≤ k → places_to m eval max_layers t env ps s ≡ places_to m eval k t env ps s
+      (eval : Eval S V) (inner k : ℕ) (t : TargetExpr) (env : V) (ps : Places) (s : S) → TargetFits (ExprFitsTo inner) max_layers t → max_layers ≤ k
+      → places_to m eval max_layers t env ps s ≡ places_to m eval k t env ps s

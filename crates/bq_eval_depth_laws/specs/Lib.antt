@@ -1,2 +1,3 @@
+pub mod Referents
 pub mod Fits
 pub mod Depth

@@ -13,6 +13,10 @@ use Rattle.bq_builtin_machine.specs.Action.{Action, Run, done, stopped, followin
 use Rattle.bq_eval_meaning_spec.specs.Primitives.{Primitives}
 use Rattle.bq_eval_language_spec.specs.Environment.{NamespaceCall, Scoping}
 use Rattle.bq_eval_language_spec.specs.Slots.{member_at, called_by, called, by_slots}
+use Rattle.bq_eval_by_name_spec.specs.Names as names
+use Rattle.bq_eval_by_name_spec.specs.Names.{Round, namespace_at, by_names}
+use Rattle.bq_resolve_scope.specs.Expressions.{NamedSpace, member_by, member_call}
+use Rattle.bq_resolve_scope.specs.Universe.{member_named}
 use Rattle.bq_eval_meaning_laws.specs.Depth.{MembersAreSuffixes, ExpressionDepth, StatementDepth, BindingDepth, PlaceDepth}
 use Rattle.bq_eval_meaning_laws.proofs.Respects.{Relation, Respects}
 use Rattle.bq_eval_meaning_laws.proofs.TargetRules.{bind_depths, places_depths}
@@ -66,7 +70,7 @@ alike m = record {
   of_leave = λ s. refl;
 }
 
-module _ {S Round V : Type 0} (m : Primitives S) (scoping : Scoping Round V) where
+module _ {S R V : Type 0} (m : Primitives S) (scoping : Scoping R V) where
   pub expression_depth : ExpressionDepth m scoping
   expression_depth call round n k x env s are fits few = expr_depths m scoping (RunAlike S) (alike m) call (λ v p t. refl) round are n k few x fits env s
 
@@ -110,3 +114,25 @@ member_of p (s ∷ ss) found xs rest h = member_of_layer p s ss (out-Suffix s) (
 
 pub slot_members : MembersAreSuffixes by_slots
 slot_members round env x ss found xs rest h = member_of (member_at (out-Expr x)) ss found xs rest h
+
+-- ---- by names
+
+member_by_name : (s : Suffix) (ss : List Suffix) (o : SuffixLayer) → roll-Suffix o ≡ s → (round : Round) (space : NamedSpace) (found : Option Predeclared) (xs : List Argument)
+    (rest : List Suffix) → names.member_of round (member_by space o ss) ≡ Some (found, xs, rest) → (n : Identifier) × (s ∷ ss ≡ suffix.Method n xs ∷ rest)
+member_by_name s ss (Suffix-F.Method n ys) e round space found xs rest h =
+    let parts : (ys ≡ xs) × (ss ≡ rest) = same_call (member_named space.0 round.universe.rules n.name) found ys xs ss rest h in
+    let first : s ≡ suffix.Method n xs = sym e ∙ (suffix.rolls-Method n ys ∙ ap (λ zs. suffix.Method n zs) parts.0) in
+    (n, ap (λ z. z ∷ ss) first ∙ ap (λ zs. suffix.Method n xs ∷ zs) parts.1)
+member_by_name s ss (Suffix-F.Call ys) e round space found xs rest h = absurd (let no : ⊥ = cc in no)
+member_by_name s ss (Suffix-F.Attribute n) e round space found xs rest h = absurd (let no : ⊥ = cc in no)
+member_by_name s ss (Suffix-F.Suffix::Index i) e round space found xs rest h = absurd (let no : ⊥ = cc in no)
+member_by_name s ss (Suffix-F.Slice i j k) e round space found xs rest h = absurd (let no : ⊥ = cc in no)
+
+member_among : (round : Round) (o : Option NamedSpace) (ss : List Suffix) (found : Option Predeclared) (xs : List Argument) (rest : List Suffix)
+    → names.member_of round (member_call o ss) ≡ Some (found, xs, rest) → (n : Identifier) × (ss ≡ suffix.Method n xs ∷ rest)
+member_among round None ss found xs rest h = absurd (let no : ⊥ = cc in no)
+member_among round (Some space) [] found xs rest h = absurd (let no : ⊥ = cc in no)
+member_among round (Some space) (s ∷ ss) found xs rest h = member_by_name s ss (out-Suffix s) (roll-out-Suffix s) round space found xs rest h
+
+pub name_members : MembersAreSuffixes by_names
+name_members round env x ss found xs rest h = member_among round (namespace_at round (out-Expr x) env) ss found xs rest h

@@ -28,7 +28,8 @@ module _ {S R V : Type 0} (m : Primitives S) (scoping : Scoping R V) where
   -- two depths, of which the first one suffices
   abbrev pub ExpressionDepth : Type 0
   ExpressionDepth =
-      (call : Calls S) (round : R) (n k : ℕ) (x : Expr) (env : V) (s : S) → MembersAreSuffixes scoping → IsWithin n x → n ≤ k → expr_to n m scoping call round x env s ≡ expr_to k m scoping call round x env s
+      (call : Calls S) (round : R) (n k : ℕ) (x : Expr) (env : V) (s : S) → MembersAreSuffixes scoping → IsWithin n x → n ≤ k
+      → expr_to n m scoping call round x env s ≡ expr_to k m scoping call round x env s
 
   abbrev pub StatementDepth : Type 0
   StatementDepth = (eval : Eval S V) (n k : ℕ) (x : Stmt) (env : V) (s : S) → StmtIsWithin n x → n ≤ k → run_to n m scoping eval x env s ≡ run_to k m scoping eval x env s

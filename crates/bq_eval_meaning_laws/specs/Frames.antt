@@ -28,10 +28,12 @@ goes_into slot (formal.StarStar n) = slot == slot_of n.referent
 -- An expression that is a statement, whatever it calls, leaves the environment as it was, and the next statement comes after it.
 abbrev pub ExpressionsBindNothing : {S R V : Type 0} → Primitives S → Scoping R V → Type 0
 ExpressionsBindNothing {S = S} {V = V} m scoping =
-    (eval : Eval S V) (line : ℕ) (x : Expr) (env : V) (s t : S) (r : Flow × V) → small_stmt m scoping eval (record { line = line; kind = small.Expr x }) env s ≡ done r t → r ≡ (next, env)
+    (eval : Eval S V) (line : ℕ) (x : Expr) (env : V) (s t : S) (r : Flow × V)
+    → small_stmt m scoping eval (record { line = line; kind = small.Expr x }) env s ≡ done r t → r ≡ (next, env)
 
 module _ {S : Type 0} (m : Primitives S) where
   -- A function begins with a frame that holds its parameters alone: nothing of the caller's, and nothing of an earlier call.
   abbrev pub FunctionsBeginWithParameters : Type 0
   FunctionsBeginWithParameters =
-      (d : Function) (defaults : List Datum) (p : Passed) (s t : S) (env : Frame) (slot : ℕ) → entry m by_slots d defaults p s ≡ done env t → AllByRecursion (λ q. goes_into slot q ≡ false) d.parameters → env slot ≡ None
+      (d : Function) (defaults : List Datum) (p : Passed) (s t : S) (env : Frame) (slot : ℕ) → entry m by_slots d defaults p s ≡ done env t
+      → AllByRecursion (λ q. goes_into slot q ≡ false) d.parameters → env slot ≡ None

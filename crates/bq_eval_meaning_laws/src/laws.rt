@@ -3,6 +3,7 @@
 ghost use Rattle.bq_eval_meaning_spec.specs.Primitives.{Primitives};
 ghost use Rattle.bq_eval_language_spec.specs.Environment.{Scoping};
 ghost use Rattle.bq_eval_language_spec.specs.Slots.{by_slots};
+ghost use Rattle.bq_eval_by_name_spec.specs.Names.{by_names};
 ghost use Rattle.bq_eval_meaning_laws.specs.Depth.{MembersAreSuffixes, ExpressionDepth, StatementDepth, BindingDepth, PlaceDepth};
 ghost use Rattle.bq_eval_meaning_laws.specs.Frames.{ExpressionsBindNothing, FunctionsBeginWithParameters};
 ghost use Rattle.bq_eval_meaning_laws.specs.Order.{DisplaysInOrder, DisplaysStop, PairsInOrder, DictDisplaysInOrder, MadePairsInOrder, ChainsInOrder, OperatorsInOrder, OperandsInOrder, ComparesInOrder, IndexedInOrder, SlicedInOrder, ConditionsFirst, RightSidesFirst, PlacesInOrder, IterablesFirst};
@@ -11,13 +12,14 @@ ghost use Rattle.bq_eval_meaning_laws.specs.Decides.{LeftSidesDecide, BranchCond
 ghost use Rattle.bq_eval_meaning_laws.specs.Updates.{NamesAugmentedInOrder, PlacesAugmentedInOrder};
 
 /// Where a depth suffices for an expression, a statement or a target, a greater one changes nothing, whatever names mean. Of an
-/// expression that is so where the call of a namespace's member, if a name stands for a namespace, is the first suffix: by slots it is.
+/// expression that is so where the call of a namespace's member, if a name stands for a namespace, is the first suffix: by slots it is, and by names.
 pub fn depth_changes_nothing<S, R, V>()
     ensures expression { (m : Primitives S) (scoping : Scoping R V) → ExpressionDepth m scoping }
     ensures statement { (m : Primitives S) (scoping : Scoping R V) → StatementDepth m scoping }
     ensures binding { (m : Primitives S) (scoping : Scoping R V) → BindingDepth m scoping }
     ensures places { (m : Primitives S) (scoping : Scoping R V) → PlaceDepth m scoping }
     ensures slots { MembersAreSuffixes by_slots }
+    ensures names { MembersAreSuffixes by_names }
 {}
 
 /// A call leaves the caller's environment as it was: an expression, whatever it calls, binds no name.

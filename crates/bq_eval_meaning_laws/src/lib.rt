@@ -1,6 +1,6 @@
 //! Laws of the meaning of programs, by the definition of `bq_eval_language_spec`.
 //!
-//! In: nothing; the functions do nothing, and their contracts are the laws. The promise, whatever names mean: no number of
+//! In: nothing; the functions do nothing, and their contracts are the laws. The promise: whatever names mean, no number of
 //! layers is part of what a program means; a call leaves the environment of the caller as it was; the parts of an
 //! expression, and the arguments of a call, are evaluated from left to right, and what decides is evaluated before what it
 //! chooses. By slots a function begins with a frame that holds its parameters alone.

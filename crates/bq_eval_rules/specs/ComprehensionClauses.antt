@@ -1,9 +1,11 @@
 -- What an evaluator does at the clauses of a comprehension: up to the first loop, and in the loops that are open.
-use Rattle.std.specs.Prelude.{◌≡◌, List, Option, Result, IfOk}
+use Rattle.std.specs.Prelude.{◌≡◌, List, [], Option, Result, IfOk}
 use Rattle.bq_parse_grammar.specs.declared.tree.Clause.{Clause}
 use Rattle.bq_parse_grammar.specs.declared.tree.ComprehensionFrame.{ComprehensionFrame}
+use Rattle.bq_parse_grammar.specs.declared.tree.Expr.{Expr}
+use Rattle.bq_parse_grammar.specs.declared.tree.Pair.{Pair}
 use Rattle.bq_value.specs.declared.error.EvalErr.{EvalErr}
-use Rattle.bq_value.specs.Contents.{Contents}
+use Rattle.bq_value.specs.Contents.{Contents, items, pairs}
 use Rattle.bq_value.specs.Datum.{Datum}
 use Rattle.bq_builtin_machine.specs.Action.{Action}
 use Rattle.bq_eval_meaning_spec.specs.Frame.{Frame}
@@ -39,6 +41,15 @@ module _ {S R C F : Type 0} (m : Primitives S) (e : Evaluator R C F) (x : Elemen
   -- the turns that are left of a loop, and the end of its walk
   abbrev pub turns_left : Loop → Turn S Frame
   turns_left l = loop_left m (evals_in m e) element_in l
+
+module _ {S R C F : Type 0} (m : Primitives S) (e : Evaluator R C F) (cs : List Clause) (own : ComprehensionFrame) where
+  -- `[x for ..]`
+  abbrev pub list_comprehension_in : Expr → Action S Datum
+  list_comprehension_in x = comprehension m by_slots (evals_in m e) (items []) (element m (evals_in m e) x) cs own (frame_of e)
+
+  -- `{key: value for ..}`
+  abbrev pub dict_comprehension_in : Pair → Action S Datum
+  dict_comprehension_in p = comprehension m by_slots (evals_in m e) (pairs []) (pair_element m (evals_in m e) p) cs own (frame_of e)
 
 module _ {S R C F : Type 0} (m : Primitives S) (seen : R → S) (e : Evaluator R C F) (x : ElementExpr) where
   -- A call did the first part of a turn: up to a loop, which it returns, or up to the end of the turn. After the turn come

@@ -1,16 +1,15 @@
 //! Comprehensions.
 
-ghost use Rattle.std.specs.Prelude.{◌≡◌, [], IfOk};
-ghost use Rattle.bq_value.specs.Contents.{items, pairs};
+ghost use Rattle.std.specs.Prelude.{◌≡◌, IfOk};
 ghost use Rattle.bq_builtin_machine.specs.Action.{pure, ◌>>=◌ as and_then};
 ghost use Rattle.bq_eval_language_spec.specs.Comprehensions as meaning;
-ghost use Rattle.bq_eval_language_spec.specs.Slots.{by_slots, opened};
+ghost use Rattle.bq_eval_language_spec.specs.Slots.{opened};
 ghost use Rattle.bq_eval_frame.specs.Slots.{slots_of};
 ghost use Rattle.bq_eval_rules.specs.Acts.{Acts};
 ghost use Rattle.bq_eval_rules.specs.OpenLoops.{loop_of, opening};
 ghost use Rattle.bq_eval_rules.specs.Effects.{Returns, Produces, Collects};
 ghost use Rattle.bq_eval_rules.specs.Evaluators.{EvaluatesInside, evals_in, frame_of};
-ghost use Rattle.bq_eval_rules.specs.ComprehensionClauses.{element_in, clauses_in, all_clauses_in, comprehension_in, turns_left, ClausesReach, ClausesCount, TurnReaches, TurnCounts};
+ghost use Rattle.bq_eval_rules.specs.ComprehensionClauses.{element_in, clauses_in, all_clauses_in, comprehension_in, list_comprehension_in, dict_comprehension_in, turns_left, ClausesReach, ClausesCount, TurnReaches, TurnCounts};
 
 use crate::context::Context;
 use crate::evaluator::Evaluator;
@@ -351,7 +350,7 @@ impl<
         own: ComprehensionFrame,
     ) -> Result<Value, EvalErr>
         requires { EvaluatesInside R.means R.seen self.now F.pre F.post }
-        ensures { Returns R.means R.seen (meaning.comprehension R.means by_slots (evals_in R.means self.now) (items []) (meaning.element R.means (evals_in R.means self.now) item.now) clauses.now own (frame_of self.now)) runtime.old result runtime.new }
+        ensures { Returns R.means R.seen (list_comprehension_in R.means self.now clauses.now own item.now) runtime.old result runtime.new }
     {
         let empty = Content::list(Vec::new(self.context.alloc));
         self.comprehension(runtime, empty, ElementExpr::Item(item), clauses, own)
@@ -367,7 +366,7 @@ impl<
         own: ComprehensionFrame,
     ) -> Result<Value, EvalErr>
         requires { EvaluatesInside R.means R.seen self.now F.pre F.post }
-        ensures { Returns R.means R.seen (meaning.comprehension R.means by_slots (evals_in R.means self.now) (pairs []) (meaning.pair_element R.means (evals_in R.means self.now) pair.now) clauses.now own (frame_of self.now)) runtime.old result runtime.new }
+        ensures { Returns R.means R.seen (dict_comprehension_in R.means self.now clauses.now own pair.now) runtime.old result runtime.new }
     {
         let empty = Content::dict(Dict::new(self.context.alloc, runtime.seed()));
         self.comprehension(runtime, empty, ElementExpr::Pair(pair), clauses, own)

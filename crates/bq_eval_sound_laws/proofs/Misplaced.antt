@@ -1,5 +1,5 @@
--- What is where it may not be: `x[i]` among the variables of a `for`, and a tuple or list that is augmented. How many of them a tree has is a
--- measure of its form.
+-- What is where it may not be: `x[i]` among the variables of a `for`, a tuple or list that is augmented, and in a resolved tree a name that
+-- refers to nothing, or that is bound and refers to no place. How many of them a tree has is a measure of its form.
 use Rattle.std.proofs.Common.{◌≡◌, ◌∙◌, ℕ, ◌+◌, List, [], ◌∷◌, map, Option, Some, None, refl, ap}
 use Rattle.std.specs.Option.{option_map}
 use Rattle.bq_parse_grammar.specs.declared.tree.Argument.TheOpen.{Argument-F, Choice-F, Clause-F, Expr-F, Operation-F, Pair-F, Suffix-F, TargetExpr-F}
@@ -19,8 +19,13 @@ use Rattle.bq_parse_grammar.specs.declared.tree.Stmt.{Stmt}
 use Rattle.bq_parse_grammar.specs.declared.tree.Stmt.TheOpen.{Branch-F, Stmt-F}
 use Rattle.bq_parse_grammar.specs.declared.tree.Suffix.{Suffix}
 use Rattle.bq_parse_grammar.specs.declared.tree.TargetExpr.{TargetExpr}
+use Rattle.bq_parse_grammar.specs.declared.tree.Identifier.{Identifier}
+use Rattle.bq_parse_grammar.specs.declared.tree.Referent.{Referent}
+use Rattle.bq_parse_grammar.specs.declared.tree.Referent.TheVariants as referent
+use Rattle.bq_resolve_scope.specs.Expressions.{refer}
 use Rattle.bq_parse_tree_laws.specs.LeftOut.{sum_of, optional_count}
-use Rattle.bq_eval_depth_laws.proofs.Measures.{Measure, StmtMeasure, argument_of, clause_of, expr_of, suffix_of, target_of, choice_of, operation_of, pair_of, stmt_of, branch_of}
+use Rattle.bq_eval_depth_laws.specs.Referents.{RefersToAny, RefersToPlace}
+use Rattle.bq_eval_depth_laws.proofs.Measures.{Steps, IsOther, IsOtherTarget, Measure, HasNoTree, StmtSteps, StmtMeasure, argument_of, clause_of, expr_of, suffix_of, target_of, choice_of, operation_of, pair_of, stmt_of, branch_of}
 
 -- of a target: as the variables of a `for`, as what is assigned to, and as what is augmented
 pub record InTarget : Type 0 where
@@ -64,131 +69,242 @@ suffix_step (Suffix-F.Attribute b) = 0
 suffix_step (Suffix-F.Suffix::Index n) = n
 suffix_step (Suffix-F.Slice l m n) = optional_count l + (optional_count m + optional_count n)
 
-abbrev pub target_step : TargetExpr-F ℕ ℕ ℕ ℕ InTarget ℕ ℕ ℕ → InTarget
-target_step (TargetExpr-F.TargetExpr::Name b) = record { variables = 0; place = 0; several = 0 }
-target_step (TargetExpr-F.TargetExpr::Index m n) = record { variables = 1; place = m + n; several = 0 }
-target_step (TargetExpr-F.TargetExpr::Tuple ts) = record { variables = variables_in ts; place = place_in ts; several = 1 }
-target_step (TargetExpr-F.TargetExpr::List ts) = record { variables = variables_in ts; place = place_in ts; several = 1 }
+-- `bound` is how many a name counts for that is bound
+abbrev pub target_step : (Identifier → ℕ) → TargetExpr-F ℕ ℕ ℕ ℕ InTarget ℕ ℕ ℕ → InTarget
+target_step bound (TargetExpr-F.TargetExpr::Name n) = record { variables = bound n; place = bound n; several = 0 }
+target_step bound (TargetExpr-F.TargetExpr::Index m n) = record { variables = 1; place = m + n; several = 0 }
+target_step bound (TargetExpr-F.TargetExpr::Tuple ts) = record { variables = variables_in ts; place = place_in ts; several = 1 }
+target_step bound (TargetExpr-F.TargetExpr::List ts) = record { variables = variables_in ts; place = place_in ts; several = 1 }
 
-abbrev pub expr_step : Expr-F ℕ ℕ ℕ ℕ InTarget ℕ ℕ ℕ → ℕ
-expr_step (Expr-F.Expr::Name b) = 0
-expr_step (Expr-F.Int b) = 0
-expr_step (Expr-F.String b) = 0
-expr_step (Expr-F.Expr::List ns) = sum_of ns
-expr_step (Expr-F.Expr::Tuple ns) = sum_of ns
-expr_step (Expr-F.Dict ns) = sum_of ns
-expr_step (Expr-F.ListComprehension m ns own) = m + sum_of ns
-expr_step (Expr-F.DictComprehension m ns own) = m + sum_of ns
-expr_step (Expr-F.Primary m ns) = m + sum_of ns
-expr_step (Expr-F.Unary os n) = n
-expr_step (Expr-F.Binary m ns) = m + sum_of ns
-expr_step (Expr-F.Compare m o n) = m + n
-expr_step (Expr-F.Conditional ms n) = sum_of ms + n
-expr_step Expr-F.Lambda = 0
+-- `used` is how many one counts for that is used
+abbrev pub expr_step : (Identifier → ℕ) → Expr-F ℕ ℕ ℕ ℕ InTarget ℕ ℕ ℕ → ℕ
+expr_step used (Expr-F.Expr::Name n) = used n
+expr_step used (Expr-F.Int b) = 0
+expr_step used (Expr-F.String b) = 0
+expr_step used (Expr-F.Expr::List ns) = sum_of ns
+expr_step used (Expr-F.Expr::Tuple ns) = sum_of ns
+expr_step used (Expr-F.Dict ns) = sum_of ns
+expr_step used (Expr-F.ListComprehension m ns own) = m + sum_of ns
+expr_step used (Expr-F.DictComprehension m ns own) = m + sum_of ns
+expr_step used (Expr-F.Primary m ns) = m + sum_of ns
+expr_step used (Expr-F.Unary os n) = n
+expr_step used (Expr-F.Binary m ns) = m + sum_of ns
+expr_step used (Expr-F.Compare m o n) = m + n
+expr_step used (Expr-F.Conditional ms n) = sum_of ms + n
+expr_step used Expr-F.Lambda = 0
 
-abbrev pub misplaced : Measure ℕ ℕ ℕ ℕ InTarget ℕ ℕ ℕ
-misplaced = record {
+abbrev pub steps_by : (Identifier → ℕ) → (Identifier → ℕ) → Steps ℕ ℕ ℕ ℕ InTarget ℕ ℕ ℕ
+steps_by used bound = record {
   argument_step = argument_step;
   clause_step = clause_step;
-  expr_step = expr_step;
+  expr_step = expr_step used;
   suffix_step = suffix_step;
-  target_step = target_step;
+  target_step = target_step bound;
   choice_step = choice_step;
   operation_step = operation_step;
   pair_step = pair_step;
-  of_name = λ n r. refl;
+}
+
+-- of a tree as it is parsed, in which names refer to nothing yet
+abbrev pub no_name : Identifier → ℕ
+no_name n = 0
+
+abbrev pub parsed : Steps ℕ ℕ ℕ ℕ InTarget ℕ ℕ ℕ
+parsed = steps_by no_name no_name
+
+-- of a resolved one
+
+abbrev pub loose_at : Referent → ℕ
+loose_at (referent.Unresolved line) = 1
+loose_at _ = 0
+
+abbrev pub loose : Identifier → ℕ
+loose n = loose_at n.referent
+
+abbrev pub stray_at : Referent → ℕ
+stray_at (referent.Local slot) = 0
+stray_at (referent.Global k) = 0
+stray_at _ = 1
+
+abbrev pub stray : Identifier → ℕ
+stray n = stray_at n.referent
+
+abbrev pub resolved : Steps ℕ ℕ ℕ ℕ InTarget ℕ ℕ ℕ
+resolved = steps_by loose stray
+
+pub name_is_kept : (n : Identifier) (r : Referent) → RefersToAny r → expr_step loose (Expr-F.Expr::Name (refer n r)) ≡ expr_step no_name (Expr-F.Expr::Name n)
+name_is_kept n (referent.Unresolved line) refers = absurd refers
+name_is_kept n (referent.Local slot) refers = refl
+name_is_kept n (referent.Global k) refers = refl
+name_is_kept n (referent.Loaded k) refers = refl
+name_is_kept n (referent.Predeclared p) refers = refl
+name_is_kept n (referent.Member p) refers = refl
+
+pub variable_is_kept : (n : Identifier) (r : Referent) → RefersToPlace r → target_step stray (TargetExpr-F.TargetExpr::Name (refer n r)) ≡ target_step no_name (TargetExpr-F.TargetExpr::Name n)
+variable_is_kept n (referent.Unresolved line) refers = absurd refers
+variable_is_kept n (referent.Local slot) refers = refl
+variable_is_kept n (referent.Global k) refers = refl
+variable_is_kept n (referent.Loaded k) refers = absurd refers
+variable_is_kept n (referent.Predeclared p) refers = absurd refers
+variable_is_kept n (referent.Member p) refers = absurd refers
+
+pub other_is_kept : (o : Expr-F ℕ ℕ ℕ ℕ InTarget ℕ ℕ ℕ) → IsOther o → expr_step loose o ≡ expr_step no_name o
+other_is_kept (Expr-F.Expr::Name n) other = absurd other
+other_is_kept (Expr-F.Int b) other = refl
+other_is_kept (Expr-F.String b) other = refl
+other_is_kept (Expr-F.Expr::List ns) other = refl
+other_is_kept (Expr-F.Expr::Tuple ns) other = refl
+other_is_kept (Expr-F.Dict ns) other = refl
+other_is_kept (Expr-F.ListComprehension m ns own) other = refl
+other_is_kept (Expr-F.DictComprehension m ns own) other = refl
+other_is_kept (Expr-F.Primary m ns) other = refl
+other_is_kept (Expr-F.Unary os n) other = refl
+other_is_kept (Expr-F.Binary m ns) other = refl
+other_is_kept (Expr-F.Compare m o n) other = refl
+other_is_kept (Expr-F.Conditional ms n) other = refl
+other_is_kept Expr-F.Lambda other = refl
+
+pub target_is_kept : (o : TargetExpr-F ℕ ℕ ℕ ℕ InTarget ℕ ℕ ℕ) → IsOtherTarget o → target_step stray o ≡ target_step no_name o
+target_is_kept (TargetExpr-F.TargetExpr::Name n) other = absurd other
+target_is_kept (TargetExpr-F.TargetExpr::Index m n) other = refl
+target_is_kept (TargetExpr-F.TargetExpr::Tuple ts) other = refl
+target_is_kept (TargetExpr-F.TargetExpr::List ts) other = refl
+
+abbrev pub misplaced : Measure ℕ ℕ ℕ ℕ InTarget ℕ ℕ ℕ
+misplaced = record {
+  after = resolved;
+  expr_before = expr_step no_name;
+  target_before = target_step no_name;
+  of_name = name_is_kept;
+  of_other = other_is_kept;
   of_list = λ x cs own other. refl;
   of_dict = λ p cs own other. refl;
   of_method = λ n r xs. refl;
-  of_variable = λ n r. refl;
+  of_variable = variable_is_kept;
+  of_target = target_is_kept;
 }
 
-abbrev pub wrong : Expr → ℕ
-wrong = expr_of misplaced
+-- ---- how much is wrong in a tree
 
-abbrev pub argument_wrong : Argument → ℕ
-argument_wrong = argument_of misplaced
+module _ (M : Steps ℕ ℕ ℕ ℕ InTarget ℕ ℕ ℕ) where
+  abbrev pub variables_by : TargetExpr → ℕ
+  variables_by t = (target_of M t).variables
 
-abbrev pub clause_wrong : Clause → ℕ
-clause_wrong = clause_of misplaced
+  abbrev pub place_by : TargetExpr → ℕ
+  place_by t = (target_of M t).place
 
-abbrev pub suffix_wrong : Suffix → ℕ
-suffix_wrong = suffix_of misplaced
+  abbrev pub several_by : TargetExpr → ℕ
+  several_by t = (target_of M t).several
 
-abbrev pub choice_wrong : Choice → ℕ
-choice_wrong = choice_of misplaced
+  pub all_variables : (ts : List TargetExpr) → variables_in (map (target_of M) ts) ≡ sum_of (map variables_by ts)
+  all_variables [] = refl
+  all_variables (t ∷ ts) = ap (λ n. variables_by t + n) (all_variables ts)
 
-abbrev pub operation_wrong : Operation → ℕ
-operation_wrong = operation_of misplaced
+  pub all_places : (ts : List TargetExpr) → place_in (map (target_of M) ts) ≡ sum_of (map place_by ts)
+  all_places [] = refl
+  all_places (t ∷ ts) = ap (λ n. place_by t + n) (all_places ts)
 
-abbrev pub pair_wrong : Pair → ℕ
-pair_wrong = pair_of misplaced
+  abbrev pub parameter_by : Parameter → ℕ
+  parameter_by (parameter.Default n x) = expr_of M x
+  parameter_by _ = 0
 
-abbrev pub variables_wrong : TargetExpr → ℕ
-variables_wrong t = (target_of misplaced t).variables
+  abbrev pub kind_by : SmallKind → ℕ
+  kind_by (small.Expr x) = expr_of M x
+  kind_by (small.Assign t x) = place_by t + expr_of M x
+  kind_by (small.Augment t o x) = several_by t + (place_by t + expr_of M x)
+  kind_by (small.Return (Some x)) = expr_of M x
+  kind_by _ = 0
 
-abbrev pub place_wrong : TargetExpr → ℕ
-place_wrong t = (target_of misplaced t).place
+  abbrev pub small_by : SmallStmt → ℕ
+  small_by x = kind_by x.kind
 
-abbrev pub several : TargetExpr → ℕ
-several t = (target_of misplaced t).several
+  abbrev pub branch_step_by : Branch-F ℕ ℕ → ℕ
+  branch_step_by x = expr_of M x.condition + sum_of x.block
 
-pub all_variables : (ts : List TargetExpr) → variables_in (map (target_of misplaced) ts) ≡ sum_of (map variables_wrong ts)
-all_variables [] = refl
-all_variables (t ∷ ts) = ap (λ n. variables_wrong t + n) (all_variables ts)
+  abbrev pub stmt_step_by : Stmt-F ℕ ℕ → ℕ
+  stmt_step_by (Stmt-F.Simple xs) = sum_of (map small_by xs)
+  stmt_step_by (Stmt-F.If ms ns) = sum_of ms + sum_of ns
+  stmt_step_by (Stmt-F.For t x ns) = variables_by t + (expr_of M x + sum_of ns)
+  stmt_step_by (Stmt-F.Def n ps ns) = sum_of (map parameter_by ps) + sum_of ns
 
-pub all_places : (ts : List TargetExpr) → place_in (map (target_of misplaced) ts) ≡ sum_of (map place_wrong ts)
-all_places [] = refl
-all_places (t ∷ ts) = ap (λ n. place_wrong t + n) (all_places ts)
+  abbrev pub stmts_by : StmtSteps ℕ ℕ ℕ
+  stmts_by = record { small_step = small_by; stmt_step = stmt_step_by; branch_step = branch_step_by }
 
--- ---- statements
+pub return_is_kept : (line : ℕ) (x y : Option Expr) → option_map (expr_of resolved) y ≡ option_map (expr_of parsed) x
+    → small_by resolved (record { line = line; kind = small.Return y }) ≡ small_by parsed (record { line = line; kind = small.Return x })
+return_is_kept line None None h = refl
+return_is_kept line None (Some y) h = absurd (let no : ⊥ = cc in no)
+return_is_kept line (Some x) None h = absurd (let no : ⊥ = cc in no)
+return_is_kept line (Some x) (Some y) h = cc
 
-abbrev pub parameter_wrong : Parameter → ℕ
-parameter_wrong (parameter.Default n x) = wrong x
-parameter_wrong _ = 0
-
-abbrev pub kind_wrong : SmallKind → ℕ
-kind_wrong (small.Expr x) = wrong x
-kind_wrong (small.Assign t x) = place_wrong t + wrong x
-kind_wrong (small.Augment t o x) = several t + (place_wrong t + wrong x)
-kind_wrong (small.Return (Some x)) = wrong x
-kind_wrong _ = 0
-
-abbrev pub small_wrong : SmallStmt → ℕ
-small_wrong x = kind_wrong x.kind
-
-abbrev pub branch_step : Branch-F ℕ ℕ → ℕ
-branch_step x = wrong x.condition + sum_of x.block
-
-abbrev pub stmt_step : Stmt-F ℕ ℕ → ℕ
-stmt_step (Stmt-F.Simple xs) = sum_of (map small_wrong xs)
-stmt_step (Stmt-F.If ms ns) = sum_of ms + sum_of ns
-stmt_step (Stmt-F.For t x ns) = variables_wrong t + (wrong x + sum_of ns)
-stmt_step (Stmt-F.Def n ps ns) = sum_of (map parameter_wrong ps) + sum_of ns
-
-pub return_wrong : (line : ℕ) (x y : Option Expr) → option_map wrong y ≡ option_map wrong x
-    → small_wrong (record { line = line; kind = small.Return y }) ≡ small_wrong (record { line = line; kind = small.Return x })
-return_wrong line None None h = refl
-return_wrong line None (Some y) h = absurd (let no : ⊥ = cc in no)
-return_wrong line (Some x) None h = absurd (let no : ⊥ = cc in no)
-return_wrong line (Some x) (Some y) h = cc
+pub rest_is_kept : (line : ℕ) (k : SmallKind) → HasNoTree k → small_by resolved (record { line = line; kind = k }) ≡ small_by parsed (record { line = line; kind = k })
+rest_is_kept line (small.Expr x) none = absurd none
+rest_is_kept line (small.Assign t x) none = absurd none
+rest_is_kept line (small.Augment t o x) none = absurd none
+rest_is_kept line (small.Return x) none = absurd none
+rest_is_kept line small.Break none = refl
+rest_is_kept line small.Continue none = refl
+rest_is_kept line small.Pass none = refl
+rest_is_kept line (small.Load l) none = refl
 
 abbrev pub stmts_misplaced : StmtMeasure misplaced ℕ ℕ ℕ
 stmts_misplaced = record {
-  small_step = small_wrong;
-  stmt_step = stmt_step;
-  branch_step = branch_step;
+  later = stmts_by resolved;
+  earlier = stmts_by parsed;
   of_expr = λ line x y h. h;
-  of_assign = λ line t u x y h k. ap (λ t. t.place + wrong y) h ∙ ap (λ n. place_wrong t + n) k;
-  of_augment = λ line t u o x y h k. ap (λ t. t.several + (t.place + wrong y)) h ∙ ap (λ n. several t + (place_wrong t + n)) k;
-  of_return = return_wrong;
+  of_assign = λ line t u x y h k. ap (λ t. t.place + expr_of resolved y) h ∙ ap (λ n. place_by parsed t + n) k;
+  of_augment = λ line t u o x y h k. ap (λ t. t.several + (t.place + expr_of resolved y)) h ∙ ap (λ n. several_by parsed t + (place_by parsed t + n)) k;
+  of_return = return_is_kept;
+  of_rest = rest_is_kept;
   of_line = λ xs ys h. ap (λ ns. sum_of ns) h;
-  of_loop = λ t u x y body h k. ap (λ t. t.variables + (wrong y + sum_of body)) h ∙ ap (λ n. variables_wrong t + (n + sum_of body)) k;
+  of_if = λ bs zs. refl;
+  of_loop = λ t u x y body h k. ap (λ t. t.variables + (expr_of resolved y + sum_of body)) h ∙ ap (λ n. variables_by parsed t + (n + sum_of body)) k;
   of_branch = λ x y block h. ap (λ n. n + sum_of block) h;
 }
 
+-- ---- of trees as they are parsed
+
+abbrev pub wrong : Expr → ℕ
+wrong = expr_of parsed
+
+abbrev pub argument_wrong : Argument → ℕ
+argument_wrong = argument_of parsed
+
+abbrev pub clause_wrong : Clause → ℕ
+clause_wrong = clause_of parsed
+
+abbrev pub suffix_wrong : Suffix → ℕ
+suffix_wrong = suffix_of parsed
+
+abbrev pub choice_wrong : Choice → ℕ
+choice_wrong = choice_of parsed
+
+abbrev pub operation_wrong : Operation → ℕ
+operation_wrong = operation_of parsed
+
+abbrev pub pair_wrong : Pair → ℕ
+pair_wrong = pair_of parsed
+
+abbrev pub variables_wrong : TargetExpr → ℕ
+variables_wrong = variables_by parsed
+
+abbrev pub place_wrong : TargetExpr → ℕ
+place_wrong = place_by parsed
+
+abbrev pub several : TargetExpr → ℕ
+several = several_by parsed
+
+abbrev pub parameter_wrong : Parameter → ℕ
+parameter_wrong = parameter_by parsed
+
+abbrev pub kind_wrong : SmallKind → ℕ
+kind_wrong = kind_by parsed
+
+abbrev pub small_wrong : SmallStmt → ℕ
+small_wrong = small_by parsed
+
 abbrev pub stmt_wrong : Stmt → ℕ
-stmt_wrong = stmt_of misplaced stmts_misplaced
+stmt_wrong = stmt_of (stmts_by parsed)
 
 abbrev pub branch_wrong : Branch → ℕ
-branch_wrong = branch_of misplaced stmts_misplaced
+branch_wrong = branch_of (stmts_by parsed)

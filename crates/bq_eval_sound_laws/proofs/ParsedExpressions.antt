@@ -27,7 +27,7 @@ use Rattle.bq_parse_grammar.specs.Phrases.{Phrase, none, Repeat, Listed, CommaTh
 use Rattle.bq_parse_grammar.specs.Turns.{sees}
 use Rattle.bq_parse_tree_laws.specs.LeftOut.{sum_of, optional_count}
 use Rattle.bq_eval_depth_laws.proofs.Measures.{made_argument, made_clause, made_suffix, made_target, made_expr, made_pair, made_operation, made_choice}
-use Rattle.bq_eval_sound_laws.proofs.Misplaced.{InTarget, misplaced, wrong, argument_wrong, clause_wrong, suffix_wrong, choice_wrong, operation_wrong, pair_wrong, variables_wrong, all_variables}
+use Rattle.bq_eval_sound_laws.proofs.Misplaced.{InTarget, parsed, wrong, argument_wrong, clause_wrong, suffix_wrong, choice_wrong, operation_wrong, pair_wrong, variables_wrong, all_variables}
 
 -- nothing is counted in the trees of a phrase
 abbrev pub Lacks : {A : Type 0} → (A → ℕ) → Phrase A → Type 0
@@ -64,13 +64,13 @@ module _ {A : Type 0} (f : A → ℕ) (X : Phrase A) (each : Lacks f X) where
 -- ---- variables of a `for`
 
 variables_of_name : (t : Lexeme) → variables_wrong (target.Name (identifier t)) ≡ 0
-variables_of_name t = ap (λ (c : InTarget). c.variables) (made_target misplaced (target.Name (identifier t)) (TargetExpr-F.TargetExpr::Name (identifier t)) (target.rolls-Name (identifier t)))
+variables_of_name t = ap (λ (c : InTarget). c.variables) (made_target parsed (target.Name (identifier t)) (TargetExpr-F.TargetExpr::Name (identifier t)) (target.rolls-Name (identifier t)))
 
 variables_of_tuple : (ts : List TargetExpr) → variables_wrong (target.Tuple ts) ≡ sum_of (map variables_wrong ts)
-variables_of_tuple ts = ap (λ (c : InTarget). c.variables) (made_target misplaced (target.Tuple ts) (TargetExpr-F.TargetExpr::Tuple ts) (target.rolls-Tuple ts)) ∙ all_variables ts
+variables_of_tuple ts = ap (λ (c : InTarget). c.variables) (made_target parsed (target.Tuple ts) (TargetExpr-F.TargetExpr::Tuple ts) (target.rolls-Tuple ts)) ∙ all_variables parsed ts
 
 variables_of_list : (ts : List TargetExpr) → variables_wrong (target.List ts) ≡ sum_of (map variables_wrong ts)
-variables_of_list ts = ap (λ (c : InTarget). c.variables) (made_target misplaced (target.List ts) (TargetExpr-F.TargetExpr::List ts) (target.rolls-List ts)) ∙ all_variables ts
+variables_of_list ts = ap (λ (c : InTarget). c.variables) (made_target parsed (target.List ts) (TargetExpr-F.TargetExpr::List ts) (target.rolls-List ts)) ∙ all_variables parsed ts
 
 module _ (X : Phrase TargetExpr) (inner : Lacks variables_wrong X) where
   var_lacks : Lacks variables_wrong (IsVarOver X)
@@ -106,21 +106,21 @@ vars_to_lack depth = vars_lack (IsVar depth) (var_to_lacks depth)
 module _ (O T : Phrase Expr) (V : Phrase TargetExpr) (ors : Lacks wrong O) (tests : Lacks wrong T) (variables : Lacks variables_wrong V) where
   pair_lacks : Lacks pair_wrong (IsPair O T V)
   pair_lacks ts rest y (G.pair {c = c} {mid = mid} {x = x} {y = z} p f q g) =
-      let e : pair_wrong y ≡ wrong x + wrong z = ap pair_wrong g ∙ made_pair misplaced x z in
+      let e : pair_wrong y ≡ wrong x + wrong z = ap pair_wrong g ∙ made_pair parsed x z in
       let a : wrong x ≡ 0 = tests ts (c ∷ mid) x p in
       let b : wrong z ≡ 0 = tests mid rest z q in
       omega arith
 
   for_lacks : Lacks clause_wrong (IsForClause O T V)
   for_lacks ts rest y (G.for_clause {i = i} {ts = us} {mid = mid} {v = v} {x = x} f p g q h) =
-      let e : clause_wrong y ≡ variables_wrong v + wrong x = ap clause_wrong h ∙ made_clause misplaced (clause.For v x) (Clause-F.For v x) (clause.rolls-For v x) in
+      let e : clause_wrong y ≡ variables_wrong v + wrong x = ap clause_wrong h ∙ made_clause parsed (clause.For v x) (Clause-F.For v x) (clause.rolls-For v x) in
       let a : variables_wrong v ≡ 0 = variables us (i ∷ mid) v p in
       let b : wrong x ≡ 0 = ors mid rest x q in
       omega arith
 
   clause_lacks : Lacks clause_wrong (IsClause O T V)
   clause_lacks ts rest y (G.a_for p) = for_lacks ts rest y p
-  clause_lacks ts rest y (G.an_if {ts = us} {x = x} f p g) = ap clause_wrong g ∙ (made_clause misplaced (clause.If x) (Clause-F.If x) (clause.rolls-If x) ∙ ors us rest x p)
+  clause_lacks ts rest y (G.an_if {ts = us} {x = x} f p g) = ap clause_wrong g ∙ (made_clause parsed (clause.If x) (Clause-F.If x) (clause.rolls-If x) ∙ ors us rest x p)
 
   clauses_lack : (ts rest : List Lexeme) (ys : List Clause) → AreClauses O T V ts rest ys → sum_of (map clause_wrong ys) ≡ 0
   clauses_lack ts rest ys (G.clauses {mid = mid} {y = z} {ys = zs} p q) =
@@ -129,46 +129,46 @@ module _ (O T : Phrase Expr) (V : Phrase TargetExpr) (ors : Lacks wrong O) (test
       omega arith
 
   pub operand_lacks : Lacks wrong (IsOperand O T V)
-  operand_lacks ts rest y (G.a_name {t = n} f g) = ap wrong g ∙ made_expr misplaced (expr.Name (identifier n)) (Expr-F.Expr::Name (identifier n)) (expr.rolls-Name (identifier n))
-  operand_lacks ts rest y (G.an_int {n = m} f g h) = ap wrong h ∙ made_expr misplaced (expr.Int (pos m)) (Expr-F.Int (pos m)) (expr.rolls-Int (pos m))
-  operand_lacks ts rest y (G.a_string {b = b} f g h) = ap wrong h ∙ made_expr misplaced (expr.String b) (Expr-F.String b) (expr.rolls-String b)
-  operand_lacks ts rest y (G.empty_tuple f g h) = ap wrong h ∙ made_expr misplaced (expr.Tuple []) (Expr-F.Expr::Tuple []) (expr.rolls-Tuple [])
+  operand_lacks ts rest y (G.a_name {t = n} f g) = ap wrong g ∙ made_expr parsed (expr.Name (identifier n)) (Expr-F.Expr::Name (identifier n)) (expr.rolls-Name (identifier n))
+  operand_lacks ts rest y (G.an_int {n = m} f g h) = ap wrong h ∙ made_expr parsed (expr.Int (pos m)) (Expr-F.Int (pos m)) (expr.rolls-Int (pos m))
+  operand_lacks ts rest y (G.a_string {b = b} f g h) = ap wrong h ∙ made_expr parsed (expr.String b) (Expr-F.String b) (expr.rolls-String b)
+  operand_lacks ts rest y (G.empty_tuple f g h) = ap wrong h ∙ made_expr parsed (expr.Tuple []) (Expr-F.Expr::Tuple []) (expr.rolls-Tuple [])
   operand_lacks ts rest y (G.parenthesized {c = c} {ts = us} {x = x} f p g h) = go (sees k.Dot rest) h
     where
       go : (b : Bool) → y ≡ parenthesized_of b x → wrong y ≡ 0
       go true h =
-          let e : wrong y ≡ wrong x + 0 = ap wrong h ∙ made_expr misplaced (expr.Primary x []) (Expr-F.Primary x []) (expr.rolls-Primary x []) in
+          let e : wrong y ≡ wrong x + 0 = ap wrong h ∙ made_expr parsed (expr.Primary x []) (Expr-F.Primary x []) (expr.rolls-Primary x []) in
           let a : wrong x ≡ 0 = tests us (c ∷ rest) x p in
           omega arith
       go false h = ap wrong h ∙ tests us (c ∷ rest) x p
   operand_lacks ts rest y (G.a_tuple {c = c} {ts = us} {mid = mid} {x = x} {xs = xs} f p g q h) =
-      let e : wrong y ≡ sum_of (map wrong (x ∷ xs)) = ap wrong h ∙ made_expr misplaced (expr.Tuple (x ∷ xs)) (Expr-F.Expr::Tuple (x ∷ xs)) (expr.rolls-Tuple (x ∷ xs)) in
+      let e : wrong y ≡ sum_of (map wrong (x ∷ xs)) = ap wrong h ∙ made_expr parsed (expr.Tuple (x ∷ xs)) (Expr-F.Expr::Tuple (x ∷ xs)) (expr.rolls-Tuple (x ∷ xs)) in
       let a : wrong x ≡ 0 = tests us (c ∷ mid) x p in
       let b : sum_of (map wrong xs) ≡ 0 = listed_lacks wrong T tests _ mid rest xs q in
       omega arith
   operand_lacks ts rest y (G.a_list {ts = us} {xs = xs} f q h) =
-      ap wrong h ∙ (made_expr misplaced (expr.List xs) (Expr-F.Expr::List xs) (expr.rolls-List xs) ∙ listed_lacks wrong T tests _ us rest xs q)
+      ap wrong h ∙ (made_expr parsed (expr.List xs) (Expr-F.Expr::List xs) (expr.rolls-List xs) ∙ listed_lacks wrong T tests _ us rest xs q)
   operand_lacks ts rest y (G.a_list_comprehension {c = c} {ts = us} {mid = mid} {x = x} {cs = cs} f p q g h) =
       let e : wrong y ≡ wrong x + sum_of (map clause_wrong cs)
-      = ap wrong h ∙ made_expr misplaced (expr.ListComprehension x cs frame.Shared) (Expr-F.ListComprehension x cs frame.Shared) (expr.rolls-ListComprehension x cs frame.Shared) in
+      = ap wrong h ∙ made_expr parsed (expr.ListComprehension x cs frame.Shared) (Expr-F.ListComprehension x cs frame.Shared) (expr.rolls-ListComprehension x cs frame.Shared) in
       let a : wrong x ≡ 0 = tests us mid x p in
       let b : sum_of (map clause_wrong cs) ≡ 0 = clauses_lack mid (c ∷ rest) cs q in
       omega arith
   operand_lacks ts rest y (G.a_dict {ts = us} {ps = xs} f q h) =
-      ap wrong h ∙ (made_expr misplaced (expr.Dict xs) (Expr-F.Dict xs) (expr.rolls-Dict xs) ∙ listed_lacks pair_wrong (IsPair O T V) pair_lacks _ us rest xs q)
+      ap wrong h ∙ (made_expr parsed (expr.Dict xs) (Expr-F.Dict xs) (expr.rolls-Dict xs) ∙ listed_lacks pair_wrong (IsPair O T V) pair_lacks _ us rest xs q)
   operand_lacks ts rest y (G.a_dict_comprehension {c = c} {ts = us} {mid = mid} {p = x} {cs = cs} f p q g h) =
       let e : wrong y ≡ pair_wrong x + sum_of (map clause_wrong cs)
-      = ap wrong h ∙ made_expr misplaced (expr.DictComprehension x cs frame.Shared) (Expr-F.DictComprehension x cs frame.Shared) (expr.rolls-DictComprehension x cs frame.Shared) in
+      = ap wrong h ∙ made_expr parsed (expr.DictComprehension x cs frame.Shared) (Expr-F.DictComprehension x cs frame.Shared) (expr.rolls-DictComprehension x cs frame.Shared) in
       let a : pair_wrong x ≡ 0 = pair_lacks us mid x p in
       let b : sum_of (map clause_wrong cs) ≡ 0 = clauses_lack mid (c ∷ rest) cs q in
       omega arith
 
   argument_lacks : (q : ArgumentKind) → Lacks argument_wrong (IsArgument O T V q)
-  argument_lacks q ts rest y (G.positional {x = x} p g) = ap argument_wrong g ∙ (made_argument misplaced (argument.Positional x) (Argument-F.Positional x) (argument.rolls-Positional x) ∙ tests ts rest x p)
+  argument_lacks q ts rest y (G.positional {x = x} p g) = ap argument_wrong g ∙ (made_argument parsed (argument.Positional x) (Argument-F.Positional x) (argument.rolls-Positional x) ∙ tests ts rest x p)
   argument_lacks q ts rest y (G.named {n = m} {ts = us} {x = x} f g p h) =
-      ap argument_wrong h ∙ (made_argument misplaced (argument.Named m.spelling x) (Argument-F.Named m.spelling x) (argument.rolls-Named m.spelling x) ∙ tests us rest x p)
-  argument_lacks q ts rest y (G.star {ts = us} {x = x} f p g) = ap argument_wrong g ∙ (made_argument misplaced (argument.Star x) (Argument-F.Star x) (argument.rolls-Star x) ∙ tests us rest x p)
-  argument_lacks q ts rest y (G.star_star {ts = us} {x = x} f p g) = ap argument_wrong g ∙ (made_argument misplaced (argument.StarStar x) (Argument-F.StarStar x) (argument.rolls-StarStar x) ∙ tests us rest x p)
+      ap argument_wrong h ∙ (made_argument parsed (argument.Named m.spelling x) (Argument-F.Named m.spelling x) (argument.rolls-Named m.spelling x) ∙ tests us rest x p)
+  argument_lacks q ts rest y (G.star {ts = us} {x = x} f p g) = ap argument_wrong g ∙ (made_argument parsed (argument.Star x) (Argument-F.Star x) (argument.rolls-Star x) ∙ tests us rest x p)
+  argument_lacks q ts rest y (G.star_star {ts = us} {x = x} f p g) = ap argument_wrong g ∙ (made_argument parsed (argument.StarStar x) (Argument-F.StarStar x) (argument.rolls-StarStar x) ∙ tests us rest x p)
 
   arguments_lack : (l : Allowed) (ts rest : List Lexeme) (xs : List Argument) → AreArguments O T V l ts rest xs → sum_of (map argument_wrong xs) ≡ 0
   arguments_lack l ts rest xs (G.no_argument f) = omega arith
@@ -188,7 +188,7 @@ module _ (O T : Phrase Expr) (V : Phrase TargetExpr) (ors : Lacks wrong O) (test
   optional_lacks ts rest x (G.present {x = y} p) = tests ts rest y p
 
   slice_wrong : (x y z : Option Expr) → part_wrong x ≡ 0 → part_wrong y ≡ 0 → part_wrong z ≡ 0 → suffix_wrong (suffix.Slice x y z) ≡ 0
-  slice_wrong x y z h k l = made_suffix misplaced (suffix.Slice x y z) (Suffix-F.Slice x y z) (suffix.rolls-Slice x y z) ∙ by x y z h k l
+  slice_wrong x y z h k l = made_suffix parsed (suffix.Slice x y z) (Suffix-F.Slice x y z) (suffix.rolls-Slice x y z) ∙ by x y z h k l
     where
       by : (x y z : Option Expr) → part_wrong x ≡ 0 → part_wrong y ≡ 0 → part_wrong z ≡ 0 → optional_count (option_map wrong x) + (optional_count (option_map wrong y) + optional_count (option_map wrong z)) ≡ 0
       by None None None h k l = omega arith
@@ -203,17 +203,17 @@ module _ (O T : Phrase Expr) (V : Phrase TargetExpr) (ors : Lacks wrong O) (test
   pub expr_lacks : Lacks wrong (IsExpr O T V)
   expr_lacks ts rest y (G.tests {mid = mid} {x = x} {xs = []} p q f) = ap wrong f ∙ tests ts mid x p
   expr_lacks ts rest y (G.tests {mid = mid} {x = x} {xs = z ∷ zs} p q f) =
-      let e : wrong y ≡ sum_of (map wrong (x ∷ z ∷ zs)) = ap wrong f ∙ made_expr misplaced (expr.Tuple (x ∷ z ∷ zs)) (Expr-F.Expr::Tuple (x ∷ z ∷ zs)) (expr.rolls-Tuple (x ∷ z ∷ zs)) in
+      let e : wrong y ≡ sum_of (map wrong (x ∷ z ∷ zs)) = ap wrong f ∙ made_expr parsed (expr.Tuple (x ∷ z ∷ zs)) (Expr-F.Expr::Tuple (x ∷ z ∷ zs)) (expr.rolls-Tuple (x ∷ z ∷ zs)) in
       let a : wrong x ≡ 0 = tests ts mid x p in
       let b : sum_of (map wrong (z ∷ zs)) ≡ 0 = commas_lack wrong T tests mid rest (z ∷ zs) q in
       omega arith
 
   pub suffix_lacks : Lacks suffix_wrong (IsSuffix O T V)
-  suffix_lacks ts rest y (G.attribute {n = m} f g h i) = ap suffix_wrong i ∙ made_suffix misplaced (suffix.Attribute (identifier m)) (Suffix-F.Attribute (identifier m)) (suffix.rolls-Attribute (identifier m))
+  suffix_lacks ts rest y (G.attribute {n = m} f g h i) = ap suffix_wrong i ∙ made_suffix parsed (suffix.Attribute (identifier m)) (Suffix-F.Attribute (identifier m)) (suffix.rolls-Attribute (identifier m))
   suffix_lacks ts rest y (G.method {n = m} {ts = us} {xs = xs} f g h p i) =
-      ap suffix_wrong i ∙ (made_suffix misplaced (suffix.Method (identifier m) xs) (Suffix-F.Method (identifier m) xs) (suffix.rolls-Method (identifier m) xs) ∙ arguments_lack _ us rest xs p)
-  suffix_lacks ts rest y (G.call {ts = us} {xs = xs} f p g) = ap suffix_wrong g ∙ (made_suffix misplaced (suffix.Call xs) (Suffix-F.Call xs) (suffix.rolls-Call xs) ∙ arguments_lack _ us rest xs p)
-  suffix_lacks ts rest y (G.index {c = c} {ts = us} {x = x} f p g h) = ap suffix_wrong h ∙ (made_suffix misplaced (suffix.Index x) (Suffix-F.Suffix::Index x) (suffix.rolls-Index x) ∙ expr_lacks us (c ∷ rest) x p)
+      ap suffix_wrong i ∙ (made_suffix parsed (suffix.Method (identifier m) xs) (Suffix-F.Method (identifier m) xs) (suffix.rolls-Method (identifier m) xs) ∙ arguments_lack _ us rest xs p)
+  suffix_lacks ts rest y (G.call {ts = us} {xs = xs} f p g) = ap suffix_wrong g ∙ (made_suffix parsed (suffix.Call xs) (Suffix-F.Call xs) (suffix.rolls-Call xs) ∙ arguments_lack _ us rest xs p)
+  suffix_lacks ts rest y (G.index {c = c} {ts = us} {x = x} f p g h) = ap suffix_wrong h ∙ (made_suffix parsed (suffix.Index x) (Suffix-F.Suffix::Index x) (suffix.rolls-Index x) ∙ expr_lacks us (c ∷ rest) x p)
   suffix_lacks ts rest y (G.slice {p = d} {c = c} {ts = us} {mid = mid} {x = u} {y = v} f p g q h i) =
       ap suffix_wrong i ∙ slice_wrong u v None (optional_lacks us (d ∷ mid) u p) (optional_lacks mid (c ∷ rest) v q) refl
   suffix_lacks ts rest y (G.stepped {p = d} {q = j} {c = c} {ts = us} {mid = mid} {us = vs} {x = u} {y = v} {w = z} f p g q h r i l) =
@@ -222,7 +222,7 @@ module _ (O T : Phrase Expr) (V : Phrase TargetExpr) (ors : Lacks wrong O) (test
   pub primary_lacks : Lacks wrong (IsPrimary O T V)
   primary_lacks ts rest y (G.primary {mid = mid} {x = x} {xs = []} p q f) = ap wrong f ∙ operand_lacks ts mid x p
   primary_lacks ts rest y (G.primary {mid = mid} {x = x} {xs = z ∷ zs} p q f) =
-      let e : wrong y ≡ wrong x + sum_of (map suffix_wrong (z ∷ zs)) = ap wrong f ∙ made_expr misplaced (expr.Primary x (z ∷ zs)) (Expr-F.Primary x (z ∷ zs)) (expr.rolls-Primary x (z ∷ zs)) in
+      let e : wrong y ≡ wrong x + sum_of (map suffix_wrong (z ∷ zs)) = ap wrong f ∙ made_expr parsed (expr.Primary x (z ∷ zs)) (Expr-F.Primary x (z ∷ zs)) (expr.rolls-Primary x (z ∷ zs)) in
       let a : wrong x ≡ 0 = operand_lacks ts mid x p in
       let b : sum_of (map suffix_wrong (z ∷ zs)) ≡ 0 = row_lacks suffix_wrong (IsSuffix O T V) suffix_lacks mid rest (z ∷ zs) q in
       omega arith
@@ -232,16 +232,16 @@ module _ (O T : Phrase Expr) (V : Phrase TargetExpr) (ors : Lacks wrong O) (test
 prefixed_lacks : (table : TokenKind → Option UnaryOperator) (X : Phrase Expr) → Lacks wrong X → Lacks wrong (IsPrefixed table X)
 prefixed_lacks table X each ts rest y (G.prefixed {mid = mid} {x = x} {os = []} q p f) = ap wrong f ∙ each mid rest x p
 prefixed_lacks table X each ts rest y (G.prefixed {mid = mid} {x = x} {os = o ∷ os} q p f) =
-    ap wrong f ∙ (made_expr misplaced (expr.Unary (o ∷ os) x) (Expr-F.Unary (o ∷ os) x) (expr.rolls-Unary (o ∷ os) x) ∙ each mid rest x p)
+    ap wrong f ∙ (made_expr parsed (expr.Unary (o ∷ os) x) (Expr-F.Unary (o ∷ os) x) (expr.rolls-Unary (o ∷ os) x) ∙ each mid rest x p)
 
 module _ (l : ℕ) (X : Phrase Expr) (each : Lacks wrong X) where
   operation_lacks : Lacks operation_wrong (IsOperation l X)
-  operation_lacks ts rest y (G.operation {ts = us} {x = x} {o = o} h p f) = ap operation_wrong f ∙ (made_operation misplaced o x ∙ each us rest x p)
+  operation_lacks ts rest y (G.operation {ts = us} {x = x} {o = o} h p f) = ap operation_wrong f ∙ (made_operation parsed o x ∙ each us rest x p)
 
   chain_lacks : Lacks wrong (IsChain l X)
   chain_lacks ts rest y (G.chain {mid = mid} {x = x} {os = []} p q f) = ap wrong f ∙ each ts mid x p
   chain_lacks ts rest y (G.chain {mid = mid} {x = x} {os = o ∷ os} p q f) =
-      let e : wrong y ≡ wrong x + sum_of (map operation_wrong (o ∷ os)) = ap wrong f ∙ made_expr misplaced (expr.Binary x (o ∷ os)) (Expr-F.Binary x (o ∷ os)) (expr.rolls-Binary x (o ∷ os)) in
+      let e : wrong y ≡ wrong x + sum_of (map operation_wrong (o ∷ os)) = ap wrong f ∙ made_expr parsed (expr.Binary x (o ∷ os)) (Expr-F.Binary x (o ∷ os)) (expr.rolls-Binary x (o ∷ os)) in
       let a : wrong x ≡ 0 = each ts mid x p in
       let b : sum_of (map operation_wrong (o ∷ os)) ≡ 0 = row_lacks operation_wrong (IsOperation l X) operation_lacks mid rest (o ∷ os) q in
       omega arith
@@ -254,7 +254,7 @@ module _ (X : Phrase Expr) (each : Lacks wrong X) where
   comp_lacks : Lacks wrong (IsComp X)
   comp_lacks ts rest y (G.alone p) = binary_lacks 6 ts rest y p
   comp_lacks ts rest y (G.compared {mid = mid} {us = us} {x = x} {y = z} {o = o} p q r f) =
-      let e : wrong y ≡ wrong x + wrong z = ap wrong f ∙ made_expr misplaced (expr.Compare x o z) (Expr-F.Compare x o z) (expr.rolls-Compare x o z) in
+      let e : wrong y ≡ wrong x + wrong z = ap wrong f ∙ made_expr parsed (expr.Compare x o z) (Expr-F.Compare x o z) (expr.rolls-Compare x o z) in
       let a : wrong x ≡ 0 = binary_lacks 6 ts mid x p in
       let b : wrong z ≡ 0 = binary_lacks 6 us rest z r in
       omega arith
@@ -267,7 +267,7 @@ module _ (X : Phrase Expr) (each : Lacks wrong X) where
       → (sum_of (map choice_wrong (choices_of x cs)) ≡ 0) × (wrong (last_of x cs) ≡ 0)
   choices_lack mid rest cs P.over x h = (omega arith, h)
   choices_lack mid rest cs (P.again {mid = us} {xs = ds} (G.choice {l = l} {ts = vs} {mid = ws} {x = d} {y = z} f p g q) qs) x h =
-      let e = made_choice misplaced x d in
+      let e = made_choice parsed x d in
       let a : wrong d ≡ 0 = or_lacks vs (l ∷ ws) d p in
       let w = choices_lack us rest ds qs z (or_lacks ws us z q) in
       let b : sum_of (map choice_wrong (choices_of z ds)) ≡ 0 = w.0 in
@@ -278,12 +278,12 @@ module _ (X : Phrase Expr) (each : Lacks wrong X) where
   test_lacks ts rest y (G.chosen {mid = mid} {x = x} {cs = d ∷ ds} p q f) =
       let cs = choices_of x (d ∷ ds) in
       let z = last_of x (d ∷ ds) in
-      let e : wrong y ≡ sum_of (map choice_wrong cs) + wrong z = ap wrong f ∙ made_expr misplaced (expr.Conditional cs z) (Expr-F.Conditional cs z) (expr.rolls-Conditional cs z) in
+      let e : wrong y ≡ sum_of (map choice_wrong cs) + wrong z = ap wrong f ∙ made_expr parsed (expr.Conditional cs z) (Expr-F.Conditional cs z) (expr.rolls-Conditional cs z) in
       let w = choices_lack mid rest (d ∷ ds) q x (or_lacks ts mid x p) in
       let a : sum_of (map choice_wrong cs) ≡ 0 = w.0 in
       let b : wrong z ≡ 0 = w.1 in
       omega arith
-  test_lacks ts rest y (G.left_out f) = made_expr misplaced expr.Lambda Expr-F.Lambda expr.rolls-Lambda
+  test_lacks ts rest y (G.left_out f) = made_expr parsed expr.Lambda Expr-F.Lambda expr.rolls-Lambda
 
 -- ---- in any number of brackets
 

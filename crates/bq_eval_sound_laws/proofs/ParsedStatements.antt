@@ -22,22 +22,22 @@ use Rattle.bq_parse_grammar.specs.Statements as S
 use Rattle.bq_parse_grammar.specs.Statements.{IsIndexed, IsItemOver, IsItem, IsTargetOver, IsTarget, IsParameter, AreParameters, IsSmallKind, IsSmall, AreSmall, IsSuite, IsBranch, IsElif, IsElse, IsStmtOver, IsStmt}
 use Rattle.bq_parse_tree_laws.specs.LeftOut.{sum_of}
 use Rattle.bq_eval_depth_laws.proofs.Measures.{target_of, made_target, made_expr, made_stmt, made_branch}
-use Rattle.bq_eval_sound_laws.proofs.Misplaced.{InTarget, misplaced, stmts_misplaced, wrong, suffix_wrong, variables_wrong, place_wrong, several, all_places, parameter_wrong, kind_wrong, small_wrong, stmt_wrong, branch_wrong}
+use Rattle.bq_eval_sound_laws.proofs.Misplaced.{InTarget, parsed, stmts_by, wrong, suffix_wrong, variables_wrong, place_wrong, several, all_places, parameter_wrong, kind_wrong, small_wrong, stmt_wrong, branch_wrong}
 use Rattle.bq_eval_sound_laws.proofs.ParsedExpressions.{Lacks, none_lacks, row_lacks, commas_lack, listed_lacks, operand_to_lacks, suffix_to_lacks, index_to_lacks, test_to_lacks, expr_to_lacks, vars_to_lack}
 
 -- ---- targets
 
-name_is : (n : Identifier) → target_of misplaced (target.Name n) ≡ record { variables = 0; place = 0; several = 0 }
-name_is n = made_target misplaced (target.Name n) (TargetExpr-F.TargetExpr::Name n) (target.rolls-Name n)
+name_is : (n : Identifier) → target_of parsed (target.Name n) ≡ record { variables = 0; place = 0; several = 0 }
+name_is n = made_target parsed (target.Name n) (TargetExpr-F.TargetExpr::Name n) (target.rolls-Name n)
 
-index_is : (x i : Expr) → target_of misplaced (target.Index x i) ≡ record { variables = 1; place = wrong x + wrong i; several = 0 }
-index_is x i = made_target misplaced (target.Index x i) (TargetExpr-F.TargetExpr::Index x i) (target.rolls-Index x i)
+index_is : (x i : Expr) → target_of parsed (target.Index x i) ≡ record { variables = 1; place = wrong x + wrong i; several = 0 }
+index_is x i = made_target parsed (target.Index x i) (TargetExpr-F.TargetExpr::Index x i) (target.rolls-Index x i)
 
 place_of_tuple : (ts : List TargetExpr) → place_wrong (target.Tuple ts) ≡ sum_of (map place_wrong ts)
-place_of_tuple ts = ap (λ (c : InTarget). c.place) (made_target misplaced (target.Tuple ts) (TargetExpr-F.TargetExpr::Tuple ts) (target.rolls-Tuple ts)) ∙ all_places ts
+place_of_tuple ts = ap (λ (c : InTarget). c.place) (made_target parsed (target.Tuple ts) (TargetExpr-F.TargetExpr::Tuple ts) (target.rolls-Tuple ts)) ∙ all_places parsed ts
 
 place_of_list : (ts : List TargetExpr) → place_wrong (target.List ts) ≡ sum_of (map place_wrong ts)
-place_of_list ts = ap (λ (c : InTarget). c.place) (made_target misplaced (target.List ts) (TargetExpr-F.TargetExpr::List ts) (target.rolls-List ts)) ∙ all_places ts
+place_of_list ts = ap (λ (c : InTarget). c.place) (made_target parsed (target.List ts) (TargetExpr-F.TargetExpr::List ts) (target.rolls-List ts)) ∙ all_places parsed ts
 
 targets_lack : (X : Phrase TargetExpr) → Lacks place_wrong X → (ts mid rest : List Lexeme) (x y : TargetExpr) (xs : List TargetExpr) → X ts mid x → Repeat (CommaThen X) mid rest xs → y ≡ targets_of x xs
     → place_wrong y ≡ 0
@@ -51,7 +51,7 @@ targets_lack X inner ts mid rest x y (z ∷ zs) p q f =
 applied_lacks : (depth : ℕ) (ts mid rest : List Lexeme) (x : Expr) (xs : List Suffix) → IsOperandTo depth ts mid x → Repeat (IsSuffixTo depth) mid rest xs → wrong (primary_of x xs) ≡ 0
 applied_lacks depth ts mid rest x [] p q = operand_to_lacks depth ts mid x p
 applied_lacks depth ts mid rest x (z ∷ zs) p q =
-    let e : wrong (primary_of x (z ∷ zs)) ≡ wrong x + sum_of (map suffix_wrong (z ∷ zs)) = made_expr misplaced (expr.Primary x (z ∷ zs)) (Expr-F.Primary x (z ∷ zs)) (expr.rolls-Primary x (z ∷ zs)) in
+    let e : wrong (primary_of x (z ∷ zs)) ≡ wrong x + sum_of (map suffix_wrong (z ∷ zs)) = made_expr parsed (expr.Primary x (z ∷ zs)) (Expr-F.Primary x (z ∷ zs)) (expr.rolls-Primary x (z ∷ zs)) in
     let a : wrong x ≡ 0 = operand_to_lacks depth ts mid x p in
     let b : sum_of (map suffix_wrong (z ∷ zs)) ≡ 0 = row_lacks suffix_wrong (IsSuffixTo depth) (suffix_to_lacks depth) mid rest (z ∷ zs) q in
     omega arith
@@ -148,7 +148,7 @@ module _ (depth : ℕ) where
 
 module _ (depth : ℕ) (X : Phrase Stmt) (inner : Lacks stmt_wrong X) where
   simple_lacks : (ts rest : List Lexeme) (xs : List SmallStmt) (y : Stmt) → AreSmall depth ts rest xs → y ≡ st.Simple xs → stmt_wrong y ≡ 0
-  simple_lacks ts rest xs y p f = ap stmt_wrong f ∙ (made_stmt misplaced stmts_misplaced (st.Simple xs) (Stmt-F.Simple xs) (st.rolls-Simple xs) ∙ line_lacks depth ts rest xs p)
+  simple_lacks ts rest xs y p f = ap stmt_wrong f ∙ (made_stmt (stmts_by parsed) (st.Simple xs) (Stmt-F.Simple xs) (st.rolls-Simple xs) ∙ line_lacks depth ts rest xs p)
 
   suite_lacks : (ts rest : List Lexeme) (ys : List Stmt) → IsSuite depth X ts rest ys → sum_of (map stmt_wrong ys) ≡ 0
   suite_lacks ts rest ys (S.line {xs = xs} {y = y} p f) = let a : stmt_wrong y ≡ 0 = simple_lacks ts rest xs y p f in omega arith
@@ -159,7 +159,7 @@ module _ (depth : ℕ) (X : Phrase Stmt) (inner : Lacks stmt_wrong X) where
 
   branch_lacks : Lacks branch_wrong (IsBranch depth X)
   branch_lacks ts rest y (S.branch {c = c} {mid = mid} x {xs = xs} p f q g) =
-      let e : branch_wrong y ≡ wrong x + sum_of (map stmt_wrong xs) = ap branch_wrong g ∙ made_branch misplaced stmts_misplaced x xs in
+      let e : branch_wrong y ≡ wrong x + sum_of (map stmt_wrong xs) = ap branch_wrong g ∙ made_branch (stmts_by parsed) x xs in
       let a : wrong x ≡ 0 = test_to_lacks depth ts (c ∷ mid) x p in
       let b : sum_of (map stmt_wrong xs) ≡ 0 = suite_lacks mid rest xs q in
       omega arith
@@ -175,20 +175,20 @@ module _ (depth : ℕ) (X : Phrase Stmt) (inner : Lacks stmt_wrong X) where
   stmt_lacks ts rest y (S.simple {xs = xs} p f) = simple_lacks ts rest xs y p f
   stmt_lacks ts rest y (S.if_stmt {ts = us} {mid = mid} {us = vs} {x = x} {xs = xs} {zs = zs} f p q r g) =
       let e : stmt_wrong y ≡ sum_of (map branch_wrong (x ∷ xs)) + sum_of (map stmt_wrong zs)
-      = ap stmt_wrong g ∙ made_stmt misplaced stmts_misplaced (st.If (x ∷ xs) zs) (Stmt-F.If (x ∷ xs) zs) (st.rolls-If (x ∷ xs) zs) in
+      = ap stmt_wrong g ∙ made_stmt (stmts_by parsed) (st.If (x ∷ xs) zs) (Stmt-F.If (x ∷ xs) zs) (st.rolls-If (x ∷ xs) zs) in
       let a : branch_wrong x ≡ 0 = branch_lacks us mid x p in
       let b : sum_of (map branch_wrong xs) ≡ 0 = row_lacks branch_wrong (IsElif depth X) elif_lacks mid vs xs q in
       let c : sum_of (map stmt_wrong zs) ≡ 0 = else_lacks vs rest zs r in
       omega arith
   stmt_lacks ts rest y (S.for_stmt {i = i} {c = c} {ts = us} {mid = mid} {us = vs} v x {xs = xs} f p g q h r j) =
-      let e : stmt_wrong y ≡ variables_wrong v + (wrong x + sum_of (map stmt_wrong xs)) = ap stmt_wrong j ∙ made_stmt misplaced stmts_misplaced (st.For v x xs) (Stmt-F.For v x xs) (st.rolls-For v x xs) in
+      let e : stmt_wrong y ≡ variables_wrong v + (wrong x + sum_of (map stmt_wrong xs)) = ap stmt_wrong j ∙ made_stmt (stmts_by parsed) (st.For v x xs) (Stmt-F.For v x xs) (st.rolls-For v x xs) in
       let a : variables_wrong v ≡ 0 = vars_to_lack depth us (i ∷ mid) v p in
       let b : wrong x ≡ 0 = expr_to_lacks depth mid (c ∷ vs) x q in
       let d : sum_of (map stmt_wrong xs) ≡ 0 = suite_lacks vs rest xs r in
       omega arith
   stmt_lacks ts rest y (S.def_stmt {n = n} {c = c} {ts = us} {mid = mid} qs {xs = xs} f g h p i r j) =
       let e : stmt_wrong y ≡ sum_of (map parameter_wrong qs) + sum_of (map stmt_wrong xs)
-      = ap stmt_wrong j ∙ made_stmt misplaced stmts_misplaced (st.Def (identifier n) qs xs) (Stmt-F.Def (identifier n) qs xs) (st.rolls-Def (identifier n) qs xs) in
+      = ap stmt_wrong j ∙ made_stmt (stmts_by parsed) (st.Def (identifier n) qs xs) (Stmt-F.Def (identifier n) qs xs) (st.rolls-Def (identifier n) qs xs) in
       let a : sum_of (map parameter_wrong qs) ≡ 0 = parameters_lack (IsTestTo depth) (test_to_lacks depth) _ us (c ∷ mid) qs p in
       let d : sum_of (map stmt_wrong xs) ≡ 0 = suite_lacks mid rest xs r in
       omega arith

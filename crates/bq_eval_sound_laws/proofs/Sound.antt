@@ -17,12 +17,11 @@ use Rattle.bq_resolve_scope.specs.Names.{max_layers}
 use Rattle.bq_eval_language_spec.specs.Trees.{StmtLayer}
 use Rattle.bq_eval_depth_laws.proofs.Fitting.{depth, stmts_depth, IsFew, file_is_few}
 use Rattle.bq_eval_depth_laws.proofs.KeptFiles.{ParameterIs, ParsedIs, FunctionIs, OutsideIs, FileIs, file_is}
-use Rattle.bq_eval_depth_laws.proofs.Measures.{stmt_inside, opened_stmt}
+use Rattle.bq_eval_depth_laws.proofs.Measures.{expr_of, stmt_of, stmt_inside, opened_stmt}
 use Rattle.bq_eval_sound_laws.specs.Laws.{EachResolvedFileIsSound}
 use Rattle.bq_eval_sound_laws.specs.Sound.{ExprIsSound, SmallIsSound, StmtIsSound, FunctionIsSound, OutsideIsSound, LineIsSound}
-use Rattle.bq_eval_sound_laws.proofs.LeftOut.{left_out, stmts_left, stmts_nested}
-use Rattle.bq_eval_sound_laws.proofs.Misplaced as m
-use Rattle.bq_eval_sound_laws.proofs.Misplaced.{misplaced, stmts_misplaced, wrong, parameter_wrong, small_wrong, stmt_wrong}
+use Rattle.bq_eval_sound_laws.proofs.LeftOut.{left_out, stmt_lefts, stmts_left, stmt_nests, stmts_nested}
+use Rattle.bq_eval_sound_laws.proofs.Misplaced.{parsed, resolved, misplaced, small_by, stmt_step_by, stmts_by, stmts_misplaced, parameter_wrong, small_wrong, stmt_wrong}
 use Rattle.bq_eval_sound_laws.proofs.ParsedFiles.{IsClean, file_is_clean}
 use Rattle.bq_eval_sound_laws.proofs.Soundness.{each_one, both_off, an_expr_is_sound, small_is_sound, stmt_is_sound}
 
@@ -70,7 +69,7 @@ module _ (build : Bool) where
   parameter_left (parameter.Star n) h = tt
   parameter_left (parameter.StarStar n) h = tt
 
-  parsed_left : (o : StmtLayer) → stmt_left build (stmt_inside (left_out build) (stmts_left build) o) ≡ 0 → ParsedIs (left_out build) (stmts_left build) IsNone IsNone IsNone o
+  parsed_left : (o : StmtLayer) → stmt_left build (stmt_inside (stmt_lefts build) o) ≡ 0 → ParsedIs (left_out build) (stmts_left build) IsNone IsNone IsNone o
   parsed_left (Stmt-F.Simple xs) h = each_one (small_count build) (λ x. small_count build x ≡ 0) (λ x k. k) xs h
   parsed_left (Stmt-F.If bs zs) h = tt
   parsed_left (Stmt-F.For t x body) h = tt
@@ -86,7 +85,7 @@ module _ (build : Bool) where
   parameter_any (parameter.Star n) = tt
   parameter_any (parameter.StarStar n) = tt
 
-  parsed_flat : (o : StmtLayer) → stmt_nested (stmt_inside (left_out build) (stmts_nested build) o) false ≡ false → ParsedIs (left_out build) (stmts_nested build) Any Any IsFlat o
+  parsed_flat : (o : StmtLayer) → stmt_nested (stmt_inside stmt_nests o) false ≡ false → ParsedIs (left_out build) (stmts_nested build) Any Any IsFlat o
   parsed_flat (Stmt-F.Simple xs) h = any xs
   parsed_flat (Stmt-F.If bs zs) h = tt
   parsed_flat (Stmt-F.For t x body) h = tt
@@ -99,7 +98,7 @@ parameter_right parameter.BareStar h = tt
 parameter_right (parameter.Star n) h = tt
 parameter_right (parameter.StarStar n) h = tt
 
-parsed_right : (o : StmtLayer) → m.stmt_step (stmt_inside misplaced stmts_misplaced o) ≡ 0 → ParsedIs misplaced stmts_misplaced IsNone IsNone IsNone o
+parsed_right : (o : StmtLayer) → stmt_step_by parsed (stmt_inside (stmts_by parsed) o) ≡ 0 → ParsedIs misplaced stmts_misplaced IsNone IsNone IsNone o
 parsed_right (Stmt-F.Simple xs) h = each_one small_wrong (λ x. small_wrong x ≡ 0) (λ x k. k) xs h
 parsed_right (Stmt-F.If bs zs) h = tt
 parsed_right (Stmt-F.For t x body) h = tt
@@ -112,30 +111,33 @@ module _ (build : Bool) where
   outside_is_sound : (x : Outside) → OutsideIs depth stmts_depth IsFew IsFew IsFew x → OutsideIs (left_out build) (stmts_left build) IsNone IsNone IsNone x
       → OutsideIs misplaced stmts_misplaced IsNone IsNone IsNone x → OutsideIsSound x
   outside_is_sound (outside.Simple xs) h k l =
-      of_three (λ x. small_depth x ≤ max_layers) (λ x. small_count build x ≡ 0) (λ x. small_wrong x ≡ 0) SmallIsSound (small_is_sound build) xs h k l
-  outside_is_sound (outside.Def d) h k l = of_three (λ x. expr_depth x ≤ max_layers) (λ x. expr_count build x ≡ 0) (λ x. wrong x ≡ 0) ExprIsSound (an_expr_is_sound build) d.defaults h k l
+      of_three (λ x. small_depth x ≤ max_layers) (λ x. small_count build x ≡ 0) (λ x. small_by resolved x ≡ 0) SmallIsSound (small_is_sound build) xs h k l
+  outside_is_sound (outside.Def d) h k l =
+      (h.0, of_three (λ x. expr_depth x ≤ max_layers) (λ x. expr_count build x ≡ 0) (λ x. expr_of resolved x ≡ 0) ExprIsSound (an_expr_is_sound build) d.defaults h.1 k.1 l.1)
 
   function_is_sound : (d : Function) → FunctionIs depth stmts_depth IsFew IsFew IsFew d → FunctionIs (left_out build) (stmts_left build) IsNone IsNone IsNone d
       → FunctionIs (left_out build) (stmts_nested build) Any Any IsFlat d → FunctionIs misplaced stmts_misplaced IsNone IsNone IsNone d → FunctionIsSound d
   unfolding FunctionIsSound
-  function_is_sound d h k f l =
-      of_four (λ x. stmt_depth x ≤ max_layers) (λ x. stmt_count build x ≡ 0) (λ x. has_nested x true ≡ false) (λ x. stmt_wrong x ≡ 0) (StmtIsSound max_layers)
-      (stmt_is_sound build max_layers (omega arith)) d.body h k f l
+  function_is_sound d h k f l = (
+    h.0,
+    of_four (λ x. stmt_depth x ≤ max_layers) (λ x. stmt_count build x ≡ 0) (λ x. has_nested x true ≡ false) (λ x. stmt_of (stmts_by resolved) x ≡ 0) (StmtIsSound max_layers)
+        (stmt_is_sound build max_layers (omega arith)) d.body h.1 k.1 f.1 l.1,
+  )
 
 pub each_file : EachResolvedFileIsSound
-each_file kind ts xs universe file parsed resolves =
+each_file kind ts xs universe file reads resolves =
     let build : Bool = is_build kind in
-    let clean : AllByRecursion (IsClean build) xs = file_is_clean kind (pieces ts) xs (Ok xs) refl parsed in
-    let deep : FileIs depth stmts_depth IsFew IsFew IsFew file = file_is_few universe xs file (file_within kind (pieces ts) xs (Ok xs) refl parsed) resolves in
+    let clean : AllByRecursion (IsClean build) xs = file_is_clean kind (pieces ts) xs (Ok xs) refl reads in
+    let deep : FileIs depth stmts_depth IsFew IsFew IsFew file = file_is_few universe xs file (file_within kind (pieces ts) xs (Ok xs) refl reads) resolves in
     let left : FileIs (left_out build) (stmts_left build) IsNone IsNone IsNone file = file_is (left_out build) (stmts_left build) IsNone IsNone IsNone universe xs file
     (every (IsClean build) (λ t. ParsedIs (left_out build) (stmts_left build) IsNone IsNone IsNone (out-Stmt t.statement))
-    (λ t c. parsed_left build (out-Stmt t.statement) (sym (opened_stmt (left_out build) (stmts_left build) t.statement) ∙ c.0)) xs clean) resolves in
+    (λ t c. parsed_left build (out-Stmt t.statement) (sym (opened_stmt (stmt_lefts build) t.statement) ∙ c.0)) xs clean) resolves in
     let nested : FileIs (left_out build) (stmts_nested build) Any Any IsFlat file = file_is (left_out build) (stmts_nested build) Any Any IsFlat universe xs file
     (every (IsClean build) (λ t. ParsedIs (left_out build) (stmts_nested build) Any Any IsFlat (out-Stmt t.statement))
-    (λ t c. parsed_flat build (out-Stmt t.statement) (sym (ap (λ (g : Bool → Bool). g false) (opened_stmt (left_out build) (stmts_nested build) t.statement)) ∙ c.1)) xs clean) resolves in
+    (λ t c. parsed_flat build (out-Stmt t.statement) (sym (ap (λ (g : Bool → Bool). g false) (opened_stmt stmt_nests t.statement)) ∙ c.1)) xs clean) resolves in
     let right : FileIs misplaced stmts_misplaced IsNone IsNone IsNone file = file_is misplaced stmts_misplaced IsNone IsNone IsNone universe xs file
     (every (IsClean build) (λ t. ParsedIs misplaced stmts_misplaced IsNone IsNone IsNone (out-Stmt t.statement))
-    (λ t c. parsed_right (out-Stmt t.statement) (sym (opened_stmt misplaced stmts_misplaced t.statement) ∙ c.2)) xs clean) resolves in (
+    (λ t c. parsed_right (out-Stmt t.statement) (sym (opened_stmt (stmts_by parsed) t.statement) ∙ c.2)) xs clean) resolves in (
       of_three (λ l. OutsideIs depth stmts_depth IsFew IsFew IsFew l.statement) (λ l. OutsideIs (left_out build) (stmts_left build) IsNone IsNone IsNone l.statement)
           (λ l. OutsideIs misplaced stmts_misplaced IsNone IsNone IsNone l.statement) LineIsSound (λ l. outside_is_sound build l.statement) file.statements deep.0 left.0 right.0,
       of_four (λ d. FunctionIs depth stmts_depth IsFew IsFew IsFew d) (λ d. FunctionIs (left_out build) (stmts_left build) IsNone IsNone IsNone d)

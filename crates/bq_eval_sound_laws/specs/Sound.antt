@@ -1,6 +1,6 @@
 -- Trees without anything that ends an evaluation by itself: they are no deeper than the layers that are looked at, and
--- none of them has what the language leaves out, a `for` over another variable than a name, or an augmented assignment
--- to a tuple or list.
+-- none of them has what the language leaves out, a `for` over another variable than a name, an augmented assignment to a
+-- tuple or list, or a name that refers to nothing.
 use Rattle.std.specs.Prelude.{ℕ, zero, suc}
 use Rattle.std.specs.List.{AllByRecursion}
 use Rattle.bq_parse_grammar.specs.declared.tree.Argument.TheOpen.{Expr-F, Suffix-F, TargetExpr-F}
@@ -15,23 +15,36 @@ use Rattle.bq_parse_grammar.specs.declared.tree.Suffix.{Suffix, out-Suffix}
 use Rattle.bq_parse_grammar.specs.declared.tree.TargetExpr.{TargetExpr, out-TargetExpr}
 use Rattle.bq_parse_grammar.specs.Targets.{ExprLayer, SuffixLayer}
 use Rattle.bq_resolve_scope.specs.declared.file.FileLine.{FileLine}
+use Rattle.bq_resolve_scope.specs.declared.file.Formal.{Formal}
+use Rattle.bq_resolve_scope.specs.declared.file.Formal.TheVariants as formal
 use Rattle.bq_resolve_scope.specs.declared.file.Function.{Function}
 use Rattle.bq_resolve_scope.specs.declared.file.Outside.{Outside}
 use Rattle.bq_resolve_scope.specs.declared.file.Outside.TheVariants as outside
 use Rattle.bq_resolve_scope.specs.declared.file.ResolvedFile.{ResolvedFile}
 use Rattle.bq_resolve_scope.specs.Names.{TargetLayer, max_layers}
 use Rattle.bq_eval_language_spec.specs.Trees.{StmtLayer}
-use Rattle.bq_eval_meaning_laws.specs.Layers.{OptionalParts, ExprParts}
-use Rattle.bq_eval_depth_laws.specs.Fits.{TargetFits, VariableParts}
+use Rattle.bq_eval_meaning_laws.specs.Layers.{OptionalParts, ExprParts, TargetParts}
+use Rattle.bq_eval_depth_laws.specs.Fits.{IndexParts, VariableParts}
+use Rattle.bq_eval_depth_laws.specs.Referents.{RefersToAny, RefersToPlace}
 
 -- ---- targets
+
+-- a name that is bound refers to a place
+abbrev pub NameIsPlace : TargetLayer → Type 0
+NameIsPlace (TargetExpr-F.TargetExpr::Name n) = RefersToPlace n.referent
+NameIsPlace _ = Unit {0}
+
+-- a target is at most this many layers deep, and `E` holds of each expression in it
+unfoldable pub TargetIsSoundTo : (Expr → Type 0) → ℕ → TargetExpr → Type 0
+TargetIsSoundTo E zero t = ⊥
+TargetIsSoundTo E (suc layers) t = TargetParts (TargetIsSoundTo E layers) (out-TargetExpr t) × IndexParts E (out-TargetExpr t) × NameIsPlace (out-TargetExpr t)
 
 -- the variables of a `for` are names: no part of them has an expression
 abbrev pub NoExpr : Expr → Type 0
 NoExpr x = ⊥
 
 abbrev pub AreNames : TargetExpr → Type 0
-AreNames t = TargetFits NoExpr max_layers t
+AreNames t = TargetIsSoundTo NoExpr max_layers t
 
 -- what is augmented is a name or `x[i]`
 abbrev pub IsOneLayer : TargetLayer → Type 0
@@ -52,7 +65,9 @@ SuffixIsKeptLayer _ = Unit {0}
 abbrev pub SuffixIsKept : Suffix → Type 0
 SuffixIsKept x = SuffixIsKeptLayer (out-Suffix x)
 
+-- a name refers to something, and nothing is there that the language leaves out
 abbrev pub IsKept : ExprLayer → Type 0
+IsKept (Expr-F.Expr::Name n) = RefersToAny n.referent
 IsKept Expr-F.Lambda = ⊥
 IsKept (Expr-F.Primary x xs) = AllByRecursion SuffixIsKept xs
 IsKept _ = Unit {0}
@@ -65,7 +80,7 @@ abbrev pub ExprIsSound : Expr → Type 0
 ExprIsSound x = ExprIsSoundTo max_layers x
 
 abbrev pub PlaceIsSound : TargetExpr → Type 0
-PlaceIsSound t = TargetFits ExprIsSound max_layers t
+PlaceIsSound t = TargetIsSoundTo ExprIsSound max_layers t
 
 -- ---- statements
 
@@ -95,12 +110,20 @@ StmtIsSound (suc layers) x = StmtLayerIsSound (StmtIsSound layers) (out-Stmt x)
 
 -- ---- files
 
+-- the name of a parameter refers to its slot
+abbrev pub FormalIsSound : Formal → Type 0
+FormalIsSound (formal.Plain n) = RefersToPlace n.referent
+FormalIsSound (formal.Default n) = RefersToPlace n.referent
+FormalIsSound formal.BareStar = Unit {0}
+FormalIsSound (formal.Star n) = RefersToPlace n.referent
+FormalIsSound (formal.StarStar n) = RefersToPlace n.referent
+
 unfoldable pub FunctionIsSound : Function → Type 0
-FunctionIsSound d = AllByRecursion (StmtIsSound max_layers) d.body
+FunctionIsSound d = AllByRecursion FormalIsSound d.parameters × AllByRecursion (StmtIsSound max_layers) d.body
 
 abbrev pub OutsideIsSound : Outside → Type 0
 OutsideIsSound (outside.Simple xs) = AllByRecursion SmallIsSound xs
-OutsideIsSound (outside.Def d) = AllByRecursion ExprIsSound d.defaults
+OutsideIsSound (outside.Def d) = RefersToPlace d.name.referent × AllByRecursion ExprIsSound d.defaults
 
 abbrev pub LineIsSound : FileLine → Type 0
 LineIsSound l = OutsideIsSound l.statement

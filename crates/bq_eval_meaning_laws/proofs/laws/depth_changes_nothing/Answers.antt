@@ -1,4 +1,4 @@
-use Rattle.bq_eval_meaning_laws.proofs.Depths.{expression_depth, statement_depth, binding_depth, place_depth, slot_members}
+use Rattle.bq_eval_meaning_laws.proofs.Depths.{expression_depth, statement_depth, binding_depth, place_depth, slot_members, name_members}
 use Rattle.bq_eval_meaning_laws.proofs.laws.depth_changes_nothing.Goals as goal
 
 pub returns-clause-expression : goal.returns-clause-expression
@@ -15,3 +15,6 @@ returns-clause-places c k m scoping = place_depth m scoping
 
 pub returns-clause-slots : goal.returns-clause-slots
 returns-clause-slots c k = slot_members
+
+pub returns-clause-names : goal.returns-clause-names
+returns-clause-names c k = name_members
