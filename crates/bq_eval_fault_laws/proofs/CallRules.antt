@@ -1,4 +1,4 @@
--- Calls stop for faults of evaluation alone, where the functions of all modules are sound and each name in them refers to something.
+-- Calls stop for faults of evaluation alone, where the functions of all modules are sound.
 use Rattle.std.proofs.Common.{ℕ, zero, suc, List, [], ◌∷◌, Bool, true, false, Option, Some, None, Result, Ok, Err, slice_get, refl}
 use Rattle.std.specs.List.{AllByRecursion}
 use Rattle.bq_base.specs.declared.fault.FaultKind.{FaultKind}
@@ -23,12 +23,11 @@ use Rattle.bq_eval_language_spec.specs.Statements.{run_in}
 use Rattle.bq_eval_language_spec.specs.Trees.{Eval, Calls}
 use Rattle.bq_eval_fault_laws.proofs.Lawful.{Lawful, value_of, stop_of, both}
 use Rattle.bq_eval_fault_laws.specs.Faults.{Refusing}
-use Rattle.bq_eval_sound_laws.specs.Sound.{StmtIsSound, FunctionIsSound}
-use Rattle.bq_eval_fault_laws.specs.Known.{StmtIsKnown, FunctionIsKnown}
+use Rattle.bq_eval_sound_laws.specs.Sound.{ExprIsSound, StmtIsSound, FunctionIsSound}
 use Rattle.bq_eval_fault_laws.proofs.Fine.{Fine}
 use Rattle.bq_eval_fault_laws.proofs.Arguments.{bind_fine}
 use Rattle.bq_eval_fault_laws.proofs.ExpressionRules.{eval_rule}
-use Rattle.bq_eval_fault_laws.proofs.StatementRules.{Whole, block_rule, run_rule}
+use Rattle.bq_eval_fault_laws.proofs.StatementRules.{block_rule, run_rule}
 
 module _ {S : Type 0} (m : Primitives S) (L : Lawful m) where
   -- the relation holds of an action and itself
@@ -92,45 +91,45 @@ module _ {S : Type 0} (m : Primitives S) (L : Lawful m) where
   EveryInner None = Unit {0}
   EveryInner (Some call) = Every call
 
-  body_rule : (call : Calls S) → Every call → (u : TreeUnit Surroundings) (d : Function) → FunctionIsSound d → FunctionIsKnown d → (env : Frame) → Itself Datum (body_of m by_slots call u d env)
-  unfolding body_of FunctionIsSound FunctionIsKnown
-  body_rule call calls u d sound names env =
+  body_rule : (call : Calls S) → Every call → (u : TreeUnit Surroundings) (d : Function) → FunctionIsSound d → (env : Frame) → Itself Datum (body_of m by_slots call u d env)
+  unfolding body_of FunctionIsSound
+  body_rule call calls u d sound env =
       let eval : Eval S Frame = eval_in m by_slots call u.round in
-      let evals : (x : Expr) → Whole x → (e : Frame) → Itself Datum (eval x e) = λ x h. eval_rule m L call calls u.round max_layers x h.0 h.1 in
-      both _ _ _ _ (block_rule m L eval evals (StmtIsSound max_layers) (StmtIsKnown max_layers) (run_in m by_slots eval) (run_rule m L eval evals max_layers) d.body sound names env)
+      let evals : (x : Expr) → ExprIsSound x → (e : Frame) → Itself Datum (eval x e) = eval_rule m L call calls u.round max_layers in
+      both _ _ _ _ (block_rule m L eval evals (StmtIsSound max_layers) (run_in m by_slots eval) (run_rule m L eval evals max_layers) d.body sound.1 env)
       (λ r. value_of Datum (answered r.0))
 
-  run_body_rule : (inner : Option (Calls S)) → EveryInner inner → (u : TreeUnit Surroundings) (d : Function) → FunctionIsSound d → FunctionIsKnown d → (env : Frame) → Itself Datum (run_body m by_slots inner u d env)
+  run_body_rule : (inner : Option (Calls S)) → EveryInner inner → (u : TreeUnit Surroundings) (d : Function) → FunctionIsSound d → (env : Frame) → Itself Datum (run_body m by_slots inner u d env)
   unfolding run_body
-  run_body_rule None inners u d sound names env = stop_of m Datum f.CallDepth refl
-  run_body_rule (Some call) inners u d sound names env = body_rule call inners u d sound names env
+  run_body_rule None inners u d sound env = stop_of m Datum f.CallDepth refl
+  run_body_rule (Some call) inners u d sound env = body_rule call inners u d sound env
 
-  function_rule : (inner : Option (Calls S)) → EveryInner inner → (home place : ℕ) (u : TreeUnit Surroundings) (d : Function) → FunctionIsSound d → FunctionIsKnown d → (ds : List Datum) (p : Passed) → Itself Datum (call_function m by_slots inner home place u d ds p)
+  function_rule : (inner : Option (Calls S)) → EveryInner inner → (home place : ℕ) (u : TreeUnit Surroundings) (d : Function) → FunctionIsSound d → (ds : List Datum) (p : Passed) → Itself Datum (call_function m by_slots inner home place u d ds p)
   unfolding call_function
-  function_rule inner inners home place u d sound names ds p =
+  function_rule inner inners home place u d sound ds p =
       both _ _ _ _ (entry_rule d ds p)
       (λ env. both _ _ _ _ (L.of_enter home place)
-      (λ _. both _ _ _ _ (run_body_rule inner inners u d sound names env) (λ v s. tt)))
+      (λ _. both _ _ _ _ (run_body_rule inner inners u d sound env) (λ v s. tt)))
 
-  -- the functions of the module of each number are sound, and each name in them refers to something
+  -- the functions of the module of each number are sound
   abbrev pub UnitIsSound : Option (TreeUnit Surroundings) → Type 0
   UnitIsSound None = Unit {0}
-  UnitIsSound (Some u) = AllByRecursion FunctionIsSound u.functions × AllByRecursion FunctionIsKnown u.functions
+  UnitIsSound (Some u) = AllByRecursion FunctionIsSound u.functions
 
   abbrev pub UnitsAreSound : Units Surroundings → Type 0
   UnitsAreSound units = (n : ℕ) → UnitIsSound (units n)
 
   -- one of sound functions is sound
-  at_place : (inner : Option (Calls S)) → EveryInner inner → (home place : ℕ) (ds : List Datum) (p : Passed) (u : TreeUnit Surroundings) (fs : List Function) → AllByRecursion FunctionIsSound fs → AllByRecursion FunctionIsKnown fs → (k : ℕ)
+  at_place : (inner : Option (Calls S)) → EveryInner inner → (home place : ℕ) (ds : List Datum) (p : Passed) (u : TreeUnit Surroundings) (fs : List Function) → AllByRecursion FunctionIsSound fs → (k : ℕ)
       → Itself Datum (known m (slice_get fs k) (λ d. call_function m by_slots inner home place u d ds p))
-  at_place inner inners home place ds p u [] all names k = stop_of m Datum f.WrongType refl
-  at_place inner inners home place ds p u (d ∷ fs) all names zero = function_rule inner inners home place u d all.0 names.0 ds p
-  at_place inner inners home place ds p u (d ∷ fs) all names (suc k) = at_place inner inners home place ds p u fs all.1 names.1 k
+  at_place inner inners home place ds p u [] all k = stop_of m Datum f.WrongType refl
+  at_place inner inners home place ds p u (d ∷ fs) all zero = function_rule inner inners home place u d all.0 ds p
+  at_place inner inners home place ds p u (d ∷ fs) all (suc k) = at_place inner inners home place ds p u fs all.1 k
 
   in_unit : (inner : Option (Calls S)) → EveryInner inner → (home place : ℕ) (ds : List Datum) (p : Passed) (o : Option (TreeUnit Surroundings)) → UnitIsSound o
       → Itself Datum (known m o (λ u. known m (slice_get u.functions place) (λ d. call_function m by_slots inner home place u d ds p)))
   in_unit inner inners home place ds p None sound = stop_of m Datum f.WrongType refl
-  in_unit inner inners home place ds p (Some u) sound = at_place inner inners home place ds p u u.functions sound.0 sound.1 place
+  in_unit inner inners home place ds p (Some u) sound = at_place inner inners home place ds p u u.functions sound place
 
   call_at_rule : (units : Units Surroundings) → UnitsAreSound units → (inner : Option (Calls S)) → EveryInner inner → (home place : ℕ) (ds : List Datum) (p : Passed) → Itself Datum (call_at m by_slots units inner home place ds p)
   unfolding call_at

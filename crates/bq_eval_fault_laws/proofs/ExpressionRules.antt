@@ -1,5 +1,5 @@
--- Expressions stop for faults of evaluation alone, where nothing in them is left out, they are no deeper than the layers that are looked
--- at, and each name refers to something.
+-- Expressions stop for faults of evaluation alone, where they are sound: nothing in them is left out, they are no deeper than the layers
+-- that are looked at, and each name refers to something.
 use Rattle.std.proofs.Common.{ℕ, zero, suc, List, [], ◌∷◌, ◌++◌, length, reverse, Option, Some, None}
 use Rattle.std.specs.List.{AllByRecursion}
 use Rattle.bq_parse_grammar.specs.declared.tree.Argument.{Argument, out-Argument}
@@ -32,10 +32,9 @@ use Rattle.bq_eval_language_spec.specs.Trees.{Eval, Calls, ArgumentLayer}
 use Rattle.bq_eval_meaning_laws.specs.Layers.{PairParts, OperationParts, ChoiceParts, ArgumentLayerParts, ArgumentParts, OptionalParts, SuffixLayerParts, SuffixParts, ExprParts}
 use Rattle.bq_eval_fault_laws.proofs.Lawful.{Lawful, value_of, both, choice_of}
 use Rattle.bq_eval_depth_laws.specs.Fits.{VariableParts}
+use Rattle.bq_eval_depth_laws.specs.Referents.{RefersToAny}
 use Rattle.bq_eval_fault_laws.specs.Faults.{Refusing}
 use Rattle.bq_eval_sound_laws.specs.Sound.{AreNames, SuffixIsKeptLayer, SuffixIsKept, IsKept, ExprIsSoundTo}
-use Rattle.bq_eval_fault_laws.specs.Known.{IsKnown, NameIsKnown, NamesAreKnown}
-use Rattle.bq_eval_fault_laws.proofs.Both.{Both, parts_both}
 use Rattle.bq_eval_fault_laws.proofs.TargetRules.{bound_rule}
 use Rattle.bq_eval_fault_laws.proofs.ComprehensionRules.{element_rule, comprehension_rule}
 use Rattle.bq_eval_fault_laws.proofs.ComprehensionRules as comprehensions
@@ -64,17 +63,17 @@ module _ (P : Expr → Type 0) where
 module _ {S : Type 0} (m : Primitives S) (L : Lawful m) where
   -- ---- names
 
-  value_rule : (round : Surroundings) (x : Referent) → IsKnown x → (env : Frame) → Refusing Datum (value_by m (value_at round env x))
-  value_rule round (r.Unresolved line) known env = absurd known
-  value_rule round (r.Local slot) known env = bound_rule m L (env slot)
-  value_rule round (r.Global k) known env = bound_rule m L (round.globals k)
-  value_rule round (r.Loaded k) known env = bound_rule m L (round.loaded k)
-  value_rule round (r.Predeclared p) known env = value_of Datum (m.predeclared p)
-  value_rule round (r.Member p) known env = value_of Datum (m.predeclared p)
+  value_rule : (round : Surroundings) (x : Referent) → RefersToAny x → (env : Frame) → Refusing Datum (value_by m (value_at round env x))
+  value_rule round (r.Unresolved line) refers env = absurd refers
+  value_rule round (r.Local slot) refers env = bound_rule m L (env slot)
+  value_rule round (r.Global k) refers env = bound_rule m L (round.globals k)
+  value_rule round (r.Loaded k) refers env = bound_rule m L (round.loaded k)
+  value_rule round (r.Predeclared p) refers env = value_of Datum (m.predeclared p)
+  value_rule round (r.Member p) refers env = value_of Datum (m.predeclared p)
 
-  use_rule : (round : Surroundings) (n : Identifier) → IsKnown n.referent → (env : Frame) → Refusing Datum (use_of m by_slots round n env)
+  use_rule : (round : Surroundings) (n : Identifier) → RefersToAny n.referent → (env : Frame) → Refusing Datum (use_of m by_slots round n env)
   unfolding use_of
-  use_rule round n known env = both _ _ _ _ (L.of_step 1) (λ _. value_rule round n.referent known env)
+  use_rule round n refers env = both _ _ _ _ (L.of_step 1) (λ _. value_rule round n.referent refers env)
 
   literal_rule : (v : Datum) → Refusing Datum (literal m v)
   unfolding literal
@@ -242,32 +241,30 @@ module _ {S : Type 0} (m : Primitives S) (L : Lawful m) where
         unfolding primary
         primary_rule x ss h all kept env = primary_by_rule x ss (called (member_at (out-Expr x)) ss) h all kept (called_sound P (member_at (out-Expr x)) ss all kept) env
 
-        expr_by_rule : (o : ExprLayer) → ExprParts P o → VariableParts AreNames o → IsKept o → NameIsKnown o → (env : Frame) → Refusing Datum (expr_by m by_slots eval call round o env)
-        expr_by_rule (Expr-F.Expr::Name n) h names kept known env = use_rule round n known env
-        expr_by_rule (Expr-F.Int n) h names kept known env = literal_rule (int n)
-        expr_by_rule (Expr-F.String t) h names kept known env = literal_rule (string t)
-        expr_by_rule (Expr-F.Expr::List xs) h names kept known env = list_rule xs h env
-        expr_by_rule (Expr-F.Expr::Tuple xs) h names kept known env = tuple_rule xs h env
-        expr_by_rule (Expr-F.Dict ps) h names kept known env = dict_rule ps h env
-        expr_by_rule (Expr-F.ListComprehension x cs own) h names kept known env =
+        expr_by_rule : (o : ExprLayer) → ExprParts P o → VariableParts AreNames o → IsKept o → (env : Frame) → Refusing Datum (expr_by m by_slots eval call round o env)
+        expr_by_rule (Expr-F.Expr::Name n) h names kept env = use_rule round n kept env
+        expr_by_rule (Expr-F.Int n) h names kept env = literal_rule (int n)
+        expr_by_rule (Expr-F.String t) h names kept env = literal_rule (string t)
+        expr_by_rule (Expr-F.Expr::List xs) h names kept env = list_rule xs h env
+        expr_by_rule (Expr-F.Expr::Tuple xs) h names kept env = tuple_rule xs h env
+        expr_by_rule (Expr-F.Dict ps) h names kept env = dict_rule ps h env
+        expr_by_rule (Expr-F.ListComprehension x cs own) h names kept env =
             comprehension_rule m L P eval evals (element m eval x) (element_rule m L P eval evals x h.0) (items []) cs h.1 names own env
-        expr_by_rule (Expr-F.DictComprehension p cs own) h names kept known env =
+        expr_by_rule (Expr-F.DictComprehension p cs own) h names kept env =
             comprehension_rule m L P eval evals (pair_element m eval p) (comprehensions.pair_rule m L P eval evals p h.0) (pairs []) cs h.1 names own env
-        expr_by_rule (Expr-F.Primary x ss) h names kept known env = primary_rule x ss h.0 h.1 kept env
-        expr_by_rule (Expr-F.Unary os x) h names kept known env = unary_rule os x h env
-        expr_by_rule (Expr-F.Binary x os) h names kept known env = binary_rule x os h.0 h.1 env
-        expr_by_rule (Expr-F.Compare x o y) h names kept known env = compare_rule x o y h.0 h.1 env
-        expr_by_rule (Expr-F.Conditional cs x) h names kept known env = conditional_rule cs h.0 x h.1 env
-        expr_by_rule Expr-F.Lambda h names kept known env = absurd kept
+        expr_by_rule (Expr-F.Primary x ss) h names kept env = primary_rule x ss h.0 h.1 kept env
+        expr_by_rule (Expr-F.Unary os x) h names kept env = unary_rule os x h env
+        expr_by_rule (Expr-F.Binary x os) h names kept env = binary_rule x os h.0 h.1 env
+        expr_by_rule (Expr-F.Compare x o y) h names kept env = compare_rule x o y h.0 h.1 env
+        expr_by_rule (Expr-F.Conditional cs x) h names kept env = conditional_rule cs h.0 x h.1 env
+        expr_by_rule Expr-F.Lambda h names kept env = absurd kept
 
-        expr_rule : (e : Expr) → ExprParts P (out-Expr e) → VariableParts AreNames (out-Expr e) → IsKept (out-Expr e) → NameIsKnown (out-Expr e) → (env : Frame) → Refusing Datum (expr m by_slots eval call round e env)
+        expr_rule : (e : Expr) → ExprParts P (out-Expr e) → VariableParts AreNames (out-Expr e) → IsKept (out-Expr e) → (env : Frame) → Refusing Datum (expr m by_slots eval call round e env)
         unfolding expr
-        expr_rule e h names kept known env = expr_by_rule (out-Expr e) h names kept known env
+        expr_rule e h names kept env = expr_by_rule (out-Expr e) h names kept env
 
   module _ (call : Calls S) (calls : (v : Datum) (p : Passed) → Refusing Datum (call v p)) (round : Surroundings) where
-    pub eval_rule : (n : ℕ) (e : Expr) → ExprIsSoundTo n e → NamesAreKnown n e → (env : Frame) → Refusing Datum (expr_to n m by_slots call round e env)
-    unfolding expr_to ExprIsSoundTo NamesAreKnown
-    eval_rule zero e sound known env = absurd sound
-    eval_rule (suc n) e sound known env =
-        expr_rule (Both (ExprIsSoundTo n) (NamesAreKnown n)) (expr_to n m by_slots call round) (λ x h. eval_rule n x h.0 h.1) call calls round e
-        (parts_both (ExprIsSoundTo n) (NamesAreKnown n) (out-Expr e) sound.0 known.0) sound.1 sound.2 known.1 env
+    pub eval_rule : (n : ℕ) (e : Expr) → ExprIsSoundTo n e → (env : Frame) → Refusing Datum (expr_to n m by_slots call round e env)
+    unfolding expr_to ExprIsSoundTo
+    eval_rule zero e sound env = absurd sound
+    eval_rule (suc n) e sound env = expr_rule (ExprIsSoundTo n) (expr_to n m by_slots call round) (eval_rule n) call calls round e sound.0 sound.1 sound.2 env

@@ -1,4 +1,4 @@
--- A file that was parsed and resolved fails with a fault of evaluation alone: it is sound, and each name in it refers to something.
+-- A file that was parsed and resolved fails with a fault of evaluation alone, since it is sound.
 use Rattle.std.proofs.Common.{List, [], ◌∷◌, Option, Some, None}
 use Rattle.std.specs.List.{AllByRecursion}
 use Rattle.bq_resolve_scope.specs.Names.{Name}
@@ -11,17 +11,17 @@ use Rattle.bq_eval_operations.specs.Calling.{HostCalls}
 use Rattle.bq_eval_operations.specs.Runtime.{primitives}
 use Rattle.bq_eval.specs.Module.{first_store, ended, module_run}
 use Rattle.bq_eval_fault_laws.specs.Faults.{IsRefusal, HostRefuses, FailsAsEvaluated, IsResolvedFile, IfAny, FilesFailAsEvaluated}
+use Rattle.bq_eval_sound_laws.specs.Sound.{FileIsSound}
 use Rattle.bq_eval_sound_laws.proofs.Sound.{each_file}
 use Rattle.bq_eval_fault_laws.proofs.Hosts.{lawful}
-use Rattle.bq_eval_fault_laws.proofs.KnownFiles.{file_is_known}
-use Rattle.bq_eval_fault_laws.proofs.ModuleRules.{FileIsWhole, IfSound, module_rule}
+use Rattle.bq_eval_fault_laws.proofs.ModuleRules.{IfSound, module_rule}
 
 ended_so : {W : Type 0} (file : ResolvedFile) (imports : List Datum) (r : Run (State × W) Frame) → IsRefusal r → FailsAsEvaluated (ended file imports r)
 ended_so file imports (done globals s) h = tt
 ended_so file imports (stopped why) h = h
 
-file_sound : (file : ResolvedFile) → IsResolvedFile file → FileIsWhole file
-file_sound file h = (each_file h.kind h.lexemes h.statements h.universe file h.parses h.resolves, file_is_known h.universe h.statements file h.resolves)
+file_sound : (file : ResolvedFile) → IsResolvedFile file → FileIsSound file
+file_sound file h = each_file h.kind h.lexemes h.statements h.universe file h.parses h.resolves
 
 all_sound : (code : List (Option ResolvedFile)) → AllByRecursion IfAny code → AllByRecursion IfSound code
 all_sound [] all = tt

@@ -18,11 +18,7 @@ pub mod Collections
 pub mod Functions
 pub mod RuleFunctions
 pub mod Hosts
--- names of resolved files refer to something
-pub mod KnownExpressions
-pub mod KnownFiles
 -- the rules of the language
-pub mod Both
 pub mod TargetRules
 pub mod ComprehensionRules
 pub mod ExpressionRules

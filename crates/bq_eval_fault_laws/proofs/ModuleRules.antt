@@ -1,4 +1,4 @@
--- Files stop for faults of evaluation alone, where they and the files of the frozen modules are sound and each name refers to something.
+-- Files stop for faults of evaluation alone, where they and the files of the frozen modules are sound.
 use Rattle.std.proofs.Common.{◌≡◌, ℕ, zero, suc, ◌==◌, Bool, true, false, List, [], ◌∷◌, Option, Some, None, slice_get, refl, subst}
 use Rattle.std.specs.Prelude.{if◌then◌else◌}
 use Rattle.std.specs.List.{AllByRecursion}
@@ -22,65 +22,60 @@ use Rattle.bq_eval_language_spec.specs.Trees.{Eval}
 use Rattle.bq_eval_fault_laws.proofs.Lawful.{Lawful, value_of, both}
 use Rattle.bq_eval_fault_laws.specs.Faults.{Refusing}
 use Rattle.bq_eval_sound_laws.specs.Sound.{ExprIsSound, FunctionIsSound, OutsideIsSound, LineIsSound, FileIsSound}
-use Rattle.bq_eval_fault_laws.specs.Known.{ExprIsKnown, FunctionIsKnown, OutsideIsKnown, LineIsKnown, FileIsKnown}
-use Rattle.bq_eval_fault_laws.proofs.Both.{all_both}
 use Rattle.bq_eval_fault_laws.proofs.ExpressionRules.{eval_rule, values_rule}
-use Rattle.bq_eval_fault_laws.proofs.StatementRules.{Whole, Ends, go_on_rule, line_rule}
+use Rattle.bq_eval_fault_laws.proofs.StatementRules.{Ends, go_on_rule, line_rule}
 use Rattle.bq_eval_fault_laws.proofs.CallRules.{UnitIsSound, UnitsAreSound, calls_rule}
 
 module _ {S : Type 0} (m : Primitives S) (L : Lawful m) (own : Own Surroundings Frame) where
-  module _ (eval : Eval S Frame) (evals : (x : Expr) → Whole x → (env : Frame) → Refusing Datum (eval x env)) where
-    def_rule : (d : Def) → AllByRecursion Whole d.defaults → Ends m L (def_stmt m by_slots own eval d)
+  module _ (eval : Eval S Frame) (evals : (x : Expr) → ExprIsSound x → (env : Frame) → Refusing Datum (eval x env)) where
+    def_rule : (d : Def) → AllByRecursion ExprIsSound d.defaults → Ends m L (def_stmt m by_slots own eval d)
     unfolding def_stmt
     def_rule d all globals =
         both _ _ _ _ (L.of_step 1)
-        (λ _. both _ _ _ _ (values_rule m L Whole eval evals d.defaults all globals [])
+        (λ _. both _ _ _ _ (values_rule m L ExprIsSound eval evals d.defaults all globals [])
         (λ vs. value_of (Flow × Frame) (next, fill globals (slot_of d.name.referent) (function own.number d.function d.name.name (data_of vs)))))
 
-    outside_rule : (x : Outside) → OutsideIsSound x → OutsideIsKnown x → Ends m L (outside_by m by_slots own eval x)
-    outside_rule (outside.Simple xs) h k globals = line_rule m L eval evals xs h k globals
-    outside_rule (outside.Def d) h k globals = def_rule d (all_both ExprIsSound ExprIsKnown Whole (λ x p q. (p, q)) d.defaults h k) globals
+    outside_rule : (x : Outside) → OutsideIsSound x → Ends m L (outside_by m by_slots own eval x)
+    outside_rule (outside.Simple xs) h globals = line_rule m L eval evals xs h globals
+    outside_rule (outside.Def d) h globals = def_rule d h.1 globals
 
-    top_level_rule : (l : FileLine) → LineIsSound l → LineIsKnown l → Ends m L (top_level m by_slots own eval l)
+    top_level_rule : (l : FileLine) → LineIsSound l → Ends m L (top_level m by_slots own eval l)
     unfolding top_level
-    top_level_rule l h k globals = both (Unit {0}) _ (change m (m.at_line l.line)) _ (λ s. tt) (λ _. outside_rule l.statement h k globals)
+    top_level_rule l h globals = both (Unit {0}) _ (change m (m.at_line l.line)) _ (λ s. tt) (λ _. outside_rule l.statement h globals)
 
-    top_levels_rule : (ls : List FileLine) → AllByRecursion LineIsSound ls → AllByRecursion LineIsKnown ls → Ends m L (top_levels m by_slots own eval ls)
+    top_levels_rule : (ls : List FileLine) → AllByRecursion LineIsSound ls → Ends m L (top_levels m by_slots own eval ls)
     unfolding top_levels
-    top_levels_rule [] all names globals = value_of (Flow × Frame) (next, globals)
-    top_levels_rule (l ∷ ls) all names globals = both _ _ _ _ (top_level_rule l all.0 names.0 globals) (λ r. go_on_rule m L (top_levels m by_slots own eval ls) (top_levels_rule ls all.1 names.1) r)
+    top_levels_rule [] all globals = value_of (Flow × Frame) (next, globals)
+    top_levels_rule (l ∷ ls) all globals = both _ _ _ _ (top_level_rule l all.0 globals) (λ r. go_on_rule m L (top_levels m by_slots own eval ls) (top_levels_rule ls all.1) r)
 
   -- the file's own functions, and those of the frozen modules
-  own_sound : (units : Units Surroundings) → UnitsAreSound m L units → AllByRecursion FunctionIsSound own.functions → AllByRecursion FunctionIsKnown own.functions → (globals : Frame) → UnitsAreSound m L (with_own units own globals)
-  own_sound units sound functions names globals n = by_own (n == own.number)
+  own_sound : (units : Units Surroundings) → UnitsAreSound m L units → AllByRecursion FunctionIsSound own.functions → (globals : Frame) → UnitsAreSound m L (with_own units own globals)
+  own_sound units sound functions globals n = by_own (n == own.number)
     where
       by_own : (t : Bool) → UnitIsSound m L (if t then Some (record { functions = own.functions; round = own.round globals }) else units n)
-      by_own true = (functions, names)
+      by_own true = functions
       by_own false = sound n
 
-  top_rule : (units : Units Surroundings) → UnitsAreSound m L units → AllByRecursion FunctionIsSound own.functions → AllByRecursion FunctionIsKnown own.functions → (x : Expr) → Whole x → (globals : Frame) → Refusing Datum (eval_top m by_slots units own x globals)
+  top_rule : (units : Units Surroundings) → UnitsAreSound m L units → AllByRecursion FunctionIsSound own.functions → (x : Expr) → ExprIsSound x → (globals : Frame) → Refusing Datum (eval_top m by_slots units own x globals)
   unfolding eval_top
-  top_rule units sound functions names x h globals =
-      eval_rule m L (calls max_active m by_slots (with_own units own globals)) (calls_rule m L max_active (with_own units own globals) (own_sound units sound functions names globals)) (own.round globals) max_layers x h.0 h.1 empty
+  top_rule units sound functions x h globals =
+      eval_rule m L (calls max_active m by_slots (with_own units own globals)) (calls_rule m L max_active (with_own units own globals) (own_sound units sound functions globals)) (own.round globals) max_layers x h empty
 
--- a file that is there is sound, and each name in it refers to something
-abbrev pub FileIsWhole : ResolvedFile → Type 0
-FileIsWhole file = FileIsSound file × FileIsKnown file
-
+-- a file that is there is sound
 abbrev pub IfSound : Option ResolvedFile → Type 0
-IfSound (Some file) = FileIsWhole file
+IfSound (Some file) = FileIsSound file
 IfSound _ = Unit {0}
 
 -- the files of frozen modules are sound, and so are the modules
-frozen_by : (o : Option (Option ResolvedFile)) (v : Option (List Datum)) → ((file : ResolvedFile) → o ≡ Some (Some file) → FileIsWhole file) → {S : Type 0} (m : Primitives S) (L : Lawful m) → UnitIsSound m L (frozen_unit o v)
+frozen_by : (o : Option (Option ResolvedFile)) (v : Option (List Datum)) → ((file : ResolvedFile) → o ≡ Some (Some file) → FileIsSound file) → {S : Type 0} (m : Primitives S) (L : Lawful m) → UnitIsSound m L (frozen_unit o v)
 frozen_by None v h m L = tt
 frozen_by (Some None) v h m L = tt
 frozen_by (Some (Some file)) None h m L = tt
-frozen_by (Some (Some file)) (Some values) h m L = ((h file refl).0.1, (h file refl).1.1)
+frozen_by (Some (Some file)) (Some values) h m L = (h file refl).1
 
-at_number : (code : List (Option ResolvedFile)) → AllByRecursion IfSound code → (n : ℕ) (file : ResolvedFile) → slice_get code n ≡ Some (Some file) → FileIsWhole file
+at_number : (code : List (Option ResolvedFile)) → AllByRecursion IfSound code → (n : ℕ) (file : ResolvedFile) → slice_get code n ≡ Some (Some file) → FileIsSound file
 at_number [] all n file e = absurd (let no : ⊥ = cc in no)
-at_number (Some r ∷ code) all zero file e = let same : r ≡ file = cc in subst (λ z. FileIsWhole z) same all.0
+at_number (Some r ∷ code) all zero file e = let same : r ≡ file = cc in subst (λ z. FileIsSound z) same all.0
 at_number (None ∷ code) all zero file e = absurd (let no : ⊥ = cc in no)
 at_number (c ∷ code) all (suc n) file e = at_number code all.1 n file e
 
@@ -89,11 +84,11 @@ module _ {S : Type 0} (m : Primitives S) (L : Lawful m) where
   unfolding frozen_units
   frozen_sound code all loaded n = frozen_by (slice_get code n) (globals_among n loaded) (at_number code all n) m L
 
-  pub module_rule : (code : List (Option ResolvedFile)) → AllByRecursion IfSound code → (frozen : List FrozenView) (number : ℕ) (file : ResolvedFile) → FileIsWhole file → (loaded : List Datum)
+  pub module_rule : (code : List (Option ResolvedFile)) → AllByRecursion IfSound code → (frozen : List FrozenView) (number : ℕ) (file : ResolvedFile) → FileIsSound file → (loaded : List Datum)
       → Refusing Frame (module_meaning m (frozen_units code frozen) number file loaded)
   unfolding module_meaning language.module_meaning
-  module_rule code all frozen number file whole loaded =
+  module_rule code all frozen number file sound loaded =
       let own : Own Surroundings Frame = own_of number file loaded in
       both _ _ _ _
-      (top_levels_rule m L own (eval_top m by_slots (frozen_units code frozen) own) (top_rule m L own (frozen_units code frozen) (frozen_sound code all frozen) whole.0.1 whole.1.1) file.statements whole.0.0 whole.1.0 (first_globals file.loads loaded empty))
+      (top_levels_rule m L own (eval_top m by_slots (frozen_units code frozen) own) (top_rule m L own (frozen_units code frozen) (frozen_sound code all frozen) sound.1) file.statements sound.0 (first_globals file.loads loaded empty))
       (λ r. value_of Frame r.1)

@@ -17,9 +17,9 @@ use Rattle.bq_eval_language_spec.specs.Slots.{by_slots, slot_of}
 use Rattle.bq_eval_language_spec.specs.Targets.{Places, Binds, bound, bind_place, bind_each, unpack, bind_by, bind_target, bind_to, bind_variables, place, places_each, places_by, places_of, places_to, assign, augment_name, augment_index, augment_by, augment}
 use Rattle.bq_eval_language_spec.specs.Trees.{Eval}
 use Rattle.bq_eval_meaning_laws.specs.Layers.{TargetParts}
-use Rattle.bq_eval_depth_laws.specs.Fits.{IndexParts, TargetFits}
+use Rattle.bq_eval_depth_laws.specs.Fits.{IndexParts}
 use Rattle.bq_eval_fault_laws.specs.Faults.{IsRefusal, Refusing}
-use Rattle.bq_eval_sound_laws.specs.Sound.{NoExpr, AreNames, IsOneLayer, IsOne}
+use Rattle.bq_eval_sound_laws.specs.Sound.{TargetIsSoundTo, NoExpr, AreNames, IsOneLayer, IsOne}
 use Rattle.bq_eval_fault_laws.proofs.Lawful.{Lawful, value_of, stop_of, both}
 
 -- ---- how many places a target has
@@ -97,26 +97,26 @@ module _ {S : Type 0} (m : Primitives S) (L : Lawful m) where
     layer_binds (TargetExpr-F.TargetExpr::Tuple ts) all v env ps rest h s = unpack_binds ts all v env ps rest h s
     layer_binds (TargetExpr-F.TargetExpr::List ts) all v env ps rest h s = unpack_binds ts all v env ps rest h s
 
-  target_binds : (E : Expr → Type 0) (n : ℕ) (t : TargetExpr) → TargetFits E n t → BindsAll (places_in n) (bind_to m by_slots n) t
-  unfolding bind_to bind_target TargetFits places_in
+  target_binds : (E : Expr → Type 0) (n : ℕ) (t : TargetExpr) → TargetIsSoundTo E n t → BindsAll (places_in n) (bind_to m by_slots n) t
+  unfolding bind_to bind_target TargetIsSoundTo places_in
   target_binds E zero t fits v env ps rest h s = absurd fits
-  target_binds E (suc n) t fits v env ps rest h s = layer_binds (TargetFits E n) (places_in n) (bind_to m by_slots n) (target_binds E n) (out-TargetExpr t) fits.0 v env ps rest h s
+  target_binds E (suc n) t fits v env ps rest h s = layer_binds (TargetIsSoundTo E n) (places_in n) (bind_to m by_slots n) (target_binds E n) (out-TargetExpr t) fits.0 v env ps rest h s
 
   -- ---- the variables of a `for`
 
-  none_of : (n : ℕ) → ((t : TargetExpr) → TargetFits NoExpr n t → places_in n t ≡ 0) → (ts : List TargetExpr) → AllByRecursion (TargetFits NoExpr n) ts → all_places (places_in n) ts ≡ 0
+  none_of : (n : ℕ) → ((t : TargetExpr) → TargetIsSoundTo NoExpr n t → places_in n t ≡ 0) → (ts : List TargetExpr) → AllByRecursion (TargetIsSoundTo NoExpr n) ts → all_places (places_in n) ts ≡ 0
   unfolding all_places
   none_of n each [] all = refl
   none_of n each (t ∷ ts) all = let a = each t all.0 in let b = none_of n each ts all.1 in omega arith
 
-  none_by : (n : ℕ) → ((t : TargetExpr) → TargetFits NoExpr n t → places_in n t ≡ 0) → (o : TargetLayer) → TargetParts (TargetFits NoExpr n) o → IndexParts NoExpr o → places_in_layer (places_in n) o ≡ 0
+  none_by : (n : ℕ) → ((t : TargetExpr) → TargetIsSoundTo NoExpr n t → places_in n t ≡ 0) → (o : TargetLayer) → TargetParts (TargetIsSoundTo NoExpr n) o → IndexParts NoExpr o → places_in_layer (places_in n) o ≡ 0
   none_by n each (TargetExpr-F.TargetExpr::Name x) all h = refl
   none_by n each (TargetExpr-F.TargetExpr::Index x i) all h = absurd h.0
   none_by n each (TargetExpr-F.TargetExpr::Tuple ts) all h = none_of n each ts all
   none_by n each (TargetExpr-F.TargetExpr::List ts) all h = none_of n each ts all
 
-  no_places : (n : ℕ) (t : TargetExpr) → TargetFits NoExpr n t → places_in n t ≡ 0
-  unfolding places_in TargetFits
+  no_places : (n : ℕ) (t : TargetExpr) → TargetIsSoundTo NoExpr n t → places_in n t ≡ 0
+  unfolding places_in TargetIsSoundTo
   no_places zero t fits = refl
   no_places (suc n) t fits = none_by n (no_places n) (out-TargetExpr t) fits.0 fits.1
 
@@ -156,14 +156,14 @@ module _ {S : Type 0} (m : Primitives S) (L : Lawful m) where
       layer_more (TargetExpr-F.TargetExpr::Tuple ts) all k env ps s = each_more ts all env ps s
       layer_more (TargetExpr-F.TargetExpr::List ts) all k env ps s = each_more ts all env ps s
 
-    target_more : (n : ℕ) (t : TargetExpr) → TargetFits E n t → (env : Frame) (ps : Places) (s : S) → Giving (More (places_in n t) ps) (places_to m eval n t env ps s)
-    unfolding places_to places_of TargetFits places_in
+    target_more : (n : ℕ) (t : TargetExpr) → TargetIsSoundTo E n t → (env : Frame) (ps : Places) (s : S) → Giving (More (places_in n t) ps) (places_to m eval n t env ps s)
+    unfolding places_to places_of TargetIsSoundTo places_in
     target_more zero t fits env ps s = absurd fits
-    target_more (suc n) t fits env ps s = layer_more (TargetFits E n) (places_in n) (places_to m eval n) (target_more n) (out-TargetExpr t) fits.0 fits.1 env ps s
+    target_more (suc n) t fits env ps s = layer_more (TargetIsSoundTo E n) (places_in n) (places_to m eval n) (target_more n) (out-TargetExpr t) fits.0 fits.1 env ps s
 
     -- ---- assignments
 
-    pub assign_rule : (t : TargetExpr) → TargetFits E max_layers t → (v : Datum) (env : Frame) → Refusing Frame (assign m by_slots eval t v env)
+    pub assign_rule : (t : TargetExpr) → TargetIsSoundTo E max_layers t → (v : Datum) (env : Frame) → Refusing Frame (assign m by_slots eval t v env)
     unfolding assign
     assign_rule t fits v env s =
         only (More (places_in max_layers t) []) (places_to m eval max_layers t env [] s) _ (target_more max_layers t fits env [] s)
@@ -191,11 +191,11 @@ module _ {S : Type 0} (m : Primitives S) (L : Lawful m) where
     augment_by_rule (TargetExpr-F.TargetExpr::Tuple ts) k one o x h env = absurd one
     augment_by_rule (TargetExpr-F.TargetExpr::List ts) k one o x h env = absurd one
 
-    index_parts : (n : ℕ) (t : TargetExpr) → TargetFits E n t → IndexParts E (out-TargetExpr t)
-    unfolding TargetFits
+    index_parts : (n : ℕ) (t : TargetExpr) → TargetIsSoundTo E n t → IndexParts E (out-TargetExpr t)
+    unfolding TargetIsSoundTo
     index_parts zero t fits = absurd fits
     index_parts (suc n) t fits = fits.1
 
-    pub augment_rule : (t : TargetExpr) → TargetFits E max_layers t → IsOne t → (o : Operator) (x : Expr) → E x → (env : Frame) → Refusing Frame (augment m by_slots eval t o x env)
+    pub augment_rule : (t : TargetExpr) → TargetIsSoundTo E max_layers t → IsOne t → (o : Operator) (x : Expr) → E x → (env : Frame) → Refusing Frame (augment m by_slots eval t o x env)
     unfolding augment
     augment_rule t fits one o x h env = augment_by_rule (out-TargetExpr t) (index_parts max_layers t fits) one o x h env
