@@ -26,7 +26,7 @@ pub ends : {S A B : Type 0} (r : Run S A) (f : A → Action S B) (why : Stop) �
 ends r f why h = ap (λ q. following q f) h
 
 module _ {S V : Type 0} (m : Primitives S) (eval : Eval S V) (env : V) where
-  values_in_order : (xs : List Expr) (before vs : List Datum) (s t : S) → Evaluates eval env xs s vs t → values m eval xs env before s ≡ done (before ++ vs) t
+  pub values_in_order : (xs : List Expr) (before vs : List Datum) (s t : S) → Evaluates eval env xs s vs t → values m eval xs env before s ≡ done (before ++ vs) t
   unfolding values
   values_in_order xs before vs s t none_left = ap (λ all. done all s) (sym (append-nil before))
   values_in_order xs before vs s t (and_then {x = x} {xs = ys} {v = v} {vs = ws} {t = u} h k) =

@@ -17,3 +17,6 @@ pub mod InOrder
 pub mod Passing
 pub mod Deciding
 pub mod Updating
+-- the laws of steps and of flow
+pub mod Stepping
+pub mod Flowing

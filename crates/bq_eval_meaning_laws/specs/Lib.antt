@@ -5,3 +5,5 @@ pub mod Order
 pub mod Arguments
 pub mod Decides
 pub mod Updates
+pub mod Steps
+pub mod Flows

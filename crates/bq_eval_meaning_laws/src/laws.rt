@@ -10,6 +10,8 @@ ghost use Rattle.bq_eval_meaning_laws.specs.Order.{DisplaysInOrder, DisplaysStop
 ghost use Rattle.bq_eval_meaning_laws.specs.Arguments.{ArgumentsInOrder, ArgumentsStop, OperandsOfSuffixesFirst, MembersInOrder, SuffixesInOrder};
 ghost use Rattle.bq_eval_meaning_laws.specs.Decides.{LeftSidesDecide, BranchConditionsFirst, FiltersFirst, VariablesFirst, ClausesFirst};
 ghost use Rattle.bq_eval_meaning_laws.specs.Updates.{NamesAugmentedInOrder, PlacesAugmentedInOrder};
+ghost use Rattle.bq_eval_meaning_laws.specs.Steps.{ExpressionsStepFirst, SmallStatementsStepFirst, StatementsStepFirst, TurnsStepFirst, DefsStepFirst, NamesAreRead, LiteralsAreValues};
+ghost use Rattle.bq_eval_meaning_laws.specs.Flows.{SmallStatementsDo, LinesRunInOrder, BlocksRunInOrder, FilesRunInOrder, TurnsRunTheBody, LoopsTurn, LoopsEndNoOther, IfsRunABranch, ForsRunALoop, FunctionsGiveWhatTheyReturn, DefaultsFirst, FileLinesRunThere};
 
 /// Where a depth suffices for an expression, a statement or a target, a greater one changes nothing, whatever names mean. Of an
 /// expression that is so where the call of a namespace's member, if a name stands for a namespace, is the first suffix: by slots it is, and by names.
@@ -78,4 +80,48 @@ pub fn what_decides_is_evaluated_first<S, R, V>()
 pub fn targets_are_read_before_they_are_augmented<S, R, V>()
     ensures names { (m : Primitives S) (scoping : Scoping R V) → NamesAugmentedInOrder m scoping }
     ensures places { (m : Primitives S) (scoping : Scoping R V) → PlacesAugmentedInOrder m scoping }
+{}
+
+/// Each expression and statement takes its steps before anything in it is evaluated, and so does each turn of a loop: where they
+/// are refused, nothing in it is. The numbers are those of `expr_steps`, `small_steps` and `stmt_steps`.
+pub fn steps_come_first<S, R, V>()
+    ensures expressions { (m : Primitives S) (scoping : Scoping R V) → ExpressionsStepFirst m scoping }
+    ensures small { (m : Primitives S) (scoping : Scoping R V) → SmallStatementsStepFirst m scoping }
+    ensures statements { (m : Primitives S) (scoping : Scoping R V) → StatementsStepFirst m scoping }
+    ensures turns { (m : Primitives S) (scoping : Scoping R V) → TurnsStepFirst m scoping }
+    ensures defs { (m : Primitives S) (scoping : Scoping R V) → DefsStepFirst m scoping }
+{}
+
+/// A name and a literal take one step, and then they have their value: nothing else is done. A name that is not bound yet is
+/// F49, and one that is known nowhere F20.
+pub fn names_and_literals_take_one_step<S, R, V>()
+    ensures names { (m : Primitives S) (scoping : Scoping R V) → NamesAreRead m scoping }
+    ensures literals { (m : Primitives S) (scoping : Scoping R V) → LiteralsAreValues m scoping }
+{}
+
+/// The statements of a line, a block and a file run one after another. `break`, `continue` and `return` end the line and the
+/// block there: what is after them is not evaluated.
+pub fn statements_run_until_one_ends_the_block<S, R, V>()
+    ensures small { (m : Primitives S) (scoping : Scoping R V) → SmallStatementsDo m scoping }
+    ensures lines { (m : Primitives S) (scoping : Scoping R V) → LinesRunInOrder m scoping }
+    ensures blocks { (m : Primitives S) (scoping : Scoping R V) → BlocksRunInOrder m scoping }
+    ensures files { (m : Primitives S) (scoping : Scoping R V) → FilesRunInOrder m scoping }
+    ensures at_lines { (m : Primitives S) (scoping : Scoping R V) → FileLinesRunThere m scoping }
+    ensures ifs { (m : Primitives S) (scoping : Scoping R V) → IfsRunABranch m scoping }
+{}
+
+/// A loop evaluates what it goes over once, and has a turn for each element. `continue` ends the turn, `break` the loop, and
+/// `return` the function; none of these ends a turn of a loop around it.
+pub fn break_and_continue_are_of_the_innermost_loop<S, R, V>()
+    ensures fors { (m : Primitives S) (scoping : Scoping R V) → ForsRunALoop m scoping }
+    ensures loops { (m : Primitives S) (scoping : Scoping R V) → LoopsTurn m scoping }
+    ensures bodies { (m : Primitives S) (scoping : Scoping R V) → TurnsRunTheBody m scoping }
+    ensures innermost { (m : Primitives S) (scoping : Scoping R V) → LoopsEndNoOther m scoping }
+{}
+
+/// A function gives what its body returns, or `None` where the body ends without `return`. The defaults of its parameters are
+/// evaluated from left to right at the `def`, before the function has its name.
+pub fn functions_give_what_they_return<S, R, V>()
+    ensures results { (m : Primitives S) (scoping : Scoping R V) → FunctionsGiveWhatTheyReturn m scoping }
+    ensures defaults { (m : Primitives S) (scoping : Scoping R V) → DefaultsFirst m scoping }
 {}
