@@ -66,6 +66,11 @@ or_nothing : (x : Option Datum) → or_else x None ≡ x
 or_nothing None = refl
 or_nothing (Some v) = refl
 
+-- a list alone is its slots
+pub list_alone : (slots : List (Option Datum)) → slots_of (slots, ([], [])) ≡ list_slots slots
+unfolding slots_of layered list_slots
+list_alone slots = λ i n. or_nothing (in_slot (slice_get slots n)) i
+
 -- that of a function is only read
 pub inside_function : (slots : List (Option Datum)) → slots_of ([], ([] ∷ [], slots)) ≡ slots_of (slots, ([], []))
 unfolding slots_of list_slots layered found

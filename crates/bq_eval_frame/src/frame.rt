@@ -2,7 +2,7 @@
 
 ghost use Rattle.std.specs.Prelude.{◌≡◌, [], Some, IfOk, OnOk, option_copied};
 ghost use Rattle.bq_eval_meaning_spec.specs.Frame.{fill};
-ghost use Rattle.bq_eval_frame.specs.Slots.{layered, layers_of, no_slots, slots_of};
+ghost use Rattle.bq_eval_frame.specs.Slots.{layered, layers_of, list_slots, no_slots, slots_of};
 
 use crate::inner::Inner;
 use crate::slot_list::{copied, put, slot_in};
@@ -59,6 +59,17 @@ impl<'a> Frame<'a> {
             slots: Vec::with_capacity(alloc, slots)?,
             inner: None,
         })
+    }
+
+    /// Makes the frame whose first slots are these.
+    #[tactic(auto, using(crate::proofs::Slots::list_alone))]
+    pub fn of_values(values: Vec<Option<Value>>) -> Frame<'a>
+        ensures { slots_of result ≡ list_slots values.items }
+    {
+        Frame {
+            slots: values,
+            inner: None,
+        }
     }
 
     /// Makes the frame of a comprehension over what is around it.

@@ -12,7 +12,7 @@ pub mod Clauses
 pub mod Loops
 pub mod ParameterLists
 pub mod CallSteps
--- positional arguments go straight into the frame
+-- arguments go straight into the frame
 pub mod Straight
 -- what a walk says of the elements that are left
 pub mod Next

@@ -1,20 +1,64 @@
--- Positional arguments that go straight into the frame: to plain parameters, one each, in their order.
-use Rattle.std.specs.Prelude.{Bool, true, false, List, [], ◌∷◌}
+-- Arguments that go straight into the frame: those of parameters that take one each, whose slots are the first, in their order.
+use Rattle.std.specs.Prelude.{ℕ, ◌+◌, ◌-◌, ◌==◌, nat_le, Bool, true, false, cond, List, [], ◌∷◌, ◌++◌, length, map, replicate, set, slice_get, Option, Some, None, Result, Ok, Err}
+use Rattle.bq_base.specs.declared.fault.FaultKind.{FaultKind}
+use Rattle.bq_base.specs.declared.fault.FaultKind.TheVariants.{Args}
 use Rattle.bq_value.specs.Datum.{Datum}
 use Rattle.bq_resolve_scope.specs.declared.file.Formal.{Formal}
 use Rattle.bq_resolve_scope.specs.declared.file.Formal.TheVariants as formal
-use Rattle.bq_eval_meaning_spec.specs.Frame.{Frame, fill}
+use Rattle.bq_builtin_machine.specs.Args.{Passed}
+use Rattle.bq_builtin_machine.specs.Parameters.{SignatureView}
+use Rattle.bq_builtin_machine.specs.Binding.{BoundView, Binding, has_value, take_all_named}
+use Rattle.bq_eval_language_spec.specs.Calls.{singles}
 use Rattle.bq_eval_language_spec.specs.Slots.{slot_of}
 
--- no parameter has a default or a star
-abbrev pub are_plain : List Formal → Bool
-are_plain [] = true
-are_plain (formal.Plain n ∷ ps) = are_plain ps
-are_plain (_ ∷ ps) = false
+-- each parameter takes one argument, by place or by name, and has the slot of its place; the first of these is of that place
+abbrev pub are_direct : ℕ → List Formal → Bool
+are_direct i [] = true
+are_direct i (formal.Plain n ∷ ps) = cond (slot_of n.referent == i) (are_direct (i + 1) ps) false
+are_direct i (formal.Default n ∷ ps) = cond (slot_of n.referent == i) (are_direct (i + 1) ps) false
+are_direct i (_ ∷ ps) = false
 
--- the frame once each of these parameters, up to the first that isn't plain, holds the next of these values
-unfoldable pub filled : List Formal → List Datum → Frame → Frame
-filled ps [] frame = frame
-filled [] (v ∷ vs) frame = frame
-filled (formal.Plain n ∷ ps) (v ∷ vs) frame = filled ps vs (fill frame (slot_of n.referent) v)
-filled (_ ∷ ps) (v ∷ vs) frame = frame
+-- what a call needs to know of such parameters
+abbrev pub direct_signature : List Formal → SignatureView
+direct_signature ps = record { parameters = singles ps; placed = length ps; takes_rest = false; takes_keywords = false }
+
+-- the values of parameters, where no argument is left over
+abbrev pub only : List (Option Datum) → BoundView
+only vs = record { values = vs; rest = []; keywords = [] }
+
+-- positional arguments for the first of a number of parameters; the others have none yet
+abbrev pub padded : ℕ → List Datum → List (Option Datum)
+padded count xs = map Some xs ++ replicate (count - length xs) None
+
+-- values, or the fault of the call
+abbrev pub Values : Type 0
+Values = Result (List (Option Datum)) FaultKind
+
+-- the values once the parameter of that place has one: its argument, or else this default
+abbrev pub value_or : Option (Option Datum) → ℕ → Datum → List (Option Datum) → Values
+value_or (Some (Some v)) i d vs = Ok vs
+value_or (Some None) i d vs = Ok (set vs i (Some d))
+value_or None i d vs = Err Args
+
+-- what follows, unless there is a fault
+abbrev pub and_values : Values → (List (Option Datum) → Values) → Values
+and_values (Ok vs) next = next vs
+and_values (Err kind) next = Err kind
+
+-- the values once each of these parameters has one, by its form, or the fault (F52); the first of them is of that place
+unfoldable pub with_defaults : ℕ → List Formal → List Datum → List (Option Datum) → Values
+with_defaults i [] ds vs = Ok vs
+with_defaults i (formal.Plain n ∷ ps) ds vs = cond (has_value vs i) (with_defaults (i + 1) ps ds vs) (Err Args)
+with_defaults i (formal.Default n ∷ ps) [] vs = Err Args
+with_defaults i (formal.Default n ∷ ps) (d ∷ ds) vs = and_values (value_or (slice_get vs i) i d vs) (with_defaults (i + 1) ps ds)
+with_defaults i (_ ∷ ps) ds vs = Err Args
+
+-- what defaults make of arguments that are bound
+abbrev pub defaulted : Binding → List Formal → List Datum → Values
+defaulted (Ok b) ps ds = with_defaults 0 ps ds b.values
+defaulted (Err kind) ps ds = Err kind
+
+-- the value of each parameter: a positional argument, one of its name, or its default
+unfoldable pub direct_values : List Formal → List Datum → Passed → Values
+direct_values ps ds p =
+    cond (nat_le (length p.positional) (length ps)) (defaulted (take_all_named (direct_signature ps) p.named (only (padded (length ps) p.positional))) ps ds) (Err Args)

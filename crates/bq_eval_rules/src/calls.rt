@@ -11,7 +11,7 @@ ghost use Rattle.bq_eval_rules.specs.Effects.{Returns};
 ghost use Rattle.bq_eval_rules.specs.ContextCalls.{body_here, call_here, call_place};
 
 use crate::context::Context;
-use crate::direct::{are_plain, plain_frame};
+use crate::direct::{MAX_SEARCHED, are_direct, direct_values};
 use crate::filling::{Filling, fill_parameters};
 use crate::flow::answered;
 use crate::parameters::{bind_args, has_star_star, keywords_of};
@@ -27,7 +27,7 @@ use bq_value::{EvalErr, Function, Node, Value};
 use std::alloc::Global;
 
 /// Returns the frame with which a function begins.
-#[tactic(auto, using(crate::proofs::Straight::straight))]
+#[tactic(auto, using(crate::proofs::Straight::straight, crate::proofs::Straight::not_bound))]
 pub fn entry<'f, R: Runtime>(
     alloc: Global,
     runtime: &mut R,
@@ -38,12 +38,11 @@ pub fn entry<'f, R: Runtime>(
     ensures { Acts R.means slots_of result (R.seen runtime.new) (meaning.entry R.means by_slots function.now defaults.now args (R.seen runtime.old)) }
 {
     let parameters = function.parameters.as_slice();
-    let is_straight = args.named.is_empty() && args.positional.len() == parameters.len();
-    if is_straight && are_plain(parameters) {
-        let frame = plain_frame(alloc, function.slots, parameters, args.positional)?;
-        return Ok(frame);
+    if args.named.len().min(parameters.len()) > MAX_SEARCHED || !are_direct(parameters) {
+        return bound_entry(alloc, runtime, function, defaults, args);
     }
-    bound_entry(alloc, runtime, function, defaults, args)
+    let values = direct_values(alloc, function.slots, parameters, defaults, args)?;
+    Ok(Frame::of_values(values))
 }
 
 /// Returns the frame with which a function begins, by binding the arguments to its parameters.
