@@ -15,7 +15,7 @@ use Rattle.bq_eval.specs.declared.module.ResolvedModule.{ResolvedModule}
 
 -- the run from this state of a machine, and what the host keeps
 abbrev pub run_from : {W : Type 0} → List Name → HostCalls W → ResolvedModule → State → W → Run (State × W) Frame
-run_from rules host m machine kept = module_meaning (primitives rules host) (frozen_units (lent_files m.code.now) (views_of m.loaded.now)) m.number m.file.now m.imports.now (machine, kept)
+run_from rules host m machine kept = module_meaning (primitives rules host) (frozen_units (lent_files m.files.now) (views_of m.loaded.now)) m.number m.file.now m.imports.now (machine, kept)
 
 pub run_starts : {W : Type 0} (rules : List Name) (host : HostCalls W) (m : ResolvedModule) (limit : ℕ) (kept : W) (store : StoreView) (machine : State)
     → store ≡ first_store m.number (views_of m.loaded.now) → machine ≡ started store limit → run_from rules host m machine kept ≡ run_of rules host m limit kept

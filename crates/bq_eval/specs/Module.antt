@@ -58,5 +58,5 @@ kept_after (stopped why) = None
 -- A file among those of the workspace runs as the module of that number, with the frozen modules that it loads and a
 -- value for each clause of its loads: its statements in order, on a fresh machine, with `limit` steps.
 unfoldable pub module_run : {W : Type 0} → List Name → HostCalls W → List (Option ResolvedFile) → ℕ → ResolvedFile → List FrozenView → List Datum → ℕ → W → Run (State × W) Frame
-module_run rules host code number file loaded imports limit kept =
-    module_meaning (primitives rules host) (frozen_units code loaded) number file imports (started (first_store number loaded) limit, kept)
+module_run rules host files number file loaded imports limit kept =
+    module_meaning (primitives rules host) (frozen_units files loaded) number file imports (started (first_store number loaded) limit, kept)

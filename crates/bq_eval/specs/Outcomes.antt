@@ -23,11 +23,11 @@ ended_of (o.Failed fault prints) = failed fault prints.items
 
 -- where the rules have these names, and the host means this by its calls: with `limit` steps, from what the host keeps
 abbrev pub run_of : {W : Type 0} → List Name → HostCalls W → ResolvedModule → ℕ → W → Run (State × W) Frame
-run_of rules host m limit kept = module_run rules host (lent_files m.code.now) m.number m.file.now (views_of m.loaded.now) m.imports.now limit kept
+run_of rules host m limit kept = module_run rules host (lent_files m.files.now) m.number m.file.now (views_of m.loaded.now) m.imports.now limit kept
 
 -- the statements of a module's file run, where the primitive operations mean this
 abbrev pub file_run : {S : Type 0} → Primitives S → ResolvedModule → Action S Frame
-file_run means m = module_meaning means (frozen_units (lent_files m.code.now) (views_of m.loaded.now)) m.number m.file.now m.imports.now
+file_run means m = module_meaning means (frozen_units (lent_files m.files.now) (views_of m.loaded.now)) m.number m.file.now m.imports.now
 
 -- these lines run as those of a module of a program; what it loads gives some globals their first values
 unfoldable pub program_run : {S : Type 0} → Primitives S → Program → List LoadStmt → List FileLine → Action S Frame

@@ -14,5 +14,5 @@ pub struct ResolvedModule<'a> {
     /// A value for each clause of its loads, in the order in which they are written.
     pub imports: &'a [Value],
     /// The files of the modules that these reach, by number.
-    pub code: &'a [Option<&'a ResolvedFile>],
+    pub files: &'a [Option<&'a ResolvedFile>],
 }

@@ -54,7 +54,7 @@ pub(crate) fn run_module<'f, R: Runtime>(
         number: module.number,
         functions: file.functions.as_slice(),
         loaded: module.imports,
-        code: module.code,
+        code: module.files,
         frozen: module.loaded,
     };
     let loads = file.loads.as_slice();

@@ -32,5 +32,5 @@ module _ {W : Type 0} (rules : List Name) (host : HostCalls W) where
 
   pub globals_are_bound : GlobalsAreBound rules host
   unfolding module_run
-  globals_are_bound files number file code e loaded imports limit kept =
-      bound.globals_are_bound (primitives rules host) counted (frozen_units files loaded) number file.universe file.statements code e imports (started (first_store number loaded) limit, kept)
+  globals_are_bound files number file resolved_file e loaded imports limit kept =
+      bound.globals_are_bound (primitives rules host) counted (frozen_units files loaded) number file.universe file.statements resolved_file e imports (started (first_store number loaded) limit, kept)

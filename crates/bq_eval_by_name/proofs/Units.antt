@@ -11,8 +11,8 @@ use Rattle.bq_eval_language_spec.specs.Slots.{globals_among}
 use Rattle.bq_eval_by_name_spec.specs.Module as names
 use Rattle.bq_eval_by_name_module_laws.specs.Units.{UnitIs, UnitsAgree}
 use Rattle.bq_eval_by_name_module_laws.proofs.Agreement.{frozen_is}
-use Rattle.bq_resolve_by_name.specs.Files.{ParsedFile, IsCodeOf}
-use Rattle.bq_eval_by_name.specs.Agreement.{AreCodesOf}
+use Rattle.bq_resolve_by_name.specs.Files.{ParsedFile, ResolvesTo}
+use Rattle.bq_eval_by_name.specs.Agreement.{AllResolveTo}
 use Rattle.bq_eval_by_name.specs.Evaluation.{values_named, frozen_by, frozen_unit, frozen_units}
 use Rattle.bq_eval_by_name.proofs.Values.{named_reads}
 
@@ -24,14 +24,14 @@ in_place R (x ∷ xs) [] n h = absurd h
 in_place R (x ∷ xs) (y ∷ ys) zero h = h.0
 in_place R (x ∷ xs) (y ∷ ys) (suc n) h = in_place R xs ys n h.1
 
-frozen_of : (file : ParsedFile) (code : ResolvedFile) → IsCodeOf file code → (values : List Datum) → Maybe UnitIs (Some (frozen_by file values)) (slots.frozen_unit (Some (Some code)) (Some values))
-frozen_of file code is values =
-    subst (λ n. Maybe UnitIs (Some (names.frozen_unit file.universe file.statements (drop n values) (values_named (global_names file.statements) values))) (slots.frozen_unit (Some (Some code)) (Some values)))
-    (ap length (globals_kept file code is))
-    (frozen_is file.universe file.statements code is.names (values_named (global_names file.statements) values) (λ k. slice_get values k) values
+frozen_of : (file : ParsedFile) (resolved_file : ResolvedFile) → ResolvesTo file resolved_file → (values : List Datum) → Maybe UnitIs (Some (frozen_by file values)) (slots.frozen_unit (Some (Some resolved_file)) (Some values))
+frozen_of file resolved_file is values =
+    subst (λ n. Maybe UnitIs (Some (names.frozen_unit file.universe file.statements (drop n values) (values_named (global_names file.statements) values))) (slots.frozen_unit (Some (Some resolved_file)) (Some values)))
+    (ap length (globals_kept file resolved_file is))
+    (frozen_is file.universe file.statements resolved_file is.names (values_named (global_names file.statements) values) (λ k. slice_get values k) values
     (named_reads (global_names file.statements) values) (λ k within. refl))
 
-unit_by : (f : Option (Option ParsedFile)) (c : Option (Option ResolvedFile)) → Maybe (Maybe IsCodeOf) f c → (values : Option (List Datum)) → Maybe UnitIs (frozen_unit f values) (slots.frozen_unit c values)
+unit_by : (f : Option (Option ParsedFile)) (c : Option (Option ResolvedFile)) → Maybe (Maybe ResolvesTo) f c → (values : Option (List Datum)) → Maybe UnitIs (frozen_unit f values) (slots.frozen_unit c values)
 unit_by None None h values = tt
 unit_by None (Some c) h values = absurd h
 unit_by (Some f) None h values = absurd h
@@ -41,6 +41,6 @@ unit_by (Some (Some f)) (Some None) h values = absurd h
 unit_by (Some (Some f)) (Some (Some c)) h None = tt
 unit_by (Some (Some f)) (Some (Some c)) h (Some values) = frozen_of f c h values
 
-pub units_agree : (files : List (Option ParsedFile)) (codes : List (Option ResolvedFile)) → AreCodesOf files codes → (loaded : List FrozenView) → UnitsAgree (frozen_units files loaded) (slots.frozen_units codes loaded)
+pub units_agree : (files : List (Option ParsedFile)) (resolved_files : List (Option ResolvedFile)) → AllResolveTo files resolved_files → (loaded : List FrozenView) → UnitsAgree (frozen_units files loaded) (slots.frozen_units resolved_files loaded)
 unfolding frozen_units slots.frozen_units
-units_agree files codes are loaded n = unit_by (slice_get files n) (slice_get codes n) (in_place (Maybe IsCodeOf) files codes n are) (globals_among n loaded)
+units_agree files resolved_files are loaded n = unit_by (slice_get files n) (slice_get resolved_files n) (in_place (Maybe ResolvesTo) files resolved_files n are) (globals_among n loaded)

@@ -61,10 +61,10 @@ values_same all k (x ∷ xs) stand env frame reads =
     let rest : StandFrom (k + 1) all xs = λ i name e. (let next : k + suc i ≡ k + 1 + i = omega arith in stand (suc i) name e ∙ ap Some next) in
     ap (λ v. v ∷ map (λ name. value_of (env name)) xs) head ∙ ap (λ vs. or_none (frame k) ∷ vs) (values_same all (k + 1) xs rest env frame reads)
 
-pub frozen_same : (file : ParsedFile) (code : ResolvedFile) → code.globals ≡ global_names file.statements → (imports : List Datum) (env : Env) (frame : Frame)
-    → Reads (λ name. place_among name (global_names file.statements)) env frame → frozen_values file imports env ≡ by_slots.frozen_values code imports frame
+pub frozen_same : (file : ParsedFile) (resolved_file : ResolvedFile) → resolved_file.globals ≡ global_names file.statements → (imports : List Datum) (env : Env) (frame : Frame)
+    → Reads (λ name. place_among name (global_names file.statements)) env frame → frozen_values file imports env ≡ by_slots.frozen_values resolved_file imports frame
 unfolding frozen_values by_slots.frozen_values
-frozen_same file code globals imports env frame reads =
+frozen_same file resolved_file globals imports env frame reads =
     let stand : StandFrom 0 (global_names file.statements) (global_names file.statements) =
     λ i name e. (let same : i ≡ 0 + i = omega arith in globals_once file.statements i name e ∙ ap Some same) in
     ap (λ vs. vs ++ imports) (values_same (global_names file.statements) 0 (global_names file.statements) stand env frame reads

@@ -12,7 +12,7 @@ use Rattle.bq_label_set.proofs.Added.{each_label_once, the_labels_added}
 use Rattle.bq_label_set.proofs.Numbers.{the_number}
 use Rattle.bq_resolve_scope.specs.declared.loads.LoadStmt.{LoadStmt}
 use Rattle.bq_value.specs.Datum.{Datum}
-use Rattle.bq_load_front.specs.Code.{◌>>=◌}
+use Rattle.bq_load_front.specs.Resolved.{◌>>=◌}
 use Rattle.bq_load_front.specs.NamedFiles.{place_named}
 use Rattle.bq_load_discover.specs.Edges.{number_in}
 use Rattle.bq_load_discover.proofs.Lists.{place_of}
@@ -48,22 +48,22 @@ module _ (x : LoadedParts) (loads : List LoadStmt) (ls : List LabelParts) (files
   left : drop i loads ≡ s ∷ drop (i + 1) loads
   left = drop_more loads i s h ∙ ap (λ (z : LoadStmt). z ∷ drop (i + 1) loads) (sym is)
 
-  this_load : (place : ℕ) → Some place ≡ place_named ls i → clause_values x.code (slice_get x.modules place) s.line done s.clauses >>= rest ≡ all
+  this_load : (place : ℕ) → Some place ≡ place_named ls i → clause_values x.resolved (slice_get x.modules place) s.line done s.clauses >>= rest ≡ all
   unfolding imports module_named
   this_load place at =
       let n = named_at (number_in (with_labels [] ls)) (slice_get ls i) place at in
       let named : module_named x n.0 ≡ slice_get x.modules place =
       ap (λ (z : List LabelParts). option_and_then (slice_get x.modules) (number_in z n.0)) files ∙ ap (option_and_then (slice_get x.modules)) n.2 in
-      sym (ap (λ (z : Option ModuleView). clause_values x.code z s.line done s.clauses >>= rest) named)
+      sym (ap (λ (z : Option ModuleView). clause_values x.resolved z s.line done s.clauses >>= rest) named)
       ∙ (sym (ap (λ (z : List LoadStmt). imports x done z (n.0 ∷ drop (i + 1) ls)) left)
       ∙ (sym (ap (λ (z : List LabelParts). imports x done (drop i loads) z) (drop_at ls i n.0 n.1)) ∙ before))
 
   -- the clauses of a load have values
-  pub next_load : (place : ℕ) → Some place ≡ place_named ls i → (now : List Datum) → clause_values x.code (slice_get x.modules place) s.line done s.clauses ≡ Ok now → imports x now (drop (i + 1) loads) (drop (i + 1) ls) ≡ all
+  pub next_load : (place : ℕ) → Some place ≡ place_named ls i → (now : List Datum) → clause_values x.resolved (slice_get x.modules place) s.line done s.clauses ≡ Ok now → imports x now (drop (i + 1) loads) (drop (i + 1) ls) ≡ all
   next_load place at now e = sym (ap (λ (z : Result (List Datum) Fault). z >>= rest) e) ∙ this_load place at
 
   -- a clause is bad
-  pub bad_load : (place : ℕ) → Some place ≡ place_named ls i → (why : Fault) → clause_values x.code (slice_get x.modules place) s.line done s.clauses ≡ Err why → all ≡ Err why
+  pub bad_load : (place : ℕ) → Some place ≡ place_named ls i → (why : Fault) → clause_values x.resolved (slice_get x.modules place) s.line done s.clauses ≡ Err why → all ≡ Err why
   bad_load place at why e = sym (this_load place at) ∙ ap (λ (z : Result (List Datum) Fault). z >>= rest) e
 
   -- there are no more labels

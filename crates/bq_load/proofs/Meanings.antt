@@ -25,6 +25,6 @@ module _ (x : LoadingParts) (m : ℕ) (modules : List ModuleView) where
   means_fault s why at is = means_front s (Err why) at is
 
   pub means_file : (s : Module) (front : Front) → slice_get x.modules m ≡ Some s → s.front ≡ Ok front
-      → (r : Result (List Datum) Fault) → imports (loaded_parts x front modules) [] front.code.loads front.loads ≡ r → means x m modules ≡ by_imports x m s.label front.code modules r
+      → (r : Result (List Datum) Fault) → imports (loaded_parts x front modules) [] front.file.loads front.loads ≡ r → means x m modules ≡ by_imports x m s.label front.file modules r
   unfolding file_means
-  means_file s front at is r got = means_front s (Ok front) at is ∙ ap (by_imports x m s.label front.code modules) got
+  means_file s front at is r got = means_front s (Ok front) at is ∙ ap (by_imports x m s.label front.file modules) got

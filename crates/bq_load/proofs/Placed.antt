@@ -21,14 +21,14 @@ module _ {M : Type 0} (names : M → List Name) where
   next_placed (n ∷ ms) (suc i) m (q ∷ ps) p below is wide has all = (all.0, next_placed ms i m ps p (omega (arith, below)) is (omega (arith, wide)) has all.1)
 
 -- a module that has a map has its places there
-module _ (code : List (Option ResolvedFile)) where
-  pub placed_at : (ms : List (Arc LoadedModule Global)) (ps : List (Option Places)) (i : ℕ) (p : Places) → AllPlaced (names_of code ms) ps → slice_get ps i ≡ Some (Some p)
-      → HasPlaces 0 (names_by code (slice_get (module_views ms) i)) p
+module _ (resolved : List (Option ResolvedFile)) where
+  pub placed_at : (ms : List (Arc LoadedModule Global)) (ps : List (Option Places)) (i : ℕ) (p : Places) → AllPlaced (names_of resolved ms) ps → slice_get ps i ≡ Some (Some p)
+      → HasPlaces 0 (names_by resolved (slice_get (module_views ms) i)) p
   placed_at [] [] i p all has = absurd (cc)
   placed_at [] (q ∷ ps) i p all has = absurd all
   placed_at (m ∷ ms) [] i p all has = absurd (cc)
   placed_at (m ∷ ms) (None ∷ ps) zero p all has = absurd (cc)
   placed_at (m ∷ ms) (Some q ∷ ps) zero p all has =
       let is : q ≡ p = cc in
-      subst (λ (z : Places). HasPlaces 0 (names_in code (module_view m.value)) z) is all.0
+      subst (λ (z : Places). HasPlaces 0 (names_in resolved (module_view m.value)) z) is all.0
   placed_at (m ∷ ms) (q ∷ ps) (suc i) p all has = placed_at ms ps i p all.1 has

@@ -25,7 +25,7 @@ use Rattle.bq_load_front.specs.declared.front.Front.{Front}
 use Rattle.bq_load_discover.specs.declared.modules.Module.{Module}
 use Rattle.bq_load.specs.declared.loading.Loading.{Loading}
 use Rattle.bq_load.specs.Views.{ModuleView, FailedView, not_evaluated}
-use Rattle.bq_load.specs.Codes.{codes_of}
+use Rattle.bq_load.specs.ResolvedFiles.{resolved_files}
 use Rattle.bq_load.specs.Loading.{LoadingParts, loading_of}
 use Rattle.bq_load.specs.Imports.{LoadedParts, imports}
 
@@ -41,7 +41,7 @@ kept_first x l = kept_by x l (kind_of l)
 
 -- the statements of a file run as the module of this number, with these modules loaded and a value for each clause of its loads
 unfoldable pub evaluation : LoadingParts → ℕ → LabelParts → ResolvedFile → List ModuleView → List Datum → Run (State × HeldPackage) Frame
-evaluation x m l file modules values = module_run x.names meaning (codes_of x.modules) m file (map (λ v. v.frozen) modules) values x.limit (kept_first x l)
+evaluation x m l file modules values = module_run x.names meaning (resolved_files x.modules) m file (map (λ v. v.frozen) modules) values x.limit (kept_first x l)
 
 -- the statements of this module's file run, where the host begins as for the file of this label
 abbrev pub hosted_run : Loading → LabelParts → ResolvedModule → Run (State × HeldPackage) Frame
@@ -54,14 +54,14 @@ file_after x m l file modules values = module_after file values (evaluation x m 
 -- ---- a module
 
 abbrev pub loaded_parts : LoadingParts → Front → List ModuleView → LoadedParts
-loaded_parts x front modules = record { files = with_labels [] front.loads; modules = modules; code = codes_of x.modules }
+loaded_parts x front modules = record { files = with_labels [] front.loads; modules = modules; resolved = resolved_files x.modules }
 
 abbrev pub by_imports : LoadingParts → ℕ → LabelParts → ResolvedFile → List ModuleView → Result (List Datum) Fault → Result ModuleView FailedView
 by_imports x m l file modules (Err why) = Err (not_evaluated why)
 by_imports x m l file modules (Ok values) = file_after x m l file modules values
 
 unfoldable pub file_means : LoadingParts → ℕ → LabelParts → Front → List ModuleView → Result ModuleView FailedView
-file_means x m l front modules = by_imports x m l front.code modules (imports (loaded_parts x front modules) [] front.code.loads front.loads)
+file_means x m l front modules = by_imports x m l front.file modules (imports (loaded_parts x front modules) [] front.file.loads front.loads)
 
 -- the outcome of a module, by what its file is on its own
 abbrev pub by_front : LoadingParts → ℕ → LabelParts → List ModuleView → Result Front Fault → Result ModuleView FailedView

@@ -14,7 +14,7 @@ use Rattle.bq_resolve_scope.specs.declared.loads.LoadStmt.{LoadStmt}
 use Rattle.bq_resolve_scope.specs.declared.loads.LoadedSymbol.{LoadedSymbol}
 use Rattle.bq_resolve_scope.specs.declared.file.ResolvedFile.{ResolvedFile}
 use Rattle.bq_value.specs.Datum.{Datum}
-use Rattle.bq_load_front.specs.Code.{◌>>=◌}
+use Rattle.bq_load_front.specs.Resolved.{◌>>=◌}
 use Rattle.bq_load_discover.specs.Edges.{number_in}
 use Rattle.bq_load_module.specs.Round.{lent_files}
 use Rattle.bq_load.specs.declared.imports.LoadedFiles.{LoadedFiles}
@@ -22,14 +22,14 @@ use Rattle.bq_load_module.specs.declared.outcome.LoadedModule.{LoadedModule}
 use Rattle.bq_load.specs.Views.{ModuleView, module_view, module_views}
 
 -- what a file loads: the files that its loads name, each once, in the order in which they are first named; a module for each of them; and
--- the code of all modules by their numbers
+-- the resolved files of all modules by their numbers
 pub record LoadedParts : Type 0 where
   pub files : List LabelParts
   pub modules : List ModuleView
-  pub code : List (Option ResolvedFile)
+  pub resolved : List (Option ResolvedFile)
 
 abbrev pub loaded_of : LoadedFiles → LoadedParts
-loaded_of x = record { files = with_labels [] x.named.now; modules = module_views x.modules.now; code = lent_files x.code.now }
+loaded_of x = record { files = with_labels [] x.named.now; modules = module_views x.modules.now; resolved = lent_files x.resolved.now }
 
 -- the module of a file that a load names
 unfoldable pub module_named : LoadedParts → LabelParts → Option ModuleView
@@ -50,22 +50,22 @@ globals_by (Some (Some file)) = file.globals
 
 -- the names of a module's globals
 abbrev pub names_in : List (Option ResolvedFile) → ModuleView → List Name
-names_in code m = globals_by (slice_get code m.frozen.own)
+names_in resolved m = globals_by (slice_get resolved m.frozen.own)
 
 abbrev pub names_by : List (Option ResolvedFile) → Option ModuleView → List Name
-names_by code None = []
-names_by code (Some m) = names_in code m
+names_by resolved None = []
+names_by resolved (Some m) = names_in resolved m
 
 abbrev pub names_of : List (Option ResolvedFile) → List (Arc LoadedModule Global) → List (List Name)
-names_of code ms = map (λ m. names_in code (module_view m.value)) ms
+names_of resolved ms = map (λ m. names_in resolved (module_view m.value)) ms
 
 -- the value of a module's global
 abbrev pub global_of : List (Option ResolvedFile) → ModuleView → Name → Option Datum
-global_of code m name = value_named name (globals_by (slice_get code m.frozen.own)) m.frozen.cells.globals
+global_of resolved m name = value_named name (globals_by (slice_get resolved m.frozen.own)) m.frozen.cells.globals
 
 abbrev pub global_by : List (Option ResolvedFile) → Option ModuleView → Name → Option Datum
-global_by code None name = None
-global_by code (Some m) name = global_of code m name
+global_by resolved None name = None
+global_by resolved (Some m) name = global_of resolved m name
 
 -- a name that begins with `_` can't be loaded
 abbrev pub is_private : Name → Bool
@@ -78,7 +78,7 @@ or_no_symbol (Some v) = Ok v
 
 -- what a module exports by this name: F34 where it is private, else F33 where the module has no such global
 unfoldable pub exported : List (Option ResolvedFile) → Option ModuleView → Name → Result Datum FaultKind
-exported code m name = if is_private name then Err f.PrivateSymbol else or_no_symbol (global_by code m name)
+exported resolved m name = if is_private name then Err f.PrivateSymbol else or_no_symbol (global_by resolved m name)
 
 -- ---- loads
 
@@ -89,11 +89,11 @@ at_symbol line name (Err kind) = Err (record { kind = kind; line = line; detail 
 
 -- the values so far, and one for each of these clauses; or the fault of the first bad one
 unfoldable pub clause_values : List (Option ResolvedFile) → Option ModuleView → ℕ → List Datum → List LoadedSymbol → Result (List Datum) Fault
-clause_values code m line done [] = Ok done
-clause_values code m line done (c ∷ cs) = at_symbol line c.symbol (exported code m c.symbol) >>= λ v. clause_values code m line (done ++ v ∷ []) cs
+clause_values resolved m line done [] = Ok done
+clause_values resolved m line done (c ∷ cs) = at_symbol line c.symbol (exported resolved m c.symbol) >>= λ v. clause_values resolved m line (done ++ v ∷ []) cs
 
 -- the values so far, and those of the clauses of these loads, which name these files
 unfoldable pub imports : LoadedParts → List Datum → List LoadStmt → List LabelParts → Result (List Datum) Fault
 imports x done [] ls = Ok done
 imports x done (s ∷ ss) [] = Ok done
-imports x done (s ∷ ss) (l ∷ ls) = clause_values x.code (module_named x l) s.line done s.clauses >>= λ vs. imports x vs ss ls
+imports x done (s ∷ ss) (l ∷ ls) = clause_values x.resolved (module_named x l) s.line done s.clauses >>= λ vs. imports x vs ss ls

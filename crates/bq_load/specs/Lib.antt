@@ -1,5 +1,5 @@
 pub mod Views
-pub mod Codes
+pub mod ResolvedFiles
 pub mod Loading
 pub mod Places
 pub mod Imports

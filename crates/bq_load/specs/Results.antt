@@ -27,7 +27,7 @@ line_of_load l (s ∷ ss) (k ∷ ks) = if bytes_eq (full_form l) (full_form k) t
 -- a file with a fault of its own loads nothing
 abbrev pub line_by : LabelParts → Result Front Fault → ℕ
 line_by l (Err why) = 0
-line_by l (Ok front) = line_of_load l front.code.loads front.loads
+line_by l (Ok front) = line_of_load l front.file.loads front.loads
 
 abbrev pub load_fault_by : FaultKind → Result Front Fault → Option Module → Fault
 load_fault_by kind front None = fault_at kind 0

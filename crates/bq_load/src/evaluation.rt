@@ -5,10 +5,10 @@ ghost use Rattle.bq_load_module.specs.Calls.{held_by};
 ghost use Rattle.bq_load_module.specs.Round.{views_of, lent_files};
 ghost use Rattle.bq_base.specs.Gives.{Gives};
 ghost use Rattle.bq_base.specs.declared.fault.SourceErr.TheVariants.{Bad};
-ghost use Rattle.bq_load_front.specs.Code.{items};
+ghost use Rattle.bq_load_front.specs.Resolved.{items};
 ghost use Rattle.bq_load_order.specs.Shown.{told};
 ghost use Rattle.bq_load.specs.Views.{module_view, failed_view, module_views};
-ghost use Rattle.bq_load.specs.Codes.{codes_of};
+ghost use Rattle.bq_load.specs.ResolvedFiles.{resolved_files};
 ghost use Rattle.bq_load.specs.Loading.{loading_of};
 ghost use Rattle.bq_load.specs.Imports.{imports};
 ghost use Rattle.bq_load.specs.Evaluation.{kept_first, hosted_run, file_after, module_after, loaded_parts};
@@ -38,7 +38,7 @@ fn frozen_of(
     Ok(all)
 }
 
-/// A module that has code, with what its file is on its own.
+/// A module that has a resolved file, with what its file is on its own.
 #[derive(Drop)]
 pub(crate) struct FileModule<'a> {
     pub number: u32,
@@ -75,7 +75,7 @@ impl<'a> Loading<'a> {
         label: &Label,
         module: &ResolvedModule<'_>,
     ) -> Result<Result<LoadedModule, FailedModule>, AllocError>
-        requires { lent_files «module».now.code.now ≡ codes_of self.now.modules.now }
+        requires { lent_files «module».now.files.now ≡ resolved_files self.now.modules.now }
         ensures { IfOk result (λ r. told module_view failed_view r ≡ module_after «module».now.file.now «module».now.imports.now (hosted_run self.now label.now «module».now)) }
     {
         let host = self.host(alloc, label)?;
@@ -91,15 +91,15 @@ impl<'a> Loading<'a> {
         modules: &[Arc<LoadedModule, Global>],
         imports: &[Value],
     ) -> Result<Result<LoadedModule, FailedModule>, AllocError>
-        ensures { IfOk result (λ r. told module_view failed_view r ≡ file_after (loading_of self.now) «module».now.number «module».now.label.now «module».now.front.now.code (module_views modules.now) imports.now) }
+        ensures { IfOk result (λ r. told module_view failed_view r ≡ file_after (loading_of self.now) «module».now.number «module».now.label.now «module».now.front.now.file (module_views modules.now) imports.now) }
     {
         let loaded = frozen_of(alloc, modules)?;
         let resolved = ResolvedModule {
             number: module.number,
-            file: &module.front.code,
+            file: &module.front.file,
             loaded: loaded.as_slice(),
             imports,
-            code: self.code.as_slice(),
+            files: self.resolved.as_slice(),
         };
         // PROOF: the file is run as this module
         Ok(self.run(alloc, module.label, &resolved)?)
@@ -112,14 +112,14 @@ impl<'a> Loading<'a> {
         module: &FileModule<'_>,
         modules: &[Arc<LoadedModule, Global>],
     ) -> Result<Vec<Value>, SourceErr>
-        ensures { Gives items Bad result (imports (loaded_parts (loading_of self.now) «module».now.front.now (module_views modules.now)) [] «module».now.front.now.code.loads «module».now.front.now.loads) }
+        ensures { Gives items Bad result (imports (loaded_parts (loading_of self.now) «module».now.front.now (module_views modules.now)) [] «module».now.front.now.file.loads «module».now.front.now.loads) }
     {
         let loaded = LoadedFiles {
             named: &module.front.loads,
             modules,
-            code: self.code.as_slice(),
+            resolved: self.resolved.as_slice(),
         };
-        let code = &module.front.code;
-        loaded.imports(alloc, code.loads.as_slice())
+        let file = &module.front.file;
+        loaded.imports(alloc, file.loads.as_slice())
     }
 }

@@ -61,32 +61,32 @@ fn value_by<'v>(
 }
 
 /// Returns the names of the globals that the file of a module binds.
-pub(crate) fn globals_of<'a>(code: &'a [Option<&'a ResolvedFile>], number: u32) -> &'a [Bytes]
-    ensures { result.now ≡ globals_by (slice_get (lent_files code.now) number) }
+pub(crate) fn globals_of<'a>(resolved: &'a [Option<&'a ResolvedFile>], number: u32) -> &'a [Bytes]
+    ensures { result.now ≡ globals_by (slice_get (lent_files resolved.now) number) }
 {
-    match code.get(number as usize) {
+    match resolved.get(number as usize) {
         None => &[],
         Some(None) => &[],
         Some(Some(file)) => file.globals.as_slice(),
     }
 }
 
-/// A module that a load names, and the code of all modules.
+/// A module that a load names, and the resolved files of all modules.
 #[derive(Clone, Copy)]
 pub(crate) struct Exports<'t, 'a> {
-    pub code: &'a [Option<&'a ResolvedFile>],
+    pub resolved: &'a [Option<&'a ResolvedFile>],
     /// `None` if no such file is loaded.
     pub module: Option<&'a LoadedModule>,
     /// The places of its globals' names, if many clauses look for them.
     pub places: Option<&'t NamePlaces<'a>>,
-    ghost placed: { ForSome places (λ p. HasPlaces 0 (names_by (lent_files code.now) (option_map module_view (option_copied «module»))) p.now) },
+    ghost placed: { ForSome places (λ p. HasPlaces 0 (names_by (lent_files resolved.now) (option_map module_view (option_copied «module»))) p.now) },
 }
 
 impl<'t, 'a> Exports<'t, 'a> {
     /// Returns what the module exports by this name: F34, F33.
     #[tactic(auto, unfolding(crate::specs::Imports::exported))]
     fn exported(&self, name: &Bytes) -> Result<Value, EvalErr>
-        ensures { Gives (λ v. v) BadKind result (exported (lent_files self.now.code.now) (option_map module_view (option_copied self.now.module)) name.now) }
+        ensures { Gives (λ v. v) BadKind result (exported (lent_files self.now.resolved.now) (option_map module_view (option_copied self.now.module)) name.now) }
     {
         if name.as_slice().starts_with(b"_") {
             return Err(EvalErr::Bad(FaultKind::PrivateSymbol));
@@ -94,7 +94,7 @@ impl<'t, 'a> Exports<'t, 'a> {
         let Some(module) = self.module else {
             return Err(EvalErr::Bad(FaultKind::NoSymbol));
         };
-        let names = globals_of(self.code, module.frozen.module());
+        let names = globals_of(self.resolved, module.frozen.module());
         match value_by(self.places, name, names, module.frozen.globals()) {
             None => Err(EvalErr::Bad(FaultKind::NoSymbol)),
             Some(value) => Ok(value.share()?),
@@ -103,7 +103,7 @@ impl<'t, 'a> Exports<'t, 'a> {
 
     /// Returns the value of a clause of a load in this line, or its fault.
     fn clause_value(&self, line: u32, symbol: &Bytes) -> Result<Value, SourceErr>
-        ensures { Gives (λ v. v) Bad result (at_symbol line symbol.now (exported (lent_files self.now.code.now) (option_map module_view (option_copied self.now.module)) symbol.now)) }
+        ensures { Gives (λ v. v) Bad result (at_symbol line symbol.now (exported (lent_files self.now.resolved.now) (option_map module_view (option_copied self.now.module)) symbol.now)) }
     {
         match self.exported(symbol) {
             Ok(value) => Ok(value),
@@ -124,7 +124,7 @@ impl<'t, 'a> Exports<'t, 'a> {
         values: &mut Vec<Value>,
         clauses: &[LoadedSymbol],
     ) -> Result<(), SourceErr>
-        ensures { Gives (λ _. values.new.items) Bad result (clause_values (lent_files self.now.code.now) (option_map module_view (option_copied self.now.module)) line values.old.items clauses.now) }
+        ensures { Gives (λ _. values.new.items) Bad result (clause_values (lent_files self.now.resolved.now) (option_map module_view (option_copied self.now.module)) line values.old.items clauses.now) }
     {
         for clause in clauses {
             values.push(self.clause_value(line, &clause.symbol)?)?;

@@ -4,7 +4,7 @@ ghost use Rattle.std.specs.Prelude.{◌≡◌, [], IfOk, IfSome, option_map, sli
 ghost use Rattle.std.specs.Option.{option_copied};
 ghost use Rattle.bq_base.specs.Gives.{Gives};
 ghost use Rattle.bq_base.specs.declared.fault.SourceErr.TheVariants.{Bad};
-ghost use Rattle.bq_load_front.specs.Code.{items};
+ghost use Rattle.bq_load_front.specs.Resolved.{items};
 ghost use Rattle.bq_load_module.specs.Round.{lent_files};
 ghost use Rattle.bq_load.specs.Views.{module_view, module_views};
 ghost use Rattle.bq_load.specs.Places.{HasPlaces, AllPlaced};
@@ -24,12 +24,12 @@ use std::sync::Arc;
 /// hundred searches.
 const FEW: usize = 100;
 
-/// The files that the loads of a file name, with a module for each, and the code of all modules.
+/// The files that the loads of a file name, with a module for each, and the resolved files of all modules.
 #[derive(Clone, Copy)]
 pub struct LoadedFiles<'a> {
     pub named: &'a NamedFiles,
     pub modules: &'a [Arc<LoadedModule, Global>],
-    pub code: &'a [Option<&'a ResolvedFile>],
+    pub resolved: &'a [Option<&'a ResolvedFile>],
 }
 
 impl<'a> LoadedFiles<'a> {
@@ -40,9 +40,9 @@ impl<'a> LoadedFiles<'a> {
         module: &LoadedModule,
         clauses: usize,
     ) -> Result<Option<NamePlaces<'a>>, AllocError>
-        ensures { IfOk result (λ places. IfSome places (HasPlaces 0 (names_in (lent_files self.now.code.now) (module_view «module».now)))) }
+        ensures { IfOk result (λ places. IfSome places (HasPlaces 0 (names_in (lent_files self.now.resolved.now) (module_view «module».now)))) }
     {
-        let names = globals_of(self.code, module.frozen.module());
+        let names = globals_of(self.resolved, module.frozen.module());
         if clauses.min(names.len()) <= FEW {
             return Ok(None);
         }
@@ -56,7 +56,7 @@ impl<'a> LoadedFiles<'a> {
         alloc: Global,
         clauses: &[usize],
     ) -> Result<Vec<Option<NamePlaces<'a>>>, AllocError>
-        ensures { IfOk result (λ all. AllPlaced (names_of (lent_files self.now.code.now) self.now.modules.now) all.items) }
+        ensures { IfOk result (λ all. AllPlaced (names_of (lent_files self.now.resolved.now) self.now.modules.now) all.items) }
     {
         let mut all = Vec::new(alloc);
         for (number, module) in self.modules.iter().enumerate() {
@@ -87,11 +87,11 @@ impl<'a> LoadedFiles<'a> {
         place: usize,
         values: &mut Vec<Value>,
     ) -> Result<(), SourceErr>
-        requires { AllPlaced (names_of (lent_files self.now.code.now) self.now.modules.now) places.now }
-        ensures { Gives (λ _. values.new.items) Bad result (clause_values (lent_files self.now.code.now) (slice_get (module_views self.now.modules.now) place) load.now.line values.old.items load.now.clauses) }
+        requires { AllPlaced (names_of (lent_files self.now.resolved.now) self.now.modules.now) places.now }
+        ensures { Gives (λ _. values.new.items) Bad result (clause_values (lent_files self.now.resolved.now) (slice_get (module_views self.now.modules.now) place) load.now.line values.old.items load.now.clauses) }
     {
         let exports = Exports {
-            code: self.code,
+            resolved: self.resolved,
             module: self.module_in(place),
             places: places_at(places, place),
         };
@@ -106,7 +106,7 @@ impl<'a> LoadedFiles<'a> {
         places: &[Option<NamePlaces<'a>>],
         loads: &[LoadStmt],
     ) -> Result<Vec<Value>, SourceErr>
-        requires { AllPlaced (names_of (lent_files self.now.code.now) self.now.modules.now) places.now }
+        requires { AllPlaced (names_of (lent_files self.now.resolved.now) self.now.modules.now) places.now }
         ensures { Gives items Bad result (imports (loaded_of self.now) [] loads.now self.now.named.now) }
     {
         let mut values = Vec::new(alloc);

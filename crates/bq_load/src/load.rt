@@ -90,7 +90,7 @@ fn modules_with<R: Threads + Wait + Sync, G: Gate>(
 
 /// Loads the modules of a workspace's load graph by several workers, each in a thread of its own with the stack that
 /// evaluation may take, and notifies a gate of each evaluation. It returns the same whatever the order of the workers'
-/// steps. Drops the modules' code before the rest is made, by as many threads, to lower the peak of memory.
+/// steps. Drops the modules' files before the rest is made, by as many threads, to lower the peak of memory.
 #[tactic(auto, using(crate::proofs::Joined::gathered_is))]
 pub fn load_graph_with<R: Threads + Wait + Sync, G: Gate>(
     rt: &R,

@@ -3,7 +3,7 @@
 ghost use Rattle.std.specs.Prelude.{◌≡◌, IfOk};
 ghost use Rattle.std.specs.Option.{option_copied};
 ghost use Rattle.bq_load_module.specs.Round.{lent_files};
-ghost use Rattle.bq_load.specs.Codes.{code_by, codes_of};
+ghost use Rattle.bq_load.specs.ResolvedFiles.{front_file, resolved_files};
 
 use bq_base::Fault;
 use bq_label::{Packages, Workspace};
@@ -23,13 +23,13 @@ pub struct Loading<'a> {
     pub schema: &'a Schema,
     pub built_ins: BuiltIns,
     pub modules: &'a [Module],
-    /// The code of each module that has no fault of its own, as evaluations borrow it.
-    pub code: Vec<Option<&'a ResolvedFile>>,
+    /// The resolved file of each module that has no fault of its own, as evaluations borrow it.
+    pub resolved: Vec<Option<&'a ResolvedFile>>,
     /// How many steps the evaluation of each module may take.
     pub limit: u64,
     /// What dicts hash their keys by.
     pub seed: Seed,
-    ghost lent: { lent_files code.items ≡ codes_of modules.now },
+    ghost lent: { lent_files resolved.items ≡ resolved_files modules.now },
 }
 
 impl<'a> Loading<'a> {
@@ -58,30 +58,30 @@ impl<'a> Loading<'a> {
             schema,
             built_ins: BuiltIns::new(schema.shared_names()?),
             modules,
-            code: codes_of(alloc, modules)?,
+            resolved: resolved_files(alloc, modules)?,
             limit,
             seed,
         })
     }
 }
 
-/// Returns the code of a module, unless its file has a fault of its own.
-fn code_by(front: &Result<Front, Fault>) -> Option<&ResolvedFile>
-    ensures { option_copied result ≡ code_by front.now }
+/// Returns the resolved file of a module, unless it has a fault of its own.
+fn front_file(front: &Result<Front, Fault>) -> Option<&ResolvedFile>
+    ensures { option_copied result ≡ front_file front.now }
 {
     match front {
-        Ok(front) => Some(&front.code),
+        Ok(front) => Some(&front.file),
         Err(_) => None,
     }
 }
 
-/// Returns the code of modules.
-fn codes_of(alloc: Global, modules: &[Module]) -> Result<Vec<Option<&ResolvedFile>>, AllocError>
-    ensures { IfOk result (λ code. lent_files code.items ≡ codes_of modules.now) }
+/// Returns the resolved files of modules.
+fn resolved_files(alloc: Global, modules: &[Module]) -> Result<Vec<Option<&ResolvedFile>>, AllocError>
+    ensures { IfOk result (λ resolved. lent_files resolved.items ≡ resolved_files modules.now) }
 {
-    let mut code = Vec::with_capacity(alloc, modules.len())?;
+    let mut resolved = Vec::with_capacity(alloc, modules.len())?;
     for each in modules {
-        code.push(code_by(&each.front))?;
+        resolved.push(front_file(&each.front))?;
     }
-    Ok(code)
+    Ok(resolved)
 }

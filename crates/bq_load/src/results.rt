@@ -46,8 +46,8 @@ fn line_by(label: &Label, front: &Result<Front, Fault>) -> u32
 {
     match front {
         Ok(front) => {
-            let code = &front.code;
-            line_of_load(label, code.loads.as_slice(), &front.loads)
+            let file = &front.file;
+            line_of_load(label, file.loads.as_slice(), &front.loads)
         }
         Err(_) => 0,
     }

@@ -54,8 +54,8 @@ line_is l (Err why) (Err told) h = refl
 line_is l (Err why) (Ok front) h = absurd h
 line_is l (Ok parsed) (Err told) h = absurd h
 line_is l (Ok parsed) (Ok front) h =
-    ap (λ ns. line_of_load l ns parsed.loads) (sym (loads_kept parsed.file front.code h.0)) ∙ line_same l front.code.loads parsed.loads
-    ∙ ap (slots.line_of_load l front.code.loads) (sym h.1)
+    ap (λ ns. line_of_load l ns parsed.loads) (sym (loads_kept parsed.file front.file h.0)) ∙ line_same l front.file.loads parsed.loads
+    ∙ ap (slots.line_of_load l front.file.loads) (sym h.1)
 
 abbrev fault_on : FaultKind → List ℕ → ℕ → Fault
 fault_on kind detail line = record { kind = kind; line = line; detail = detail }

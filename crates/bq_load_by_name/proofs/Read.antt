@@ -2,7 +2,7 @@
 use Rattle.std.proofs.Common.{List, [], ◌∷◌, map, Result, Ok, Err, refl, sym, subst}
 use Rattle.bq_base.specs.declared.fault.Fault.{Fault}
 use Rattle.bq_label.specs.Label.{LabelParts}
-use Rattle.bq_resolve_by_name.specs.Files.{IsCodeOf}
+use Rattle.bq_resolve_by_name.specs.Files.{ResolvesTo}
 use Rattle.bq_resolve_by_name.specs.Resolution.{Maybe}
 use Rattle.bq_load_front.specs.Agreement.{IsFrontOf}
 use Rattle.bq_load_front.specs.Inputs.{InputParts}
@@ -13,8 +13,8 @@ use Rattle.bq_load_front.proofs.ByName.{fronts_agree}
 use Rattle.bq_load_discover.specs.LoadGraph.{inputs_of}
 use Rattle.bq_load_discover.specs.Module.{module_of}
 use Rattle.bq_load_discover.specs.declared.modules.Module.{Module}
-use Rattle.bq_load.specs.Codes.{code_by, codes_of}
-use Rattle.bq_eval_by_name.specs.Agreement.{AreCodesOf}
+use Rattle.bq_load.specs.ResolvedFiles.{front_file, resolved_files}
+use Rattle.bq_eval_by_name.specs.Agreement.{AllResolveTo}
 use Rattle.bq_load_by_name.specs.Agreement.{AreReadAs, ModulesAreRead}
 use Rattle.bq_load_by_name.specs.Parsed.{ParsedModule, parsed_files, parsed_module}
 use Rattle.bq_load_by_name.proofs.Cases.{file_by}
@@ -30,14 +30,14 @@ modules_are_read files rules g is =
 
 -- ---- so they are resolved as their files are
 
-code_same : (x : Result ParsedFront Fault) (r : Result Front Fault) → IsFrontOf x r → Maybe IsCodeOf (file_by x) (code_by r)
-code_same (Ok x) (Ok front) h = h.0
-code_same (Ok x) (Err told) h = absurd h
-code_same (Err why) (Ok front) h = absurd h
-code_same (Err why) (Err told) h = tt
+file_same : (x : Result ParsedFront Fault) (r : Result Front Fault) → IsFrontOf x r → Maybe ResolvesTo (file_by x) (front_file r)
+file_same (Ok x) (Ok front) h = h.0
+file_same (Ok x) (Err told) h = absurd h
+file_same (Err why) (Ok front) h = absurd h
+file_same (Err why) (Err told) h = tt
 
-pub codes_read : (ss : List ParsedModule) (ms : List Module) → AreReadAs ss ms → AreCodesOf (parsed_files ss) (codes_of ms)
-codes_read [] [] h = tt
-codes_read [] (m ∷ ms) h = absurd h
-codes_read (s ∷ ss) [] h = absurd h
-codes_read (s ∷ ss) (m ∷ ms) h = (code_same s.front m.front h.0.1, codes_read ss ms h.1)
+pub files_read : (ss : List ParsedModule) (ms : List Module) → AreReadAs ss ms → AllResolveTo (parsed_files ss) (resolved_files ms)
+files_read [] [] h = tt
+files_read [] (m ∷ ms) h = absurd h
+files_read (s ∷ ss) [] h = absurd h
+files_read (s ∷ ss) (m ∷ ms) h = (file_same s.front m.front h.0.1, files_read ss ms h.1)

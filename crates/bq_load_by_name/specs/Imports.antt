@@ -9,7 +9,7 @@ use Rattle.bq_resolve_scope.specs.Names.{Name, global_names}
 use Rattle.bq_resolve_by_name.specs.Files.{ParsedFile}
 use Rattle.bq_resolve_by_name.specs.Loads.{WrittenLoad}
 use Rattle.bq_value.specs.Datum.{Datum}
-use Rattle.bq_load_front.specs.Code.{◌>>=◌}
+use Rattle.bq_load_front.specs.Resolved.{◌>>=◌}
 use Rattle.bq_load_discover.specs.Edges.{number_in}
 use Rattle.bq_load.specs.Imports.{value_named, is_private, or_no_symbol, at_symbol}
 use Rattle.bq_load.specs.Views.{ModuleView}

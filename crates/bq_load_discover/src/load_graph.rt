@@ -103,7 +103,7 @@ impl LoadGraph {
         &self.packages
     }
 
-    /// Returns the packages of the workspace, once nobody needs its modules. Drops them with their code, to lower the
+    /// Returns the packages of the workspace, once nobody needs its modules. Drops them with their files, to lower the
     /// peak of memory.
     pub fn into_packages(self) -> Packages
         ensures { result ≡ self.packages }

@@ -2,7 +2,7 @@
 
 ghost use Rattle.bq_base.specs.Gives.{Gives};
 ghost use Rattle.bq_base.specs.declared.fault.SourceErr.TheVariants.{Bad};
-ghost use Rattle.bq_load_front.specs.Code.{itself};
+ghost use Rattle.bq_load_front.specs.Resolved.{itself};
 ghost use Rattle.bq_load_discover.specs.Schema.{declared_in, schema_in};
 ghost use Rattle.bq_load_discover.specs.declared.load_err.LoadErr.TheVariants.{Schema as BadSchema};
 

@@ -11,7 +11,7 @@ use Rattle.bq_resolve_scope.specs.Files.{resolved}
 use Rattle.bq_resolve_scope.specs.Universe.{UniverseParts}
 use Rattle.bq_resolve_scope.specs.declared.loads.LoadStmt.{LoadStmt}
 use Rattle.bq_resolve_scope.specs.declared.file.ResolvedFile.{ResolvedFile}
-use Rattle.bq_resolve_by_name.specs.Files.{ParsedFile, IsCodeOf}
+use Rattle.bq_resolve_by_name.specs.Files.{ParsedFile, ResolvesTo}
 use Rattle.bq_resolve_by_name.specs.Loads.{written_load, file_loads}
 use Rattle.bq_resolve_by_name.specs.Violations.{first, violations}
 use Rattle.bq_resolve_by_name.proofs.FaultyFiles.{first_violation, without_violations}
@@ -21,7 +21,7 @@ use Rattle.bq_label.specs.Label.{PackageParts, LabelParts, package_of}
 use Rattle.bq_label.specs.Packages.{label_file}
 use Rattle.bq_load_front.specs.declared.front.Front.{Front}
 use Rattle.bq_load_front.specs.Agreement.{IsFrontOf, FrontsAgree, LoadsAgree}
-use Rattle.bq_load_front.specs.Code.{code_of, ◌>>=◌}
+use Rattle.bq_load_front.specs.Resolved.{resolved_file, ◌>>=◌}
 use Rattle.bq_load_front.specs.Front.{load_of, front_at, front_of, loads_by}
 use Rattle.bq_load_front.specs.Inputs.{InputParts, universe_of}
 use Rattle.bq_load_front.specs.Parsed.{ParsedFront, file_named, labels_of, kind_of, front_from, loads_in}
@@ -31,10 +31,10 @@ use Rattle.bq_load_front.proofs.Cases.{parsed_at, unless_broken}
 -- ---- the text
 
 -- what the file resolves to, or the same fault
-abbrev IsCode : Result ParsedFile Fault → Result ResolvedFile Fault → Type 0
-IsCode (Ok file) (Ok code) = IsCodeOf file code
-IsCode (Err why) (Err told) = told ≡ why
-IsCode _ _ = ⊥
+abbrev ResultsAgree : Result ParsedFile Fault → Result ResolvedFile Fault → Type 0
+ResultsAgree (Ok file) (Ok resolved) = ResolvesTo file resolved
+ResultsAgree (Err why) (Err told) = told ≡ why
+ResultsAgree _ _ = ⊥
 
 no_first : (why : Fault) (vs : List Fault) → vs ≡ [] → first vs ≡ Some why → ⊥
 no_first why vs none e =
@@ -56,23 +56,23 @@ module _ (universe : UniverseParts) where
   parsed_file trees = record { universe = universe; statements = trees }
 
   by_names : (ts : List Lexeme) (trees : List TopLevel) → Parses universe.kind ts (Ok trees) → (vs : List Fault) → violations universe trees ≡ vs
-      → (r : Result ResolvedFile Fault) → resolved universe trees ≡ r → IsCode (unless_broken (parsed_file trees) vs) r
-  by_names ts trees p [] is (Ok code) e = record { lexemes = ts; parses = p; names = e }
+      → (r : Result ResolvedFile Fault) → resolved universe trees ≡ r → ResultsAgree (unless_broken (parsed_file trees) vs) r
+  by_names ts trees p [] is (Ok resolved) e = record { lexemes = ts; parses = p; names = e }
   by_names ts trees p [] is (Err told) e = absurd (no_first told (violations universe trees) is ((first_violation universe trees told).0 e))
-  by_names ts trees p (v ∷ more) is (Ok code) e = absurd (not_none v more (violations universe trees) is ((without_violations universe trees).0 (code, e)))
+  by_names ts trees p (v ∷ more) is (Ok resolved) e = absurd (not_none v more (violations universe trees) is ((without_violations universe trees).0 (resolved, e)))
   by_names ts trees p (v ∷ more) is (Err told) e = is_first v told more (violations universe trees) is ((first_violation universe trees told).0 e)
 
-  by_trees : (ts : List Lexeme) (r : Result (List TopLevel) Fault) → Parses universe.kind ts r → IsCode (r >>= file_from universe) (r >>= λ trees. resolved universe trees)
+  by_trees : (ts : List Lexeme) (r : Result (List TopLevel) Fault) → Parses universe.kind ts r → ResultsAgree (r >>= file_from universe) (r >>= λ trees. resolved universe trees)
   by_trees ts (Ok trees) p = by_names ts trees p (violations universe trees) refl (resolved universe trees) refl
   by_trees ts (Err why) p = refl
 
   by_tokens : (text : List ℕ) (r : Result (List Token) Fault)
-      → IsCode ((r >>= λ ts. statements_of universe.kind (lexemes text ts)) >>= file_from universe) (r >>= λ ts. statements_of universe.kind (lexemes text ts) >>= λ trees. resolved universe trees)
+      → ResultsAgree ((r >>= λ ts. statements_of universe.kind (lexemes text ts)) >>= file_from universe) (r >>= λ ts. statements_of universe.kind (lexemes text ts) >>= λ trees. resolved universe trees)
   by_tokens text (Ok ts) = by_trees (lexemes text ts) (statements_of universe.kind (lexemes text ts)) (file_reads universe.kind (lexemes text ts))
   by_tokens text (Err why) = refl
 
-  pub of_text : (text : List ℕ) → IsCode (file_of_text universe text) (code_of universe text)
-  unfolding file_of_text trees_of code_of
+  pub of_text : (text : List ℕ) → ResultsAgree (file_of_text universe text) (resolved_file universe text)
+  unfolding file_of_text trees_of resolved_file
   of_text text = by_tokens text (tokens_of text)
 
 -- ---- its loads
@@ -85,32 +85,32 @@ module _ (inputs : InputParts) (own : PackageParts) where
 
 module _ (inputs : InputParts) (l : LabelParts) where
   abbrev front_with : ResolvedFile → Result (List LabelParts) Fault → Result Front Fault
-  front_with code r = r >>= λ ls. Ok (record { code = code; loads = ls })
+  front_with resolved r = r >>= λ ls. Ok (record { file = resolved; loads = ls })
 
   abbrev parsed_with : ParsedFile → Result (List LabelParts) Fault → Result ParsedFront Fault
   parsed_with file r = r >>= λ ls. Ok (record { file = file; loads = ls })
 
-  by_labels : (file : ParsedFile) (code : ResolvedFile) → IsCodeOf file code → (r : Result (List LabelParts) Fault) → IsFrontOf (parsed_with file r) (front_with code r)
-  by_labels file code is (Ok ls) = (is, refl)
-  by_labels file code is (Err why) = refl
+  by_labels : (file : ParsedFile) (resolved : ResolvedFile) → ResolvesTo file resolved → (r : Result (List LabelParts) Fault) → IsFrontOf (parsed_with file r) (front_with resolved r)
+  by_labels file resolved is (Ok ls) = (is, refl)
+  by_labels file resolved is (Err why) = refl
 
-  same_labels : (file : ParsedFile) (code : ResolvedFile) → IsCodeOf file code
-      → labels_of (load_of inputs (package_of l)) [] code.loads ≡ labels_of (file_named inputs (package_of l)) [] (file_loads file.statements)
-  same_labels file code is = as_written inputs (package_of l) [] code.loads ∙ ap (labels_of (file_named inputs (package_of l)) []) (loads_kept file code is)
+  same_labels : (file : ParsedFile) (resolved : ResolvedFile) → ResolvesTo file resolved
+      → labels_of (load_of inputs (package_of l)) [] resolved.loads ≡ labels_of (file_named inputs (package_of l)) [] (file_loads file.statements)
+  same_labels file resolved is = as_written inputs (package_of l) [] resolved.loads ∙ ap (labels_of (file_named inputs (package_of l)) []) (loads_kept file resolved is)
 
-  by_file : (x : Result ParsedFile Fault) (r : Result ResolvedFile Fault) → IsCode x r → IsFrontOf (x >>= front_from inputs l) (r >>= λ code. front_with code (labels_of (load_of inputs (package_of l)) [] code.loads))
-  by_file (Ok file) (Ok code) is =
+  by_file : (x : Result ParsedFile Fault) (r : Result ResolvedFile Fault) → ResultsAgree x r → IsFrontOf (x >>= front_from inputs l) (r >>= λ resolved. front_with resolved (labels_of (load_of inputs (package_of l)) [] resolved.loads))
+  by_file (Ok file) (Ok resolved) is =
       let ls : Result (List LabelParts) Fault = labels_of (file_named inputs (package_of l)) [] (file_loads file.statements) in
-      subst (λ (z : Result (List LabelParts) Fault). IsFrontOf (parsed_with file ls) (front_with code z)) (sym (same_labels file code is)) (by_labels file code is ls)
+      subst (λ (z : Result (List LabelParts) Fault). IsFrontOf (parsed_with file ls) (front_with resolved z)) (sym (same_labels file resolved is)) (by_labels file resolved is ls)
   by_file (Ok file) (Err told) is = absurd is
-  by_file (Err why) (Ok code) is = absurd is
+  by_file (Err why) (Ok resolved) is = absurd is
   by_file (Err why) (Err told) is = is
 
   at_file : (o : Option File) → IsFrontOf (parsed_at inputs l o) (front_at inputs l o)
   at_file None = refl
   at_file (Some x) =
       let universe : UniverseParts = universe_of inputs (kind_of l) in
-      by_file (file_of_text universe x.content) (code_of universe x.content) (of_text universe x.content)
+      by_file (file_of_text universe x.content) (resolved_file universe x.content) (of_text universe x.content)
 
 pub fronts_agree : FrontsAgree
 unfolding parsed_of front_of

@@ -1,5 +1,5 @@
 pub mod Tokens
-pub mod Codes
+pub mod ResolvedFiles
 pub mod Cases
 pub mod Texts
 pub mod Fronts

@@ -8,7 +8,7 @@ use Rattle.bq_label.specs.Packages.{label_file}
 use Rattle.bq_label.proofs.Orders.{head_or_tail}
 use Rattle.bq_resolve_by_name.specs.Files.{ParsedFile}
 use Rattle.bq_resolve_by_name.specs.Loads.{WrittenLoad, file_loads}
-use Rattle.bq_load_front.specs.Code.{◌>>=◌}
+use Rattle.bq_load_front.specs.Resolved.{◌>>=◌}
 use Rattle.bq_load_front.specs.Inputs.{InputParts, universe_of}
 use Rattle.bq_load_front.specs.Parsed.{ParsedFront, file_named, labels_of, kind_of, front_from, loads_in}
 use Rattle.bq_load_front.specs.Reading.{file_of_text, parsed_of}

@@ -13,7 +13,7 @@ use Rattle.bq_parse_statement_laws.proofs.Verdicts.{file_reads, file_only}
 use Rattle.bq_resolve_scope.specs.Universe.{UniverseParts}
 use Rattle.bq_resolve_by_name.specs.Files.{ParsedFile}
 use Rattle.bq_resolve_by_name.specs.Violations.{first, violations}
-use Rattle.bq_load_front.specs.Code.{◌>>=◌}
+use Rattle.bq_load_front.specs.Resolved.{◌>>=◌}
 use Rattle.bq_load_front.specs.Laws.{FilesOfTexts}
 use Rattle.bq_load_front.specs.Parsed.{ReadsAsFile}
 use Rattle.bq_load_front.specs.Reading.{trees_of, file_from, file_of_text}

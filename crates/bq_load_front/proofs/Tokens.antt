@@ -11,7 +11,7 @@ use Rattle.bq_source_lexer.specs.Tokens.{tokens_of}
 use Rattle.bq_source_lexer.proofs.Reached.{every_text}
 use Rattle.bq_base.specs.Gives.{Gives, GivesOneOf}
 use Rattle.bq_base.specs.declared.fault.SourceErr.TheVariants.{Bad}
-use Rattle.bq_load_front.specs.Code.{items}
+use Rattle.bq_load_front.specs.Resolved.{items}
 
 tokens_found : (r : Result (Vec Token Global) SourceErr) (q : Result (List Token) Fault) → Gives the_tokens Bad r q → Gives items Bad r q
 tokens_found (Ok v) q h = h

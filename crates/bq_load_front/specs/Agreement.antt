@@ -2,7 +2,7 @@
 use Rattle.std.specs.Prelude.{◌≡◌, Result, Ok, Err}
 use Rattle.bq_base.specs.declared.fault.Fault.{Fault}
 use Rattle.bq_label.specs.Label.{LabelParts}
-use Rattle.bq_resolve_by_name.specs.Files.{IsCodeOf}
+use Rattle.bq_resolve_by_name.specs.Files.{ResolvesTo}
 use Rattle.bq_load_front.specs.declared.front.Front.{Front}
 use Rattle.bq_load_front.specs.Front.{front_of, loads_by}
 use Rattle.bq_load_front.specs.Inputs.{InputParts}
@@ -11,7 +11,7 @@ use Rattle.bq_load_front.specs.Reading.{parsed_of, loads_of}
 
 -- the file that it resolves to and the same loads, or the same fault
 abbrev pub IsFrontOf : Result ParsedFront Fault → Result Front Fault → Type 0
-IsFrontOf (Ok x) (Ok front) = IsCodeOf x.file front.code × (front.loads ≡ x.loads)
+IsFrontOf (Ok x) (Ok front) = ResolvesTo x.file front.file × (front.loads ≡ x.loads)
 IsFrontOf (Err why) (Err told) = told ≡ why
 IsFrontOf _ _ = ⊥
 

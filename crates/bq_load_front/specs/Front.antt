@@ -10,7 +10,7 @@ use Rattle.bq_label.specs.Packages.{label_file}
 use Rattle.bq_resolve_by_name.specs.Loads.{written_load}
 use Rattle.bq_resolve_scope.specs.declared.loads.LoadStmt.{LoadStmt}
 use Rattle.bq_load_front.specs.declared.front.Front.{Front}
-use Rattle.bq_load_front.specs.Code.{code_of, ◌>>=◌}
+use Rattle.bq_load_front.specs.Resolved.{resolved_file, ◌>>=◌}
 use Rattle.bq_load_front.specs.Inputs.{InputParts, universe_of}
 use Rattle.bq_load_front.specs.Parsed.{file_named, kind_of, labels_of}
 
@@ -21,7 +21,7 @@ load_of inputs own x = file_named inputs own (written_load x)
 -- what a text gives as the file of this label
 abbrev pub front_by : InputParts → LabelParts → List ℕ → Result Front Fault
 front_by inputs l text =
-    code_of (universe_of inputs (kind_of l)) text >>= λ code. labels_of (load_of inputs (package_of l)) [] code.loads >>= λ ls. Ok (record { code = code; loads = ls })
+    resolved_file (universe_of inputs (kind_of l)) text >>= λ file. labels_of (load_of inputs (package_of l)) [] file.loads >>= λ ls. Ok (record { file = file; loads = ls })
 
 -- no module of a workspace lacks its file
 abbrev pub front_at : InputParts → LabelParts → Option File → Result Front Fault

@@ -13,18 +13,18 @@ use Rattle.bq_resolve_scope.specs.Universe.{UniverseParts}
 use Rattle.bq_resolve_scope.specs.Files.{resolved}
 use Rattle.bq_resolve_by_name.specs.Files.{ParsedFile}
 use Rattle.bq_resolve_by_name.specs.Loads.{WrittenLoad}
-use Rattle.bq_load_front.specs.Code.{code_of}
+use Rattle.bq_load_front.specs.Resolved.{resolved_file}
 use Rattle.bq_load_front.specs.Inputs.{InputParts}
 use Rattle.bq_load_front.specs.Parsed.{ParsedFront, ReadsAsFile, IsFront, file_named, labels_of}
 use Rattle.bq_load_front.specs.Reading.{file_of_text, parsed_of, loads_of}
 
 -- the text reads as tokens, these as statements, and the statements resolve to this file
-pub record HasCode (universe : UniverseParts) (text : List ℕ) (code : ResolvedFile) : Type 0 where
+pub record TextResolvesTo (universe : UniverseParts) (text : List ℕ) (file : ResolvedFile) : Type 0 where
   pub tokens : List Token
   pub reads : Lexes text (Ok tokens)
   pub trees : List TopLevel
   pub parses : Parses universe.kind (lexemes text tokens) (Ok trees)
-  pub names : resolved universe trees ≡ Ok code
+  pub names : resolved universe trees ≡ Ok file
 
 -- the text has this fault
 pub data HasFault (universe : UniverseParts) (text : List ℕ) (why : Fault) : Type 0 where
@@ -39,11 +39,11 @@ FilesOfTexts = (universe : UniverseParts) (text : List ℕ) (r : Result ParsedFi
 abbrev pub FrontsOfLabels : Type 0
 FrontsOfLabels = (inputs : InputParts) (l : LabelParts) (r : Result ParsedFront Fault) → (parsed_of inputs l ≡ r) ↔ IsFront inputs l r
 
-abbrev pub CodesOfFiles : Type 0
-CodesOfFiles = (universe : UniverseParts) (text : List ℕ) (code : ResolvedFile) → (code_of universe text ≡ Ok code) ↔ HasCode universe text code
+abbrev pub ResolvedFilesOfTexts : Type 0
+ResolvedFilesOfTexts = (universe : UniverseParts) (text : List ℕ) (file : ResolvedFile) → (resolved_file universe text ≡ Ok file) ↔ TextResolvesTo universe text file
 
 abbrev pub FaultsOfFiles : Type 0
-FaultsOfFiles = (universe : UniverseParts) (text : List ℕ) (why : Fault) → (code_of universe text ≡ Err why) ↔ HasFault universe text why
+FaultsOfFiles = (universe : UniverseParts) (text : List ℕ) (why : Fault) → (resolved_file universe text ≡ Err why) ↔ HasFault universe text why
 
 abbrev pub named : LabelParts → Result LabelParts Fault
 named l = Ok l

@@ -1,4 +1,4 @@
-pub mod Code
+pub mod Resolved
 pub mod Inputs
 pub mod NamedFiles
 pub mod Parsed

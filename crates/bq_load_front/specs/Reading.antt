@@ -12,7 +12,7 @@ use Rattle.bq_resolve_by_name.specs.Files.{ParsedFile}
 use Rattle.bq_resolve_by_name.specs.Violations.{violations}
 use Rattle.bq_label.specs.Label.{LabelParts}
 use Rattle.bq_label.specs.Packages.{label_file}
-use Rattle.bq_load_front.specs.Code.{◌>>=◌}
+use Rattle.bq_load_front.specs.Resolved.{◌>>=◌}
 use Rattle.bq_load_front.specs.Inputs.{InputParts, universe_of}
 use Rattle.bq_load_front.specs.Parsed.{ParsedFront, kind_of, front_from, loads_in}
 

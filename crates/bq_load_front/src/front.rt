@@ -3,11 +3,11 @@
 ghost use Rattle.std.specs.Prelude.{◌≡◌, []};
 ghost use Rattle.bq_base.specs.Gives.{Gives};
 ghost use Rattle.bq_base.specs.declared.fault.SourceErr.TheVariants.{Bad};
-ghost use Rattle.bq_load_front.specs.Code.{itself};
+ghost use Rattle.bq_load_front.specs.Resolved.{itself};
 ghost use Rattle.bq_load_front.specs.Front.{front_of, load_of};
 ghost use Rattle.bq_load_front.specs.Parsed.{labels_of, kind_of};
 
-use crate::code::code_of;
+use crate::resolved::resolved_file;
 use crate::inputs::Inputs;
 use crate::named_files::NamedFiles;
 use bq_base::{Fault, FaultKind, SourceErr};
@@ -21,7 +21,7 @@ use std::alloc::Global;
 /// What a file resolves to, and the files that its loads name.
 #[derive(Drop)]
 pub struct Front {
-    pub code: ResolvedFile,
+    pub file: ResolvedFile,
     pub loads: NamedFiles,
 }
 
@@ -71,11 +71,14 @@ pub fn front_of(alloc: Global, inputs: &Inputs<'_>, label: &Label) -> Result<Fro
         return Err(SourceErr::Bad(Fault::at(FaultKind::NoSuchFile, 0)));
     };
     let universe = inputs.universe(kind_of(label));
-    let code = code_of(alloc, universe, file.content.as_slice())?;
-    match named_files(alloc, inputs, label.package_id(), code.loads.as_slice()) {
-        Ok(loads) => Ok(Front { code, loads }),
+    let resolved = resolved_file(alloc, universe, file.content.as_slice())?;
+    match named_files(alloc, inputs, label.package_id(), resolved.loads.as_slice()) {
+        Ok(loads) => Ok(Front {
+            file: resolved,
+            loads,
+        }),
         Err(why) => {
-            drop(code); // PROOF: one call lets the code go
+            drop(resolved); // PROOF: one call lets the file go
             Err(why)
         }
     }

@@ -1,7 +1,7 @@
 //! What fronts are, said of the texts, statements and labels of files. The functions do nothing: their contracts are
 //! the laws.
 
-ghost use Rattle.bq_load_front.specs.Laws.{CodesOfFiles, FaultsOfFiles, FilesOfTexts, FrontsOfLabels, LoadsOfFiles, LoadedFiles};
+ghost use Rattle.bq_load_front.specs.Laws.{ResolvedFilesOfTexts, FaultsOfFiles, FilesOfTexts, FrontsOfLabels, LoadsOfFiles, LoadedFiles};
 ghost use Rattle.bq_load_front.specs.Agreement.{FrontsAgree, LoadsAgree};
 
 /// A text is that of a file exactly if it reads as tokens, these as the file's statements, and no rule of names and flow is broken;
@@ -17,8 +17,8 @@ pub fn fronts_of_labels()
 
 /// A text has a resolved file exactly if it reads as tokens, these as statements, and the names of these stand for
 /// something; the file is what they resolve to.
-pub fn codes_of_files()
-    ensures { CodesOfFiles }
+pub fn resolved_files_of_texts()
+    ensures { ResolvedFilesOfTexts }
 {}
 
 /// A file's fault is that of its tokens; else that of its statements; else that of its names.

@@ -9,23 +9,23 @@
 //! In reading order:
 //!
 //! - `inputs`: what files are read with: the files, the packages, and the names of the schema's rules;
-//! - `code`: the text of a file to its resolved trees;
+//! - `resolved`: the text of a file to its resolved trees;
 //! - `named_files`: the files that the loads of a file name;
 //! - `front`: what the file of a label is on its own;
 //! - `laws`: what that is, said of texts, statements and labels.
 #![tactic(auto)]
 
-mod code;
 mod front;
 mod inputs;
 mod laws;
 mod named_files;
+mod resolved;
 
-pub use code::code_of;
 pub use front::{Front, front_of, kind_of};
 pub use inputs::Inputs;
 pub use laws::{
-    codes_of_files, faults_of_files, files_of_texts, fronts_agree, fronts_of_labels, loaded_files,
-    loads_of_files,
+    faults_of_files, files_of_texts, fronts_agree, fronts_of_labels, loaded_files, loads_of_files,
+    resolved_files_of_texts,
 };
 pub use named_files::NamedFiles;
+pub use resolved::resolved_file;

@@ -20,7 +20,7 @@ ghost use Rattle.bq_load_laws.specs.Outcomes.Prints.{PrintsAreKept};
 
 /// A private symbol is F34 whether the module has it or not; another one that it doesn't have is F33.
 pub fn symbols_are_refused_in_order()
-    ensures { (code : List (Option ResolvedFile)) (m : Option ModuleView) (name : Name) → FailsForFirst (exported code m name) (exporting code m name) }
+    ensures { (resolved : List (Option ResolvedFile)) (m : Option ModuleView) (name : Name) → FailsForFirst (exported resolved m name) (exporting resolved m name) }
 {}
 
 /// A module fails for the first of the reasons that are listed, and for nothing else: F35, F38, F36, and then its own

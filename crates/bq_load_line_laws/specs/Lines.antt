@@ -28,10 +28,10 @@ NameFaultsStand =
 
 abbrev pub LoadsStand : Type 0
 LoadsStand =
-    (universe : UniverseParts) (kind : FileKind) (text : List ℕ) (ts : List Token) (xs : List TopLevel) (code : ResolvedFile)
-    → Lexes text (Ok ts) → Parses kind (lexemes text ts) (Ok xs) → resolved universe xs ≡ Ok code → AllByRecursion (λ l. 1 ≤ l.line) code.loads
+    (universe : UniverseParts) (kind : FileKind) (text : List ℕ) (ts : List Token) (xs : List TopLevel) (file : ResolvedFile)
+    → Lexes text (Ok ts) → Parses kind (lexemes text ts) (Ok xs) → resolved universe xs ≡ Ok file → AllByRecursion (λ l. 1 ≤ l.line) file.loads
 
-abbrev pub CodeStands : Type 0
-CodeStands =
-    (universe : UniverseParts) (kind : FileKind) (text : List ℕ) (ts : List Token) (xs : List TopLevel) (code : ResolvedFile)
-    → Lexes text (Ok ts) → Parses kind (lexemes text ts) (Ok xs) → resolved universe xs ≡ Ok code → AllByRecursion (λ x. 1 ≤ x.line) code.statements
+abbrev pub ResolvedStatementsStand : Type 0
+ResolvedStatementsStand =
+    (universe : UniverseParts) (kind : FileKind) (text : List ℕ) (ts : List Token) (xs : List TopLevel) (file : ResolvedFile)
+    → Lexes text (Ok ts) → Parses kind (lexemes text ts) (Ok xs) → resolved universe xs ≡ Ok file → AllByRecursion (λ x. 1 ≤ x.line) file.statements

@@ -5,7 +5,7 @@ ghost use Rattle.std.specs.List.{AllByRecursion};
 ghost use Rattle.bq_base.specs.declared.fault.Fault.{Fault};
 ghost use Rattle.bq_source.specs.declared.token.Token.{Token};
 ghost use Rattle.bq_source_lexer.specs.Reading.{Lexes};
-ghost use Rattle.bq_load_line_laws.specs.Lines.{StatementsStand, StatementFaultsStand, NameFaultsStand, LoadsStand, CodeStands};
+ghost use Rattle.bq_load_line_laws.specs.Lines.{StatementsStand, StatementFaultsStand, NameFaultsStand, LoadsStand, ResolvedStatementsStand};
 
 /// Each token of a text, and the fault of one that has no tokens, stands on a line from 1 on.
 pub fn tokens_stand_on_lines()
@@ -23,5 +23,5 @@ pub fn statements_stand_on_lines()
 pub fn names_stand_on_lines()
     ensures fault { NameFaultsStand }
     ensures loads { LoadsStand }
-    ensures statements { CodeStands }
+    ensures statements { ResolvedStatementsStand }
 {}

@@ -81,8 +81,8 @@ module _ (file : FileParts) where
       joined h.4 h.5 ls (stmt_loads (out-Stmt t.statement)) (file_loads ts) (stmt_same k (out-Stmt t.statement) h.6.0 h.2 h.4 h.6.1) (all_same (k + length h.2) ts h.1 h.3 h.5 h.7) h.10
 
 pub loads_kept : LoadsAreKept
-loads_kept file code is =
-    all_same (file_names file.universe file.statements) 0 file.statements code.statements code.functions code.loads (to_themselves file.universe file.statements code is.names).0
+loads_kept file resolved_file is =
+    all_same (file_names file.universe file.statements) 0 file.statements resolved_file.statements resolved_file.functions resolved_file.loads (to_themselves file.universe file.statements resolved_file is.names).0
 
 pub globals_kept : GlobalsAreKept
-globals_kept file code is = (to_themselves file.universe file.statements code is.names).1
+globals_kept file resolved_file is = (to_themselves file.universe file.statements resolved_file is.names).1

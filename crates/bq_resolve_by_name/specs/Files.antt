@@ -13,7 +13,7 @@ pub record ParsedFile : Type 0 where
   pub statements : List TopLevel
 
 -- what the file resolves to, which some tokens read as
-pub record IsCodeOf (file : ParsedFile) (code : ResolvedFile) : Type 0 where
+pub record ResolvesTo (file : ParsedFile) (resolved_file : ResolvedFile) : Type 0 where
   pub lexemes : List Lexeme
   pub parses : Parses file.universe.kind lexemes (Ok file.statements)
-  pub names : resolved file.universe file.statements ≡ Ok code
+  pub names : resolved file.universe file.statements ≡ Ok resolved_file

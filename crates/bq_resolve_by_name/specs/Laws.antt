@@ -6,7 +6,7 @@ use Rattle.bq_resolve_scope.specs.Files.{resolved}
 use Rattle.bq_resolve_scope.specs.Names.{global_names}
 use Rattle.bq_resolve_scope.specs.Universe.{UniverseParts}
 use Rattle.bq_resolve_scope.specs.declared.file.ResolvedFile.{ResolvedFile}
-use Rattle.bq_resolve_by_name.specs.Files.{ParsedFile, IsCodeOf}
+use Rattle.bq_resolve_by_name.specs.Files.{ParsedFile, ResolvesTo}
 use Rattle.bq_resolve_by_name.specs.Loads.{written_load, file_loads}
 use Rattle.bq_resolve_by_name.specs.Violations.{first, violations}
 
@@ -20,8 +20,8 @@ FilesWithoutViolationsResolve = (universe : UniverseParts) (ts : List TopLevel) 
 
 -- what a file resolves to has the loads of the file ..
 abbrev pub LoadsAreKept : Type 0
-LoadsAreKept = (file : ParsedFile) (code : ResolvedFile) → IsCodeOf file code → map written_load code.loads ≡ file_loads file.statements
+LoadsAreKept = (file : ParsedFile) (resolved_file : ResolvedFile) → ResolvesTo file resolved_file → map written_load resolved_file.loads ≡ file_loads file.statements
 
 -- .. and its globals
 abbrev pub GlobalsAreKept : Type 0
-GlobalsAreKept = (file : ParsedFile) (code : ResolvedFile) → IsCodeOf file code → code.globals ≡ global_names file.statements
+GlobalsAreKept = (file : ParsedFile) (resolved_file : ResolvedFile) → ResolvesTo file resolved_file → resolved_file.globals ≡ global_names file.statements

@@ -42,7 +42,7 @@ target_lines packages w numbers = flat_map (line_at packages w) numbers
 -- the loads of a file: none where it has a fault of its own or a bad load
 abbrev pub statements_by : Result Front Fault → List LoadStmt
 statements_by (Err why) = []
-statements_by (Ok front) = front.code.loads
+statements_by (Ok front) = front.file.loads
 
 abbrev pub line_of_module : Module → List ℕ
 line_of_module m = module_line m.label (statements_by m.front) (loads_by m.front)

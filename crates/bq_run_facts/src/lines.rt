@@ -53,8 +53,8 @@ fn push_module_line(alloc: Global, text: &mut Vec<u8>, module: &Module) -> Resul
     ensures { OnOk result (text.new.items ≡ text.old.items ++ line_of_module «module».now) }
 {
     match &module.front {
-        Ok(Front { code, loads }) => {
-            push_module(alloc, text, &module.label, code.loads.as_slice(), loads)
+        Ok(Front { file, loads }) => {
+            push_module(alloc, text, &module.label, file.loads.as_slice(), loads)
         }
         Err(_) => push_module(alloc, text, &module.label, &[], &NamedFiles::none(alloc)),
     }

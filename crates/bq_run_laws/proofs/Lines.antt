@@ -28,7 +28,7 @@ use Rattle.bq_load.specs.Loading.{loading_in}
 use Rattle.bq_load_by_name.proofs.Outcomes.{outcomes_agree, read_graph, is_read_graph}
 use Rattle.bq_load_laws.specs.Packages.Declared.{IsLineOf, IsFile, DeclaresIn}
 use Rattle.bq_load_laws.proofs.Faults.Lines.{lines_in_graph}
-use Rattle.bq_load_laws.proofs.Faults.Numbered.{each_of, faults_stand, code_numbered, by_statements}
+use Rattle.bq_load_laws.proofs.Faults.Numbered.{each_of, faults_stand, file_numbered, by_statements}
 use Rattle.bq_load_laws.proofs.Packages.Declared.{declared_in_graph}
 use Rattle.bq_query_target_graph.specs.Dangling.{dangling_line, all_dangling, dangling_lines}
 use Rattle.bq_query_target_graph.proofs.Danglings.{in_words}
@@ -79,9 +79,9 @@ by_owner inputs p t label line known c e (inr d) = record {
   label = ap (λ (x : FaultLine). x.label) e;
   file = d.file;
   there = d.there;
-  code = d.code;
+  resolved = d.resolved;
   has = d.has;
-  at = subst (IsLineOf d.code.statements) (sym (ap (λ (x : FaultLine). x.line) e)) (by_call d.code.statements t label c (by_statements d.code.statements p d.declared t known));
+  at = subst (IsLineOf d.resolved.statements) (sym (ap (λ (x : FaultLine). x.line) e)) (by_call d.resolved.statements t label c (by_statements d.resolved.statements p d.declared t known));
 }
 
 -- what the modules of a load graph give, by slots: it is what they give by names
@@ -118,8 +118,8 @@ Stands x = 1 ≤ x.line
 
 statement_stands : (inputs : InputParts) (line : FaultLine) → IsOfStatement inputs line → 1 ≤ line.line
 statement_stands inputs line s =
-    let all = (code_numbered inputs s.build_file s.file.content s.code s.has).0 in
-    subst (λ n. 1 ≤ n) (sym s.at.same) (each_of (λ (x : FileLine). 1 ≤ x.line) s.code.statements all s.at.statement s.at.among)
+    let all = (file_numbered inputs s.build_file s.file.content s.resolved s.has).0 in
+    subst (λ n. 1 ≤ n) (sym s.at.same) (each_of (λ (x : FileLine). 1 ≤ x.line) s.resolved.statements all s.at.statement s.at.among)
 
 standing : (files : List File) (rules : Rules) (limit : ℕ) (labels : List LabelParts) (edges : Loads) → IsWorkspace files → IsLoadGraph (packages_of files) (parsed_of (inputs_of files rules)) labels edges
     → (line : FaultLine) → Contains (all_faults (loaded_in files rules (parsed_of (inputs_of files rules)) limit labels edges)) line → 1 ≤ line.line

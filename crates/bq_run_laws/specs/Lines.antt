@@ -9,7 +9,7 @@ use Rattle.bq_resolve_scope.specs.declared.file.ResolvedFile.{ResolvedFile}
 use Rattle.bq_package_schema.specs.Schema.{Rules}
 use Rattle.bq_base_fault_line.specs.declared.fault_line.FaultLine.{FaultLine}
 use Rattle.bq_load_front.specs.Inputs.{InputParts}
-use Rattle.bq_load_front.specs.Laws.{HasCode}
+use Rattle.bq_load_front.specs.Laws.{TextResolvesTo}
 use Rattle.bq_load_discover.specs.LoadGraph.{IsLoadGraph, inputs_of}
 use Rattle.bq_load_laws.specs.Faults.Parts.{universe_at}
 use Rattle.bq_load_laws.specs.Packages.Declared.{IsLineOf}
@@ -29,9 +29,9 @@ pub record IsOfStatement (inputs : InputParts) (line : FaultLine) : Type 0 where
   pub label : line.label ≡ full_form build_file
   pub file : File
   pub there : label_file inputs.files build_file ≡ Some file
-  pub code : ResolvedFile
-  pub has : HasCode (universe_at inputs build_file) file.content code
-  pub at : IsLineOf code.statements line.line
+  pub resolved : ResolvedFile
+  pub has : TextResolvesTo (universe_at inputs build_file) file.content resolved
+  pub at : IsLineOf resolved.statements line.line
 
 -- F79, of a label that names no target: its line is that of the target that depends on the label (`IsDangling`)
 abbrev pub DanglingLinesAreOfStatements : Type 0

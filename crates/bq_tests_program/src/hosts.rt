@@ -9,7 +9,7 @@ use bq_base::{Bytes, FaultKind};
 use bq_base_names::NameSet;
 use bq_builtin_machine::{Args, Machine};
 use bq_eval::{EvaluatedFile, FileOutcome, ResolvedModule, eval_module};
-use bq_load_front::code_of;
+use bq_load_front::resolved_file;
 use bq_package_host::{BuiltIns, Host};
 use bq_package_typed_value::Written;
 use bq_parse_grammar::FileKind;
@@ -133,7 +133,7 @@ fn file_is_right(
         file,
         loaded: &[],
         imports: &[],
-        code: &[],
+        files: &[],
     };
     let evaluated = eval_module(
         setting.alloc,
@@ -148,7 +148,7 @@ fn file_is_right(
 
 /// Whether a text is a file that gives what is wanted of it.
 fn is_right(setting: Setting<'_>, case: Case) -> Result<bool, AllocError> {
-    match code_of(setting.alloc, setting.universe, case.text.as_bytes()) {
+    match resolved_file(setting.alloc, setting.universe, case.text.as_bytes()) {
         Ok(file) => file_is_right(setting, &file, case),
         Err(_) => Ok(false),
     }

@@ -28,7 +28,7 @@ use Rattle.bq_load_outcome_spec.specs.Outcome.{outcome}
 use Rattle.bq_load_discover.specs.declared.modules.Module.{Module}
 use Rattle.bq_load.specs.Evaluation.{kept_first, evaluation, package_left, module_with, module_by, module_after, loaded_parts, by_imports, file_means, by_front, by_module, means}
 use Rattle.bq_load.specs.Imports.{imports}
-use Rattle.bq_load.specs.Codes.{code_by, codes_of}
+use Rattle.bq_load.specs.ResolvedFiles.{front_file, resolved_files}
 use Rattle.bq_load.specs.Loading.{LoadingParts, loading_in}
 use Rattle.bq_load.specs.Views.{ModuleView, FailedView}
 use Rattle.bq_load_laws.specs.Packages.Packages.{IsOwnOf}
@@ -36,7 +36,7 @@ use Rattle.bq_load_laws.proofs.Packages.Made.{made}
 use Rattle.bq_load_laws.specs.Calls.Calls.{AreLoaded, FunctionsOfLoadsAreCallable}
 use Rattle.bq_load_laws.proofs.Calls.Files.{loaded_is_bzl}
 use Rattle.bq_load_laws.proofs.Calls.Values.{all_have, evaluated_by}
-use Rattle.bq_load_laws.proofs.Outcomes.Read.{module_at, code_at}
+use Rattle.bq_load_laws.proofs.Outcomes.Read.{module_at, file_at}
 
 abbrev good : ModuleView → Result ModuleView FailedView
 good v = Ok v
@@ -62,7 +62,7 @@ is_among v (w ∷ ws) c = elim (head_or_tail w ws v c) [
 module _ (x : LoadingParts) (k : ℕ) (home : ℕ) where
   -- whoever loads it can call the functions of `home`
   abbrev ForLoaders : FrozenView → Type 0
-  ForLoaders f = (loader : ℕ) (others : List FrozenView) → Contains others f → IsCallable (codes_of x.modules) loader others home
+  ForLoaders f = (loader : ℕ) (others : List FrozenView) → Contains others f → IsCallable (resolved_files x.modules) loader others home
 
   by_end : (e : Ended) (p : Option PackageTargets) (v : ModuleView) → FrozenAre e ForLoaders → module_by e p ≡ Ok v → v.package ≡ None → ForLoaders v.frozen
   by_end (failed why prints) p v h is none = absurd (cc)
@@ -78,26 +78,26 @@ module _ (x : LoadingParts) (k : ℕ) (home : ℕ) where
 
   -- ---- a module by its file
 
-  module _ (modules : List ModuleView) (v : ModuleView) (callable : IsCallable (codes_of x.modules) k (map frozen_of modules) home) (none : v.package ≡ None) where
-    by_run : (l : LabelParts) (file : ResolvedFile) → slice_get (codes_of x.modules) k ≡ Some (Some file) → (imported : List Datum) → module_after file imported (evaluation x k l file modules imported) ≡ Ok v → ForLoaders v.frozen
+  module _ (modules : List ModuleView) (v : ModuleView) (callable : IsCallable (resolved_files x.modules) k (map frozen_of modules) home) (none : v.package ≡ None) where
+    by_run : (l : LabelParts) (file : ResolvedFile) → slice_get (resolved_files x.modules) k ≡ Some (Some file) → (imported : List Datum) → module_after file imported (evaluation x k l file modules imported) ≡ Ok v → ForLoaders v.frozen
     unfolding module_after evaluation
     by_run l file at imported is =
-        by_end (ended file imported (module_run x.names meaning (codes_of x.modules) k file (map frozen_of modules) imported x.limit (kept_first x l)))
-        (package_left (kept_after (module_run x.names meaning (codes_of x.modules) k file (map frozen_of modules) imported x.limit (kept_first x l)))) v
-        (stay_callable x.names meaning calls_own (codes_of x.modules) k file at (map frozen_of modules) imported (kept_first x l) x.limit home callable) is none
+        by_end (ended file imported (module_run x.names meaning (resolved_files x.modules) k file (map frozen_of modules) imported x.limit (kept_first x l)))
+        (package_left (kept_after (module_run x.names meaning (resolved_files x.modules) k file (map frozen_of modules) imported x.limit (kept_first x l)))) v
+        (stay_callable x.names meaning calls_own (resolved_files x.modules) k file at (map frozen_of modules) imported (kept_first x l) x.limit home callable) is none
 
-    by_values : (l : LabelParts) (file : ResolvedFile) → slice_get (codes_of x.modules) k ≡ Some (Some file) → (r : Result (List Datum) Fault) → by_imports x k l file modules r ≡ Ok v → ForLoaders v.frozen
+    by_values : (l : LabelParts) (file : ResolvedFile) → slice_get (resolved_files x.modules) k ≡ Some (Some file) → (r : Result (List Datum) Fault) → by_imports x k l file modules r ≡ Ok v → ForLoaders v.frozen
     by_values l file at (Err why) is = absurd (cc)
     by_values l file at (Ok imported) is = by_run l file at imported is
 
-    of_front : (l : LabelParts) (r : Result Front Fault) → slice_get (codes_of x.modules) k ≡ Some (code_by r) → by_front x k l modules r ≡ Ok v → ForLoaders v.frozen
+    of_front : (l : LabelParts) (r : Result Front Fault) → slice_get (resolved_files x.modules) k ≡ Some (front_file r) → by_front x k l modules r ≡ Ok v → ForLoaders v.frozen
     unfolding file_means
     of_front l (Err why) at is = absurd (cc)
-    of_front l (Ok front) at is = by_values l front.code at (imports (loaded_parts x front modules) [] front.code.loads front.loads) is
+    of_front l (Ok front) at is = by_values l front.file at (imports (loaded_parts x front modules) [] front.file.loads front.loads) is
 
-    of_module : (s : Module) → slice_get x.modules k ≡ Some s → slice_get (codes_of x.modules) k ≡ Some (code_by s.front) → means x k modules ≡ Ok v → ForLoaders v.frozen
+    of_module : (s : Module) → slice_get x.modules k ≡ Some s → slice_get (resolved_files x.modules) k ≡ Some (front_file s.front) → means x k modules ≡ Ok v → ForLoaders v.frozen
     unfolding means
-    of_module s at code is = of_front s.label s.front code (ap (by_module x k modules) (sym at) ∙ is)
+    of_module s at there is = of_front s.label s.front there (ap (by_module x k modules) (sym at) ∙ is)
 
 -- a .bzl file has no package
 module _ (x : LoadingParts) (k : ℕ) (modules : List ModuleView) (v : ModuleView) (is : means x k modules ≡ Ok v) (s : Module) (at : slice_get x.modules k ≡ Some s) where
@@ -110,7 +110,7 @@ module _ (x : LoadingParts) (k : ℕ) (modules : List ModuleView) (v : ModuleVie
 -- ---- paths
 
 module _ (inputs : InputParts) (g : GraphParts) (is : IsReadGraph inputs g) (x : LoadingParts) (read : x.modules ≡ map (module_of inputs) g.labels) (home : ℕ) where
-  along : (n m : ℕ) (l : LabelParts) → slice_get g.labels m ≡ Some l → (modules : List ModuleView) → AreLoaded x g.edges m modules → PathTo g.edges n m home → IsCallable (codes_of x.modules) m (map frozen_of modules) home
+  along : (n m : ℕ) (l : LabelParts) → slice_get g.labels m ≡ Some l → (modules : List ModuleView) → AreLoaded x g.edges m modules → PathTo g.edges n m home → IsCallable (resolved_files x.modules) m (map frozen_of modules) home
   along zero m l at modules loaded same = inl (sym same)
   along (suc n) m l at modules loaded path =
       let k = path.0 in
@@ -120,7 +120,7 @@ module _ (inputs : InputParts) (g : GraphParts) (is : IsReadGraph inputs g) (x :
       let before = along n k file.label file.at by.loaded by.are path.2 in
       let there = module_at inputs x g.labels read k file.label file.at in
       let none = has_none x k by.loaded has.value by.gives (module_of inputs file.label) there file.bzl in
-      of_module x k home by.loaded has.value before none (module_of inputs file.label) there (code_at inputs x g.labels read k file.label file.at) by.gives m (map frozen_of modules) (is_among has.value modules has.among)
+      of_module x k home by.loaded has.value before none (module_of inputs file.label) there (file_at inputs x g.labels read k file.label file.at) by.gives m (map frozen_of modules) (is_among has.value modules has.among)
 
 pub callable_along_loads : FunctionsOfLoadsAreCallable
 callable_along_loads files rules limit g is m home l modules at loaded reaches =

@@ -54,8 +54,8 @@ of_module inputs l why (FailsIn.of_statements x tokens is reads parses k) =
     by_statements (is_of_tokens why.kind) (is_of_statements why.kind) (is_of_names why.kind) (is_of_loads why.kind) (is_refusal why.kind) k
 of_module inputs l why (FailsIn.of_names x tokens trees is reads parses names k) =
     by_names (is_of_tokens why.kind) (is_of_statements why.kind) (is_of_names why.kind) (is_of_loads why.kind) (is_refusal why.kind) k
-of_module inputs l why (FailsIn.of_loads x code is has k at) = by_loads (is_of_tokens why.kind) (is_of_statements why.kind) (is_of_names why.kind) (is_of_loads why.kind) (is_refusal why.kind) k
-of_module inputs l why (FailsIn.of_evaluation x code is has k at) =
+of_module inputs l why (FailsIn.of_loads x file is has k at) = by_loads (is_of_tokens why.kind) (is_of_statements why.kind) (is_of_names why.kind) (is_of_loads why.kind) (is_refusal why.kind) k
+of_module inputs l why (FailsIn.of_evaluation x file is has k at) =
     by_evaluation (is_of_tokens why.kind) (is_of_statements why.kind) (is_of_names why.kind) (is_of_loads why.kind) (is_refusal why.kind) k
 
 none_in : (line : FaultLine) → Contains [] line → ⊥

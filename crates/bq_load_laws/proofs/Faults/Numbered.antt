@@ -14,7 +14,7 @@ use Rattle.bq_package_target.specs.declared.target.Target.{Target}
 use Rattle.bq_package_target.specs.Package.{PackageTargets}
 use Rattle.bq_load_front.specs.Parsed.{kind_of}
 use Rattle.bq_load_front.specs.Inputs.{InputParts}
-use Rattle.bq_load_front.specs.Laws.{HasCode}
+use Rattle.bq_load_front.specs.Laws.{TextResolvesTo}
 use Rattle.bq_load_discover.specs.LoadGraph.{inputs_of}
 use Rattle.bq_load_discover.proofs.Lists.{none_in}
 use Rattle.bq_load.specs.Results.{outcomes}
@@ -23,7 +23,7 @@ use Rattle.bq_load.specs.Views.{ModuleView, FailedView}
 use Rattle.bq_load_line_laws.proofs.Tokens as tokens
 use Rattle.bq_load_line_laws.proofs.Pieces as pieces
 use Rattle.bq_load_line_laws.proofs.Pieces.{Numbered, lexemes_numbered}
-use Rattle.bq_load_line_laws.proofs.Names.Files.{fault_stands, code_stands}
+use Rattle.bq_load_line_laws.proofs.Names.Files.{fault_stands, resolved_stands}
 use Rattle.bq_load_laws.specs.Faults.Lines.{FaultsStandOnLines, StandsOnALine, OutcomesStandOnLines, FaultLinesStandOnLines, TargetsStandOnLines}
 use Rattle.bq_load_laws.specs.Faults.Parts.{universe_at, FailsIn, FailsInItsPart}
 use Rattle.bq_load_laws.specs.Packages.Declared.{IsLineOf, IsFile, IsFileOrIn, AreDeclaredBy, HasDeclared, DeclaresIn}
@@ -38,10 +38,10 @@ numbered : (text : List ℕ) (ts : List Token) → Lexes text (Ok ts) → Number
 numbered text ts reads = lexemes_numbered text ts (tokens.tokens_count text ts reads)
 
 -- the lines of the statements of a resolved file, and those of its loads
-pub code_numbered : (inputs : InputParts) (l : LabelParts) (text : List ℕ) (code : ResolvedFile) → HasCode (universe_at inputs l) text code
-    → AllByRecursion (λ (x : FileLine). 1 ≤ x.line) code.statements × AllByRecursion (λ (x : LoadStmt). 1 ≤ x.line) code.loads
-code_numbered inputs l text code has =
-    code_stands (universe_at inputs l) (kind_of l) (lexemes text has.tokens) has.trees code (numbered text has.tokens has.reads) has.parses has.names
+pub file_numbered : (inputs : InputParts) (l : LabelParts) (text : List ℕ) (file : ResolvedFile) → TextResolvesTo (universe_at inputs l) text file
+    → AllByRecursion (λ (x : FileLine). 1 ≤ x.line) file.statements × AllByRecursion (λ (x : LoadStmt). 1 ≤ x.line) file.loads
+file_numbered inputs l text file has =
+    resolved_stands (universe_at inputs l) (kind_of l) (lexemes text has.tokens) has.trees file (numbered text has.tokens has.reads) has.parses has.names
 
 same_line : (m n : ℕ) → m ≡ n → 1 ≤ n → 1 ≤ m
 same_line m n e h = subst (λ k. 1 ≤ k) (sym e) h
@@ -53,10 +53,10 @@ faults_stand inputs l why (FailsIn.of_tokens x is reads k) = tokens.fault_counts
 faults_stand inputs l why (FailsIn.of_statements x ts is reads parses k) = pieces.fault_counts (kind_of l) (lexemes x.content ts) why (numbered x.content ts reads) parses
 faults_stand inputs l why (FailsIn.of_names x ts trees is reads parses names k) =
     fault_stands (universe_at inputs l) (kind_of l) (lexemes x.content ts) trees why (numbered x.content ts reads) parses names
-faults_stand inputs l why (FailsIn.of_loads x code is has k at) =
-    same_line why.line at.load.line at.line (each_of (λ (y : LoadStmt). 1 ≤ y.line) code.loads (code_numbered inputs l x.content code has).1 at.load at.among)
-faults_stand inputs l why (FailsIn.of_evaluation x code is has k at) =
-    same_line why.line at.statement.line at.line (each_of (λ (y : FileLine). 1 ≤ y.line) code.statements (code_numbered inputs l x.content code has).0 at.statement at.among)
+faults_stand inputs l why (FailsIn.of_loads x file is has k at) =
+    same_line why.line at.load.line at.line (each_of (λ (y : LoadStmt). 1 ≤ y.line) file.loads (file_numbered inputs l x.content file has).1 at.load at.among)
+faults_stand inputs l why (FailsIn.of_evaluation x file is has k at) =
+    same_line why.line at.statement.line at.line (each_of (λ (y : FileLine). 1 ≤ y.line) file.statements (file_numbered inputs l x.content file has).0 at.statement at.among)
 
 outcome_stands : (inputs : InputParts) (l : LabelParts) (r : Result ModuleView FailedView) → IfErr r (λ m. FailsIn inputs l m.fault) → IfErr r (λ m. 1 ≤ m.fault.line)
 outcome_stands inputs l (Ok v) h = tt
@@ -101,7 +101,7 @@ on_a_line ss t all (inr i) = inr (same_line t.line i.statement.line i.same (each
 in_package : (inputs : InputParts) (p : PackageTargets) (t : Target) → Contains p.targets t → (p.targets ≡ []) ⊎ DeclaresIn inputs p.build_file p → IsFile t ⊎ (1 ≤ t.line)
 in_package inputs p t c (inl none) = absurd (none_in t (subst (λ (z : List Target). Contains z t) none c))
 in_package inputs p t c (inr d) =
-    on_a_line d.code.statements t (code_numbered inputs p.build_file d.file.content d.code d.has).0 (by_statements d.code.statements p d.declared t c)
+    on_a_line d.resolved.statements t (file_numbered inputs p.build_file d.file.content d.resolved d.has).0 (by_statements d.resolved.statements p d.declared t c)
 
 pub targets_stand : TargetsStandOnLines
 targets_stand files rules limit l w h p c t d = in_package (inputs_of files rules) p t d (packages_declare files rules limit l w h p c)

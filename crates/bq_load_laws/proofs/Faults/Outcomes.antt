@@ -18,12 +18,12 @@ use Rattle.bq_load_discover.specs.declared.modules.Module.{Module}
 use Rattle.bq_load.specs.Evaluation.{kept_first, evaluation, package_left, module_by, module_after, loaded_parts, by_imports, file_means, by_front, by_module, means}
 use Rattle.bq_load.specs.Imports.{is_private, global_by, or_no_symbol, exported, at_symbol, clause_values, module_named, imports, LoadedParts}
 use Rattle.bq_load.specs.Results.{load_fault, result_of, outcomes_from, outcomes}
-use Rattle.bq_load.specs.Codes.{code_by, codes_of}
+use Rattle.bq_load.specs.ResolvedFiles.{front_file, resolved_files}
 use Rattle.bq_load.specs.Loading.{LoadingParts, loading_in}
 use Rattle.bq_load.specs.Views.{ModuleView, FailedView, OutcomeView}
 use Rattle.bq_load_discover.specs.LoadGraph.{GraphParts, IsReadGraph, inputs_of}
 use Rattle.bq_load_discover.specs.Module.{module_of}
-use Rattle.bq_load_front.specs.Code.{◌>>=◌}
+use Rattle.bq_load_front.specs.Resolved.{◌>>=◌}
 use Rattle.bq_load_front.specs.Front.{front_of}
 use Rattle.bq_load_front.specs.Parsed.{kind_of}
 use Rattle.bq_load_front.specs.Reading.{parsed_of}
@@ -84,27 +84,27 @@ module _ (all : List LoadStmt) (load : LoadStmt) (among : Contains all load) whe
   of_global name None = (refl, at_it _ refl)
   of_global name (Some v) = tt
 
-  of_symbol : (code : List (Option ResolvedFile)) (m : Option ModuleView) (name : Name) → ByLoads all (at_symbol load.line name (exported code m name))
+  of_symbol : (resolved : List (Option ResolvedFile)) (m : Option ModuleView) (name : Name) → ByLoads all (at_symbol load.line name (exported resolved m name))
   unfolding exported
-  of_symbol code m name = by_privacy (is_private name)
+  of_symbol resolved m name = by_privacy (is_private name)
     where
-      by_privacy : (b : Bool) → ByLoads all (at_symbol load.line name (if b then Err f.PrivateSymbol else or_no_symbol (global_by code m name)))
+      by_privacy : (b : Bool) → ByLoads all (at_symbol load.line name (if b then Err f.PrivateSymbol else or_no_symbol (global_by resolved m name)))
       by_privacy true = (refl, at_it _ refl)
-      by_privacy false = of_global name (global_by code m name)
+      by_privacy false = of_global name (global_by resolved m name)
 
-  clauses_fail : (code : List (Option ResolvedFile)) (m : Option ModuleView) (done : List Datum) (cs : List LoadedSymbol) → ByLoads all (clause_values code m load.line done cs)
+  clauses_fail : (resolved : List (Option ResolvedFile)) (m : Option ModuleView) (done : List Datum) (cs : List LoadedSymbol) → ByLoads all (clause_values resolved m load.line done cs)
   unfolding clause_values
-  clauses_fail code m done [] = tt
-  clauses_fail code m done (c ∷ cs) =
-      then_only all (at_symbol load.line c.symbol (exported code m c.symbol)) (λ v. clause_values code m load.line (done ++ v ∷ []) cs) (of_symbol code m c.symbol)
-      (λ v. clauses_fail code m (done ++ v ∷ []) cs)
+  clauses_fail resolved m done [] = tt
+  clauses_fail resolved m done (c ∷ cs) =
+      then_only all (at_symbol load.line c.symbol (exported resolved m c.symbol)) (λ v. clause_values resolved m load.line (done ++ v ∷ []) cs) (of_symbol resolved m c.symbol)
+      (λ v. clauses_fail resolved m (done ++ v ∷ []) cs)
 
 imports_fail : (all : List LoadStmt) (x : LoadedParts) (done : List Datum) (ss : List LoadStmt) (ls : List LabelParts) → ((s : LoadStmt) → Contains ss s → Contains all s) → ByLoads all (imports x done ss ls)
 unfolding imports
 imports_fail all x done [] ls inside = tt
 imports_fail all x done (s ∷ ss) [] inside = tt
 imports_fail all x done (s ∷ ss) (l ∷ ls) inside =
-    then_only all (clause_values x.code (module_named x l) s.line done s.clauses) (λ vs. imports x vs ss ls) (clauses_fail all s (inside s (at_head s ss)) x.code (module_named x l) done s.clauses)
+    then_only all (clause_values x.resolved (module_named x l) s.line done s.clauses) (λ vs. imports x vs ss ls) (clauses_fail all s (inside s (at_head s ss)) x.resolved (module_named x l) done s.clauses)
     (λ vs. imports_fail all x vs ss ls (λ r c. inside r (in_tail s ss r c)))
 
 has_package : (p : PackageTargets) → Some p ≡ None → ⊥
@@ -135,7 +135,7 @@ module _ (inputs : InputParts) where
   abbrev pub IsComeTo : OutcomeView → Type 0
   IsComeTo o = ComesTo o.label o.result
 
-  resolved_by : (l : LabelParts) (r : Result Front Fault) → IsFront inputs l r → IfAny (code_by r)
+  resolved_by : (l : LabelParts) (r : Result Front Fault) → IsFront inputs l r → IfAny (front_file r)
   resolved_by l (Err why) h = tt
   resolved_by l (Ok front) h =
       let has = h.2 in
@@ -145,54 +145,54 @@ module _ (inputs : InputParts) where
   abbrev AreThere : List LabelParts → Type 0
   AreThere ls = (l : LabelParts) → Contains ls l → is_some (label_file inputs.files l) ≡ true
 
-  all_resolved : (ls : List LabelParts) → AreThere ls → AllByRecursion IfAny (codes_of (map (module_of inputs) ls))
+  all_resolved : (ls : List LabelParts) → AreThere ls → AllByRecursion IfAny (resolved_files (map (module_of inputs) ls))
   all_resolved [] there = tt
   all_resolved (l ∷ ls) there =
       (resolved_by l (front_of inputs l) (fronts_fail inputs l (there l (at_head l ls))), all_resolved ls (λ k c. there k (in_tail l ls k c)))
 
-module _ (inputs : InputParts) (x : LoadingParts) (all : AllByRecursion IfAny (codes_of x.modules)) where
+module _ (inputs : InputParts) (x : LoadingParts) (all : AllByRecursion IfAny (resolved_files x.modules)) where
   abbrev Comes : LabelParts → Result ModuleView FailedView → Type 0
   Comes l r = ComesTo inputs l r
 
   -- ---- evaluation
 
   module _ (l : LabelParts) (front : Front) (is : IsFront inputs l (Ok front)) (m : ℕ) (modules : List ModuleView) where
-    is_resolved : IsResolvedFile front.code
+    is_resolved : IsResolvedFile front.file
     is_resolved = resolved_by inputs l (Ok front) is
 
-    by_end : (e : Ended) (p : Option PackageTargets) → FailsAsEvaluated e → FailsAtAStatement front.code e → IfErr (module_by e p) (λ v. FailsIn inputs l v.fault)
+    by_end : (e : Ended) (p : Option PackageTargets) → FailsAsEvaluated e → FailsAtAStatement front.file e → IfErr (module_by e p) (λ v. FailsIn inputs l v.fault)
     by_end (ran made prints) p h at = tt
-    by_end (failed why prints) p h at = FailsIn.of_evaluation is.0 front.code is.1 is.2 h at
+    by_end (failed why prints) p h at = FailsIn.of_evaluation is.0 front.file is.1 is.2 h at
 
-    run_fails : (values : List Datum) → IfErr (module_after front.code values (evaluation x m l front.code modules values)) (λ v. FailsIn inputs l v.fault)
+    run_fails : (values : List Datum) → IfErr (module_after front.file values (evaluation x m l front.file modules values)) (λ v. FailsIn inputs l v.fault)
     unfolding module_after evaluation
     run_fails values =
-        by_end (ended front.code values (module_run x.names meaning (codes_of x.modules) m front.code (map (λ v. v.frozen) modules) values x.limit (kept_first x l)))
-        (package_left (kept_after (module_run x.names meaning (codes_of x.modules) m front.code (map (λ v. v.frozen) modules) values x.limit (kept_first x l))))
-        (files_fail x.names meaning calls_refuse (codes_of x.modules) all m front.code is_resolved (map (λ v. v.frozen) modules) values x.limit (kept_first x l))
-        (files_fail_at x.names meaning calls_own (codes_of x.modules) m front.code (map (λ v. v.frozen) modules) values (kept_first x l) x.limit)
+        by_end (ended front.file values (module_run x.names meaning (resolved_files x.modules) m front.file (map (λ v. v.frozen) modules) values x.limit (kept_first x l)))
+        (package_left (kept_after (module_run x.names meaning (resolved_files x.modules) m front.file (map (λ v. v.frozen) modules) values x.limit (kept_first x l))))
+        (files_fail x.names meaning calls_refuse (resolved_files x.modules) all m front.file is_resolved (map (λ v. v.frozen) modules) values x.limit (kept_first x l))
+        (files_fail_at x.names meaning calls_own (resolved_files x.modules) m front.file (map (λ v. v.frozen) modules) values (kept_first x l) x.limit)
 
-    by_package : (k : FileKind) (p : Option PackageTargets) → IsOwnOf k l p → Declares front.code.statements p → DeclaresAllIn inputs l p
+    by_package : (k : FileKind) (p : Option PackageTargets) → IsOwnOf k l p → Declares front.file.statements p → DeclaresAllIn inputs l p
     by_package k None own h = tt
     by_package kinds.Bzl (Some p) own h = absurd (has_package p own)
-    by_package kinds.Build (Some p) own h = (own, record { file = is.0; there = is.1; code = front.code; has = is.2; declared = h })
+    by_package kinds.Build (Some p) own h = (own, record { file = is.0; there = is.1; resolved = front.file; has = is.2; declared = h })
 
-    by_both : (r : Result ModuleView FailedView) → IfErr r (λ v. FailsIn inputs l v.fault) → IfOk r (IsMade (kind_of l) l front.code.statements) → Comes l r
+    by_both : (r : Result ModuleView FailedView) → IfErr r (λ v. FailsIn inputs l v.fault) → IfOk r (IsMade (kind_of l) l front.file.statements) → Comes l r
     by_both (Ok v) h made = by_package (kind_of l) v.package made.0 made.1
     by_both (Err v) h made = h
 
-    by_run : (values : List Datum) → Comes l (module_after front.code values (evaluation x m l front.code modules values))
-    by_run values = by_both (module_after front.code values (evaluation x m l front.code modules values)) (run_fails values) (file_made x m l front.code modules values)
+    by_run : (values : List Datum) → Comes l (module_after front.file values (evaluation x m l front.file modules values))
+    by_run values = by_both (module_after front.file values (evaluation x m l front.file modules values)) (run_fails values) (file_made x m l front.file modules values)
 
-    by_values : (r : Result (List Datum) Fault) → ByLoads front.code.loads r → Comes l (by_imports x m l front.code modules r)
-    by_values (Err why) h = FailsIn.of_loads is.0 front.code is.1 is.2 h.0 h.1
+    by_values : (r : Result (List Datum) Fault) → ByLoads front.file.loads r → Comes l (by_imports x m l front.file modules r)
+    by_values (Err why) h = FailsIn.of_loads is.0 front.file is.1 is.2 h.0 h.1
     by_values (Ok values) h = by_run values
 
   file_comes : (l : LabelParts) (front : Front) → IsFront inputs l (Ok front) → (m : ℕ) (modules : List ModuleView) → Comes l (file_means x m l front modules)
   unfolding file_means
   file_comes l front is m modules =
-      by_values l front is m modules (imports (loaded_parts x front modules) [] front.code.loads front.loads)
-      (imports_fail front.code.loads (loaded_parts x front modules) [] front.code.loads front.loads (λ r c. c))
+      by_values l front is m modules (imports (loaded_parts x front modules) [] front.file.loads front.loads)
+      (imports_fail front.file.loads (loaded_parts x front modules) [] front.file.loads front.loads (λ r c. c))
 
   front_comes : (l : LabelParts) (r : Result Front Fault) → IsFront inputs l r → (m : ℕ) (modules : List ModuleView) → Comes l (by_front x m l modules r)
   front_comes l (Ok front) is m modules = file_comes l front is m modules
@@ -213,21 +213,21 @@ module _ (inputs : InputParts) (x : LoadingParts) (all : AllByRecursion IfAny (c
     by_result (Ok v) h = h
     by_result (Err why) h = h
 
-    -- a file that has a code may load modules that are cyclic, too deep or failed
+    -- a file that resolves may load modules that are cyclic, too deep or failed
     module _ (front : Front) (read : front_of inputs l ≡ Ok front) (is : IsFront inputs l (Ok front)) where
       -- at the first load of the module that it names
-      told_there : (kind : FaultKind) (k : ℕ) (i : IsAtItsLoad x k (front_of inputs l) kind) → IsAtLoad front.code.loads (fault_at_load kind i.load i.loaded)
+      told_there : (kind : FaultKind) (k : ℕ) (i : IsAtItsLoad x k (front_of inputs l) kind) → IsAtLoad front.file.loads (fault_at_load kind i.load i.loaded)
       told_there kind k i =
           let of_file = i.first in
           let same : of_file.file ≡ front = same_front of_file.file front (sym of_file.read ∙ read) in
           let place = of_file.first in
-          let loads_are = ap (λ (z : Front). z.code.loads) (sym same) ∙ place.loads_are in
+          let loads_are = ap (λ (z : Front). z.file.loads) (sym same) ∙ place.loads_are in
           record { load = i.load; among = subst (λ (z : List LoadStmt). Contains z i.load) (sym loads_are) (among_all place.before i.load place.after); line = refl }
 
       of_kind : (kind : FaultKind) (k : ℕ) → is_of_loads kind ≡ true → Has (row p m) k → FailsIn inputs l (load_fault x (front_of inputs l) kind k)
       of_kind kind k h loads_it =
           let i = told front read kind k loads_it in
-          subst (FailsIn inputs l) (sym i.fault) (FailsIn.of_loads is.0 front.code is.1 is.2 h (told_there kind k i))
+          subst (FailsIn inputs l) (sym i.fault) (FailsIn.of_loads is.0 front.file is.1 is.2 h (told_there kind k i))
 
       by_loaded_values : (vs : Result (List ModuleView) ℕ) → ((k : ℕ) → vs ≡ Err k → Has (row p m) k) → Holds (evaluated (means x m) vs)
       by_loaded_values (Ok vs) unread = by_result (means x m vs) (means_comes vs)
@@ -239,9 +239,9 @@ module _ (inputs : InputParts) (x : LoadingParts) (all : AllByRecursion IfAny (c
       by_cases false true k d vs cycle far unread = of_kind f.LoadDepth d refl (far refl)
       by_cases false false k d vs cycle far unread = by_loaded_values vs unread
 
-      with_code : Holds (outcome (means x) p m)
+      with_file : Holds (outcome (means x) p m)
       unfolding by_loads
-      with_code =
+      with_file =
           subst Holds (sym (outcome_is (means x) p m))
           (by_cases (is_cyclic p m) (is_too_deep p m) (first (is_cyclic p) (row p m)) (first (starts_path p max_load_depth) (row p m)) (values (outcome (means x) p) (row p m)) (on_cycle (means x) p known m)
           (too_far (means x) p known m) (values_have (outcome (means x) p) (row p m)))
@@ -256,15 +256,15 @@ module _ (inputs : InputParts) (x : LoadingParts) (all : AllByRecursion IfAny (c
       unfolding is_too_deep
       not_deep = ap (λ (z : Bool). not (is_cyclic p m) && z) (no_path max_load_depth) ∙ and_false (not (is_cyclic p m))
 
-      without_code : Holds (outcome (means x) p m)
-      without_code =
+      without_file : Holds (outcome (means x) p m)
+      without_file =
           subst Holds (sym (outcome_is (means x) p m ∙ evaluated_is (means x) p (outcome (means x) p) m (no_path (length p)) not_deep
           ∙ ap (λ (z : List ℕ). evaluated (means x m) (values (outcome (means x) p) z)) empty))
           (by_result (means x m []) (means_comes []))
 
     by_what_is_read : (r : Result Front Fault) → front_of inputs l ≡ r → IsFront inputs l r → Holds (outcome (means x) p m)
-    by_what_is_read (Ok front) e is = with_code front e is
-    by_what_is_read (Err why) e is = without_code (none why e)
+    by_what_is_read (Ok front) e is = with_file front e is
+    by_what_is_read (Err why) e is = without_file (none why e)
 
     module_comes : Holds (outcome (means x) p m)
     module_comes = by_what_is_read (front_of inputs l) refl (fronts_fail inputs l is_file)
@@ -274,15 +274,15 @@ module _ (inputs : InputParts) (x : LoadingParts) (all : AllByRecursion IfAny (c
 module _ (inputs : InputParts) (x : LoadingParts) (labels : List LabelParts) (read : x.modules ≡ map (module_of inputs) labels) (p : Loads)
     (none : (m : ℕ) (l : LabelParts) (why : Fault) → slice_get labels m ≡ Some l → front_of inputs l ≡ Err why → row p m ≡ []) (known : Known p)
     (told : (m : ℕ) (l : LabelParts) → slice_get labels m ≡ Some l → LoadsAreTold inputs x p m l) (all_there : AreThere inputs labels) where
-  all_code : AllByRecursion IfAny (codes_of x.modules)
-  all_code = subst (λ (z : List Module). AllByRecursion IfAny (codes_of z)) (sym read) (all_resolved inputs labels all_there)
+  all_files : AllByRecursion IfAny (resolved_files x.modules)
+  all_files = subst (λ (z : List Module). AllByRecursion IfAny (resolved_files z)) (sym read) (all_resolved inputs labels all_there)
 
   from : (m : ℕ) (ls : List LabelParts) → ((i : ℕ) → slice_get labels (m + i) ≡ slice_get ls i) → AreThere inputs ls → AllByRecursion (IsComeTo inputs) (outcomes_from x p m (map (module_of inputs) ls))
   from m [] same there = tt
   from m (l ∷ ls) same there =
       let zero_more : m + 0 ≡ m = omega arith in
       let at : slice_get labels m ≡ Some l = ap (slice_get labels) (sym zero_more) ∙ same 0 in
-      (module_comes inputs x all_code p m l (module_at inputs x labels read m l at) (λ why. none m l why at) known (told m l at) (there l (at_head l ls)), from (m + 1) ls next (λ k c. there k (in_tail l ls k c)))
+      (module_comes inputs x all_files p m l (module_at inputs x labels read m l at) (λ why. none m l why at) known (told m l at) (there l (at_head l ls)), from (m + 1) ls next (λ k c. there k (in_tail l ls k c)))
     where
       next : (i : ℕ) → slice_get labels (m + 1 + i) ≡ slice_get ls i
       next i = let more : m + 1 + i ≡ m + suc i = omega arith in ap (slice_get labels) more ∙ same (suc i)

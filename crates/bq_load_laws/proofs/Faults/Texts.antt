@@ -30,13 +30,13 @@ use Rattle.bq_label.specs.Label.{LabelParts, PackageParts, package_of, full_form
 use Rattle.bq_label.specs.Packages.{package_named, label_file}
 use Rattle.bq_load_label.specs.Crossing.{crosses}
 use Rattle.bq_load_label.specs.NamedFile.{bzl_label, fault_of_file, unless_fault, file_named, load_label}
-use Rattle.bq_load_front.specs.Code.{code_of, ◌>>=◌}
+use Rattle.bq_load_front.specs.Resolved.{resolved_file, ◌>>=◌}
 use Rattle.bq_load_front.specs.Front.{front_at, front_of, load_of}
 use Rattle.bq_load_front.specs.Parsed.{labels_of, kind_of}
 use Rattle.bq_load_front.specs.Inputs.{InputParts}
-use Rattle.bq_load_front.specs.Laws.{HasCode, HasFault}
+use Rattle.bq_load_front.specs.Laws.{TextResolvesTo, HasFault}
 use Rattle.bq_load_front.specs.declared.front.Front.{Front}
-use Rattle.bq_load_front.proofs.Codes.{codes_of_files, faults_of_files}
+use Rattle.bq_load_front.proofs.ResolvedFiles.{resolved_files_of_texts, faults_of_files}
 use Rattle.bq_load_front.proofs.Loads.{are_read}
 use Rattle.bq_load_laws.specs.Faults.Parts.{is_of_tokens, is_of_statements, is_of_loads, universe_at, IsAtLoad, FailsIn}
 
@@ -147,38 +147,38 @@ module _ (inputs : InputParts) (l : LabelParts) where
       (all_of_names (universe_at inputs l) trees why (file_within (kind_of l) (pieces (lexemes x.content tokens)) trees (Ok trees) refl parses) names)
 
   abbrev labels : ResolvedFile → Result (List LabelParts) Fault
-  labels code = labels_of (load_of inputs (package_of l)) [] code.loads
+  labels file = labels_of (load_of inputs (package_of l)) [] file.loads
 
   abbrev front_in : ResolvedFile → Result (List LabelParts) Fault → Result Front Fault
-  front_in code r = r >>= λ ls. Ok (record { code = code; loads = ls })
+  front_in file r = r >>= λ ls. Ok (record { file = file; loads = ls })
 
   abbrev front_with : Result ResolvedFile Fault → Result Front Fault
-  front_with r = r >>= λ code. front_in code (labels code)
+  front_with r = r >>= λ file. front_in file (labels file)
 
-  -- what is read is the code of the file, or a fault of one of its parts
+  -- what is read is what the file resolves to, or a fault of one of its parts
   abbrev pub IsFront : Result Front Fault → Type 0
-  IsFront (Ok front) = (x : File) × (label_file inputs.files l ≡ Some x) × HasCode (universe_at inputs l) x.content front.code
+  IsFront (Ok front) = (x : File) × (label_file inputs.files l ≡ Some x) × TextResolvesTo (universe_at inputs l) x.content front.file
   IsFront (Err why) = FailsIn inputs l why
 
-  by_labels : (x : File) → label_file inputs.files l ≡ Some x → (code : ResolvedFile) → HasCode (universe_at inputs l) x.content code → (r : Result (List LabelParts) Fault) → labels code ≡ r
-      → IsFront (front_in code r)
-  by_labels x is code has (Ok ls) e = (x, is, has)
-  by_labels x is code has (Err why) e =
-      let bad = ((are_read (load_of inputs (package_of l)) code.loads).1 why).0 e in
-      let at : IsAtLoad code.loads why = record {
+  by_labels : (x : File) → label_file inputs.files l ≡ Some x → (file : ResolvedFile) → TextResolvesTo (universe_at inputs l) x.content file → (r : Result (List LabelParts) Fault) → labels file ≡ r
+      → IsFront (front_in file r)
+  by_labels x is file has (Ok ls) e = (x, is, has)
+  by_labels x is file has (Err why) e =
+      let bad = ((are_read (load_of inputs (package_of l)) file.loads).1 why).0 e in
+      let at : IsAtLoad file.loads why = record {
         load = bad.load;
         among = subst (λ (z : List LoadStmt). Contains z bad.load) (sym bad.split) (among_all bad.before bad.load bad.after);
         line = line_of_load inputs.files inputs.packages (package_of l) bad.load.line bad.load.label why bad.bad;
       } in
-      FailsIn.of_loads x code is has (load_fails inputs.files inputs.packages (package_of l) bad.load.line bad.load.label why bad.bad) at
+      FailsIn.of_loads x file is has (load_fails inputs.files inputs.packages (package_of l) bad.load.line bad.load.label why bad.bad) at
 
-  by_code : (x : File) → label_file inputs.files l ≡ Some x → (r : Result ResolvedFile Fault) → code_of (universe_at inputs l) x.content ≡ r → IsFront (front_with r)
-  by_code x is (Ok code) e = by_labels x is code ((codes_of_files (universe_at inputs l) x.content code).0 e) (labels code) refl
-  by_code x is (Err why) e = of_text x is why ((faults_of_files (universe_at inputs l) x.content why).0 e)
+  by_text : (x : File) → label_file inputs.files l ≡ Some x → (r : Result ResolvedFile Fault) → resolved_file (universe_at inputs l) x.content ≡ r → IsFront (front_with r)
+  by_text x is (Ok file) e = by_labels x is file ((resolved_files_of_texts (universe_at inputs l) x.content file).0 e) (labels file) refl
+  by_text x is (Err why) e = of_text x is why ((faults_of_files (universe_at inputs l) x.content why).0 e)
 
   by_file : (o : Option File) → label_file inputs.files l ≡ o → is_some o ≡ true → IsFront (front_at inputs l o)
   by_file None e there = absurd (cc)
-  by_file (Some x) e there = by_code x e (code_of (universe_at inputs l) x.content) refl
+  by_file (Some x) e there = by_text x e (resolved_file (universe_at inputs l) x.content) refl
 
   -- where the file is there
   pub fronts_fail : is_some (label_file inputs.files l) ≡ true → IsFront (front_of inputs l)

@@ -70,18 +70,18 @@ some_of : (o : Option Datum) (v : Datum) → or_no_symbol o ≡ Ok v → o ≡ S
 some_of None v e = absurd (no_value NoSymbol v e)
 some_of (Some u) v e = ap Some (same_value u v e)
 
-module _ (code : List (Option ResolvedFile)) (m : ModuleView) (file : ResolvedFile) (name : Name) (v : Datum) (is : slice_get code m.frozen.own ≡ Some (Some file)) where
-  of_file : value_named name (globals_by (slice_get code m.frozen.own)) m.frozen.cells.globals ≡ value_named name file.globals m.frozen.cells.globals
+module _ (resolved : List (Option ResolvedFile)) (m : ModuleView) (file : ResolvedFile) (name : Name) (v : Datum) (is : slice_get resolved m.frozen.own ≡ Some (Some file)) where
+  of_file : value_named name (globals_by (slice_get resolved m.frozen.own)) m.frozen.cells.globals ≡ value_named name file.globals m.frozen.cells.globals
   of_file = ap (λ (o : Option (Option ResolvedFile)). value_named name (globals_by o) m.frozen.cells.globals) is
 
-  own : exported code (Some m) name ≡ Ok v → (is_private name ≡ false) × IsNamed name file.globals m.frozen.cells.globals v
+  own : exported resolved (Some m) name ≡ Ok v → (is_private name ≡ false) × IsNamed name file.globals m.frozen.cells.globals v
   unfolding exported
   own e = elim (by_bool (is_private name)) [
     | inl t ↦ absurd (no_value PrivateSymbol v (rw t at e))
-    | inr t ↦ (t, found name file.globals m.frozen.cells.globals v (sym of_file ∙ some_of (value_named name (globals_by (slice_get code m.frozen.own)) m.frozen.cells.globals) v (rw t at e)))
+    | inr t ↦ (t, found name file.globals m.frozen.cells.globals v (sym of_file ∙ some_of (value_named name (globals_by (slice_get resolved m.frozen.own)) m.frozen.cells.globals) v (rw t at e)))
   ]
 
-  all : is_private name ≡ false → IsNamed name file.globals m.frozen.cells.globals v → exported code (Some m) name ≡ Ok v
+  all : is_private name ≡ false → IsNamed name file.globals m.frozen.cells.globals v → exported resolved (Some m) name ≡ Ok v
   unfolding exported
   all public named =
       let value : value_named name file.globals m.frozen.cells.globals ≡ Some v =
@@ -89,4 +89,4 @@ module _ (code : List (Option ResolvedFile)) (m : ModuleView) (file : ResolvedFi
       rw public (ap or_no_symbol (of_file ∙ value))
 
 pub exports_its_own : ModulesExportTheirOwn
-exports_its_own code m file name v is = record { own = own code m file name v is; all = all code m file name v is }
+exports_its_own resolved m file name v is = record { own = own resolved m file name v is; all = all resolved m file name v is }

@@ -30,7 +30,7 @@ names_the_first x k front loaded kind load l =
     let first = l.first in
     let read = l.read in
     let known = l.known in
-    let line : line_of_load loaded.label l.file.code.loads l.file.loads ≡ load.line =
+    let line : line_of_load loaded.label l.own.file.loads l.own.loads ≡ load.line =
     (λ i. line_of_load loaded.label (first.loads_are i) (first.files_are i)) ∙ first_line loaded.label first.named load first.before first.after first.other first.later first.form first.place first.others in
     rw (read, known, line) refl
 

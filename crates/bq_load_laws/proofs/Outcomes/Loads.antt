@@ -21,8 +21,8 @@ use Rattle.bq_load_outcome_spec.specs.Outcome.{first, with_value, values, own, e
 use Rattle.bq_load_outcome_spec.specs.declared.outcome.Outcome.{Outcome}
 use Rattle.bq_load_outcome_spec.specs.declared.outcome.Outcome.TheVariants as o
 use Rattle.bq_load_outcome_spec.proofs.Solution.{cond_true, cond_false, outcome_is}
-use Rattle.bq_load_front.specs.Code as text
-use Rattle.bq_load_front.specs.Code.{◌>>=◌}
+use Rattle.bq_load_front.specs.Resolved as text
+use Rattle.bq_load_front.specs.Resolved.{◌>>=◌}
 use Rattle.bq_load_front.specs.Front.{load_of, front_at, front_of, loads_by}
 use Rattle.bq_load_front.specs.Parsed.{labels_of, kind_of}
 use Rattle.bq_load_front.specs.Reading.{parsed_of, loads_of}
@@ -111,10 +111,10 @@ module _ {V F : Type 0} where
 
 module _ (inputs : InputParts) (l : LabelParts) (front : Front) where
   abbrev pub Wide : Front → Type 0
-  Wide x = length x.code.loads ≡ length x.loads
+  Wide x = length x.file.loads ≡ length x.loads
 
   abbrev made : ResolvedFile → List LabelParts → Front
-  made code ls = record { code = code; loads = ls }
+  made file ls = record { file = file; loads = ls }
 
   abbrev ok : Front → Result Front Fault
   ok x = Ok x
@@ -122,19 +122,19 @@ module _ (inputs : InputParts) (l : LabelParts) (front : Front) where
   same_front : (x y : Front) → ok x ≡ ok y → x ≡ y
   same_front x y e = cc
 
-  wide_labels : (code : ResolvedFile) (r : Result (List LabelParts) Fault) → labels_of (load_of inputs (package_of l)) [] code.loads ≡ r → (r >>= λ ls. ok (made code ls)) ≡ ok front → Wide front
-  wide_labels code (Ok ls) is e =
-      let names : NameFiles (load_of inputs (package_of l)) code.loads ls = ((are_read (load_of inputs (package_of l)) code.loads).0 ls).0 is in
-      subst Wide (same_front (made code ls) front e) (sym (length-map code.loads (load_of inputs (package_of l))) ∙ ap length names ∙ length-map ls named)
-  wide_labels code (Err why) is e = absurd (cc)
+  wide_labels : (file : ResolvedFile) (r : Result (List LabelParts) Fault) → labels_of (load_of inputs (package_of l)) [] file.loads ≡ r → (r >>= λ ls. ok (made file ls)) ≡ ok front → Wide front
+  wide_labels file (Ok ls) is e =
+      let names : NameFiles (load_of inputs (package_of l)) file.loads ls = ((are_read (load_of inputs (package_of l)) file.loads).0 ls).0 is in
+      subst Wide (same_front (made file ls) front e) (sym (length-map file.loads (load_of inputs (package_of l))) ∙ ap length names ∙ length-map ls named)
+  wide_labels file (Err why) is e = absurd (cc)
 
-  wide_code : (r : Result ResolvedFile Fault) → (r >>= λ code. labels_of (load_of inputs (package_of l)) [] code.loads >>= λ ls. ok (made code ls)) ≡ ok front → Wide front
-  wide_code (Ok code) e = wide_labels code (labels_of (load_of inputs (package_of l)) [] code.loads) refl e
-  wide_code (Err why) e = absurd (cc)
+  wide_text : (r : Result ResolvedFile Fault) → (r >>= λ file. labels_of (load_of inputs (package_of l)) [] file.loads >>= λ ls. ok (made file ls)) ≡ ok front → Wide front
+  wide_text (Ok file) e = wide_labels file (labels_of (load_of inputs (package_of l)) [] file.loads) refl e
+  wide_text (Err why) e = absurd (cc)
 
   wide_file : (o : Option File) → front_at inputs l o ≡ ok front → Wide front
   wide_file None e = absurd (cc)
-  wide_file (Some x) e = wide_code (text.code_of (universe_of inputs (kind_of l)) x.content) e
+  wide_file (Some x) e = wide_text (text.resolved_file (universe_of inputs (kind_of l)) x.content) e
 
   pub wide : front_of inputs l ≡ ok front → Wide front
   unfolding front_of
@@ -156,8 +156,8 @@ module _ (files : List File) (rules : Rules) (limit : ℕ) (g : GraphParts) (is 
       let loaded = module_of inputs r.label in
       let there : Contains (loads_of inputs l) r.label = elim ((the_labels_added [] (loads_of inputs l) r.label).0 r.among) [ inl nothing ↦ absurd (none_in r.label nothing) | inr one ↦ one ] in
       let among : Contains front.loads r.label = subst (λ (z : List LabelParts). Contains z r.label) (sym (loads_agree inputs l) ∙ ap loads_by e) there in
-      let first = has_first r.label front.code.loads front.loads (wide inputs l front e) among in
-      let is_first : LoadsFirst x k (front_of inputs l) loaded first.load = record { file = front; read = e; known = module_at inputs x g.labels is.read k r.label r.at; first = first.is } in
+      let first = has_first r.label front.file.loads front.loads (wide inputs l front e) among in
+      let is_first : LoadsFirst x k (front_of inputs l) loaded first.load = record { own = front; read = e; known = module_at inputs x g.labels is.read k r.label r.at; first = first.is } in
       record { loaded = loaded; load = first.load; first = is_first; fault = names_the_first x k (front_of inputs l) loaded kind first.load is_first }
 
   module _ (m : ℕ) (l : LabelParts) (at : slice_get g.labels m ≡ Some l) where
@@ -169,7 +169,7 @@ module _ (files : List File) (rules : Rules) (limit : ℕ) (g : GraphParts) (is 
     by_outcome (o.TooDeep k) h told = told f.LoadDepth k h
     by_outcome (o.LoadFailed k) h told = told f.LoadFailed k h
 
-    -- a file without a code loads nothing
+    -- a file that does not resolve loads nothing
     by_front : (r : Result Front Fault) → front_of inputs l ≡ r → (kind : FaultKind) (k : ℕ) → Has (row g.edges m) k → IsAtItsLoad x k (front_of inputs l) kind
     by_front (Ok front) e kind k h = at_load m l front at e kind k h
     by_front (Err why) e kind k h =

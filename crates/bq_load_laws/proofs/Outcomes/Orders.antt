@@ -30,11 +30,11 @@ by_global : (o : Option Datum) → fault_in (or_no_symbol o) ≡ first_fault (wh
 by_global None = refl
 by_global (Some v) = refl
 
-pub exported_in_order : (code : List (Option ResolvedFile)) (m : Option ModuleView) (name : Name) → FailsForFirst (exported code m name) (exporting code m name)
+pub exported_in_order : (resolved : List (Option ResolvedFile)) (m : Option ModuleView) (name : Name) → FailsForFirst (exported resolved m name) (exporting resolved m name)
 unfolding exported
-exported_in_order code m name = elim (by_bool (is_private name)) [
+exported_in_order resolved m name = elim (by_bool (is_private name)) [
   | inl t ↦ rw t refl
-  | inr t ↦ rw t (by_global (global_by code m name))
+  | inr t ↦ rw t (by_global (global_by resolved m name))
 ]
 
 -- ---- modules

@@ -6,7 +6,7 @@ use Rattle.bq_load_front.specs.Front.{front_of}
 use Rattle.bq_load_front.specs.Inputs.{InputParts}
 use Rattle.bq_load_discover.specs.declared.modules.Module.{Module}
 use Rattle.bq_load_discover.specs.Module.{module_of}
-use Rattle.bq_load.specs.Codes.{code_by, codes_of}
+use Rattle.bq_load.specs.ResolvedFiles.{front_file, resolved_files}
 use Rattle.bq_load.specs.Loading.{LoadingParts}
 
 module _ (inputs : InputParts) (x : LoadingParts) (labels : List LabelParts) (read : x.modules ≡ map (module_of inputs) labels) where
@@ -16,5 +16,5 @@ module _ (inputs : InputParts) (x : LoadingParts) (labels : List LabelParts) (re
   pub module_at : (m : ℕ) (l : LabelParts) → slice_get labels m ≡ Some l → slice_get x.modules m ≡ Some (module_of inputs l)
   module_at m l at = module_by_label m ∙ ap (option_map (module_of inputs)) at
 
-  pub code_at : (m : ℕ) (l : LabelParts) → slice_get labels m ≡ Some l → slice_get (codes_of x.modules) m ≡ Some (code_by (front_of inputs l))
-  code_at m l at = slice_get-map (λ (z : Module). code_by z.front) x.modules m ∙ ap (option_map (λ (z : Module). code_by z.front)) (module_at m l at)
+  pub file_at : (m : ℕ) (l : LabelParts) → slice_get labels m ≡ Some l → slice_get (resolved_files x.modules) m ≡ Some (front_file (front_of inputs l))
+  file_at m l at = slice_get-map (λ (z : Module). front_file z.front) x.modules m ∙ ap (option_map (λ (z : Module). front_file z.front)) (module_at m l at)

@@ -202,12 +202,12 @@ module _ {W : Type 0} (Step : ℕ → W → W → Type 0) where
       with_globals ts k (done u s) h = h
       with_globals ts k (stopped why) h = tt
 
-      pub file_goes : (code : List (Option ResolvedFile)) (number : ℕ) (file : ResolvedFile) (loaded : List FrozenView) (imports : List Datum) (limit : ℕ) (kept : W)
-          → Left (Goes file.statements kept) (module_run names host code number file loaded imports limit kept)
+      pub file_goes : (files : List (Option ResolvedFile)) (number : ℕ) (file : ResolvedFile) (loaded : List FrozenView) (imports : List Datum) (limit : ℕ) (kept : W)
+          → Left (Goes file.statements kept) (module_run names host files number file loaded imports limit kept)
       unfolding module_run slots.module_meaning module_meaning
-      file_goes code number file loaded imports limit kept =
+      file_goes files number file loaded imports limit kept =
           let own : Own Surroundings Frame = own_of number file imports in
-          let units = frozen_units code loaded in
+          let units = frozen_units files loaded in
           let s : State × W = (started (first_store number loaded) limit, kept) in
           let globals = first_globals file.loads imports empty in
           with_globals file.statements kept (run_all names host units own file.statements globals s) (statements_go units own file.statements globals s)

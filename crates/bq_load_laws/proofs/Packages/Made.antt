@@ -95,7 +95,7 @@ imported_own x m l file modules (Ok values) =
 
 file_own : (x : LoadingParts) (m : ℕ) (l : LabelParts) (front : Front) (modules : List ModuleView) → IfOk (file_means x m l front modules) (Own (kind_of l) l)
 unfolding file_means
-file_own x m l front modules = imported_own x m l front.code modules (imports (loaded_parts x front modules) [] front.code.loads front.loads)
+file_own x m l front modules = imported_own x m l front.file modules (imports (loaded_parts x front modules) [] front.file.loads front.loads)
 
 front_own : (x : LoadingParts) (m : ℕ) (l : LabelParts) (modules : List ModuleView) (front : Result Front Fault) → IfOk (by_front x m l modules front) (Own (kind_of l) l)
 front_own x m l modules (Err why) = tt

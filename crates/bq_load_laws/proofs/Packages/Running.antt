@@ -11,7 +11,7 @@ use Rattle.bq_package_target.specs.Package.{PackageTargets}
 use Rattle.bq_package.specs.Calls.{Declaring, HeldPackage, outside, declaring, package_in, meaning}
 use Rattle.bq_eval_package_laws.proofs.BuildFiles.Calls.{calls_own}
 use Rattle.bq_load.specs.Evaluation.{kept_first, evaluation}
-use Rattle.bq_load.specs.Codes.{codes_of}
+use Rattle.bq_load.specs.ResolvedFiles.{resolved_files}
 use Rattle.bq_load.specs.Loading.{LoadingParts}
 use Rattle.bq_load.specs.Views.{ModuleView}
 use Rattle.bq_load_laws.specs.Packages.Declared.{AreDeclaredBy}
@@ -64,4 +64,4 @@ bzl_ends (t ∷ ss) k last none h = bzl_ends ss h.0 last (still_none t.line k h.
 pub left_by : (x : LoadingParts) (m : ℕ) (l : LabelParts) (file : ResolvedFile) (modules : List ModuleView) (values : List Datum)
     → Left (Goes Held file.statements (kept_first x l)) (evaluation x m l file modules values)
 unfolding evaluation
-left_by x m l file modules values = file_goes Held held_still x.names meaning calls_own calls_keep rules_keep (codes_of x.modules) m file (map (λ v. v.frozen) modules) values x.limit (kept_first x l)
+left_by x m l file modules values = file_goes Held held_still x.names meaning calls_own calls_keep rules_keep (resolved_files x.modules) m file (map (λ v. v.frozen) modules) values x.limit (kept_first x l)

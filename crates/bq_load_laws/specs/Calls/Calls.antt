@@ -9,7 +9,7 @@ use Rattle.bq_eval_laws.specs.Evaluations.Callable.{IsCallable}
 use Rattle.bq_load_discover.specs.LoadGraph.{GraphParts, IsReadGraph, inputs_of}
 use Rattle.bq_load_outcome_spec.specs.Outcome.{outcome, values}
 use Rattle.bq_load.specs.Evaluation.{means}
-use Rattle.bq_load.specs.Codes.{codes_of}
+use Rattle.bq_load.specs.ResolvedFiles.{resolved_files}
 use Rattle.bq_load.specs.Loading.{LoadingParts, loading_in}
 use Rattle.bq_load.specs.Views.{ModuleView}
 
@@ -21,4 +21,4 @@ AreLoaded x p m modules = values (outcome (means x) p) (row p m) ≡ Ok modules
 abbrev pub FunctionsOfLoadsAreCallable : Type 0
 FunctionsOfLoadsAreCallable =
     (files : List File) (rules : Rules) (limit : ℕ) (g : GraphParts) → IsReadGraph (inputs_of files rules) g → (m home : ℕ) (l : LabelParts) (modules : List ModuleView)
-    → slice_get g.labels m ≡ Some l → AreLoaded (loading_in files rules limit g) g.edges m modules → Reaches g.edges m home → IsCallable (codes_of g.modules) m (map (λ v. v.frozen) modules) home
+    → slice_get g.labels m ≡ Some l → AreLoaded (loading_in files rules limit g) g.edges m modules → Reaches g.edges m home → IsCallable (resolved_files g.modules) m (map (λ v. v.frozen) modules) home

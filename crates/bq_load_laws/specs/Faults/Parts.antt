@@ -24,7 +24,7 @@ use Rattle.bq_eval_laws.specs.Evaluations.Files.{IsAtStatement}
 use Rattle.bq_base_fault_line.specs.declared.fault_line.FaultLine.{FaultLine}
 use Rattle.bq_load_front.specs.Parsed.{kind_of}
 use Rattle.bq_load_front.specs.Inputs.{InputParts, universe_of}
-use Rattle.bq_load_front.specs.Laws.{HasCode}
+use Rattle.bq_load_front.specs.Laws.{TextResolvesTo}
 use Rattle.bq_load_discover.specs.LoadGraph.{GraphParts, IsReadGraph, inputs_of}
 use Rattle.bq_load.specs.declared.loaded.Loaded.{Loaded}
 use Rattle.bq_load.specs.Loaded.{LoadsWorkspace}
@@ -70,8 +70,8 @@ pub data FailsIn (inputs : InputParts) (l : LabelParts) (why : Fault) : Type 0 w
       → is_of_statements why.kind ≡ true → FailsIn inputs l why
   of_names : (x : File) (tokens : List Token) (trees : List TopLevel) → label_file inputs.files l ≡ Some x → Lexes x.content (Ok tokens) → Parses (kind_of l) (lexemes x.content tokens) (Ok trees)
       → resolved (universe_at inputs l) trees ≡ Err why → is_of_names why.kind ≡ true → FailsIn inputs l why
-  of_loads : (x : File) (code : ResolvedFile) → label_file inputs.files l ≡ Some x → HasCode (universe_at inputs l) x.content code → is_of_loads why.kind ≡ true → IsAtLoad code.loads why → FailsIn inputs l why
-  of_evaluation : (x : File) (code : ResolvedFile) → label_file inputs.files l ≡ Some x → HasCode (universe_at inputs l) x.content code → is_refusal why.kind ≡ true → IsAtStatement code.statements why → FailsIn inputs l why
+  of_loads : (x : File) (file : ResolvedFile) → label_file inputs.files l ≡ Some x → TextResolvesTo (universe_at inputs l) x.content file → is_of_loads why.kind ≡ true → IsAtLoad file.loads why → FailsIn inputs l why
+  of_evaluation : (x : File) (file : ResolvedFile) → label_file inputs.files l ≡ Some x → TextResolvesTo (universe_at inputs l) x.content file → is_refusal why.kind ≡ true → IsAtStatement file.statements why → FailsIn inputs l why
 
 -- a module's outcome is a value, or a fault of one of its parts
 abbrev pub FailsInItsPart : InputParts → OutcomeView → Type 0

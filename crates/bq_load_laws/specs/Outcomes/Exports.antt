@@ -16,10 +16,10 @@ pub record IsNamed (name : Name) (names : List Name) (values : List Datum) (v : 
   pub value : slice_get values (length before) ≡ Some v
 
 -- a symbol that a module has is one that its file binds outside all functions, with its value there
-pub record ExportsItsOwn (code : List (Option ResolvedFile)) (m : ModuleView) (file : ResolvedFile) (name : Name) (v : Datum) : Type 0 where
-  pub own : exported code (Some m) name ≡ Ok v → (is_private name ≡ false) × IsNamed name file.globals m.frozen.cells.globals v
-  pub all : is_private name ≡ false → IsNamed name file.globals m.frozen.cells.globals v → exported code (Some m) name ≡ Ok v
+pub record ExportsItsOwn (resolved : List (Option ResolvedFile)) (m : ModuleView) (file : ResolvedFile) (name : Name) (v : Datum) : Type 0 where
+  pub own : exported resolved (Some m) name ≡ Ok v → (is_private name ≡ false) × IsNamed name file.globals m.frozen.cells.globals v
+  pub all : is_private name ≡ false → IsNamed name file.globals m.frozen.cells.globals v → exported resolved (Some m) name ≡ Ok v
 
 abbrev pub ModulesExportTheirOwn : Type 0
 ModulesExportTheirOwn =
-    (code : List (Option ResolvedFile)) (m : ModuleView) (file : ResolvedFile) (name : Name) (v : Datum) → slice_get code m.frozen.own ≡ Some (Some file) → ExportsItsOwn code m file name v
+    (resolved : List (Option ResolvedFile)) (m : ModuleView) (file : ResolvedFile) (name : Name) (v : Datum) → slice_get resolved m.frozen.own ≡ Some (Some file) → ExportsItsOwn resolved m file name v

@@ -34,10 +34,10 @@ pub record IsFirstLoadOf (file : LabelParts) (load : LoadStmt) (loads : List Loa
 
 -- of the loads in this file, this is the first of module `k`, which is this one
 pub record LoadsFirst (x : LoadingParts) (k : ℕ) (front : Result Front Fault) (loaded : Module) (load : LoadStmt) : Type 0 where
-  pub file : Front
-  pub read : front ≡ Ok file
+  pub own : Front
+  pub read : front ≡ Ok own
   pub known : slice_get x.modules k ≡ Some loaded
-  pub first : IsFirstLoadOf loaded.label load file.code.loads file.loads
+  pub first : IsFirstLoadOf loaded.label load own.file.loads own.loads
 
 -- the fault at that load, which names what it loads
 abbrev pub fault_at_load : FaultKind → LoadStmt → Module → Fault

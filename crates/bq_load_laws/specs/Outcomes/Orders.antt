@@ -15,7 +15,7 @@ use Rattle.bq_builtin_refusal_laws.specs.Refusals.{Check, when}
 
 -- a symbol that a load asks for: F34 for a private name, also where there is none, and then F33
 abbrev pub exporting : List (Option ResolvedFile) → Option ModuleView → Name → List Check
-exporting code m name = when (is_private name) PrivateSymbol ∷ when (not (is_some (global_by code m name))) NoSymbol ∷ []
+exporting resolved m name = when (is_private name) PrivateSymbol ∷ when (not (is_some (global_by resolved m name))) NoSymbol ∷ []
 
 -- why a module failed, if it did
 abbrev pub failure : Result ModuleView FailedView → Check

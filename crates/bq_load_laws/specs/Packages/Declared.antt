@@ -13,7 +13,7 @@ use Rattle.bq_package_target.specs.declared.target.Target.{Target}
 use Rattle.bq_package_target.specs.Package.{PackageTargets}
 use Rattle.bq_package_target.specs.Target.{source}
 use Rattle.bq_load_front.specs.Inputs.{InputParts}
-use Rattle.bq_load_front.specs.Laws.{HasCode}
+use Rattle.bq_load_front.specs.Laws.{TextResolvesTo}
 use Rattle.bq_load_discover.specs.LoadGraph.{GraphParts, IsReadGraph, inputs_of}
 use Rattle.bq_load.specs.declared.loaded.Loaded.{Loaded}
 use Rattle.bq_load.specs.Loaded.{LoadsWorkspace}
@@ -54,9 +54,9 @@ pub record HasDeclared (statements : List FileLine) (p : PackageTargets) : Type 
 pub record DeclaresIn (inputs : InputParts) (l : LabelParts) (p : PackageTargets) : Type 0 where
   pub file : File
   pub there : label_file inputs.files l ≡ Some file
-  pub code : ResolvedFile
-  pub has : HasCode (universe_at inputs l) file.content code
-  pub declared : HasDeclared code.statements p
+  pub resolved : ResolvedFile
+  pub has : TextResolvesTo (universe_at inputs l) file.content resolved
+  pub declared : HasDeclared resolved.statements p
 
 -- a package is that of its own BUILD file, which declares its targets
 abbrev pub DeclaresAllIn : InputParts → LabelParts → Option PackageTargets → Type 0

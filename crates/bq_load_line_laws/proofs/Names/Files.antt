@@ -114,8 +114,8 @@ module _ (file : FileParts) where
   unfolding TopLevelIs
   top_stands k t z fs ls h (x, r, e) = (subst (λ (y : FileLine). 1 ≤ y.line) (sym e) h.0, stmt_stands k (out-Stmt t.statement) x fs ls h.1.1 r)
 
-pub code_stands : (universe : UniverseParts) (kind : FileKind) (ts : List Lexeme) (xs : List TopLevel) (code : ResolvedFile) → Numbered ts → Parses kind ts (Ok xs) → resolved universe xs ≡ Ok code
-    → AllByRecursion (λ x. 1 ≤ x.line) code.statements × AllByRecursion (λ l. 1 ≤ l.line) code.loads
-code_stands universe kind ts xs code h g e =
+pub resolved_stands : (universe : UniverseParts) (kind : FileKind) (ts : List Lexeme) (xs : List TopLevel) (resolved_file : ResolvedFile) → Numbered ts → Parses kind ts (Ok xs) → resolved universe xs ≡ Ok resolved_file
+    → AllByRecursion (λ x. 1 ≤ x.line) resolved_file.statements × AllByRecursion (λ l. 1 ≤ l.line) resolved_file.loads
+resolved_stands universe kind ts xs resolved_file h g e =
     let file : FileParts = file_names universe xs in
-    turn_stands (TopLevelIs file) (TreeFine file) (λ x. 1 ≤ x.line) (top_stands file) 0 xs code.statements code.functions code.loads (trees_fine file kind ts xs h g) (to_themselves universe xs code e).0
+    turn_stands (TopLevelIs file) (TreeFine file) (λ x. 1 ≤ x.line) (top_stands file) 0 xs resolved_file.statements resolved_file.functions resolved_file.loads (trees_fine file kind ts xs h g) (to_themselves universe xs resolved_file e).0

@@ -11,7 +11,7 @@ pub returns : goal.returns
 returns g c =
     let h = g.R.Runtime in
     let x = c.args.module.now in
-    let p : Program = record { number = x.number; functions = c.as_slice.result; loaded = x.imports; code = x.code; frozen = x.loaded } in
+    let p : Program = record { number = x.number; functions = c.as_slice.result; loaded = x.imports; code = x.files; frozen = x.loaded } in
     let e = module_of_program h.means p x.file.now c.as_slice-loads.result.now c.as_slice-stmts.result.now (h.seen c.args.runtime.now) c.as_slice.ensures c.as_slice-loads.ensures c.as_slice-stmts.ensures in
     let P : Run h.State Frame → Type 0 = λ run. Acts h.means slots_of c.run_program.result (h.seen c.run_program.new.runtime) run in
     subst P e c.run_program.ensures

@@ -1,4 +1,4 @@
-use Rattle.bq_load_front.proofs.Codes.{faults_of_files}
+use Rattle.bq_load_front.proofs.ResolvedFiles.{faults_of_files}
 use Rattle.bq_load_front.proofs.laws.faults_of_files.Goals as goal
 
 pub returns : goal.returns

@@ -46,6 +46,6 @@ returns-in_ok-evaluated-in-Ok-imports g c =
     let values = c.in-Ok-imports.values.items in
     let read = c.in-Some.ensures.lookup in
     let there : slice_get x.modules c.args.m ≡ Some s = slice_get_read x.modules (length x.modules) c.args.m s refl read.3.0 read.1 in
-    let is : told module_view failed_view c.in_ok-evaluated-in-Ok-imports.field-0 ≡ module_after front.code values (evaluation x c.args.m s.label front.code ms values) =
-    subst (λ (vs : List Datum). told module_view failed_view c.in_ok-evaluated-in-Ok-imports.field-0 ≡ module_after front.code vs (evaluation x c.args.m s.label front.code ms vs)) c.deref.ensures.value c.in_ok-evaluated-in-Ok-imports.ensures in
+    let is : told module_view failed_view c.in_ok-evaluated-in-Ok-imports.field-0 ≡ module_after front.file values (evaluation x c.args.m s.label front.file ms values) =
+    subst (λ (vs : List Datum). told module_view failed_view c.in_ok-evaluated-in-Ok-imports.field-0 ≡ module_after front.file vs (evaluation x c.args.m s.label front.file ms vs)) c.deref.ensures.value c.in_ok-evaluated-in-Ok-imports.ensures in
     is ∙ sym (means_file x c.args.m ms s front there c.in-Ok.is (Ok values) c.in-Ok-imports.ensures)

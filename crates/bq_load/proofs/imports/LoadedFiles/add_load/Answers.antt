@@ -9,5 +9,5 @@ pub invariant_of-exports : goal.invariant_of-exports
 invariant_of-exports c =
     let own = c.args.self.now in
     record {
-      placed = λ x is. subst (λ o. HasPlaces 0 (names_by (lent_files own.code.now) o) x.now) (sym c.module_in.ensures) (placed_at (lent_files own.code.now) own.modules.now c.args.places.now c.args.place x.now c.requires (c.places_at.ensures x is));
+      placed = λ x is. subst (λ o. HasPlaces 0 (names_by (lent_files own.resolved.now) o) x.now) (sym c.module_in.ensures) (placed_at (lent_files own.resolved.now) own.modules.now c.args.places.now c.args.place x.now c.requires (c.places_at.ensures x is));
     }

@@ -8,5 +8,5 @@ use Rattle.bq_load.proofs.imports.LoadedFiles.all_places.Given as goal
 abbrev pub invariant-loop-number : goal.invariant-loop-number
 invariant-loop-number l = record {
   wide : length l.all.items ≡ l.number;
-  placed : AllPlaced (names_of (lent_files l.self.code.now) l.self.modules.now) l.all.items;
+  placed : AllPlaced (names_of (lent_files l.self.resolved.now) l.self.modules.now) l.all.items;
 }

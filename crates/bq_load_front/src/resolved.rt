@@ -2,7 +2,7 @@
 
 ghost use Rattle.bq_base.specs.Gives.{Gives};
 ghost use Rattle.bq_base.specs.declared.fault.SourceErr.TheVariants.{Bad};
-ghost use Rattle.bq_load_front.specs.Code.{code_of, itself};
+ghost use Rattle.bq_load_front.specs.Resolved.{resolved_file, itself};
 
 use bq_base::SourceErr;
 use bq_parse::parse;
@@ -13,9 +13,9 @@ use std::alloc::Global;
 
 /// Returns what a text resolves to as a file of this kind, or its first fault: of its tokens (F1 to F8), then of its
 /// statements (F10 to F13), then of its names (F20 to F24). It takes time and memory in proportion to the text.
-#[tactic(auto, using(crate::proofs::Tokens::lexes), unfolding(crate::specs::Code::code_of))]
-pub fn code_of(alloc: Global, universe: &Universe, text: &[u8]) -> Result<ResolvedFile, SourceErr>
-    ensures { Gives itself Bad result (code_of universe.now text.now) }
+#[tactic(auto, using(crate::proofs::Tokens::lexes), unfolding(crate::specs::Resolved::resolved_file))]
+pub fn resolved_file(alloc: Global, universe: &Universe, text: &[u8]) -> Result<ResolvedFile, SourceErr>
+    ensures { Gives itself Bad result (resolved_file universe.now text.now) }
 {
     let tokens = lex(alloc, text)?;
     let file = parse(alloc, &tokens, text, universe.kind())?;

@@ -16,8 +16,8 @@ abbrev pub ◌>>=◌ : {A B : Type 0} → Result A Fault → (A → Result B Fau
 (Ok x) >>= go = go x
 
 -- its tokens, the trees of its statements, and what their names stand for
-unfoldable pub code_of : UniverseParts → List ℕ → Result ResolvedFile Fault
-code_of universe text = tokens_of text >>= λ ts. statements_of universe.kind (lexemes text ts) >>= λ trees. resolved universe trees
+unfoldable pub resolved_file : UniverseParts → List ℕ → Result ResolvedFile Fault
+resolved_file universe text = tokens_of text >>= λ ts. statements_of universe.kind (lexemes text ts) >>= λ trees. resolved universe trees
 
 -- the views of what functions return, under which `Gives` relates it to a definition
 abbrev pub itself : {A : Type 0} → A → A

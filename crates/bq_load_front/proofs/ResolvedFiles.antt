@@ -13,11 +13,11 @@ use Rattle.bq_resolve_scope.specs.declared.file.ResolvedFile.{ResolvedFile}
 use Rattle.bq_resolve_scope.specs.Universe.{UniverseParts}
 use Rattle.bq_resolve_scope.specs.Files.{resolved}
 use Rattle.bq_parse_statement_laws.proofs.Verdicts.{file_reads, file_only}
-use Rattle.bq_load_front.specs.Code.{code_of, ◌>>=◌}
-use Rattle.bq_load_front.specs.Laws.{HasCode, HasFault, CodesOfFiles, FaultsOfFiles}
+use Rattle.bq_load_front.specs.Resolved.{resolved_file, ◌>>=◌}
+use Rattle.bq_load_front.specs.Laws.{TextResolvesTo, HasFault, ResolvedFilesOfTexts, FaultsOfFiles}
 
-no_code : (why : Fault) (code : ResolvedFile) → Err why ≡ Ok code → ⊥
-no_code why code e = cc
+not_resolved : (why : Fault) (file : ResolvedFile) → Err why ≡ Ok file → ⊥
+not_resolved why file e = cc
 
 abbrev no_file : Fault → Result ResolvedFile Fault
 no_file why = Err why
@@ -38,16 +38,16 @@ module _ (universe : UniverseParts) (text : List ℕ) where
   trees_are : (tokens : List Token) (r : Result (List TopLevel) Fault) → Parses universe.kind (lexemes text tokens) r → statements_of universe.kind (lexemes text tokens) ≡ r
   trees_are tokens r p = sym (file_only universe.kind (lexemes text tokens) r p)
 
-  -- ---- the code
+  -- ---- the file
 
-  code_by_trees : (tokens : List Token) → Lexes text (Ok tokens) → (r : Result (List TopLevel) Fault) → Parses universe.kind (lexemes text tokens) r
-      → (code : ResolvedFile) → of_trees r ≡ Ok code → HasCode universe text code
-  code_by_trees tokens l (Ok trees) p code e = record { tokens = tokens; reads = l; trees = trees; parses = p; names = e }
-  code_by_trees tokens l (Err why) p code e = absurd (no_code why code e)
+  resolved_by_trees : (tokens : List Token) → Lexes text (Ok tokens) → (r : Result (List TopLevel) Fault) → Parses universe.kind (lexemes text tokens) r
+      → (file : ResolvedFile) → of_trees r ≡ Ok file → TextResolvesTo universe text file
+  resolved_by_trees tokens l (Ok trees) p file e = record { tokens = tokens; reads = l; trees = trees; parses = p; names = e }
+  resolved_by_trees tokens l (Err why) p file e = absurd (not_resolved why file e)
 
-  code_by_tokens : (r : Result (List Token) Fault) → Lexes text r → (code : ResolvedFile) → of_tokens r ≡ Ok code → HasCode universe text code
-  code_by_tokens (Ok tokens) l code e = code_by_trees tokens l (statements_of universe.kind (lexemes text tokens)) (file_reads universe.kind (lexemes text tokens)) code e
-  code_by_tokens (Err why) l code e = absurd (no_code why code e)
+  resolved_by_tokens : (r : Result (List Token) Fault) → Lexes text r → (file : ResolvedFile) → of_tokens r ≡ Ok file → TextResolvesTo universe text file
+  resolved_by_tokens (Ok tokens) l file e = resolved_by_trees tokens l (statements_of universe.kind (lexemes text tokens)) (file_reads universe.kind (lexemes text tokens)) file e
+  resolved_by_tokens (Err why) l file e = absurd (not_resolved why file e)
 
   along : (tokens : List Token) → Lexes text (Ok tokens) → (r : Result (List TopLevel) Fault) → Parses universe.kind (lexemes text tokens) r → of_tokens (tokens_of text) ≡ of_trees r
   along tokens l r p = ap of_tokens (tokens_are (Ok tokens) l) ∙ ap of_trees (trees_are tokens r p)
@@ -68,15 +68,15 @@ module _ (universe : UniverseParts) (text : List ℕ) where
   fault_back why (HasFault.of_statements tokens l p) = along tokens l (Err why) p
   fault_back why (HasFault.of_names tokens trees l p e) = along tokens l (Ok trees) p ∙ e
 
-pub codes_of_files : CodesOfFiles
-unfolding code_of
-codes_of_files universe text code = (
-  λ e. code_by_tokens universe text (tokens_of text) (every_text text) code e,
+pub resolved_files_of_texts : ResolvedFilesOfTexts
+unfolding resolved_file
+resolved_files_of_texts universe text file = (
+  λ e. resolved_by_tokens universe text (tokens_of text) (every_text text) file e,
   λ h. along universe text h.tokens h.reads (Ok h.trees) h.parses ∙ h.names,
 )
 
 pub faults_of_files : FaultsOfFiles
-unfolding code_of
+unfolding resolved_file
 faults_of_files universe text why = (
   λ e. fault_by_tokens universe text (tokens_of text) (every_text text) why e,
   λ h. fault_back universe text why h,
