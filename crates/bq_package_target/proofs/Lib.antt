@@ -8,3 +8,5 @@ pub mod PutBack
 -- Parts of definitions, as words that proofs name.
 pub mod Cases
 mod ByNames
+-- Targets and packages may cross threads.
+pub mod Crossing

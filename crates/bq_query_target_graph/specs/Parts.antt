@@ -14,11 +14,12 @@ pub record IsFoundIn (ls files : List LabelParts) (a : ℕ) (ts : List Target) (
   pub edges : p.edges.items ≡ edges_from ls a ts
   pub lines : p.dangling.items ≡ dangling_from ls files ts
 
--- what a part that was found has
+-- the edges of a part; none where memory ran out
 abbrev pub part_edges : Result Part AllocError → List Edge
 part_edges (Ok p) = p.edges.items
 part_edges (Err e) = []
 
+-- its fault lines, of labels that name no target; none where memory ran out
 abbrev pub part_lines : Result Part AllocError → List FaultLine
 part_lines (Ok p) = p.dangling.items
 part_lines (Err e) = []

@@ -7,6 +7,7 @@ use Rattle.bq_value_seed.proofs.seed.Seed.TheSendSync as Seed
 use Rattle.bq_value_seed.proofs.hasher.KeyHasher.TheSendSync as KeyHasher
 use Rattle.bq_base.proofs.fault.Fault.TheSendSync as Fault
 use Rattle.bq_base_names.proofs.name_set.NameSet.TheSendSync as Names
+use Rattle.bq_package_schema.specs.contracts.schema.Schema as Schema
 use Rattle.bq_package_host.specs.contracts.built_ins.BuiltIns as BuiltIns
 use Rattle.bq_load_front.specs.contracts.named_files.NamedFiles as NamedFiles
 use Rattle.bq_load_front.specs.contracts.front.Front as Front
@@ -16,15 +17,18 @@ use Rattle.bq_load.specs.contracts.loading.Loading as Loading
 use Rattle.bq_load.specs.contracts.gate.GateWatch as GateWatch
 use Rattle.bq_load.proofs.Crossing.Values.{frozen_send, frozen_sync}
 use Rattle.bq_load_discover.proofs.Crossing.Trees.{resolved_sync}
-use Rattle.bq_load.proofs.Crossing.Targets.{package_send, package_sync}
-use Rattle.bq_load.proofs.Crossing.Classes.{label_send, label_sync}
-use Rattle.bq_load.proofs.Crossing.Workspaces.{workspace_sync, packages_sync, schema_sync}
+use Rattle.bq_package_target.proofs.Crossing.Targets.{package_send, package_sync}
+use Rattle.bq_package_target.proofs.Crossing.Classes.{label_send, label_sync, class_sync}
+use Rattle.bq_load_discover.proofs.Crossing.Workspaces.{workspace_sync, packages_sync}
 
 pub loaded_send : IsSend (LoadedModule.the_field).row
 loaded_send = let fs = frozen_send in let fy = frozen_sync in let p = package_send in search (crosses, sendable) depth 60 fits 20000
 
 pub loaded_sync : IsSync (LoadedModule.the_field).row
 loaded_sync = let fs = frozen_send in let fy = frozen_sync in let p = package_sync in search (crosses, sendable) depth 60 fits 20000
+
+pub schema_sync : IsSync (Schema.the_field).row
+schema_sync = let c = class_sync in search (Names.the_send, Names.the_sync, crosses, sendable) depth 60 fits 100000
 
 pub built_ins_sync : IsSync (BuiltIns.the_field).row
 built_ins_sync = search (Names.the_send, Names.the_sync, crosses, sendable) depth 60 fits 100000

@@ -17,7 +17,7 @@ use Rattle.bq_value_content.specs.contracts.kinds.Kinds as Kinds
 use Rattle.bq_value.specs.contracts.shared.Shared as Shared
 use Rattle.bq_value.specs.contracts.tree.Tree as Tree
 use Rattle.bq_value.specs.contracts.frozen.Frozen as Frozen
-use Rattle.bq_load.proofs.Crossing.Classes.{attribute_send, attribute_sync, class_send, class_sync}
+use Rattle.bq_package_target.proofs.Crossing.Classes.{attribute_send, attribute_sync, class_send, class_sync}
 use Rattle.bq_load_discover.proofs.Crossing.Trees.{rule_function_send, rule_function_sync, predeclared_send, predeclared_sync}
 
 pub value_send : IsSend (Value.the_field).row

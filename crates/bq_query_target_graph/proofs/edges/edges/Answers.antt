@@ -7,7 +7,8 @@ use Rattle.bq_package_target.specs.declared.target.Target.{Target}
 use Rattle.bq_query_target_graph.specs.Order.{labels_of}
 use Rattle.bq_query_target_graph.specs.Parts.{IsFoundIn}
 use Rattle.bq_query_target_graph.specs.declared.edges.Part.{Part}
-use Rattle.bq_query_target_graph.proofs.Crossing.{target_sync, part_send}
+use Rattle.bq_package_target.proofs.Crossing.Targets.{target_sync}
+use Rattle.bq_query_target_graph.proofs.Crossing.{part_send}
 use Rattle.bq_query_target_graph.proofs.Parts.{joined_edges, joined_lines}
 use Rattle.bq_query_target_graph.proofs.edges.edges.Goals as goal
 

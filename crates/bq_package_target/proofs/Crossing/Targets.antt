@@ -7,7 +7,7 @@ use Rattle.bq_package_target.specs.contracts.target.Target as Target
 use Rattle.bq_package_target.specs.contracts.by_name.PlacedTarget as PlacedTarget
 use Rattle.bq_package_target.specs.contracts.by_name.TargetsByName as TargetsByName
 use Rattle.bq_package_target.specs.contracts.package.Package as Package
-use Rattle.bq_load.proofs.Crossing.Classes.{label_send, label_sync, value_send, value_sync, class_send, class_sync}
+use Rattle.bq_package_target.proofs.Crossing.Classes.{label_send, label_sync, value_send, value_sync, class_send, class_sync}
 
 pub given_send : IsSend (GivenAttribute.the_field).row
 given_send = let v = value_send in search (crosses, sendable) depth 60 fits 20000

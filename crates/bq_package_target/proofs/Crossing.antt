@@ -1,0 +1,4 @@
+-- labels, and what rules say of their attributes
+pub mod Classes
+-- the targets of packages
+pub mod Targets
