@@ -32,7 +32,7 @@ use Rattle.bq_load_front.proofs.Cases.{parsed_at, unless_broken}
 
 -- what the file resolves to, or the same fault
 abbrev ResultsAgree : Result ParsedFile Fault → Result ResolvedFile Fault → Type 0
-ResultsAgree (Ok file) (Ok resolved) = ResolvesTo file resolved
+ResultsAgree (Ok file) (Ok found) = ResolvesTo file found
 ResultsAgree (Err why) (Err told) = told ≡ why
 ResultsAgree _ _ = ⊥
 
@@ -57,9 +57,9 @@ module _ (universe : UniverseParts) where
 
   by_names : (ts : List Lexeme) (trees : List TopLevel) → Parses universe.kind ts (Ok trees) → (vs : List Fault) → violations universe trees ≡ vs
       → (r : Result ResolvedFile Fault) → resolved universe trees ≡ r → ResultsAgree (unless_broken (parsed_file trees) vs) r
-  by_names ts trees p [] is (Ok resolved) e = record { lexemes = ts; parses = p; names = e }
+  by_names ts trees p [] is (Ok found) e = record { lexemes = ts; parses = p; names = e }
   by_names ts trees p [] is (Err told) e = absurd (no_first told (violations universe trees) is ((first_violation universe trees told).0 e))
-  by_names ts trees p (v ∷ more) is (Ok resolved) e = absurd (not_none v more (violations universe trees) is ((without_violations universe trees).0 (resolved, e)))
+  by_names ts trees p (v ∷ more) is (Ok found) e = absurd (not_none v more (violations universe trees) is ((without_violations universe trees).0 (found, e)))
   by_names ts trees p (v ∷ more) is (Err told) e = is_first v told more (violations universe trees) is ((first_violation universe trees told).0 e)
 
   by_trees : (ts : List Lexeme) (r : Result (List TopLevel) Fault) → Parses universe.kind ts r → ResultsAgree (r >>= file_from universe) (r >>= λ trees. resolved universe trees)
@@ -85,25 +85,25 @@ module _ (inputs : InputParts) (own : PackageParts) where
 
 module _ (inputs : InputParts) (l : LabelParts) where
   abbrev front_with : ResolvedFile → Result (List LabelParts) Fault → Result Front Fault
-  front_with resolved r = r >>= λ ls. Ok (record { file = resolved; loads = ls })
+  front_with found r = r >>= λ ls. Ok (record { file = found; loads = ls })
 
   abbrev parsed_with : ParsedFile → Result (List LabelParts) Fault → Result ParsedFront Fault
   parsed_with file r = r >>= λ ls. Ok (record { file = file; loads = ls })
 
-  by_labels : (file : ParsedFile) (resolved : ResolvedFile) → ResolvesTo file resolved → (r : Result (List LabelParts) Fault) → IsFrontOf (parsed_with file r) (front_with resolved r)
-  by_labels file resolved is (Ok ls) = (is, refl)
-  by_labels file resolved is (Err why) = refl
+  by_labels : (file : ParsedFile) (found : ResolvedFile) → ResolvesTo file found → (r : Result (List LabelParts) Fault) → IsFrontOf (parsed_with file r) (front_with found r)
+  by_labels file found is (Ok ls) = (is, refl)
+  by_labels file found is (Err why) = refl
 
-  same_labels : (file : ParsedFile) (resolved : ResolvedFile) → ResolvesTo file resolved
-      → labels_of (load_of inputs (package_of l)) [] resolved.loads ≡ labels_of (file_named inputs (package_of l)) [] (file_loads file.statements)
-  same_labels file resolved is = as_written inputs (package_of l) [] resolved.loads ∙ ap (labels_of (file_named inputs (package_of l)) []) (loads_kept file resolved is)
+  same_labels : (file : ParsedFile) (found : ResolvedFile) → ResolvesTo file found
+      → labels_of (load_of inputs (package_of l)) [] found.loads ≡ labels_of (file_named inputs (package_of l)) [] (file_loads file.statements)
+  same_labels file found is = as_written inputs (package_of l) [] found.loads ∙ ap (labels_of (file_named inputs (package_of l)) []) (loads_kept file found is)
 
-  by_file : (x : Result ParsedFile Fault) (r : Result ResolvedFile Fault) → ResultsAgree x r → IsFrontOf (x >>= front_from inputs l) (r >>= λ resolved. front_with resolved (labels_of (load_of inputs (package_of l)) [] resolved.loads))
-  by_file (Ok file) (Ok resolved) is =
+  by_file : (x : Result ParsedFile Fault) (r : Result ResolvedFile Fault) → ResultsAgree x r → IsFrontOf (x >>= front_from inputs l) (r >>= λ found. front_with found (labels_of (load_of inputs (package_of l)) [] found.loads))
+  by_file (Ok file) (Ok found) is =
       let ls : Result (List LabelParts) Fault = labels_of (file_named inputs (package_of l)) [] (file_loads file.statements) in
-      subst (λ (z : Result (List LabelParts) Fault). IsFrontOf (parsed_with file ls) (front_with resolved z)) (sym (same_labels file resolved is)) (by_labels file resolved is ls)
+      subst (λ (z : Result (List LabelParts) Fault). IsFrontOf (parsed_with file ls) (front_with found z)) (sym (same_labels file found is)) (by_labels file found is ls)
   by_file (Ok file) (Err told) is = absurd is
-  by_file (Err why) (Ok resolved) is = absurd is
+  by_file (Err why) (Ok found) is = absurd is
   by_file (Err why) (Err told) is = is
 
   at_file : (o : Option File) → IsFrontOf (parsed_at inputs l o) (front_at inputs l o)
