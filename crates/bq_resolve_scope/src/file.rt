@@ -21,7 +21,6 @@ pub enum Formal {
 }
 
 /// A function of a file.
-#[derive(Drop)]
 pub struct Function {
     pub name: Bytes,
     pub parameters: Items<Formal>,
@@ -30,8 +29,19 @@ pub struct Function {
     pub body: Trees<Stmt>,
 }
 
+impl Drop for Function {
+    // PROOF: a drop that is written out is proved here alone, and a derived one in each crate that drops a function
+    fn drop(self) {
+        let Function {
+            name: _,
+            parameters: _,
+            slots: _,
+            body: _,
+        } = self;
+    }
+}
+
 /// A `def`.
-#[derive(Drop)]
 pub struct Def {
     /// It refers to where the function goes.
     pub name: Identifier,
@@ -39,6 +49,17 @@ pub struct Def {
     pub function: usize,
     /// The defaults of its parameters, which are evaluated outside it.
     pub defaults: Items<Expr>,
+}
+
+impl Drop for Def {
+    // PROOF: a drop that is written out is proved here alone, and a derived one in each crate that drops a `def`
+    fn drop(self) {
+        let Def {
+            name: _,
+            function: _,
+            defaults: _,
+        } = self;
+    }
 }
 
 /// What stands on a line outside functions.
@@ -49,11 +70,20 @@ pub enum Outside {
 }
 
 /// A statement outside functions.
-#[derive(Drop)]
 pub struct FileLine {
     /// The line of its first token, from 1. It is the line that a fault of its evaluation names.
     pub line: u32,
     pub statement: Outside,
+}
+
+impl Drop for FileLine {
+    // PROOF: a drop that is written out is proved here alone, and a derived one in each crate that drops a line of a file
+    fn drop(self) {
+        let FileLine {
+            line: _,
+            statement: _,
+        } = self;
+    }
 }
 
 /// A resolved file.
