@@ -106,6 +106,7 @@ is_unbound (Some x) = false
 unfoldable pub space_of : FileParts → List BlockParts → Identifier → Option Namespace
 space_of file blocks n = if is_bzl file.universe.kind && is_unbound (use_of file blocks n.name) then namespace_named n.name else None
 
+-- the namespace that a name stands for, if it stands for one, with that name
 abbrev pub with_space : Identifier → Option Namespace → Option NamedSpace
 with_space n None = None
 with_space n (Some space) = Some (space, n)
