@@ -37,33 +37,8 @@ impl<
     C: Copy,
     F: Copy + Fn(&Context<'_>, usize, C, &Frame<'_>, &mut R, &Expr) -> Result<Value, EvalErr>,
 > Evaluator<'a, R, C, F> {
-    /// Appends an element.
-    #[tactic(auto, unfolding(bq_eval_language_spec::specs::Comprehensions::element))]
-    fn element(&self, runtime: &mut R, content: &mut Content, code: &Expr) -> Result<(), EvalErr>
-        requires { EvaluatesInside R.means R.seen self.now F.pre F.post }
-        ensures { Collects R.means R.seen (meaning.element R.means (evals_in R.means self.now) code.now) (frame_of self.now) content.old runtime.old result (frame_of self.now) content.new runtime.new }
-    {
-        let value = self.value(runtime, code)?;
-        runtime.add(content, value)
-    }
-
-    /// Adds a pair, or sets the value of a key that is there.
-    #[tactic(auto, unfolding(bq_eval_language_spec::specs::Comprehensions::pair_element))]
-    fn pair_element(
-        &self,
-        runtime: &mut R,
-        content: &mut Content,
-        pair: &Pair,
-    ) -> Result<(), EvalErr>
-        requires { EvaluatesInside R.means R.seen self.now F.pre F.post }
-        ensures { Collects R.means R.seen (meaning.pair_element R.means (evals_in R.means self.now) pair.now) (frame_of self.now) content.old runtime.old result (frame_of self.now) content.new runtime.new }
-    {
-        let key = self.value(runtime, &pair.key)?;
-        let value = self.value(runtime, &pair.value)?;
-        runtime.put_pair(content, &key, value)
-    }
-
-    /// Evaluates what is before the clauses of a comprehension, and adds it.
+    /// Evaluates what is before the clauses of a comprehension, and adds it. A pair sets the value of a key that is there.
+    #[tactic(auto, unfolding(bq_eval_language_spec::specs::Comprehensions::element, bq_eval_language_spec::specs::Comprehensions::pair_element))]
     fn body(
         &self,
         runtime: &mut R,
@@ -74,8 +49,15 @@ impl<
         ensures { Collects R.means R.seen (element_in R.means self.now element.entry) (frame_of self.now) content.old runtime.old result (frame_of self.now) content.new runtime.new }
     {
         match element {
-            ElementExpr::Item(code) => self.element(runtime, content, code),
-            ElementExpr::Pair(pair) => self.pair_element(runtime, content, pair),
+            ElementExpr::Item(code) => {
+                let value = self.value(runtime, code)?;
+                runtime.add(content, value)
+            }
+            ElementExpr::Pair(pair) => {
+                let key = self.value(runtime, &pair.key)?;
+                let value = self.value(runtime, &pair.value)?;
+                runtime.put_pair(content, &key, value)
+            }
         }
     }
 
