@@ -5,13 +5,23 @@ use Rattle.bq_parse_grammar.specs.declared.tree.ComprehensionFrame.{Comprehensio
 use Rattle.bq_parse_grammar.specs.declared.tree.Expr.{Expr}
 use Rattle.bq_parse_grammar.specs.declared.tree.Expr.TheVariants as e
 use Rattle.bq_parse_grammar.specs.declared.tree.Pair.{Pair}
+use Rattle.bq_resolve_scope.specs.Names.{ClauseLayer}
+use Rattle.bq_resolve_scope.specs.Scope.{BlockParts}
 use Rattle.bq_resolve_scope.specs.Visit.{Visit, each}
-use Rattle.bq_resolve_scope.specs.Expressions.{expr_to, pair, clause_by, in_block, comprehension}
+use Rattle.bq_resolve_scope.specs.Expressions.{expr_to, pair, clause_by, clauses, in_block, comprehension}
 use Rattle.bq_resolve_expression.specs.declared.scope.Scope.{Scope}
+
+-- a clause, of which the iterable is resolved among the blocks `round`
+abbrev pub clause_in : ℕ → Scope → List BlockParts → ClauseLayer → Visit Clause
+clause_in depth scope round = clause_by scope.file.now (expr_to depth scope.file.now) round scope.blocks.now
+
+-- all clauses; the iterable of the first is resolved among the blocks `round`
+abbrev pub clauses_in : ℕ → Scope → List BlockParts → List Clause → Visit (List Clause)
+clauses_in depth scope round = clauses scope.file.now (expr_to depth scope.file.now) round scope.blocks.now
 
 -- the clauses done, and those of these that lie inside
 abbrev pub further_clauses : ℕ → Scope → List Clause → List Clause → Visit (List Clause)
-further_clauses depth scope = each (λ x. clause_by scope.file.now (expr_to depth scope.file.now) scope.blocks.now scope.blocks.now (out-Clause x))
+further_clauses depth scope = each (λ x. clause_in depth scope scope.blocks.now (out-Clause x))
 
 -- `[element for .. in ..]`, in the frame that is open
 abbrev pub list_in_block : ℕ → Scope → Expr → List Clause → Visit (ComprehensionFrame → Expr)

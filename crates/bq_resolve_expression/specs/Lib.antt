@@ -1,3 +1,4 @@
 pub mod Walks
+pub mod Rules
 pub mod Comprehensions
 pub mod Members

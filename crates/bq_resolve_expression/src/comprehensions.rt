@@ -3,9 +3,8 @@
 ghost use Rattle.std.specs.Prelude.{take, drop};
 ghost use Rattle.bq_parse_grammar.specs.declared.tree.Clause.{out-Clause};
 ghost use Rattle.bq_parse_grammar.specs.declared.tree.Expr.TheVariants as e;
-ghost use Rattle.bq_resolve_scope.specs.Expressions as spec;
 ghost use Rattle.bq_resolve_expression.specs.Walks.{Writes, WritesNested};
-ghost use Rattle.bq_resolve_expression.specs.Comprehensions.{further_clauses, list_in_block, list_comprehension, dict_in_block, dict_comprehension};
+ghost use Rattle.bq_resolve_expression.specs.Comprehensions.{clause_in, clauses_in, further_clauses, list_in_block, list_comprehension, dict_in_block, dict_comprehension};
 
 use crate::rules::Rules;
 use crate::scope::Scope;
@@ -23,7 +22,7 @@ impl<'a, F: Copy + Fn(&Scope<'_>, usize, &mut Walk, &mut Expr) -> Result<(), Sou
     #[tactic(auto, unfolding(bq_resolve_scope::specs::Names::max_layers))]
     fn clause(&self, round: &[Block], walk: &mut Walk, clause: &mut Clause) -> Result<(), SourceErr>
         requires { WritesNested self.now.depth (F.pre self.now.visit) (F.post self.now.visit) }
-        ensures { Writes (spec.clause_by self.now.scope.file.now (spec.expr_to self.now.depth self.now.scope.file.now) round.now self.now.scope.blocks.now (out-Clause clause.old) walk.old) result clause.new walk.new }
+        ensures { Writes (clause_in self.now.depth self.now.scope round.now (out-Clause clause.old) walk.old) result clause.new walk.new }
     {
         match clause {
             Clause::For(target, iterable) => {
@@ -55,7 +54,7 @@ impl<'a, F: Copy + Fn(&Scope<'_>, usize, &mut Walk, &mut Expr) -> Result<(), Sou
         clauses: &mut Items<Clause>,
     ) -> Result<(), SourceErr>
         requires { WritesNested self.now.depth (F.pre self.now.visit) (F.post self.now.visit) }
-        ensures { Writes (spec.clauses self.now.scope.file.now (spec.expr_to self.now.depth self.now.scope.file.now) round.now self.now.scope.blocks.now clauses.old walk.old) result clauses.new walk.new }
+        ensures { Writes (clauses_in self.now.depth self.now.scope round.now clauses.old walk.old) result clauses.new walk.new }
     {
         if clauses.is_empty() {
             return Ok(());

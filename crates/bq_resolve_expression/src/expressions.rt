@@ -6,6 +6,7 @@ ghost use Rattle.bq_parse_grammar.specs.declared.tree.Expr.{out-Expr};
 ghost use Rattle.bq_parse_grammar.specs.declared.tree.Expr.TheVariants as e;
 ghost use Rattle.bq_resolve_scope.specs.Visit as visit;
 ghost use Rattle.bq_resolve_scope.specs.Expressions as spec;
+ghost use Rattle.bq_resolve_expression.specs.Rules.{in_scope};
 ghost use Rattle.bq_resolve_expression.specs.Walks.{Writes, WritesNested};
 
 use crate::identifier::fault_of;
@@ -23,7 +24,7 @@ impl<'a, F: Copy + Fn(&Scope<'_>, usize, &mut Walk, &mut Expr) -> Result<(), Sou
     /// Resolves the use of a name: it is of the innermost block that holds it, else F20.
     #[tactic(auto, unfolding(bq_resolve_scope::specs::Expressions::use_at))]
     fn name(&self, walk: &mut Walk, name: &mut Identifier) -> Result<(), SourceErr>
-        ensures { Writes (spec.expr_by self.now.scope.file.now (spec.expr_to self.now.depth self.now.scope.file.now) self.now.scope.blocks.now (Expr-F.Expr::Name name.old) walk.old) result (e.Name name.new) walk.new }
+        ensures { Writes (in_scope spec.expr_by self.now.depth self.now.scope (Expr-F.Expr::Name name.old) walk.old) result (e.Name name.new) walk.new }
     {
         match self.scope.file.use_of(self.scope.blocks, &name.name) {
             Some(referent) => {
@@ -37,7 +38,7 @@ impl<'a, F: Copy + Fn(&Scope<'_>, usize, &mut Walk, &mut Expr) -> Result<(), Sou
     #[tactic(auto, unfolding(bq_resolve_scope::specs::Expressions::operation))]
     fn operation(&self, walk: &mut Walk, operation: &mut Operation) -> Result<(), SourceErr>
         requires { WritesNested self.now.depth (F.pre self.now.visit) (F.post self.now.visit) }
-        ensures { Writes (spec.operation self.now.scope.file.now (spec.expr_to self.now.depth self.now.scope.file.now) self.now.scope.blocks.now operation.old walk.old) result operation.new walk.new }
+        ensures { Writes (in_scope spec.operation self.now.depth self.now.scope operation.old walk.old) result operation.new walk.new }
     {
         self.expr(walk, &mut operation.operand)
     }
@@ -48,7 +49,7 @@ impl<'a, F: Copy + Fn(&Scope<'_>, usize, &mut Walk, &mut Expr) -> Result<(), Sou
         operations: &mut Items<Operation>,
     ) -> Result<(), SourceErr>
         requires { WritesNested self.now.depth (F.pre self.now.visit) (F.post self.now.visit) }
-        ensures { Writes (visit.each (spec.operation self.now.scope.file.now (spec.expr_to self.now.depth self.now.scope.file.now) self.now.scope.blocks.now) [] operations.old walk.old) result operations.new walk.new }
+        ensures { Writes (visit.each (in_scope spec.operation self.now.depth self.now.scope) [] operations.old walk.old) result operations.new walk.new }
     {
         for at in 0..operations.len() {
             self.operation(walk, operations.item_mut(at))?;
@@ -64,7 +65,7 @@ impl<'a, F: Copy + Fn(&Scope<'_>, usize, &mut Walk, &mut Expr) -> Result<(), Sou
         operations: &mut Items<Operation>,
     ) -> Result<(), SourceErr>
         requires { WritesNested self.now.depth (F.pre self.now.visit) (F.post self.now.visit) }
-        ensures { Writes (spec.expr_by self.now.scope.file.now (spec.expr_to self.now.depth self.now.scope.file.now) self.now.scope.blocks.now (Expr-F.Binary first.old operations.old) walk.old) result (e.Binary first.new operations.new) walk.new }
+        ensures { Writes (in_scope spec.expr_by self.now.depth self.now.scope (Expr-F.Binary first.old operations.old) walk.old) result (e.Binary first.new operations.new) walk.new }
     {
         self.boxed(walk, first)?;
         self.operations(walk, operations)
@@ -78,7 +79,7 @@ impl<'a, F: Copy + Fn(&Scope<'_>, usize, &mut Walk, &mut Expr) -> Result<(), Sou
         right: &mut Boxed<Expr>,
     ) -> Result<(), SourceErr>
         requires { WritesNested self.now.depth (F.pre self.now.visit) (F.post self.now.visit) }
-        ensures { Writes (spec.expr_by self.now.scope.file.now (spec.expr_to self.now.depth self.now.scope.file.now) self.now.scope.blocks.now (Expr-F.Compare left.old comparison right.old) walk.old) result (e.Compare left.new comparison right.new) walk.new }
+        ensures { Writes (in_scope spec.expr_by self.now.depth self.now.scope (Expr-F.Compare left.old comparison right.old) walk.old) result (e.Compare left.new comparison right.new) walk.new }
     {
         self.boxed(walk, left)?;
         self.boxed(walk, right)
@@ -92,7 +93,7 @@ impl<'a, F: Copy + Fn(&Scope<'_>, usize, &mut Walk, &mut Expr) -> Result<(), Sou
         last: &mut Boxed<Expr>,
     ) -> Result<(), SourceErr>
         requires { WritesNested self.now.depth (F.pre self.now.visit) (F.post self.now.visit) }
-        ensures { Writes (spec.expr_by self.now.scope.file.now (spec.expr_to self.now.depth self.now.scope.file.now) self.now.scope.blocks.now (Expr-F.Conditional choices.old last.old) walk.old) result (e.Conditional choices.new last.new) walk.new }
+        ensures { Writes (in_scope spec.expr_by self.now.depth self.now.scope (Expr-F.Conditional choices.old last.old) walk.old) result (e.Conditional choices.new last.new) walk.new }
     {
         self.choices(walk, choices)?;
         self.boxed(walk, last)
@@ -101,7 +102,7 @@ impl<'a, F: Copy + Fn(&Scope<'_>, usize, &mut Walk, &mut Expr) -> Result<(), Sou
     /// Resolves an expression, of any form.
     fn expr_by(&self, walk: &mut Walk, expr: &mut Expr) -> Result<(), SourceErr>
         requires { WritesNested self.now.depth (F.pre self.now.visit) (F.post self.now.visit) }
-        ensures { Writes (spec.expr_by self.now.scope.file.now (spec.expr_to self.now.depth self.now.scope.file.now) self.now.scope.blocks.now (out-Expr expr.old) walk.old) result expr.new walk.new }
+        ensures { Writes (in_scope spec.expr_by self.now.depth self.now.scope (out-Expr expr.old) walk.old) result expr.new walk.new }
     {
         match expr {
             Expr::Name(name) => self.name(walk, name),

@@ -6,6 +6,7 @@ ghost use Rattle.bq_parse_grammar.specs.declared.tree.Expr.TheVariants as e;
 ghost use Rattle.bq_parse_grammar.specs.declared.tree.Suffix.{out-Suffix};
 ghost use Rattle.bq_resolve_scope.specs.Expressions as spec;
 ghost use Rattle.bq_resolve_expression.specs.Members as members;
+ghost use Rattle.bq_resolve_expression.specs.Rules.{in_scope};
 ghost use Rattle.bq_resolve_expression.specs.Walks.{Writes, WritesNested};
 
 use crate::identifier::fault_of;
@@ -63,7 +64,7 @@ impl<'a, F: Copy + Fn(&Scope<'_>, usize, &mut Walk, &mut Expr) -> Result<(), Sou
         suffixes: &mut Items<Suffix>,
     ) -> Result<(), SourceErr>
         requires { WritesNested self.now.depth (F.pre self.now.visit) (F.post self.now.visit) }
-        ensures { Writes (spec.operand self.now.scope.file.now (spec.expr_to self.now.depth self.now.scope.file.now) self.now.scope.blocks.now operand.old suffixes.old walk.old) result (e.Primary operand.new suffixes.new) walk.new }
+        ensures { Writes (in_scope spec.operand self.now.depth self.now.scope operand.old suffixes.old walk.old) result (e.Primary operand.new suffixes.new) walk.new }
     {
         self.boxed(walk, operand)?;
         self.suffixes_from(0, walk, suffixes)
@@ -77,7 +78,7 @@ impl<'a, F: Copy + Fn(&Scope<'_>, usize, &mut Walk, &mut Expr) -> Result<(), Sou
         suffix: &mut Suffix,
     ) -> Result<(), SourceErr>
         requires { WritesNested self.now.depth (F.pre self.now.visit) (F.post self.now.visit) }
-        ensures { Writes (members.member_suffix_by self.now.scope.file.now (spec.expr_to self.now.depth self.now.scope.file.now) self.now.scope.blocks.now member (out-Suffix suffix.old) walk.old) result suffix.new walk.new }
+        ensures { Writes (in_scope members.member_suffix_by self.now.depth self.now.scope member (out-Suffix suffix.old) walk.old) result suffix.new walk.new }
     {
         match suffix {
             Suffix::Method(name, arguments) => {
@@ -98,7 +99,7 @@ impl<'a, F: Copy + Fn(&Scope<'_>, usize, &mut Walk, &mut Expr) -> Result<(), Sou
     ) -> Result<(), SourceErr>
         requires nested { WritesNested self.now.depth (F.pre self.now.visit) (F.post self.now.visit) }
         requires some { 0 < length suffixes.old }
-        ensures { Writes (members.member_primary self.now.scope.file.now (spec.expr_to self.now.depth self.now.scope.file.now) self.now.scope.blocks.now member operand.old suffixes.old walk.old) result (e.Primary operand.new suffixes.new) walk.new }
+        ensures { Writes (in_scope members.member_primary self.now.depth self.now.scope member operand.old suffixes.old walk.old) result (e.Primary operand.new suffixes.new) walk.new }
     {
         refer(operand.get_mut(), member);
         self.member_suffix(member, walk, suffixes.item_mut(0))?;
@@ -115,7 +116,7 @@ impl<'a, F: Copy + Fn(&Scope<'_>, usize, &mut Walk, &mut Expr) -> Result<(), Sou
         suffixes: &mut Items<Suffix>,
     ) -> Result<(), SourceErr>
         requires { WritesNested self.now.depth (F.pre self.now.visit) (F.post self.now.visit) }
-        ensures { Writes (spec.primary self.now.scope.file.now (spec.expr_to self.now.depth self.now.scope.file.now) self.now.scope.blocks.now operand.old suffixes.old walk.old) result (e.Primary operand.new suffixes.new) walk.new }
+        ensures { Writes (in_scope spec.primary self.now.depth self.now.scope operand.old suffixes.old walk.old) result (e.Primary operand.new suffixes.new) walk.new }
     {
         if let Some(space) = namespace_at(&self.scope, operand.get()) {
             if let [Suffix::Method(name, _), ..] = suffixes.as_slice() {

@@ -3,6 +3,7 @@
 ghost use Rattle.std.specs.Prelude.{[]};
 ghost use Rattle.bq_resolve_scope.specs.Visit as visit;
 ghost use Rattle.bq_resolve_scope.specs.Expressions as spec;
+ghost use Rattle.bq_resolve_expression.specs.Rules.{in_scope};
 ghost use Rattle.bq_resolve_expression.specs.Walks.{Writes, WritesNested};
 
 use crate::scope::Scope;
@@ -54,7 +55,7 @@ impl<'a, F: Copy + Fn(&Scope<'_>, usize, &mut Walk, &mut Expr) -> Result<(), Sou
     #[tactic(auto, unfolding(bq_resolve_scope::specs::Expressions::pair))]
     pub fn pair(&self, walk: &mut Walk, pair: &mut Pair) -> Result<(), SourceErr>
         requires { WritesNested self.now.depth (F.pre self.now.visit) (F.post self.now.visit) }
-        ensures { Writes (spec.pair self.now.scope.file.now (spec.expr_to self.now.depth self.now.scope.file.now) self.now.scope.blocks.now pair.old walk.old) result pair.new walk.new }
+        ensures { Writes (in_scope spec.pair self.now.depth self.now.scope pair.old walk.old) result pair.new walk.new }
     {
         self.expr(walk, &mut pair.key)?;
         self.expr(walk, &mut pair.value)
@@ -62,7 +63,7 @@ impl<'a, F: Copy + Fn(&Scope<'_>, usize, &mut Walk, &mut Expr) -> Result<(), Sou
 
     pub fn pairs(&self, walk: &mut Walk, pairs: &mut Items<Pair>) -> Result<(), SourceErr>
         requires { WritesNested self.now.depth (F.pre self.now.visit) (F.post self.now.visit) }
-        ensures { Writes (visit.each (spec.pair self.now.scope.file.now (spec.expr_to self.now.depth self.now.scope.file.now) self.now.scope.blocks.now) [] pairs.old walk.old) result pairs.new walk.new }
+        ensures { Writes (visit.each (in_scope spec.pair self.now.depth self.now.scope) [] pairs.old walk.old) result pairs.new walk.new }
     {
         for at in 0..pairs.len() {
             self.pair(walk, pairs.item_mut(at))?;
@@ -74,7 +75,7 @@ impl<'a, F: Copy + Fn(&Scope<'_>, usize, &mut Walk, &mut Expr) -> Result<(), Sou
     #[tactic(auto, unfolding(bq_resolve_scope::specs::Expressions::choice))]
     fn choice(&self, walk: &mut Walk, choice: &mut Choice) -> Result<(), SourceErr>
         requires { WritesNested self.now.depth (F.pre self.now.visit) (F.post self.now.visit) }
-        ensures { Writes (spec.choice self.now.scope.file.now (spec.expr_to self.now.depth self.now.scope.file.now) self.now.scope.blocks.now choice.old walk.old) result choice.new walk.new }
+        ensures { Writes (in_scope spec.choice self.now.depth self.now.scope choice.old walk.old) result choice.new walk.new }
     {
         self.expr(walk, &mut choice.value)?;
         self.expr(walk, &mut choice.condition)
@@ -82,7 +83,7 @@ impl<'a, F: Copy + Fn(&Scope<'_>, usize, &mut Walk, &mut Expr) -> Result<(), Sou
 
     pub fn choices(&self, walk: &mut Walk, choices: &mut Items<Choice>) -> Result<(), SourceErr>
         requires { WritesNested self.now.depth (F.pre self.now.visit) (F.post self.now.visit) }
-        ensures { Writes (visit.each (spec.choice self.now.scope.file.now (spec.expr_to self.now.depth self.now.scope.file.now) self.now.scope.blocks.now) [] choices.old walk.old) result choices.new walk.new }
+        ensures { Writes (visit.each (in_scope spec.choice self.now.depth self.now.scope) [] choices.old walk.old) result choices.new walk.new }
     {
         for at in 0..choices.len() {
             self.choice(walk, choices.item_mut(at))?;

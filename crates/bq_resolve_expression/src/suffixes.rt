@@ -7,6 +7,7 @@ ghost use Rattle.bq_parse_grammar.specs.declared.tree.Suffix.{out-Suffix};
 ghost use Rattle.bq_parse_grammar.specs.declared.tree.Suffix.TheVariants as form;
 ghost use Rattle.bq_resolve_scope.specs.Visit as visit;
 ghost use Rattle.bq_resolve_scope.specs.Expressions as spec;
+ghost use Rattle.bq_resolve_expression.specs.Rules.{in_scope};
 ghost use Rattle.bq_resolve_expression.specs.Walks.{Writes, WritesNested};
 
 use crate::rules::Rules;
@@ -22,7 +23,7 @@ impl<'a, F: Copy + Fn(&Scope<'_>, usize, &mut Walk, &mut Expr) -> Result<(), Sou
 > {
     fn argument(&self, walk: &mut Walk, argument: &mut Argument) -> Result<(), SourceErr>
         requires { WritesNested self.now.depth (F.pre self.now.visit) (F.post self.now.visit) }
-        ensures { Writes (spec.argument_by self.now.scope.file.now (spec.expr_to self.now.depth self.now.scope.file.now) self.now.scope.blocks.now (out-Argument argument.old) walk.old) result argument.new walk.new }
+        ensures { Writes (in_scope spec.argument_by self.now.depth self.now.scope (out-Argument argument.old) walk.old) result argument.new walk.new }
     {
         match argument {
             Argument::Positional(value) => self.expr(walk, value),
@@ -39,7 +40,7 @@ impl<'a, F: Copy + Fn(&Scope<'_>, usize, &mut Walk, &mut Expr) -> Result<(), Sou
         arguments: &mut Items<Argument>,
     ) -> Result<(), SourceErr>
         requires { WritesNested self.now.depth (F.pre self.now.visit) (F.post self.now.visit) }
-        ensures { Writes (spec.arguments self.now.scope.file.now (spec.expr_to self.now.depth self.now.scope.file.now) self.now.scope.blocks.now arguments.old walk.old) result arguments.new walk.new }
+        ensures { Writes (in_scope spec.arguments self.now.depth self.now.scope arguments.old walk.old) result arguments.new walk.new }
     {
         for at in 0..arguments.len() {
             self.argument(walk, arguments.item_mut(at))?;
@@ -66,7 +67,7 @@ impl<'a, F: Copy + Fn(&Scope<'_>, usize, &mut Walk, &mut Expr) -> Result<(), Sou
         step: &mut Option<Boxed<Expr>>,
     ) -> Result<(), SourceErr>
         requires { WritesNested self.now.depth (F.pre self.now.visit) (F.post self.now.visit) }
-        ensures { Writes (spec.suffix_by self.now.scope.file.now (spec.expr_to self.now.depth self.now.scope.file.now) self.now.scope.blocks.now (Suffix-F.Slice start.old stop.old step.old) walk.old) result (form.Slice start.new stop.new step.new) walk.new }
+        ensures { Writes (in_scope spec.suffix_by self.now.depth self.now.scope (Suffix-F.Slice start.old stop.old step.old) walk.old) result (form.Slice start.new stop.new step.new) walk.new }
     {
         self.optional(walk, start)?;
         self.optional(walk, stop)?;
@@ -76,7 +77,7 @@ impl<'a, F: Copy + Fn(&Scope<'_>, usize, &mut Walk, &mut Expr) -> Result<(), Sou
     /// Resolves what is done to an operand. The name of a method refers to nothing: it is looked up in the operand's value.
     pub fn suffix(&self, walk: &mut Walk, suffix: &mut Suffix) -> Result<(), SourceErr>
         requires { WritesNested self.now.depth (F.pre self.now.visit) (F.post self.now.visit) }
-        ensures { Writes (spec.suffix_by self.now.scope.file.now (spec.expr_to self.now.depth self.now.scope.file.now) self.now.scope.blocks.now (out-Suffix suffix.old) walk.old) result suffix.new walk.new }
+        ensures { Writes (in_scope spec.suffix_by self.now.depth self.now.scope (out-Suffix suffix.old) walk.old) result suffix.new walk.new }
     {
         match suffix {
             Suffix::Call(arguments) => self.arguments(walk, arguments),
@@ -96,7 +97,7 @@ impl<'a, F: Copy + Fn(&Scope<'_>, usize, &mut Walk, &mut Expr) -> Result<(), Sou
         suffixes: &mut Items<Suffix>,
     ) -> Result<(), SourceErr>
         requires { WritesNested self.now.depth (F.pre self.now.visit) (F.post self.now.visit) }
-        ensures { Writes (spec.suffixes self.now.scope.file.now (spec.expr_to self.now.depth self.now.scope.file.now) self.now.scope.blocks.now (take first suffixes.old) (drop first suffixes.old) walk.old) result suffixes.new walk.new }
+        ensures { Writes (in_scope spec.suffixes self.now.depth self.now.scope (take first suffixes.old) (drop first suffixes.old) walk.old) result suffixes.new walk.new }
     {
         for at in first..suffixes.len() {
             self.suffix(walk, suffixes.item_mut(at))?;

@@ -2,7 +2,7 @@
 
 ghost use Rattle.std.specs.Prelude.{[]};
 ghost use Rattle.bq_resolve_scope.specs.Visit as visit;
-ghost use Rattle.bq_resolve_scope.specs.Expressions as spec;
+ghost use Rattle.bq_resolve_expression.specs.Rules.{target_in};
 ghost use Rattle.bq_resolve_expression.specs.Walks.{Writes, WritesNested};
 
 use crate::identifier::bound_at;
@@ -25,7 +25,7 @@ impl<'a, F: Copy + Fn(&Scope<'_>, usize, &mut Walk, &mut Expr) -> Result<(), Sou
         targets: &mut Items<TargetExpr>,
     ) -> Result<(), SourceErr>
         requires { WritesNested self.now.depth (F.pre self.now.visit) (F.post self.now.visit) }
-        ensures { Writes (visit.each (spec.target_to self.now.scope.file.now (spec.expr_to self.now.depth self.now.scope.file.now) layers self.now.scope.blocks.now) [] targets.old walk.old) result targets.new walk.new }
+        ensures { Writes (visit.each (target_in self.now.depth self.now.scope layers) [] targets.old walk.old) result targets.new walk.new }
     {
         for at in 0..targets.len() {
             self.target_to(layers, walk, targets.item_mut(at))?;
@@ -43,7 +43,7 @@ impl<'a, F: Copy + Fn(&Scope<'_>, usize, &mut Walk, &mut Expr) -> Result<(), Sou
         target: &mut TargetExpr,
     ) -> Result<(), SourceErr>
         requires { WritesNested self.now.depth (F.pre self.now.visit) (F.post self.now.visit) }
-        ensures { Writes (spec.target_to self.now.scope.file.now (spec.expr_to self.now.depth self.now.scope.file.now) layers self.now.scope.blocks.now target.old walk.old) result target.new walk.new }
+        ensures { Writes (target_in self.now.depth self.now.scope layers target.old walk.old) result target.new walk.new }
     {
         if layers == 0 {
             return Err(SourceErr::Bad(Fault::at(FaultKind::Nesting, 0)));
