@@ -6,7 +6,7 @@ ghost use Rattle.bq_parse_grammar.specs.declared.tree.Stmt.TheVariants as form;
 ghost use Rattle.bq_resolve_scope.specs.Visit as visit;
 ghost use Rattle.bq_resolve_scope.specs.Statements as spec;
 ghost use Rattle.bq_resolve_expression.specs.Walks.{Writes};
-ghost use Rattle.bq_resolve.specs.Inner.{inner, WritesStatement};
+ghost use Rattle.bq_resolve.specs.Inner.{inner, with_inner, WritesStatement};
 
 use crate::expressions::{expr, target};
 use crate::small::{line, misplaced};
@@ -66,7 +66,7 @@ impl<
         branch: &mut Branch,
     ) -> Result<(), SourceErr>
         requires { WritesStatement self.now.layers (F.pre self.now.inner) (F.post self.now.inner) }
-        ensures { Writes (spec.branch self.now.scope.file.now (inner self.now.scope self.now.layers looping) self.now.scope.blocks.now branch.old walk.old) result branch.new walk.new }
+        ensures { Writes (with_inner spec.branch self.now.scope self.now.layers looping branch.old walk.old) result branch.new walk.new }
     {
         expr(&self.scope, walk, &mut branch.condition)?;
         self.block(looping, walk, &mut branch.block)
@@ -79,7 +79,7 @@ impl<
         branches: &mut Items<Branch>,
     ) -> Result<(), SourceErr>
         requires { WritesStatement self.now.layers (F.pre self.now.inner) (F.post self.now.inner) }
-        ensures { Writes (visit.each (spec.branch self.now.scope.file.now (inner self.now.scope self.now.layers looping) self.now.scope.blocks.now) [] branches.old walk.old) result branches.new walk.new }
+        ensures { Writes (visit.each (with_inner spec.branch self.now.scope self.now.layers looping) [] branches.old walk.old) result branches.new walk.new }
     {
         for at in 0..branches.len() {
             self.if_branch(looping, walk, branches.item_mut(at))?;
@@ -97,7 +97,7 @@ impl<
         otherwise: &mut Items<Stmt>,
     ) -> Result<(), SourceErr>
         requires { WritesStatement self.now.layers (F.pre self.now.inner) (F.post self.now.inner) }
-        ensures { Writes (spec.if_stmt self.now.scope.file.now (inner self.now.scope self.now.layers looping) self.now.scope.blocks.now branches.old otherwise.old walk.old) result (form.If branches.new otherwise.new) walk.new }
+        ensures { Writes (with_inner spec.if_stmt self.now.scope self.now.layers looping branches.old otherwise.old walk.old) result (form.If branches.new otherwise.new) walk.new }
     {
         self.branches(looping, walk, branches)?;
         self.block(looping, walk, otherwise)
@@ -113,7 +113,7 @@ impl<
         body: &mut Items<Stmt>,
     ) -> Result<(), SourceErr>
         requires { WritesStatement self.now.layers (F.pre self.now.inner) (F.post self.now.inner) }
-        ensures { Writes (spec.for_stmt self.now.scope.file.now (inner self.now.scope self.now.layers true) self.now.scope.blocks.now variables.old iterable.old body.old walk.old) result (form.For variables.new iterable.new body.new) walk.new }
+        ensures { Writes (with_inner spec.for_stmt self.now.scope self.now.layers true variables.old iterable.old body.old walk.old) result (form.For variables.new iterable.new body.new) walk.new }
     {
         target(&self.scope, walk, variables)?;
         expr(&self.scope, walk, iterable)?;
