@@ -264,7 +264,7 @@ module _ {S : Type 0} (m : Primitives S) (d : Function) (ds : List Datum) (s : S
       let D = direct_signature d.parameters in
       ap (λ b. then_filled false (and_bind (take_all_named D p.named b) (if_complete D))) (placed_only d.parameters p.positional direct few)
       ∙ named_by (take_all_named D p.named (only (padded (length d.parameters) p.positional)))
-        (as_many p.named d.parameters (only (padded (length d.parameters) p.positional)) (length d.parameters) (padded_long p.positional (length d.parameters) few)) direct
+      (as_many p.named d.parameters (only (padded (length d.parameters) p.positional)) (length d.parameters) (padded_long p.positional (length d.parameters) few)) direct
 
   directly : (p : Passed) → are_direct 0 d.parameters ≡ true → entry m by_slots d ds p s ≡ given_by m (framed (direct_values d.parameters ds p)) s
   unfolding entry bind direct_values

@@ -118,11 +118,7 @@ fn has_value(values: &[Option<Value>], i: usize) -> bool
 }
 
 /// Gives the parameter of that place its default, unless it has an argument.
-fn take_default(
-    values: &mut Vec<Option<Value>>,
-    i: usize,
-    default: &Value,
-) -> Result<(), EvalErr>
+fn take_default(values: &mut Vec<Option<Value>>, i: usize, default: &Value) -> Result<(), EvalErr>
     ensures { Gives (λ _. values.new.items) Bad result (value_or (slice_get values.old.items i) i default.now values.old.items) }
 {
     if i >= values.len() {

@@ -76,7 +76,10 @@ fn front_file(front: &Result<Front, Fault>) -> Option<&ResolvedFile>
 }
 
 /// Returns the resolved files of modules.
-fn resolved_files(alloc: Global, modules: &[Module]) -> Result<Vec<Option<&ResolvedFile>>, AllocError>
+fn resolved_files(
+    alloc: Global,
+    modules: &[Module],
+) -> Result<Vec<Option<&ResolvedFile>>, AllocError>
     ensures { IfOk result (λ resolved. lent_files resolved.items ≡ resolved_files modules.now) }
 {
     let mut resolved = Vec::with_capacity(alloc, modules.len())?;

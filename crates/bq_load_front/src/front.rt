@@ -7,9 +7,9 @@ ghost use Rattle.bq_load_front.specs.Resolved.{itself};
 ghost use Rattle.bq_load_front.specs.Front.{front_of, load_of};
 ghost use Rattle.bq_load_front.specs.Parsed.{labels_of, kind_of};
 
-use crate::resolved::resolved_file;
 use crate::inputs::Inputs;
 use crate::named_files::NamedFiles;
+use crate::resolved::resolved_file;
 use bq_base::{Fault, FaultKind, SourceErr};
 use bq_label::{Label, PackageId, label_file};
 use bq_load_label::load_label;

@@ -14,7 +14,11 @@ use std::alloc::Global;
 /// Returns what a text resolves to as a file of this kind, or its first fault: of its tokens (F1 to F8), then of its
 /// statements (F10 to F13), then of its names (F20 to F24). It takes time and memory in proportion to the text.
 #[tactic(auto, using(crate::proofs::Tokens::lexes), unfolding(crate::specs::Resolved::resolved_file))]
-pub fn resolved_file(alloc: Global, universe: &Universe, text: &[u8]) -> Result<ResolvedFile, SourceErr>
+pub fn resolved_file(
+    alloc: Global,
+    universe: &Universe,
+    text: &[u8],
+) -> Result<ResolvedFile, SourceErr>
     ensures { Gives itself Bad result (resolved_file universe.now text.now) }
 {
     let tokens = lex(alloc, text)?;
