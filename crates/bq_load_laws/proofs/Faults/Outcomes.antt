@@ -219,7 +219,7 @@ module _ (inputs : InputParts) (x : LoadingParts) (all : AllByRecursion IfAny (r
       told_there : (kind : FaultKind) (k : ℕ) (i : IsAtItsLoad x k (front_of inputs l) kind) → IsAtLoad front.file.loads (fault_at_load kind i.load i.loaded)
       told_there kind k i =
           let of_file = i.first in
-          let same : of_file.file ≡ front = same_front of_file.file front (sym of_file.read ∙ read) in
+          let same : of_file.own ≡ front = same_front of_file.own front (sym of_file.read ∙ read) in
           let place = of_file.first in
           let loads_are = ap (λ (z : Front). z.file.loads) (sym same) ∙ place.loads_are in
           record { load = i.load; among = subst (λ (z : List LoadStmt). Contains z i.load) (sym loads_are) (among_all place.before i.load place.after); line = refl }
