@@ -1,75 +1,112 @@
--- The faults of files: their numbers and names.
+-- The faults of files, by the stage that finds them: their numbers and names.
 use Rattle.std.specs.Prelude.{ℕ, List, [], codes}
+use Rattle.bq_base.specs.declared.fault.TextFault.{TextFault}
+use Rattle.bq_base.specs.declared.fault.TextFault.TheVariants as t
+use Rattle.bq_base.specs.declared.fault.LoadFault.{LoadFault}
+use Rattle.bq_base.specs.declared.fault.LoadFault.TheVariants as l
+use Rattle.bq_base.specs.declared.fault.EvalFault.{EvalFault}
+use Rattle.bq_base.specs.declared.fault.EvalFault.TheVariants as e
 use Rattle.bq_base.specs.declared.fault.FaultKind.{FaultKind}
 use Rattle.bq_base.specs.declared.fault.FaultKind.TheVariants as f
 use Rattle.bq_base.specs.declared.fault.Fault.{Fault}
 
--- the number behind the `F` of a fault line, and the name behind the number
+-- faults of a text: the number after the `F` of a fault line, and the name after the number
+abbrev pub text_fault_entry : TextFault → ℕ × List ℕ
+text_fault_entry t.BadByte = (1, codes "BadByte")
+text_fault_entry t.Indent = (2, codes "Indent")
+text_fault_entry t.Tab = (3, codes "Tab")
+text_fault_entry t.OpenString = (4, codes "OpenString")
+text_fault_entry t.Escape = (5, codes "Escape")
+text_fault_entry t.BadInt = (6, codes "BadInt")
+text_fault_entry t.Bracket = (7, codes "Bracket")
+text_fault_entry t.FileTooLong = (8, codes "FileTooLong")
+text_fault_entry t.Syntax = (10, codes "Syntax")
+text_fault_entry t.Nesting = (11, codes "Nesting")
+text_fault_entry t.LeftOut = (12, codes "LeftOut")
+text_fault_entry t.NotInBuild = (13, codes "NotInBuild")
+text_fault_entry t.UnknownName = (20, codes "UnknownName")
+text_fault_entry t.Rebound = (21, codes "Rebound")
+text_fault_entry t.BoundTwice = (22, codes "BoundTwice")
+text_fault_entry t.BadFlow = (23, codes "BadFlow")
+text_fault_entry t.DoubleParameter = (24, codes "DoubleParameter")
+
+abbrev pub text_fault_number : TextFault → ℕ
+text_fault_number fault = (text_fault_entry fault).0
+
+abbrev pub text_fault_name : TextFault → List ℕ
+text_fault_name fault = (text_fault_entry fault).1
+
+-- the same of loads
+abbrev pub load_fault_entry : LoadFault → ℕ × List ℕ
+load_fault_entry l.BadLoadLabel = (30, codes "BadLoadLabel")
+load_fault_entry l.NoSuchFile = (31, codes "NoSuchFile")
+load_fault_entry l.NoPackage = (32, codes "NoPackage")
+load_fault_entry l.NoSymbol = (33, codes "NoSymbol")
+load_fault_entry l.PrivateSymbol = (34, codes "PrivateSymbol")
+load_fault_entry l.CycleReached = (35, codes "CycleReached")
+load_fault_entry l.LoadFailed = (36, codes "LoadFailed")
+load_fault_entry l.CrossesPackage = (37, codes "CrossesPackage")
+load_fault_entry l.LoadDepth = (38, codes "LoadDepth")
+
+abbrev pub load_fault_number : LoadFault → ℕ
+load_fault_number fault = (load_fault_entry fault).0
+
+abbrev pub load_fault_name : LoadFault → List ℕ
+load_fault_name fault = (load_fault_entry fault).1
+
+-- the same of evaluations
+abbrev pub eval_fault_entry : EvalFault → ℕ × List ℕ
+eval_fault_entry e.CrossesPackage = (37, codes "CrossesPackage")
+eval_fault_entry e.WrongType = (40, codes "Type")
+eval_fault_entry e.Overflow = (41, codes "Overflow")
+eval_fault_entry e.DivZero = (42, codes "DivZero")
+eval_fault_entry e.Index = (43, codes "Index")
+eval_fault_entry e.NoKey = (44, codes "NoKey")
+eval_fault_entry e.Unhashable = (45, codes "Unhashable")
+eval_fault_entry e.DoubleKey = (46, codes "DoubleKey")
+eval_fault_entry e.Frozen = (47, codes "Frozen")
+eval_fault_entry e.Iterating = (48, codes "Iterating")
+eval_fault_entry e.Unbound = (49, codes "Unbound")
+eval_fault_entry e.Recursion = (50, codes "Recursion")
+eval_fault_entry e.CallDepth = (51, codes "CallDepth")
+eval_fault_entry e.Args = (52, codes "Args")
+eval_fault_entry e.StepLimit = (53, codes "StepLimit")
+eval_fault_entry e.TooLong = (54, codes "TooLong")
+eval_fault_entry e.TooDeep = (55, codes "TooDeep")
+eval_fault_entry e.Fail = (56, codes "Fail")
+eval_fault_entry e.BadValue = (57, codes "BadValue")
+eval_fault_entry e.NoMethod = (58, codes "NoMethod")
+eval_fault_entry e.Format = (59, codes "Format")
+eval_fault_entry e.Select = (60, codes "Select")
+eval_fault_entry e.NotInPackage = (70, codes "NotInPackage")
+eval_fault_entry e.NoAttribute = (71, codes "NoAttribute")
+eval_fault_entry e.MissingAttribute = (72, codes "MissingAttribute")
+eval_fault_entry e.AttributeType = (73, codes "AttributeType")
+eval_fault_entry e.DoubleTarget = (74, codes "DoubleTarget")
+eval_fault_entry e.BadName = (75, codes "BadName")
+eval_fault_entry e.GlobEmpty = (76, codes "GlobEmpty")
+eval_fault_entry e.GlobPattern = (77, codes "GlobPattern")
+eval_fault_entry e.BadLabel = (78, codes "BadLabel")
+
+abbrev pub eval_fault_number : EvalFault → ℕ
+eval_fault_number fault = (eval_fault_entry fault).0
+
+abbrev pub eval_fault_name : EvalFault → List ℕ
+eval_fault_name fault = (eval_fault_entry fault).1
+
+-- the same of all faults
 abbrev pub fault_entry : FaultKind → ℕ × List ℕ
-fault_entry f.BadByte = (1, codes "BadByte")
-fault_entry f.Indent = (2, codes "Indent")
-fault_entry f.Tab = (3, codes "Tab")
-fault_entry f.OpenString = (4, codes "OpenString")
-fault_entry f.Escape = (5, codes "Escape")
-fault_entry f.BadInt = (6, codes "BadInt")
-fault_entry f.Bracket = (7, codes "Bracket")
-fault_entry f.FileTooLong = (8, codes "FileTooLong")
-fault_entry f.Syntax = (10, codes "Syntax")
-fault_entry f.Nesting = (11, codes "Nesting")
-fault_entry f.LeftOut = (12, codes "LeftOut")
-fault_entry f.NotInBuild = (13, codes "NotInBuild")
-fault_entry f.UnknownName = (20, codes "UnknownName")
-fault_entry f.Rebound = (21, codes "Rebound")
-fault_entry f.BoundTwice = (22, codes "BoundTwice")
-fault_entry f.BadFlow = (23, codes "BadFlow")
-fault_entry f.DoubleParameter = (24, codes "DoubleParameter")
-fault_entry f.BadLoadLabel = (30, codes "BadLoadLabel")
-fault_entry f.NoSuchFile = (31, codes "NoSuchFile")
-fault_entry f.NoPackage = (32, codes "NoPackage")
-fault_entry f.NoSymbol = (33, codes "NoSymbol")
-fault_entry f.PrivateSymbol = (34, codes "PrivateSymbol")
-fault_entry f.CycleReached = (35, codes "CycleReached")
-fault_entry f.LoadFailed = (36, codes "LoadFailed")
-fault_entry f.CrossesPackage = (37, codes "CrossesPackage")
-fault_entry f.LoadDepth = (38, codes "LoadDepth")
-fault_entry f.WrongType = (40, codes "Type")
-fault_entry f.Overflow = (41, codes "Overflow")
-fault_entry f.DivZero = (42, codes "DivZero")
-fault_entry f.Index = (43, codes "Index")
-fault_entry f.NoKey = (44, codes "NoKey")
-fault_entry f.Unhashable = (45, codes "Unhashable")
-fault_entry f.DoubleKey = (46, codes "DoubleKey")
-fault_entry f.Frozen = (47, codes "Frozen")
-fault_entry f.Iterating = (48, codes "Iterating")
-fault_entry f.Unbound = (49, codes "Unbound")
-fault_entry f.Recursion = (50, codes "Recursion")
-fault_entry f.CallDepth = (51, codes "CallDepth")
-fault_entry f.Args = (52, codes "Args")
-fault_entry f.StepLimit = (53, codes "StepLimit")
-fault_entry f.TooLong = (54, codes "TooLong")
-fault_entry f.TooDeep = (55, codes "TooDeep")
-fault_entry f.Fail = (56, codes "Fail")
-fault_entry f.BadValue = (57, codes "BadValue")
-fault_entry f.NoMethod = (58, codes "NoMethod")
-fault_entry f.Format = (59, codes "Format")
-fault_entry f.Select = (60, codes "Select")
-fault_entry f.NotInPackage = (70, codes "NotInPackage")
-fault_entry f.NoAttribute = (71, codes "NoAttribute")
-fault_entry f.MissingAttribute = (72, codes "MissingAttribute")
-fault_entry f.AttributeType = (73, codes "AttributeType")
-fault_entry f.DoubleTarget = (74, codes "DoubleTarget")
-fault_entry f.BadName = (75, codes "BadName")
-fault_entry f.GlobEmpty = (76, codes "GlobEmpty")
-fault_entry f.GlobPattern = (77, codes "GlobPattern")
-fault_entry f.BadLabel = (78, codes "BadLabel")
+fault_entry (f.Text fault) = text_fault_entry fault
+fault_entry (f.Load fault) = load_fault_entry fault
+fault_entry (f.Eval fault) = eval_fault_entry fault
 fault_entry f.DanglingLabel = (79, codes "DanglingLabel")
 fault_entry f.Schema = (80, codes "Schema")
 
--- behind the `F` of a fault line
+-- after the `F` of a fault line
 abbrev pub fault_number : FaultKind → ℕ
 fault_number kind = (fault_entry kind).0
 
--- behind the number
+-- after the number
 abbrev pub fault_name : FaultKind → List ℕ
 fault_name kind = (fault_entry kind).1
 

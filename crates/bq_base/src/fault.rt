@@ -2,16 +2,18 @@
 //! the variant.
 
 ghost use Rattle.std.specs.Prelude.{◌≡◌};
-ghost use Rattle.bq_base.specs.Fault.{fault_number, fault_name, fault_at};
+ghost use Rattle.bq_base.specs.Fault.{text_fault_number, text_fault_name, load_fault_number, load_fault_name};
+ghost use Rattle.bq_base.specs.Fault.{eval_fault_number, eval_fault_name, fault_number, fault_name, fault_at};
+ghost use Rattle.bq_base.specs.declared.fault.FaultKind.TheVariants.{Text, Load, Eval};
 ghost use Rattle.bq_base.specs.declared.fault.SourceErr.TheVariants.{Memory};
 
 use crate::bytes::Bytes;
 use std::alloc::{AllocError, AllocFailed};
 use thiserror::Error;
 
-/// What is wrong, as `F1 BadByte`.
+/// What is wrong with the text of a file: its tokens, its grammar, its names (F1 to F24).
 #[derive(Clone, Copy, Debug, PartialEq, Eq)]
-pub enum FaultKind {
+pub enum TextFault {
     // Lexis.
     BadByte = 1,
     Indent = 2,
@@ -32,7 +34,45 @@ pub enum FaultKind {
     BoundTwice = 22,
     BadFlow = 23,
     DoubleParameter = 24,
-    // Loads.
+}
+
+impl TextFault {
+    /// The number after the `F`.
+    pub fn number(self) -> u32
+        ensures { result ≡ text_fault_number self }
+    {
+        self as u32
+    }
+
+    /// The name after the number.
+    pub fn name(self) -> &'static str
+        ensures { result.now ≡ text_fault_name self }
+    {
+        match self {
+            TextFault::BadByte => "BadByte",
+            TextFault::Indent => "Indent",
+            TextFault::Tab => "Tab",
+            TextFault::OpenString => "OpenString",
+            TextFault::Escape => "Escape",
+            TextFault::BadInt => "BadInt",
+            TextFault::Bracket => "Bracket",
+            TextFault::FileTooLong => "FileTooLong",
+            TextFault::Syntax => "Syntax",
+            TextFault::Nesting => "Nesting",
+            TextFault::LeftOut => "LeftOut",
+            TextFault::NotInBuild => "NotInBuild",
+            TextFault::UnknownName => "UnknownName",
+            TextFault::Rebound => "Rebound",
+            TextFault::BoundTwice => "BoundTwice",
+            TextFault::BadFlow => "BadFlow",
+            TextFault::DoubleParameter => "DoubleParameter",
+        }
+    }
+}
+
+/// What is wrong with the loads of a file (F30 to F38).
+#[derive(Clone, Copy, Debug, PartialEq, Eq)]
+pub enum LoadFault {
     BadLoadLabel = 30,
     NoSuchFile = 31,
     NoPackage = 32,
@@ -42,7 +82,40 @@ pub enum FaultKind {
     LoadFailed = 36,
     CrossesPackage = 37,
     LoadDepth = 38,
-    // Evaluation.
+}
+
+impl LoadFault {
+    /// The number after the `F`.
+    pub fn number(self) -> u32
+        ensures { result ≡ load_fault_number self }
+    {
+        self as u32
+    }
+
+    /// The name after the number.
+    pub fn name(self) -> &'static str
+        ensures { result.now ≡ load_fault_name self }
+    {
+        match self {
+            LoadFault::BadLoadLabel => "BadLoadLabel",
+            LoadFault::NoSuchFile => "NoSuchFile",
+            LoadFault::NoPackage => "NoPackage",
+            LoadFault::NoSymbol => "NoSymbol",
+            LoadFault::PrivateSymbol => "PrivateSymbol",
+            LoadFault::CycleReached => "CycleReached",
+            LoadFault::LoadFailed => "LoadFailed",
+            LoadFault::CrossesPackage => "CrossesPackage",
+            LoadFault::LoadDepth => "LoadDepth",
+        }
+    }
+}
+
+/// What is wrong in the evaluation of a file: in its operators, calls, steps and targets (F37, F40 to F60, F70 to F78).
+#[derive(Clone, Copy, Debug, PartialEq, Eq)]
+pub enum EvalFault {
+    // Labels.
+    CrossesPackage = 37,
+    // Values, calls and steps.
     WrongType = 40,
     Overflow = 41,
     DivZero = 42,
@@ -74,84 +147,120 @@ pub enum FaultKind {
     GlobEmpty = 76,
     GlobPattern = 77,
     BadLabel = 78,
-    // The target graph.
-    DanglingLabel = 79,
-    // `rules.schema`.
-    Schema = 80,
 }
 
-impl FaultKind {
-    /// The number behind the `F`.
+impl EvalFault {
+    /// The number after the `F`.
     pub fn number(self) -> u32
-        ensures { result ≡ fault_number self }
+        ensures { result ≡ eval_fault_number self }
     {
         self as u32
     }
 
-    /// The name behind the number.
+    /// The name after the number.
+    pub fn name(self) -> &'static str
+        ensures { result.now ≡ eval_fault_name self }
+    {
+        match self {
+            EvalFault::CrossesPackage => "CrossesPackage",
+            EvalFault::WrongType => "Type",
+            EvalFault::Overflow => "Overflow",
+            EvalFault::DivZero => "DivZero",
+            EvalFault::Index => "Index",
+            EvalFault::NoKey => "NoKey",
+            EvalFault::Unhashable => "Unhashable",
+            EvalFault::DoubleKey => "DoubleKey",
+            EvalFault::Frozen => "Frozen",
+            EvalFault::Iterating => "Iterating",
+            EvalFault::Unbound => "Unbound",
+            EvalFault::Recursion => "Recursion",
+            EvalFault::CallDepth => "CallDepth",
+            EvalFault::Args => "Args",
+            EvalFault::StepLimit => "StepLimit",
+            EvalFault::TooLong => "TooLong",
+            EvalFault::TooDeep => "TooDeep",
+            EvalFault::Fail => "Fail",
+            EvalFault::BadValue => "BadValue",
+            EvalFault::NoMethod => "NoMethod",
+            EvalFault::Format => "Format",
+            EvalFault::Select => "Select",
+            EvalFault::NotInPackage => "NotInPackage",
+            EvalFault::NoAttribute => "NoAttribute",
+            EvalFault::MissingAttribute => "MissingAttribute",
+            EvalFault::AttributeType => "AttributeType",
+            EvalFault::DoubleTarget => "DoubleTarget",
+            EvalFault::BadName => "BadName",
+            EvalFault::GlobEmpty => "GlobEmpty",
+            EvalFault::GlobPattern => "GlobPattern",
+            EvalFault::BadLabel => "BadLabel",
+        }
+    }
+}
+
+/// What is wrong, as `F1 BadByte`.
+#[derive(Clone, Copy, Debug, PartialEq, Eq)]
+pub enum FaultKind {
+    /// In a file's text.
+    Text(TextFault),
+    /// In a file's loads.
+    Load(LoadFault),
+    /// In a file's evaluation.
+    Eval(EvalFault),
+    /// A label in the target graph names no target (F79).
+    DanglingLabel,
+    /// `rules.schema` is faulty (F80).
+    Schema,
+}
+
+impl FaultKind {
+    /// The number after the `F`.
+    pub fn number(self) -> u32
+        ensures { result ≡ fault_number self }
+    {
+        match self {
+            FaultKind::Text(fault) => fault.number(),
+            FaultKind::Load(fault) => fault.number(),
+            FaultKind::Eval(fault) => fault.number(),
+            FaultKind::DanglingLabel => 79,
+            FaultKind::Schema => 80,
+        }
+    }
+
+    /// The name after the number.
     pub fn name(self) -> &'static str
         ensures { result.now ≡ fault_name self }
     {
         match self {
-            FaultKind::BadByte => "BadByte",
-            FaultKind::Indent => "Indent",
-            FaultKind::Tab => "Tab",
-            FaultKind::OpenString => "OpenString",
-            FaultKind::Escape => "Escape",
-            FaultKind::BadInt => "BadInt",
-            FaultKind::Bracket => "Bracket",
-            FaultKind::FileTooLong => "FileTooLong",
-            FaultKind::Syntax => "Syntax",
-            FaultKind::Nesting => "Nesting",
-            FaultKind::LeftOut => "LeftOut",
-            FaultKind::NotInBuild => "NotInBuild",
-            FaultKind::UnknownName => "UnknownName",
-            FaultKind::Rebound => "Rebound",
-            FaultKind::BoundTwice => "BoundTwice",
-            FaultKind::BadFlow => "BadFlow",
-            FaultKind::DoubleParameter => "DoubleParameter",
-            FaultKind::BadLoadLabel => "BadLoadLabel",
-            FaultKind::NoSuchFile => "NoSuchFile",
-            FaultKind::NoPackage => "NoPackage",
-            FaultKind::NoSymbol => "NoSymbol",
-            FaultKind::PrivateSymbol => "PrivateSymbol",
-            FaultKind::CycleReached => "CycleReached",
-            FaultKind::LoadFailed => "LoadFailed",
-            FaultKind::CrossesPackage => "CrossesPackage",
-            FaultKind::LoadDepth => "LoadDepth",
-            FaultKind::WrongType => "Type",
-            FaultKind::Overflow => "Overflow",
-            FaultKind::DivZero => "DivZero",
-            FaultKind::Index => "Index",
-            FaultKind::NoKey => "NoKey",
-            FaultKind::Unhashable => "Unhashable",
-            FaultKind::DoubleKey => "DoubleKey",
-            FaultKind::Frozen => "Frozen",
-            FaultKind::Iterating => "Iterating",
-            FaultKind::Unbound => "Unbound",
-            FaultKind::Recursion => "Recursion",
-            FaultKind::CallDepth => "CallDepth",
-            FaultKind::Args => "Args",
-            FaultKind::StepLimit => "StepLimit",
-            FaultKind::TooLong => "TooLong",
-            FaultKind::TooDeep => "TooDeep",
-            FaultKind::Fail => "Fail",
-            FaultKind::BadValue => "BadValue",
-            FaultKind::NoMethod => "NoMethod",
-            FaultKind::Format => "Format",
-            FaultKind::Select => "Select",
-            FaultKind::NotInPackage => "NotInPackage",
-            FaultKind::NoAttribute => "NoAttribute",
-            FaultKind::MissingAttribute => "MissingAttribute",
-            FaultKind::AttributeType => "AttributeType",
-            FaultKind::DoubleTarget => "DoubleTarget",
-            FaultKind::BadName => "BadName",
-            FaultKind::GlobEmpty => "GlobEmpty",
-            FaultKind::GlobPattern => "GlobPattern",
-            FaultKind::BadLabel => "BadLabel",
+            FaultKind::Text(fault) => fault.name(),
+            FaultKind::Load(fault) => fault.name(),
+            FaultKind::Eval(fault) => fault.name(),
             FaultKind::DanglingLabel => "DanglingLabel",
             FaultKind::Schema => "Schema",
         }
+    }
+}
+
+impl From<TextFault> for FaultKind {
+    ghost from_gives = { λ fault kind. kind ≡ Text fault };
+
+    fn from(fault: TextFault) -> Self {
+        FaultKind::Text(fault)
+    }
+}
+
+impl From<LoadFault> for FaultKind {
+    ghost from_gives = { λ fault kind. kind ≡ Load fault };
+
+    fn from(fault: LoadFault) -> Self {
+        FaultKind::Load(fault)
+    }
+}
+
+impl From<EvalFault> for FaultKind {
+    ghost from_gives = { λ fault kind. kind ≡ Eval fault };
+
+    fn from(fault: EvalFault) -> Self {
+        FaultKind::Eval(fault)
     }
 }
 

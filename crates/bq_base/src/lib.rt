@@ -16,4 +16,4 @@ mod fault;
 mod shown;
 
 pub use bytes::Bytes;
-pub use fault::{Fault, FaultKind, SourceErr};
+pub use fault::{EvalFault, Fault, FaultKind, LoadFault, SourceErr, TextFault};
