@@ -1,8 +1,8 @@
 -- What calls mean, one function at a time, from what is read of their arguments.
 use Rattle.std.proofs.Common.{◌≡◌, ℕ, true, List, Result, Ok, Err, refl, subst}
 use Rattle.bq_base.specs.Gives.{Gives}
-use Rattle.bq_base.specs.declared.fault.FaultKind.{FaultKind}
-use Rattle.bq_base.specs.declared.fault.FaultKind.TheVariants as f
+use Rattle.bq_base.specs.declared.fault.EvalFault.{EvalFault}
+use Rattle.bq_base.specs.declared.fault.EvalFault.TheVariants as f
 use Rattle.bq_label.specs.Label.{LabelParts}
 use Rattle.bq_value_rule_class.specs.Class.{Class}
 use Rattle.bq_value.specs.Datum.{Datum, none, string}
@@ -34,26 +34,26 @@ abbrev Answer : Type 0
 Answer = Result Datum EvalErr
 
 -- no BUILD file is evaluated
-pub refused_outside : (s : State) (kept : HeldPackage) (function : HostFunction) (passed : Passed) (why : FaultKind) → place_in kept ≡ Err why → call_by s kept function passed ≡ stopped (stop_at why s)
-refused_outside s (outside own packages) function passed why h = let e : f.NotInPackage ≡ why = cc in subst (λ (w : FaultKind). call_by s (outside own packages) function passed ≡ stopped (stop_at w s)) e refl
+pub refused_outside : (s : State) (kept : HeldPackage) (function : HostFunction) (passed : Passed) (why : EvalFault) → place_in kept ≡ Err why → call_by s kept function passed ≡ stopped (stop_at why s)
+refused_outside s (outside own packages) function passed why h = let e : f.NotInPackage ≡ why = cc in subst (λ (w : EvalFault). call_by s (outside own packages) function passed ≡ stopped (stop_at w s)) e refl
 refused_outside s (declaring d) function passed why h = absurd (cc)
 
-pub glob_refused : (s : State) (kept : HeldPackage) (p : PlaceView) (passed : Passed) (why : FaultKind) → place_in kept ≡ Ok p → globbed p s.store passed ≡ Err why → call_by s kept b.Glob passed ≡ stopped (stop_at why s)
+pub glob_refused : (s : State) (kept : HeldPackage) (p : PlaceView) (passed : Passed) (why : EvalFault) → place_in kept ≡ Ok p → globbed p s.store passed ≡ Err why → call_by s kept b.Glob passed ≡ stopped (stop_at why s)
 unfolding call_in
 glob_refused s (outside own packages) p passed why inside h = absurd (cc)
 glob_refused s (declaring d) p passed why inside h = let e : d.place ≡ p = cc in rw (e, h) refl
 
-pub files_refused : (s : State) (kept : HeldPackage) (p : PlaceView) (passed : Passed) (why : FaultKind) → place_in kept ≡ Ok p → files_named p s.store passed ≡ Err why → call_by s kept b.ExportsFiles passed ≡ stopped (stop_at why s)
+pub files_refused : (s : State) (kept : HeldPackage) (p : PlaceView) (passed : Passed) (why : EvalFault) → place_in kept ≡ Ok p → files_named p s.store passed ≡ Err why → call_by s kept b.ExportsFiles passed ≡ stopped (stop_at why s)
 unfolding call_in
 files_refused s (outside own packages) p passed why inside h = absurd (cc)
 files_refused s (declaring d) p passed why inside h = let e : d.place ≡ p = cc in rw (e, h) refl
 
-pub group_refused : (s : State) (kept : HeldPackage) (p : PlaceView) (passed : Passed) (why : FaultKind) → place_in kept ≡ Ok p → group_named p s.store s.line passed ≡ Err why → call_by s kept b.PackageGroup passed ≡ stopped (stop_at why s)
+pub group_refused : (s : State) (kept : HeldPackage) (p : PlaceView) (passed : Passed) (why : EvalFault) → place_in kept ≡ Ok p → group_named p s.store s.line passed ≡ Err why → call_by s kept b.PackageGroup passed ≡ stopped (stop_at why s)
 unfolding call_in
 group_refused s (outside own packages) p passed why inside h = absurd (cc)
 group_refused s (declaring d) p passed why inside h = let e : d.place ≡ p = cc in rw (e, h) refl
 
-pub rule_refused : (s : State) (kept : HeldPackage) (p : PlaceView) (passed : Passed) (rule : ℕ) (why : FaultKind) → place_in kept ≡ Ok p → rule_target p s.store s.line rule passed ≡ Err why
+pub rule_refused : (s : State) (kept : HeldPackage) (p : PlaceView) (passed : Passed) (rule : ℕ) (why : EvalFault) → place_in kept ≡ Ok p → rule_target p s.store s.line rule passed ≡ Err why
     → call_by s kept (b.Rule rule) passed ≡ stopped (stop_at why s)
 unfolding call_in
 rule_refused s (outside own packages) p passed rule why inside h = absurd (cc)
@@ -117,11 +117,11 @@ rule_done s (declaring d) after p passed rule t result inside h settles =
     rw here (settles.says s d refl)
 
 -- a rule that a .bzl file declares
-pub rule_outside : (s : State) (kept : HeldPackage) (rule : List ℕ) (class : Class) (passed : Passed) (why : FaultKind) → place_in kept ≡ Err why → rule_by s kept rule class passed ≡ stopped (stop_at why s)
-rule_outside s (outside own packages) rule class passed why h = let e : f.NotInPackage ≡ why = cc in subst (λ (w : FaultKind). rule_by s (outside own packages) rule class passed ≡ stopped (stop_at w s)) e refl
+pub rule_outside : (s : State) (kept : HeldPackage) (rule : List ℕ) (class : Class) (passed : Passed) (why : EvalFault) → place_in kept ≡ Err why → rule_by s kept rule class passed ≡ stopped (stop_at why s)
+rule_outside s (outside own packages) rule class passed why h = let e : f.NotInPackage ≡ why = cc in subst (λ (w : EvalFault). rule_by s (outside own packages) rule class passed ≡ stopped (stop_at w s)) e refl
 rule_outside s (declaring d) rule class passed why h = absurd (cc)
 
-pub declared_refused : (s : State) (kept : HeldPackage) (p : PlaceView) (rule : List ℕ) (class : Class) (passed : Passed) (why : FaultKind) → place_in kept ≡ Ok p
+pub declared_refused : (s : State) (kept : HeldPackage) (p : PlaceView) (rule : List ℕ) (class : Class) (passed : Passed) (why : EvalFault) → place_in kept ≡ Ok p
     → declared_target p s.store s.line rule class passed ≡ Err why → rule_by s kept rule class passed ≡ stopped (stop_at why s)
 declared_refused s (outside own packages) p rule class passed why inside h = absurd (cc)
 declared_refused s (declaring d) p rule class passed why inside h = let e : d.place ≡ p = cc in rw (e, h) refl
@@ -139,14 +139,14 @@ declared_done s (declaring d) after p rule class passed t result inside h settle
 abbrev halted : Stop → Run (State × HeldPackage) Datum
 halted why = stopped why
 
-stops : (s : State) (kind : FaultKind) (why : Stop) → halted (stop_at kind s) ≡ halted why → is_refusal kind ≡ true → is_refusal why.kind ≡ true
+stops : (s : State) (kind : EvalFault) (why : Stop) → halted (stop_at kind s) ≡ halted why → is_refusal kind ≡ true → is_refusal why.kind ≡ true
 stops s kind why h is = let e : stop_at kind s ≡ why = cc in subst (λ (w : Stop). is_refusal w.kind ≡ true) e is
 
-of_answer : (s : State) (d : Declaring) (r : Result Datum FaultKind) (why : Stop) → IsRefusable r → on_machine {W = HeldPackage} (given r) (s, declaring d) ≡ stopped why → is_refusal why.kind ≡ true
+of_answer : (s : State) (d : Declaring) (r : Result Datum EvalFault) (why : Stop) → IsRefusable r → on_machine {W = HeldPackage} (given r) (s, declaring d) ≡ stopped why → is_refusal why.kind ≡ true
 of_answer s d (Ok v) why is h = absurd (cc)
 of_answer s d (Err kind) why is h = stops s kind why h is
 
-of_names : (s : State) (d : Declaring) (r : Result (List (List ℕ)) FaultKind) (why : Stop) → IsRefusable r → on_machine {W = HeldPackage} (given r >>= new_strings) (s, declaring d) ≡ stopped why
+of_names : (s : State) (d : Declaring) (r : Result (List (List ℕ)) EvalFault) (why : Stop) → IsRefusable r → on_machine {W = HeldPackage} (given r >>= new_strings) (s, declaring d) ≡ stopped why
     → is_refusal why.kind ≡ true
 unfolding new_strings new_list new_content
 of_names s d (Ok names) why is h = absurd (cc)
@@ -156,7 +156,7 @@ of_settled : (s : State) (d : Declaring) (after : Declared) (why : Stop) → set
 of_settled s d (Accepted q) why h = absurd (cc)
 of_settled s d (Refused q) why h = stops s f.DoubleTarget why h refl
 
-of_declares : {A : Type 0} (s : State) (d : Declaring) (r : Result A FaultKind) (declare : A → Declared) (why : Stop) → IsRefusable r → declares s d r declare ≡ stopped why
+of_declares : {A : Type 0} (s : State) (d : Declaring) (r : Result A EvalFault) (declare : A → Declared) (why : Stop) → IsRefusable r → declares s d r declare ≡ stopped why
     → is_refusal why.kind ≡ true
 of_declares s d (Ok x) declare why is h = of_settled s d (declare x) why h
 of_declares s d (Err kind) declare why is h = stops s kind why h is

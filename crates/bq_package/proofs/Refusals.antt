@@ -3,8 +3,8 @@ use Rattle.std.proofs.Common.{◌≡◌, ℕ, Bool, true, false, cond, List, [],
 use Rattle.std.specs.Prelude.{◌||◌, ◌==◌, pos, negsuc, ℤ, codes, bytes_eq, is_some}
 use Rattle.std.specs.List.{list_any, position_from}
 use Rattle.bq_base.specs.Gives.{Gives}
-use Rattle.bq_base.specs.declared.fault.FaultKind.{FaultKind}
-use Rattle.bq_base.specs.declared.fault.FaultKind.TheVariants as f
+use Rattle.bq_base.specs.declared.fault.EvalFault.{EvalFault}
+use Rattle.bq_base.specs.declared.fault.EvalFault.TheVariants as f
 use Rattle.bq_label.specs.declared.packages.BuildFile.{BuildFile}
 use Rattle.bq_label.specs.Label.{PackageParts, LabelParts, label_in}
 use Rattle.bq_label.specs.Paths.{is_path}
@@ -54,22 +54,22 @@ use Rattle.bq_package_typed_value.proofs.Cases.{label_found, listed}
 use Rattle.bq_package_attributes.proofs.Cases.{with_attribute_by}
 
 -- the fault is one of the table, where there is one
-abbrev pub IsRefusable : {A : Type 0} → Result A FaultKind → Type 0
+abbrev pub IsRefusable : {A : Type 0} → Result A EvalFault → Type 0
 IsRefusable (Ok x) = Unit {0}
 IsRefusable (Err why) = is_refusal why ≡ true
 
 -- ---- steps
 
-pub of_both : {A B : Type 0} (r : Result A FaultKind) (next : A → Result B FaultKind) → IsRefusable r → ((x : A) → IsRefusable (next x)) → IsRefusable (and_then r next)
+pub of_both : {A B : Type 0} (r : Result A EvalFault) (next : A → Result B EvalFault) → IsRefusable r → ((x : A) → IsRefusable (next x)) → IsRefusable (and_then r next)
 of_both (Ok x) next h each = each x
 of_both (Err why) next h each = h
 
-of_turn : {A B : Type 0} (f : A → Result B FaultKind) → ((x : A) → IsRefusable (f x)) → (done : List B) (xs : List A) → IsRefusable (in_turn f done xs)
+of_turn : {A B : Type 0} (f : A → Result B EvalFault) → ((x : A) → IsRefusable (f x)) → (done : List B) (xs : List A) → IsRefusable (in_turn f done xs)
 unfolding in_turn
 of_turn f each done [] = tt
 of_turn f each done (x ∷ xs) = of_both (f x) (λ y. in_turn f (done ++ y ∷ []) xs) (each x) (λ y. of_turn f each (done ++ y ∷ []) xs)
 
-of_if : {A : Type 0} (b : Bool) (r q : Result A FaultKind) → IsRefusable r → IsRefusable q → IsRefusable (cond b r q)
+of_if : {A : Type 0} (b : Bool) (r q : Result A EvalFault) → IsRefusable r → IsRefusable q → IsRefusable (cond b r q)
 of_if true r q h e = h
 of_if false r q h e = e
 
@@ -106,7 +106,7 @@ of_bind s p =
 
 -- ---- typed values, where another type is refused for a fault of the table
 
-module _ (why : FaultKind) (refusal : is_refusal why ≡ true) where
+module _ (why : EvalFault) (refusal : is_refusal why ≡ true) where
   pub of_text : (v : Datum) → IsRefusable (text_in why v)
   unfolding text_in
   of_text (string s) = tt
@@ -245,7 +245,7 @@ of_rule p store line rule passed = by (slice_get p.rules.names rule) (slice_get 
 -- a default is refused for a fault of the table
 pub default_refuses : (own : PackageParts) (packages : List BuildFile) (x : Written) (result : Result AttributeValue EvalErr) → Gives (λ v. v) Bad result (typed own packages x) → Refuses result
 default_refuses own packages x (Ok v) gives = tt
-default_refuses own packages x (Err e) gives = λ kind is. subst (λ (r : Result AttributeValue FaultKind). IsRefusable r) (gives kind is) (of_typed own packages x)
+default_refuses own packages x (Err e) gives = λ kind is. subst (λ (r : Result AttributeValue EvalFault). IsRefusable r) (gives kind is) (of_typed own packages x)
 
 -- ---- the build functions
 

@@ -1,7 +1,7 @@
 -- What a host keeps after a call that declares targets.
 use Rattle.std.specs.Prelude.{◌≡◌, true, List, Result, Ok, Err}
 use Rattle.std.specs.List.{list_all}
-use Rattle.bq_base.specs.declared.fault.FaultKind.TheVariants.{DoubleTarget}
+use Rattle.bq_base.specs.declared.fault.EvalFault.TheVariants.{DoubleTarget}
 use Rattle.bq_label.specs.Label.{LabelParts}
 use Rattle.bq_value.specs.Datum.{Datum, none}
 use Rattle.bq_value.specs.declared.error.EvalErr.{EvalErr}

@@ -15,7 +15,7 @@ ghost use Rattle.bq_package.specs.Keeping.{answer, package_after, Settles, IsSet
 
 use crate::building::{BuildHost, Building};
 use crate::place::Place;
-use bq_base::{Bytes, FaultKind};
+use bq_base::{Bytes, EvalFault};
 use bq_builtin_machine::{Args, Machine, Signature, bind};
 use bq_label::{Label, PackageId, Packages, Workspace};
 use bq_package_host::Host;
@@ -132,7 +132,7 @@ impl<'a> BuildHost<'a> {
         ensures { Gives place_of Bad result (place_in (held_by self.now)) }
     {
         match &self.building {
-            None => Err(EvalErr::Bad(FaultKind::NotInPackage)),
+            None => Err(EvalErr::Bad(EvalFault::NotInPackage)),
             Some(building) => Ok(building.place),
         }
     }
@@ -160,7 +160,7 @@ impl<'a> BuildHost<'a> {
             }
             Declared::Refused(package) => {
                 self.building = Some(Building { place, package });
-                Err(EvalErr::Bad(FaultKind::DoubleTarget))
+                Err(EvalErr::Bad(EvalFault::DoubleTarget))
             }
         }
     }
@@ -172,7 +172,7 @@ impl<'a> BuildHost<'a> {
         ensures { IsSettled result (held_by self.old) (held_by self.new) (λ p. declared p target) }
     {
         let Some(building) = self.building.take() else {
-            return Err(EvalErr::Bad(FaultKind::NotInPackage));
+            return Err(EvalErr::Bad(EvalFault::NotInPackage));
         };
         let Building { place, package } = building;
         let declared = package.declare(alloc, target)?;
@@ -186,7 +186,7 @@ impl<'a> BuildHost<'a> {
         ensures { IsSettled result (held_by self.old) (held_by self.new) (λ p. exported p labels.now line) }
     {
         let Some(building) = self.building.take() else {
-            return Err(EvalErr::Bad(FaultKind::NotInPackage));
+            return Err(EvalErr::Bad(EvalFault::NotInPackage));
         };
         let Building { place, package } = building;
         let declared = package.export(alloc, labels, line)?;

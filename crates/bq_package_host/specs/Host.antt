@@ -1,7 +1,7 @@
 -- What a host makes of calls: of those of its own functions, and of those of rules that .bzl files declare.
 use Rattle.std.specs.Prelude.{ℕ, List, Bool, Result}
 use Rattle.bq_resolve_predeclared.specs.declared.host_function.HostFunction.{HostFunction}
-use Rattle.bq_base.specs.declared.fault.FaultKind.{FaultKind}
+use Rattle.bq_base.specs.declared.fault.EvalFault.{EvalFault}
 use Rattle.bq_value_rule_class.specs.Class.{Class}
 use Rattle.bq_value_rule_class.specs.declared.value.AttributeValue.{AttributeValue}
 use Rattle.bq_value.specs.Datum.{Datum}
@@ -12,7 +12,7 @@ use Rattle.bq_package_typed_value.specs.declared.written.Written.{Written}
 
 -- the value that a default of an attribute is, as it is written
 abbrev pub ReadDefault : Type 0
-ReadDefault = Written → Result AttributeValue FaultKind
+ReadDefault = Written → Result AttributeValue EvalFault
 
 -- `W` is what it keeps
 pub record HostCalls (W : Type 0) : Type 0 where
