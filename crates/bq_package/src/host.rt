@@ -6,7 +6,7 @@ ghost use Rattle.bq_value.specs.declared.error.EvalErr.TheVariants.{Bad};
 ghost use Rattle.bq_label.specs.Label.{package_of};
 ghost use Rattle.bq_builtin_machine.specs.State.{State};
 ghost use Rattle.bq_builtin_machine.specs.Action.{Does, HostDoes};
-ghost use Rattle.bq_package_host.specs.Refusals.{KeepsIfRefused};
+ghost use Rattle.bq_package_host.specs.Host.{KeepsIfRefused};
 ghost use Rattle.bq_package_target.specs.Package.{no_targets};
 ghost use Rattle.bq_package_target.specs.Calls.{declared, exported};
 ghost use Rattle.bq_package.specs.Place.{place_of};
@@ -306,12 +306,12 @@ impl<'a> Host for BuildHost<'a> {
         }
     }
 
-    #[tactic(auto, using(crate::proofs::Refusals::default_refuses), unfolding(crate::specs::Calls::default_value))]
+    #[tactic(auto, unfolding(crate::specs::Calls::default_value))]
     fn read_default(&self, alloc: Global, written: Written) -> Result<AttributeValue, EvalErr> {
         typed(alloc, self.scope(), written)
     }
 
-    #[tactic(auto, using(crate::proofs::Settling::keeps_same, crate::proofs::Meaning::refuses), unfolding(crate::specs::Calls::call_of))]
+    #[tactic(auto, using(crate::proofs::Settling::keeps_same), unfolding(crate::specs::Calls::call_of))]
     fn call(
         &mut self,
         alloc: Global,
@@ -330,7 +330,7 @@ impl<'a> Host for BuildHost<'a> {
         }
     }
 
-    #[tactic(auto, using(crate::proofs::Meaning::rule_refuses), unfolding(crate::specs::Calls::rule_call))]
+    #[tactic(auto, unfolding(crate::specs::Calls::rule_call))]
     fn call_rule(
         &mut self,
         alloc: Global,
