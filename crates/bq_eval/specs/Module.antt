@@ -3,8 +3,8 @@ use Rattle.std.specs.Prelude.{ℕ, ◌+◌, ◌==◌, cond, List, [], ◌∷◌,
 use Rattle.bq_base.specs.Fault.{fault_number}
 use Rattle.bq_source.specs.StringLiteral.{quoted}
 use Rattle.bq_base.specs.declared.fault.Fault.{Fault}
-use Rattle.bq_base.specs.declared.fault.FaultKind.{FaultKind}
-use Rattle.bq_base.specs.declared.fault.FaultKind.TheVariants as f
+use Rattle.bq_base.specs.declared.fault.EvalFault.{EvalFault}
+use Rattle.bq_base.specs.declared.fault.EvalFault.TheVariants as f
 use Rattle.bq_resolve_scope.specs.Names.{Name}
 use Rattle.bq_resolve_scope.specs.declared.file.ResolvedFile.{ResolvedFile}
 use Rattle.bq_value.specs.Cells.{StoreView, FrozenView, frozen, loading}
@@ -39,7 +39,7 @@ unfoldable pub frozen_values : ResolvedFile → List Datum → Frame → List Da
 frozen_values file imports globals = values_from 0 file.globals globals ++ imports
 
 -- `fail` has its message as its detail
-abbrev pub detail_of : FaultKind → List ℕ → List ℕ
+abbrev pub detail_of : EvalFault → List ℕ → List ℕ
 detail_of kind message = cond (fault_number kind == fault_number f.Fail) (quoted message) []
 
 -- the fault that an evaluation stopped with, as a line of the report tells it

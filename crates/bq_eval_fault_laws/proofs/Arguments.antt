@@ -1,7 +1,7 @@
 -- Arguments that go to no parameter are F52.
 use Rattle.std.proofs.Common.{ℕ, Bool, List, [], ◌∷◌, Option, Some, None, Ok, Err, is_some, slice_get, refl}
 use Rattle.std.specs.List.{position_from}
-use Rattle.bq_base.specs.declared.fault.FaultKind.TheVariants.{Args}
+use Rattle.bq_base.specs.declared.fault.EvalFault.TheVariants.{Args}
 use Rattle.bq_value.specs.Datum.{Datum, string}
 use Rattle.bq_value.specs.Pairs.{found}
 use Rattle.bq_builtin_machine.specs.Args.{Passed}

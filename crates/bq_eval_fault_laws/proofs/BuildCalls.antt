@@ -1,6 +1,6 @@
 -- The calls of build functions and of rules are refused for a fault that a file may fail with.
 use Rattle.std.proofs.Common.{ℕ, List, Result, Ok, Err, refl}
-use Rattle.bq_base.specs.declared.fault.FaultKind.{FaultKind}
+use Rattle.bq_base.specs.declared.fault.EvalFault.{EvalFault}
 use Rattle.bq_resolve_predeclared.specs.declared.host_function.HostFunction.{HostFunction}
 use Rattle.bq_resolve_predeclared.specs.declared.host_function.HostFunction.TheVariants as b
 use Rattle.bq_value_rule_class.specs.Class.{Class}
@@ -36,7 +36,7 @@ settled_so : (s : State) (d : Declaring) (x : Declared) → IsRefusal (settled s
 settled_so s d (Accepted after) = tt
 settled_so s d (Refused after) = refl
 
-declares_so : {A : Type 0} (s : State) (d : Declaring) (r : Result A FaultKind) (declare : A → Declared) → Fine r → IsRefusal (declares s d r declare)
+declares_so : {A : Type 0} (s : State) (d : Declaring) (r : Result A EvalFault) (declare : A → Declared) → Fine r → IsRefusal (declares s d r declare)
 declares_so s d (Ok a) declare h = settled_so s d (declare a)
 declares_so s d (Err why) declare h = h
 

@@ -1,8 +1,8 @@
 -- Calls stop for faults of evaluation alone, where the functions of all modules are sound.
 use Rattle.std.proofs.Common.{ℕ, zero, suc, List, [], ◌∷◌, Bool, true, false, Option, Some, None, Result, Ok, Err, slice_get, refl}
 use Rattle.std.specs.List.{AllByRecursion}
-use Rattle.bq_base.specs.declared.fault.FaultKind.{FaultKind}
-use Rattle.bq_base.specs.declared.fault.FaultKind.TheVariants as f
+use Rattle.bq_base.specs.declared.fault.EvalFault.{EvalFault}
+use Rattle.bq_base.specs.declared.fault.EvalFault.TheVariants as f
 use Rattle.bq_parse_grammar.specs.declared.tree.Expr.{Expr}
 use Rattle.bq_parse_grammar.specs.declared.tree.Identifier.{Identifier}
 use Rattle.bq_resolve_scope.specs.declared.file.Formal.{Formal}
@@ -34,7 +34,7 @@ module _ {S : Type 0} (m : Primitives S) (L : Lawful m) where
   abbrev pub Itself : (A : Type 0) → Action S A → Type 0
   Itself A a = Refusing A a
 
-  given_rule : (A : Type 0) (r : Result A FaultKind) → Fine r → Itself A (given_by m r)
+  given_rule : (A : Type 0) (r : Result A EvalFault) → Fine r → Itself A (given_by m r)
   given_rule A (Ok x) h = value_of A x
   given_rule A (Err kind) h = stop_of m A kind h
 

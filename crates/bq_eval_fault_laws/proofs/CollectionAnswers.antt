@@ -1,6 +1,6 @@
 -- What methods of lists and dicts answer is refused for faults of evaluation alone.
 use Rattle.std.proofs.Common.{ℕ, ◌+◌, ℤ, List, [], ◌∷◌, length, slice_get, Option, Some, None, Result, Ok, Err, refl}
-use Rattle.bq_base.specs.declared.fault.FaultKind.{FaultKind}
+use Rattle.bq_base.specs.declared.fault.EvalFault.{EvalFault}
 use Rattle.bq_value.specs.Cells.{StoreView, content_at}
 use Rattle.bq_value.specs.Contents.{Contents, items, pairs, rule}
 use Rattle.bq_value.specs.Datum.{Datum, none, int, tuple, cell}
@@ -86,7 +86,7 @@ placed_fine args = by_names args.named args.positional
 
 -- ---- lists
 
-items_fine : (r : Result (Datum × List Datum) FaultKind) → Fine r → Fine (as_items r)
+items_fine : (r : Result (Datum × List Datum) EvalFault) → Fine r → Fine (as_items r)
 items_fine (Ok r) h = tt
 items_fine (Err kind) h = h
 
@@ -143,7 +143,7 @@ place_value_fine o = fine_then (place_by o) _ (place_fine o) (λ n. tt)
 
 -- ---- dicts
 
-pairs_fine : (r : Result (Datum × List (Datum × Datum)) FaultKind) → Fine r → Fine (as_pairs r)
+pairs_fine : (r : Result (Datum × List (Datum × Datum)) EvalFault) → Fine r → Fine (as_pairs r)
 pairs_fine (Ok r) h = tt
 pairs_fine (Err kind) h = h
 

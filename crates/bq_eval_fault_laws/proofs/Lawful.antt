@@ -1,7 +1,7 @@
 -- What stops, if it does, for a fault of evaluation: values, some faults, one action after another, and a choice of two.
 use Rattle.std.proofs.Common.{◌≡◌, ℕ, Bool, true, false, List}
 use Rattle.std.specs.Prelude.{if◌then◌else◌}
-use Rattle.bq_base.specs.declared.fault.FaultKind.{FaultKind}
+use Rattle.bq_base.specs.declared.fault.EvalFault.{EvalFault}
 use Rattle.bq_parse_grammar.specs.declared.tree.Comparison.{Comparison}
 use Rattle.bq_parse_grammar.specs.declared.tree.Operator.{Operator}
 use Rattle.bq_parse_grammar.specs.declared.tree.UnaryOperator.{UnaryOperator}
@@ -19,7 +19,7 @@ use Rattle.bq_eval_fault_laws.specs.Faults.{IsRefusal, Refusing}
 pub value_of : {S : Type 0} (A : Type 0) (x : A) → Refusing {S = S} A (pure x)
 value_of A x s = tt
 
-pub stop_of : {S : Type 0} (m : Primitives S) (A : Type 0) (kind : FaultKind) → is_refusal kind ≡ true → Refusing A (stop m kind)
+pub stop_of : {S : Type 0} (m : Primitives S) (A : Type 0) (kind : EvalFault) → is_refusal kind ≡ true → Refusing A (stop m kind)
 stop_of m A kind h s = h
 
 then_run : {S A B : Type 0} (r : Run S A) (f : A → Action S B) → IsRefusal r → ((x : A) → Refusing B (f x)) → IsRefusal (following r f)

@@ -1,6 +1,6 @@
 -- What a machine does stops for faults of evaluation alone.
 use Rattle.std.proofs.Common.{◌≡◌, ℕ, ◌==◌, Bool, true, false, cond, List, Result, Ok, Err, nat_lt, length, refl}
-use Rattle.bq_base.specs.declared.fault.FaultKind.{FaultKind}
+use Rattle.bq_base.specs.declared.fault.EvalFault.{EvalFault}
 use Rattle.bq_value.specs.Cells.{StoreView, content_at}
 use Rattle.bq_value.specs.Contents.{Contents}
 use Rattle.bq_value.specs.Datum.{Datum}
@@ -28,10 +28,10 @@ Own {A = A} action = Refusing {S = State} A action
 pub pure_owns : {A : Type 0} (x : A) → Own (pure x)
 pure_owns x s = tt
 
-pub stop_owns : (A : Type 0) (kind : FaultKind) → is_refusal kind ≡ true → Own {A = A} (stop kind)
+pub stop_owns : (A : Type 0) (kind : EvalFault) → is_refusal kind ≡ true → Own {A = A} (stop kind)
 stop_owns A kind h s = h
 
-pub given_owns : {A : Type 0} (r : Result A FaultKind) → Fine r → Own (given r)
+pub given_owns : {A : Type 0} (r : Result A EvalFault) → Fine r → Own (given r)
 given_owns (Ok x) h s = tt
 given_owns (Err kind) h s = h
 
@@ -41,7 +41,7 @@ bind_owns a f h k = both _ _ a f h k
 pub then_owns : {A B : Type 0} (a : Action State A) (b : Action State B) → Own a → Own b → Own (a >> b)
 then_owns a b h k = both _ _ a (λ _. b) h (λ _. k)
 
-pub look_owns : {A : Type 0} (r : StoreView → Result A FaultKind) → ((s : StoreView) → Fine (r s)) → Own (look (λ s. r s.store))
+pub look_owns : {A : Type 0} (r : StoreView → Result A EvalFault) → ((s : StoreView) → Fine (r s)) → Own (look (λ s. r s.store))
 look_owns r h s = given_owns (r s.store) (h s.store) s
 
 -- ---- walks over values

@@ -1,6 +1,6 @@
 -- Lists and dicts that are being made, and the arguments of calls, stop for faults of evaluation alone.
 use Rattle.std.proofs.Common.{ℕ, ◌+◌, ◌==◌, nat_le, List, [], ◌∷◌, ◌++◌, length, is_some, Result, Ok, Err, refl}
-use Rattle.bq_base.specs.declared.fault.FaultKind.{FaultKind}
+use Rattle.bq_base.specs.declared.fault.EvalFault.{EvalFault}
 use Rattle.bq_value.specs.Contents.{Contents, items, pairs, rule}
 use Rattle.bq_value.specs.Datum.{Datum, string}
 use Rattle.bq_builtin_machine.specs.Action.{given, look}
@@ -49,7 +49,7 @@ unfolding with_pairs
 pairs_fine p [] = tt
 pairs_fine p (x ∷ xs) = fine_then (name_of x.0) _ (name_fine x.0) (λ name. pairs_fine (with_named p name x.1) xs)
 
-just_fine : (count : ℕ) (r : Result (List Datum) FaultKind) → Fine (just count r)
+just_fine : (count : ℕ) (r : Result (List Datum) EvalFault) → Fine (just count r)
 just_fine count (Ok xs) = fine_cond (length xs == count) _ _ tt refl
 just_fine count (Err kind) = refl
 

@@ -1,7 +1,7 @@
 -- Operators stop for faults of evaluation alone.
 use Rattle.std.proofs.Common.{ℕ, ℤ, List, Result, refl}
-use Rattle.bq_base.specs.declared.fault.FaultKind.{FaultKind}
-use Rattle.bq_base.specs.declared.fault.FaultKind.TheVariants as f
+use Rattle.bq_base.specs.declared.fault.EvalFault.{EvalFault}
+use Rattle.bq_base.specs.declared.fault.EvalFault.TheVariants as f
 use Rattle.bq_parse_grammar.specs.declared.tree.Comparison.{Comparison}
 use Rattle.bq_parse_grammar.specs.declared.tree.Operator.{Operator}
 use Rattle.bq_parse_grammar.specs.declared.tree.Operator.TheVariants as op
@@ -34,7 +34,7 @@ use Rattle.bq_eval_fault_laws.proofs.Walks.{compared_walks, item_walks, percent_
 
 -- ---- operators between values
 
-listed_owns : (values : StoreView → Result (List Datum) FaultKind) → ((s : StoreView) → Fine (values s)) → Own (listed values)
+listed_owns : (values : StoreView → Result (List Datum) EvalFault) → ((s : StoreView) → Fine (values s)) → Own (listed values)
 listed_owns values h = bind_owns (look (λ s. values s.store)) (λ xs. new_content (items xs)) (look_owns values h) (λ xs. new_owns (items xs))
 
 sum_owns : (a b : Datum) → Own (sum a b)

@@ -1,8 +1,8 @@
 -- Calls of the functions that declare rules, and of rules, stop for faults of evaluation alone, beside a host whose calls do.
 use Rattle.std.proofs.Common.{ℕ, ◌||◌, not, Bool, true, false, List, [], ◌∷◌, ◌++◌, Option, Some, None, Result, Ok, Err, refl}
 use Rattle.std.specs.Prelude.{if◌then◌else◌}
-use Rattle.bq_base.specs.declared.fault.FaultKind.{FaultKind}
-use Rattle.bq_base.specs.declared.fault.FaultKind.TheVariants as f
+use Rattle.bq_base.specs.declared.fault.EvalFault.{EvalFault}
+use Rattle.bq_base.specs.declared.fault.EvalFault.TheVariants as f
 use Rattle.bq_resolve_predeclared.specs.declared.rule_function.RuleFunction.{RuleFunction}
 use Rattle.bq_value_rule_class.specs.Class.{Class}
 use Rattle.bq_value_rule_class.specs.declared.attribute_type.AttributeType.{AttributeType}
@@ -34,11 +34,11 @@ use Rattle.bq_eval_fault_laws.proofs.Fine.{fine_if, fine_so}
 use Rattle.bq_eval_fault_laws.proofs.Lawful.{both}
 use Rattle.bq_eval_fault_laws.proofs.Machine.{Own, pure_owns, bind_owns, look_owns, new_owns}
 
-then_fine : {A B : Type 0} (r : Result A FaultKind) (next : A → Result B FaultKind) → Fine r → ((x : A) → Fine (next x)) → Fine (and_then r next)
+then_fine : {A B : Type 0} (r : Result A EvalFault) (next : A → Result B EvalFault) → Fine r → ((x : A) → Fine (next x)) → Fine (and_then r next)
 then_fine (Ok x) next h k = k x
 then_fine (Err kind) next h k = h
 
-turn_fine : {A B : Type 0} (one : A → Result B FaultKind) → ((x : A) → Fine (one x)) → (so_far : List B) (xs : List A) → Fine (in_turn one so_far xs)
+turn_fine : {A B : Type 0} (one : A → Result B EvalFault) → ((x : A) → Fine (one x)) → (so_far : List B) (xs : List A) → Fine (in_turn one so_far xs)
 unfolding in_turn
 turn_fine one ones so_far [] = tt
 turn_fine one ones so_far (x ∷ xs) = then_fine (one x) _ (ones x) (λ y. turn_fine one ones (so_far ++ y ∷ []) xs)

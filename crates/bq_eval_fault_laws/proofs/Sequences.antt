@@ -1,8 +1,8 @@
 -- What operators answer of integers, places and sequences is refused for faults of evaluation alone.
 use Rattle.std.proofs.Common.{ℕ, zero, suc, ℤ, pos, negsuc, nat_lt, nat_le, List, [], ◌++◌, length, slice_get, Option, Some, None, Result, Ok, Err, refl}
 use Rattle.std.specs.Ordering.{int_eq}
-use Rattle.bq_base.specs.declared.fault.FaultKind.{FaultKind}
-use Rattle.bq_base.specs.declared.fault.FaultKind.TheVariants as f
+use Rattle.bq_base.specs.declared.fault.EvalFault.{EvalFault}
+use Rattle.bq_base.specs.declared.fault.EvalFault.TheVariants as f
 use Rattle.bq_parse_grammar.specs.declared.tree.Operator.{Operator}
 use Rattle.bq_parse_grammar.specs.declared.tree.Operator.TheVariants as op
 use Rattle.bq_parse_grammar.specs.declared.tree.UnaryOperator.{UnaryOperator}
@@ -76,13 +76,13 @@ pub or_wrong_fine : {A : Type 0} (o : Option A) → Fine (or_wrong o)
 or_wrong_fine (Some a) = tt
 or_wrong_fine None = refl
 
-pub as_int_fine : (r : Result ℤ FaultKind) → Fine r → Fine (as_int r)
+pub as_int_fine : (r : Result ℤ EvalFault) → Fine r → Fine (as_int r)
 as_int_fine r h = fine_then r (λ n. Ok (int n)) h (λ n. tt)
 
-pub as_string_fine : (r : Result (List ℕ) FaultKind) → Fine r → Fine (as_string r)
+pub as_string_fine : (r : Result (List ℕ) EvalFault) → Fine r → Fine (as_string r)
 as_string_fine r h = fine_then r (λ t. Ok (string t)) h (λ t. tt)
 
-pub as_tuple_fine : (r : Result (List Datum) FaultKind) → Fine r → Fine (as_tuple r)
+pub as_tuple_fine : (r : Result (List Datum) EvalFault) → Fine r → Fine (as_tuple r)
 as_tuple_fine r h = fine_then r (λ xs. Ok (tuple (data_of xs))) h (λ xs. tt)
 
 -- ---- integers
@@ -107,12 +107,12 @@ count_fine : (n : ℤ) → Fine (shift_count n)
 count_fine (pos n) = fine_cond (nat_lt n 64) (Ok n) (Err f.BadValue) tt refl
 count_fine (negsuc n) = refl
 
-left_fine : (x : ℤ) (r : Result ℕ FaultKind) → Fine r → Fine (scaled_by x r)
+left_fine : (x : ℤ) (r : Result ℕ EvalFault) → Fine r → Fine (scaled_by x r)
 unfolding scaled
 left_fine x (Ok n) h = fitted_fine _
 left_fine x (Err e) h = h
 
-right_fine : (x : ℤ) (r : Result ℕ FaultKind) → Fine r → Fine (halved_by x r)
+right_fine : (x : ℤ) (r : Result ℕ EvalFault) → Fine r → Fine (halved_by x r)
 right_fine x (Ok n) h = tt
 right_fine x (Err e) h = h
 
@@ -162,7 +162,7 @@ pub byte_in_fine : (text : List ℕ) (at : Datum) → Fine (byte_in text at)
 unfolding byte_in
 byte_in_fine text at = fine_then (item_in text at) _ (item_in_fine text at) (λ b. tt)
 
-element_fine : (start step : ℤ) (r : Result ℕ FaultKind) → Fine r → Fine (element_by start step r)
+element_fine : (start step : ℤ) (r : Result ℕ EvalFault) → Fine r → Fine (element_by start step r)
 element_fine start step (Ok n) h = tt
 element_fine start step (Err e) h = h
 

@@ -1,7 +1,7 @@
 -- Walks over values are refused for faults of evaluation alone.
 use Rattle.std.proofs.Common.{◌==◌, ◌&&◌, ℕ, zero, suc, ℤ, Bool, true, false, cond, List, [], ◌∷◌, length, Option, Some, None, Ok, Err, refl}
 use Rattle.std.specs.declared.cmp.Ordering.{Ordering}
-use Rattle.bq_base.specs.declared.fault.FaultKind.TheVariants.{TooDeep}
+use Rattle.bq_base.specs.declared.fault.EvalFault.TheVariants.{TooDeep}
 use Rattle.bq_value.specs.Datum.{Datum, none, boolean, int, string, tuple, range, cell, function, built_in, rule_function, attribute, list_of}
 use Rattle.bq_value.specs.Contents.{Contents, items, pairs, rule}
 use Rattle.bq_value.specs.Cells.{StoreView, content_at}

@@ -3,8 +3,8 @@ use Rattle.std.proofs.Common.{ℕ, zero, suc, ◌+◌, ◌==◌, ◌-◌, ℤ, B
 use Rattle.std.specs.Prelude.{codes}
 use Rattle.std.specs.declared.cmp.Ordering.{Ordering}
 use Rattle.std.specs.Ordering.{is_lt, is_le, is_gt, is_ge}
-use Rattle.bq_base.specs.declared.fault.FaultKind.{FaultKind}
-use Rattle.bq_base.specs.declared.fault.FaultKind.TheVariants as f
+use Rattle.bq_base.specs.declared.fault.EvalFault.{EvalFault}
+use Rattle.bq_base.specs.declared.fault.EvalFault.TheVariants as f
 use Rattle.bq_parse_grammar.specs.declared.tree.Comparison.{Comparison}
 use Rattle.bq_parse_grammar.specs.declared.tree.Comparison.TheVariants as comparison
 use Rattle.bq_value.specs.Datum.{Datum, none, boolean, int, string, tuple, range, cell, function, built_in, rule_function, attribute, list_of}
@@ -114,7 +114,7 @@ compared_walks comparison.NotIn s a b = negated_walks (λ n. contained s n a b) 
 
 -- ---- items
 
-free_walks : (r : Result Datum FaultKind) → Fine r → Walks (λ n. at_no_cost n r)
+free_walks : (r : Result Datum EvalFault) → Fine r → Walks (λ n. at_no_cost n r)
 free_walks (Ok v) h = λ n. tt
 free_walks (Err kind) h = λ n. h
 
@@ -213,7 +213,7 @@ unfolding filled
 filled_walks zero s d vs text = λ n. tt
 filled_walks (suc most) s d vs text = filled_by_walks (filled most s) (filled_walks most s) s d vs text (partition (codes "%") text)
 
-steps_walk : (r : Result (List ℕ) FaultKind) → Fine r → Walks (λ n. with_steps n r)
+steps_walk : (r : Result (List ℕ) EvalFault) → Fine r → Walks (λ n. with_steps n r)
 steps_walk (Ok text) h = λ n. tt
 steps_walk (Err kind) h = λ n. h
 

@@ -2,7 +2,7 @@
 -- F78), or a name of the own package whose file lies in another one (F37). The table is that of a host's refusals.
 use Rattle.std.specs.Prelude.{◌≡◌, ℕ, List, Option, Some, Result, Ok, Err, true}
 use Rattle.std.specs.List.{AllByRecursion}
-use Rattle.bq_base.specs.declared.fault.FaultKind.{FaultKind}
+use Rattle.bq_base.specs.declared.fault.EvalFault.{EvalFault}
 use Rattle.bq_parse_grammar.specs.Lexeme.{Lexeme}
 use Rattle.bq_parse_grammar.specs.Parses.{Parses}
 use Rattle.bq_parse_grammar.specs.declared.tree.FileKind.{FileKind}
@@ -33,7 +33,7 @@ abbrev pub Refusing : {S : Type 0} (A : Type 0) → Action S A → Type 0
 Refusing {S = S} A action = (s : S) → IsRefusal (action s)
 
 -- an answer that is refused, if it is, for one of these
-abbrev pub Fine : {A : Type 0} → Result A FaultKind → Type 0
+abbrev pub Fine : {A : Type 0} → Result A EvalFault → Type 0
 Fine (Ok x) = Unit {0}
 Fine (Err kind) = is_refusal kind ≡ true
 
