@@ -10,7 +10,7 @@ ghost use Rattle.bq_eval.specs.Outcomes.{ended_of};
 
 use crate::module::ResolvedModule;
 use crate::outcome::FileOutcome;
-use bq_base::{Bytes, Fault, EvalFault};
+use bq_base::{Bytes, EvalFault, Fault, FaultKind};
 use bq_builtin_machine::Machine;
 use bq_eval_frame::Frame;
 use bq_value::{Value, freeze};
@@ -68,7 +68,7 @@ fn fault_of(alloc: Global, kind: EvalFault, machine: &Machine) -> Result<Fault, 
     ensures { IfOk result (λ fault. fault ≡ fault_of (stop_at kind machine.now)) }
 {
     Ok(Fault {
-        kind,
+        kind: FaultKind::Eval(kind),
         line: machine.line(),
         detail: detail_of(alloc, kind, machine.message())?,
     })
