@@ -1,8 +1,9 @@
 -- Files whose statements are not too deep have faults of names alone, so none is F11.
 use Rattle.std.proofs.Common.{◌≡◌, ◌≤◌, ℕ, true, false, List, [], ◌∷◌, ◌++◌, map, length, Result, Ok, Err, subst, arith}
 use Rattle.std.specs.List.{AllByRecursion}
+use Rattle.bq_base.specs.declared.fault.NameFault.{NameFault}
 use Rattle.bq_base.specs.declared.fault.Fault.{Fault}
-use Rattle.bq_base.specs.declared.fault.FaultKind.TheVariants as f
+use Rattle.bq_base.specs.declared.fault.NameFault.TheVariants as f
 use Rattle.bq_parse_grammar.specs.declared.tree.Branch.{Branch}
 use Rattle.bq_parse_grammar.specs.declared.tree.Expr.{Expr}
 use Rattle.bq_parse_grammar.specs.declared.tree.Identifier.{Identifier}
@@ -67,7 +68,7 @@ module _ (file : FileParts) where
 
   -- ---- functions
 
-  with_calm : (name : Name) (ps : List Formal) (k : ℕ) (r : Result (List Stmt × Passed) Fault) → IsCalm {A = List Stmt} r → IsCalm {A = ℕ} (with_function file name ps k r)
+  with_calm : (name : Name) (ps : List Formal) (k : ℕ) (r : Result (List Stmt × Passed) (Fault NameFault)) → IsCalm {A = List Stmt} r → IsCalm {A = ℕ} (with_function file name ps k r)
   with_calm name ps k (Err why) h = h
   with_calm name ps k (Ok p) h = tt
 
@@ -110,10 +111,10 @@ module _ (file : FileParts) where
       let a : stmt_depth t.statement ≤ max_depth = all.0 in
       calm_bind (top_level file t) (λ y. each (top_level file) (done ++ y ∷ []) ts) (top_level_calm t (omega (arith, enough))) (λ y. all_calm ts (done ++ y ∷ []) all.1)
 
-file_by : (file : FileParts) (r : Result (List FileLine × Passed) Fault) (why : Fault) → IsCalm {A = List FileLine} r → resolved_by file r ≡ Err why → is_of_names why.kind ≡ true
+file_by : (file : FileParts) (r : Result (List FileLine × Passed) (Fault NameFault)) (why : Fault NameFault) → IsCalm {A = List FileLine} r → resolved_by file r ≡ Err why → is_of_names why.kind ≡ true
 file_by file (Err w) why h e =
     let same : w ≡ why = cc in
-    let P : Fault → Type 0 = λ z. is_of_names z.kind ≡ true in subst P same h
+    let P : Fault NameFault → Type 0 = λ z. is_of_names z.kind ≡ true in subst P same h
 file_by file (Ok p) why h e = absurd (let no : ⊥ = cc in no)
 
 pub all_of_names : FaultsAreOfNames
