@@ -1,6 +1,7 @@
 -- What the text of a file resolves to, or its first fault.
 use Rattle.std.specs.Prelude.{ℕ, List, Result, Ok, Err, Vec}
 use Rattle.std.specs.Global.{Global}
+use Rattle.bq_base.specs.declared.fault.FaultKind.{FaultKind}
 use Rattle.bq_base.specs.declared.fault.Fault.{Fault}
 use Rattle.bq_source_lexer.specs.Tokens.{tokens_of}
 use Rattle.bq_parse_grammar.specs.Lexeme.{lexemes}
@@ -11,12 +12,12 @@ use Rattle.bq_resolve_scope.specs.Files.{resolved}
 
 -- one step after another
 infixl 10 ◌>>=◌
-abbrev pub ◌>>=◌ : {A B : Type 0} → Result A Fault → (A → Result B Fault) → Result B Fault
+abbrev pub ◌>>=◌ : {A B : Type 0} → Result A (Fault FaultKind) → (A → Result B (Fault FaultKind)) → Result B (Fault FaultKind)
 (Err why) >>= go = Err why
 (Ok x) >>= go = go x
 
 -- its tokens, the trees of its statements, and what their names stand for
-unfoldable pub resolved_file : UniverseParts → List ℕ → Result ResolvedFile Fault
+unfoldable pub resolved_file : UniverseParts → List ℕ → Result ResolvedFile (Fault FaultKind)
 resolved_file universe text = tokens_of text >>= λ ts. statements_of universe.kind (lexemes text ts) >>= λ trees. resolved universe trees
 
 -- the views of what functions return, under which `Gives` relates it to a definition

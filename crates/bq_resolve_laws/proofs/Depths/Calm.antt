@@ -5,8 +5,16 @@ use Rattle.bq_base.specs.declared.fault.NameFault.{NameFault}
 use Rattle.bq_base.specs.declared.fault.Fault.{Fault}
 use Rattle.bq_base.specs.declared.fault.NameFault.TheVariants as f
 use Rattle.bq_parse_tree_laws.specs.Depth.{deepest}
-use Rattle.bq_resolve_laws.specs.Depths.Nesting.{is_of_names}
 use Rattle.bq_resolve_scope.specs.Visit.{Passed, Visit, following, ◌>>=◌, pure, stop, given, each, optional}
+
+-- F20 to F24
+abbrev pub is_of_names : NameFault → Bool
+is_of_names f.Nesting = false
+is_of_names f.UnknownName = true
+is_of_names f.Rebound = true
+is_of_names f.BoundTwice = true
+is_of_names f.BadFlow = true
+is_of_names f.DoubleParameter = true
 
 abbrev pub IsCalm : {A : Type 0} → Result (A × Passed) (Fault NameFault) → Type 0
 IsCalm (Ok p) = Unit {0}

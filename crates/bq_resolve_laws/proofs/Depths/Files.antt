@@ -24,9 +24,9 @@ use Rattle.bq_resolve_scope.specs.Expressions.{refer, bound_at}
 use Rattle.bq_resolve_scope.specs.Statements.{ParameterParts, no_parameters, expr, small_stmt, stmt_to, named_parameter, default_parameter, next_parameter, parameters, statements_in, with_function, function}
 use Rattle.bq_resolve_scope.specs.Files.{file_names, def_stmt, file_stmt, top_level, resolved_by, resolved}
 use Rattle.bq_parse_tree_laws.specs.Depth.{deepest, max_depth, expr_depth, parameter_depth, small_depth, stmt_depth}
-use Rattle.bq_resolve_laws.specs.Depths.Nesting.{is_of_names, FaultsAreOfNames, NoFileIsTooDeep}
+use Rattle.bq_resolve_laws.specs.Depths.Nesting.{NoFileIsTooDeep}
 use Rattle.bq_resolve_laws.proofs.Depths.Layers.{stmt_layer, opened_stmt}
-use Rattle.bq_resolve_laws.proofs.Depths.Calm.{IsCalm, Calm, flow_is_named, double_is_named, calm_bind, calm_map, calm_choice, calm_each}
+use Rattle.bq_resolve_laws.proofs.Depths.Calm.{is_of_names, IsCalm, Calm, flow_is_named, double_is_named, calm_bind, calm_map, calm_choice, calm_each}
 use Rattle.bq_resolve_laws.proofs.Depths.Expressions.{name_calm}
 use Rattle.bq_resolve_laws.proofs.Depths.Statements.{an_expr_calm, small_calm, stmt_calm}
 
@@ -117,7 +117,7 @@ file_by file (Err w) why h e =
     let P : Fault NameFault → Type 0 = λ z. is_of_names z.kind ≡ true in subst P same h
 file_by file (Ok p) why h e = absurd (let no : ⊥ = cc in no)
 
-pub all_of_names : FaultsAreOfNames
+all_of_names : (universe : UniverseParts) (ts : List TopLevel) (why : Fault NameFault) → AllByRecursion (λ t. stmt_depth t.statement ≤ max_depth) ts → resolved universe ts ≡ Err why → is_of_names why.kind ≡ true
 unfolding resolved
 all_of_names universe ts why all e =
     let file : FileParts = file_names universe ts in
