@@ -23,5 +23,5 @@ pub fn resolved_file(
 {
     let tokens = lex(alloc, text)?;
     let file = parse(alloc, &tokens, text, universe.kind())?;
-    resolve(alloc, file, universe)
+    Ok(resolve(alloc, file, universe)?)
 }
