@@ -1,7 +1,11 @@
 -- The faults of files, by the stage that finds them: their numbers and names.
-use Rattle.std.specs.Prelude.{ℕ, List, [], codes}
-use Rattle.bq_base.specs.declared.fault.TextFault.{TextFault}
-use Rattle.bq_base.specs.declared.fault.TextFault.TheVariants as t
+use Rattle.std.specs.Prelude.{ℕ, List, [], codes, Result, Ok, Err}
+use Rattle.bq_base.specs.declared.fault.TokenFault.{TokenFault}
+use Rattle.bq_base.specs.declared.fault.TokenFault.TheVariants as t
+use Rattle.bq_base.specs.declared.fault.StatementFault.{StatementFault}
+use Rattle.bq_base.specs.declared.fault.StatementFault.TheVariants as s
+use Rattle.bq_base.specs.declared.fault.NameFault.{NameFault}
+use Rattle.bq_base.specs.declared.fault.NameFault.TheVariants as n
 use Rattle.bq_base.specs.declared.fault.LoadFault.{LoadFault}
 use Rattle.bq_base.specs.declared.fault.LoadFault.TheVariants as l
 use Rattle.bq_base.specs.declared.fault.EvalFault.{EvalFault}
@@ -9,32 +13,53 @@ use Rattle.bq_base.specs.declared.fault.EvalFault.TheVariants as e
 use Rattle.bq_base.specs.declared.fault.FaultKind.{FaultKind}
 use Rattle.bq_base.specs.declared.fault.FaultKind.TheVariants as f
 use Rattle.bq_base.specs.declared.fault.Fault.{Fault}
+use Rattle.bq_base.specs.declared.fault.SourceErr.{SourceErr}
+use Rattle.bq_base.specs.declared.fault.SourceErr.TheVariants.{Bad, Memory}
 
--- faults of a text: the number after the `F` of a fault line, and the name after the number
-abbrev pub text_fault_entry : TextFault → ℕ × List ℕ
-text_fault_entry t.BadByte = (1, codes "BadByte")
-text_fault_entry t.Indent = (2, codes "Indent")
-text_fault_entry t.Tab = (3, codes "Tab")
-text_fault_entry t.OpenString = (4, codes "OpenString")
-text_fault_entry t.Escape = (5, codes "Escape")
-text_fault_entry t.BadInt = (6, codes "BadInt")
-text_fault_entry t.Bracket = (7, codes "Bracket")
-text_fault_entry t.FileTooLong = (8, codes "FileTooLong")
-text_fault_entry t.Syntax = (10, codes "Syntax")
-text_fault_entry t.Nesting = (11, codes "Nesting")
-text_fault_entry t.LeftOut = (12, codes "LeftOut")
-text_fault_entry t.NotInBuild = (13, codes "NotInBuild")
-text_fault_entry t.UnknownName = (20, codes "UnknownName")
-text_fault_entry t.Rebound = (21, codes "Rebound")
-text_fault_entry t.BoundTwice = (22, codes "BoundTwice")
-text_fault_entry t.BadFlow = (23, codes "BadFlow")
-text_fault_entry t.DoubleParameter = (24, codes "DoubleParameter")
+-- faults of tokens: the number after the `F` of a fault line, and the name after the number
+abbrev pub token_fault_entry : TokenFault → ℕ × List ℕ
+token_fault_entry t.BadByte = (1, codes "BadByte")
+token_fault_entry t.Indent = (2, codes "Indent")
+token_fault_entry t.Tab = (3, codes "Tab")
+token_fault_entry t.OpenString = (4, codes "OpenString")
+token_fault_entry t.Escape = (5, codes "Escape")
+token_fault_entry t.BadInt = (6, codes "BadInt")
+token_fault_entry t.Bracket = (7, codes "Bracket")
+token_fault_entry t.FileTooLong = (8, codes "FileTooLong")
 
-abbrev pub text_fault_number : TextFault → ℕ
-text_fault_number fault = (text_fault_entry fault).0
+abbrev pub token_fault_number : TokenFault → ℕ
+token_fault_number fault = (token_fault_entry fault).0
 
-abbrev pub text_fault_name : TextFault → List ℕ
-text_fault_name fault = (text_fault_entry fault).1
+abbrev pub token_fault_name : TokenFault → List ℕ
+token_fault_name fault = (token_fault_entry fault).1
+
+-- the same of statements
+abbrev pub statement_fault_entry : StatementFault → ℕ × List ℕ
+statement_fault_entry s.Syntax = (10, codes "Syntax")
+statement_fault_entry s.Nesting = (11, codes "Nesting")
+statement_fault_entry s.LeftOut = (12, codes "LeftOut")
+statement_fault_entry s.NotInBuild = (13, codes "NotInBuild")
+
+abbrev pub statement_fault_number : StatementFault → ℕ
+statement_fault_number fault = (statement_fault_entry fault).0
+
+abbrev pub statement_fault_name : StatementFault → List ℕ
+statement_fault_name fault = (statement_fault_entry fault).1
+
+-- the same of names and flow
+abbrev pub name_fault_entry : NameFault → ℕ × List ℕ
+name_fault_entry n.Nesting = (11, codes "Nesting")
+name_fault_entry n.UnknownName = (20, codes "UnknownName")
+name_fault_entry n.Rebound = (21, codes "Rebound")
+name_fault_entry n.BoundTwice = (22, codes "BoundTwice")
+name_fault_entry n.BadFlow = (23, codes "BadFlow")
+name_fault_entry n.DoubleParameter = (24, codes "DoubleParameter")
+
+abbrev pub name_fault_number : NameFault → ℕ
+name_fault_number fault = (name_fault_entry fault).0
+
+abbrev pub name_fault_name : NameFault → List ℕ
+name_fault_name fault = (name_fault_entry fault).1
 
 -- the same of loads
 abbrev pub load_fault_entry : LoadFault → ℕ × List ℕ
@@ -96,7 +121,9 @@ eval_fault_name fault = (eval_fault_entry fault).1
 
 -- the same of all faults
 abbrev pub fault_entry : FaultKind → ℕ × List ℕ
-fault_entry (f.Text fault) = text_fault_entry fault
+fault_entry (f.Token fault) = token_fault_entry fault
+fault_entry (f.Statement fault) = statement_fault_entry fault
+fault_entry (f.Name fault) = name_fault_entry fault
 fault_entry (f.Load fault) = load_fault_entry fault
 fault_entry (f.Eval fault) = eval_fault_entry fault
 fault_entry f.DanglingLabel = (79, codes "DanglingLabel")
@@ -111,5 +138,19 @@ abbrev pub fault_name : FaultKind → List ℕ
 fault_name kind = (fault_entry kind).1
 
 -- a fault without detail
-abbrev pub fault_at : FaultKind → ℕ → Fault
+abbrev pub fault_at : {K : Type 0} → K → ℕ → Fault K
 fault_at kind line = record { kind = kind; line = line; detail = [] }
+
+-- the same fault, as one of another kind: as a fault of a file, say, where it is one of its tokens
+abbrev pub fault_as : {K J : Type 0} → (K → J) → Fault K → Fault J
+fault_as kind why = record { kind = kind why.kind; line = why.line; detail = why.detail }
+
+-- the same answer, with its fault as one of another kind
+abbrev pub or_fault_as : {A K J : Type 0} → (K → J) → Result A (Fault K) → Result A (Fault J)
+or_fault_as kind (Ok x) = Ok x
+or_fault_as kind (Err why) = Err (fault_as kind why)
+
+-- the same error
+abbrev pub err_as : {K J : Type 0} → (K → J) → SourceErr K → SourceErr J
+err_as kind (Bad why) = Bad (fault_as kind why)
+err_as kind Memory = Memory

@@ -3,6 +3,7 @@ use Rattle.std.specs.Prelude.{ℕ, List, [], ◌∷◌, ◌++◌, codes, flat_ma
 use Rattle.std.specs.Char.Escape.{escape_ascii}
 use Rattle.std.specs.Fmt.{decimal}
 use Rattle.bq_base.specs.declared.fault.Fault.{Fault}
+use Rattle.bq_base.specs.declared.fault.FaultKind.{FaultKind}
 use Rattle.bq_base.specs.Fault.{fault_number, fault_name}
 
 -- how `{:?}` shows a byte: printable ASCII as itself, but quotes and the backslash behind a backslash, and others as `\n` or `\x7f`
@@ -18,6 +19,6 @@ detail_shown [] = []
 detail_shown (b ∷ bs) = 32 ∷ shown_text (b ∷ bs)
 
 -- `line 3: F36 LoadFailed //:f.bzl`
-abbrev pub fault_shown : Fault → List ℕ
+abbrev pub fault_shown : Fault FaultKind → List ℕ
 fault_shown e =
     codes "line " ++ (decimal e.line ++ (codes ": F" ++ (decimal (fault_number e.kind) ++ (codes " " ++ (fault_name e.kind ++ detail_shown e.detail)))))

@@ -2,19 +2,18 @@
 //! the variant.
 
 ghost use Rattle.std.specs.Prelude.{◌≡◌};
-ghost use Rattle.bq_base.specs.Fault.{text_fault_number, text_fault_name, load_fault_number, load_fault_name};
-ghost use Rattle.bq_base.specs.Fault.{eval_fault_number, eval_fault_name, fault_number, fault_name, fault_at};
-ghost use Rattle.bq_base.specs.declared.fault.FaultKind.TheVariants.{Text, Load, Eval};
+ghost use Rattle.bq_base.specs.Fault.{token_fault_number, token_fault_name, statement_fault_number, statement_fault_name};
+ghost use Rattle.bq_base.specs.Fault.{name_fault_number, name_fault_name, load_fault_number, load_fault_name};
+ghost use Rattle.bq_base.specs.Fault.{eval_fault_number, eval_fault_name, fault_number, fault_name, fault_at, err_as};
+ghost use Rattle.bq_base.specs.declared.fault.FaultKind.TheVariants.{Token, Statement, Name, Load, Eval};
 ghost use Rattle.bq_base.specs.declared.fault.SourceErr.TheVariants.{Memory};
 
 use crate::bytes::Bytes;
 use std::alloc::{AllocError, AllocFailed};
-use thiserror::Error;
 
-/// What is wrong with the text of a file: its tokens, its grammar, its names (F1 to F24).
+/// What is wrong with the tokens of a text (F1 to F8).
 #[derive(Clone, Copy, Debug, PartialEq, Eq)]
-pub enum TextFault {
-    // Lexis.
+pub enum TokenFault {
     BadByte = 1,
     Indent = 2,
     Tab = 3,
@@ -23,12 +22,67 @@ pub enum TextFault {
     BadInt = 6,
     Bracket = 7,
     FileTooLong = 8,
-    // Grammar.
+}
+
+impl TokenFault {
+    /// The number after the `F`.
+    pub fn number(self) -> u32
+        ensures { result ≡ token_fault_number self }
+    {
+        self as u32
+    }
+
+    /// The name after the number.
+    pub fn name(self) -> &'static str
+        ensures { result.now ≡ token_fault_name self }
+    {
+        match self {
+            TokenFault::BadByte => "BadByte",
+            TokenFault::Indent => "Indent",
+            TokenFault::Tab => "Tab",
+            TokenFault::OpenString => "OpenString",
+            TokenFault::Escape => "Escape",
+            TokenFault::BadInt => "BadInt",
+            TokenFault::Bracket => "Bracket",
+            TokenFault::FileTooLong => "FileTooLong",
+        }
+    }
+}
+
+/// What is wrong with a statement (F10 to F13).
+#[derive(Clone, Copy, Debug, PartialEq, Eq)]
+pub enum StatementFault {
     Syntax = 10,
     Nesting = 11,
     LeftOut = 12,
     NotInBuild = 13,
-    // Names.
+}
+
+impl StatementFault {
+    /// The number after the `F`.
+    pub fn number(self) -> u32
+        ensures { result ≡ statement_fault_number self }
+    {
+        self as u32
+    }
+
+    /// The name after the number.
+    pub fn name(self) -> &'static str
+        ensures { result.now ≡ statement_fault_name self }
+    {
+        match self {
+            StatementFault::Syntax => "Syntax",
+            StatementFault::Nesting => "Nesting",
+            StatementFault::LeftOut => "LeftOut",
+            StatementFault::NotInBuild => "NotInBuild",
+        }
+    }
+}
+
+/// What is wrong with the names and the flow of a file (F20 to F24). F11 is of trees that no parsed file has.
+#[derive(Clone, Copy, Debug, PartialEq, Eq)]
+pub enum NameFault {
+    Nesting = 11,
     UnknownName = 20,
     Rebound = 21,
     BoundTwice = 22,
@@ -36,36 +90,25 @@ pub enum TextFault {
     DoubleParameter = 24,
 }
 
-impl TextFault {
+impl NameFault {
     /// The number after the `F`.
     pub fn number(self) -> u32
-        ensures { result ≡ text_fault_number self }
+        ensures { result ≡ name_fault_number self }
     {
         self as u32
     }
 
     /// The name after the number.
     pub fn name(self) -> &'static str
-        ensures { result.now ≡ text_fault_name self }
+        ensures { result.now ≡ name_fault_name self }
     {
         match self {
-            TextFault::BadByte => "BadByte",
-            TextFault::Indent => "Indent",
-            TextFault::Tab => "Tab",
-            TextFault::OpenString => "OpenString",
-            TextFault::Escape => "Escape",
-            TextFault::BadInt => "BadInt",
-            TextFault::Bracket => "Bracket",
-            TextFault::FileTooLong => "FileTooLong",
-            TextFault::Syntax => "Syntax",
-            TextFault::Nesting => "Nesting",
-            TextFault::LeftOut => "LeftOut",
-            TextFault::NotInBuild => "NotInBuild",
-            TextFault::UnknownName => "UnknownName",
-            TextFault::Rebound => "Rebound",
-            TextFault::BoundTwice => "BoundTwice",
-            TextFault::BadFlow => "BadFlow",
-            TextFault::DoubleParameter => "DoubleParameter",
+            NameFault::Nesting => "Nesting",
+            NameFault::UnknownName => "UnknownName",
+            NameFault::Rebound => "Rebound",
+            NameFault::BoundTwice => "BoundTwice",
+            NameFault::BadFlow => "BadFlow",
+            NameFault::DoubleParameter => "DoubleParameter",
         }
     }
 }
@@ -200,8 +243,12 @@ impl EvalFault {
 /// What is wrong, as `F1 BadByte`.
 #[derive(Clone, Copy, Debug, PartialEq, Eq)]
 pub enum FaultKind {
-    /// In a file's text.
-    Text(TextFault),
+    /// In the tokens of a file.
+    Token(TokenFault),
+    /// In a statement of a file.
+    Statement(StatementFault),
+    /// In the names of a file.
+    Name(NameFault),
     /// In a file's loads.
     Load(LoadFault),
     /// In a file's evaluation.
@@ -218,7 +265,9 @@ impl FaultKind {
         ensures { result ≡ fault_number self }
     {
         match self {
-            FaultKind::Text(fault) => fault.number(),
+            FaultKind::Token(fault) => fault.number(),
+            FaultKind::Statement(fault) => fault.number(),
+            FaultKind::Name(fault) => fault.number(),
             FaultKind::Load(fault) => fault.number(),
             FaultKind::Eval(fault) => fault.number(),
             FaultKind::DanglingLabel => 79,
@@ -231,7 +280,9 @@ impl FaultKind {
         ensures { result.now ≡ fault_name self }
     {
         match self {
-            FaultKind::Text(fault) => fault.name(),
+            FaultKind::Token(fault) => fault.name(),
+            FaultKind::Statement(fault) => fault.name(),
+            FaultKind::Name(fault) => fault.name(),
             FaultKind::Load(fault) => fault.name(),
             FaultKind::Eval(fault) => fault.name(),
             FaultKind::DanglingLabel => "DanglingLabel",
@@ -240,11 +291,27 @@ impl FaultKind {
     }
 }
 
-impl From<TextFault> for FaultKind {
-    ghost from_gives = { λ fault kind. kind ≡ Text fault };
+impl From<TokenFault> for FaultKind {
+    ghost from_gives = { λ fault kind. kind ≡ Token fault };
 
-    fn from(fault: TextFault) -> Self {
-        FaultKind::Text(fault)
+    fn from(fault: TokenFault) -> Self {
+        FaultKind::Token(fault)
+    }
+}
+
+impl From<StatementFault> for FaultKind {
+    ghost from_gives = { λ fault kind. kind ≡ Statement fault };
+
+    fn from(fault: StatementFault) -> Self {
+        FaultKind::Statement(fault)
+    }
+}
+
+impl From<NameFault> for FaultKind {
+    ghost from_gives = { λ fault kind. kind ≡ Name fault };
+
+    fn from(fault: NameFault) -> Self {
+        FaultKind::Name(fault)
     }
 }
 
@@ -264,19 +331,19 @@ impl From<EvalFault> for FaultKind {
     }
 }
 
-/// A fault of a file.
+/// A fault of a file: of one stage, or, where `K` is [`FaultKind`], of any.
 #[derive(Debug, Drop)]
-pub struct Fault {
-    pub kind: FaultKind,
+pub struct Fault<K> {
+    pub kind: K,
     /// The line that the fault names, from 1; 0 from a call that knows no line.
     pub line: u32,
     /// The name, label or symbol that the fault is about; empty for most.
     pub detail: Bytes,
 }
 
-impl Fault {
+impl<K: Copy> Fault<K> {
     /// A fault without detail.
-    pub fn at(kind: FaultKind, line: u32) -> Fault
+    pub fn at(kind: K, line: u32) -> Fault<K>
         ensures { result ≡ fault_at kind line }
     {
         Fault {
@@ -285,20 +352,29 @@ impl Fault {
             detail: Bytes::empty(),
         }
     }
+
+    /// This fault, as one of another kind.
+    pub fn with_kind<J>(self, kind: J) -> Fault<J>
+        ensures { result ≡ record { kind = kind; line = self.line; detail = self.detail } }
+    {
+        Fault {
+            kind,
+            line: self.line,
+            detail: self.detail,
+        }
+    }
 }
 
 /// Why a call on a source file has no answer.
-#[derive(Debug, Drop, Error)]
-pub enum SourceErr {
+#[derive(Debug, Drop)]
+pub enum SourceErr<K> {
     /// The file is faulty.
-    #[error("{0}")]
-    Bad(Fault),
+    Bad(Fault<K>),
     /// Memory was refused. It says nothing of the file.
-    #[error("out of memory")]
     Memory,
 }
 
-impl From<AllocError> for SourceErr {
+impl<K> From<AllocError> for SourceErr<K> {
     ghost from_gives = { λ _ e. e ≡ Memory };
 
     fn from(_: AllocError) -> Self {
@@ -306,10 +382,80 @@ impl From<AllocError> for SourceErr {
     }
 }
 
-impl<T: Drop> From<AllocFailed<T>> for SourceErr {
+impl<K, T: Drop> From<AllocFailed<T>> for SourceErr<K> {
     ghost from_gives = { λ _ e. e ≡ Memory };
 
     fn from(_: AllocFailed<T>) -> Self {
         SourceErr::Memory
+    }
+}
+
+impl From<SourceErr<TokenFault>> for SourceErr<FaultKind> {
+    ghost from_gives = { λ e joined. joined ≡ err_as Token e };
+
+    fn from(e: SourceErr<TokenFault>) -> Self {
+        match e {
+            SourceErr::Bad(why) => {
+                let kind = FaultKind::Token(why.kind);
+                SourceErr::Bad(why.with_kind(kind))
+            }
+            SourceErr::Memory => SourceErr::Memory,
+        }
+    }
+}
+
+impl From<SourceErr<StatementFault>> for SourceErr<FaultKind> {
+    ghost from_gives = { λ e joined. joined ≡ err_as Statement e };
+
+    fn from(e: SourceErr<StatementFault>) -> Self {
+        match e {
+            SourceErr::Bad(why) => {
+                let kind = FaultKind::Statement(why.kind);
+                SourceErr::Bad(why.with_kind(kind))
+            }
+            SourceErr::Memory => SourceErr::Memory,
+        }
+    }
+}
+
+impl From<SourceErr<NameFault>> for SourceErr<FaultKind> {
+    ghost from_gives = { λ e joined. joined ≡ err_as Name e };
+
+    fn from(e: SourceErr<NameFault>) -> Self {
+        match e {
+            SourceErr::Bad(why) => {
+                let kind = FaultKind::Name(why.kind);
+                SourceErr::Bad(why.with_kind(kind))
+            }
+            SourceErr::Memory => SourceErr::Memory,
+        }
+    }
+}
+
+impl From<SourceErr<LoadFault>> for SourceErr<FaultKind> {
+    ghost from_gives = { λ e joined. joined ≡ err_as Load e };
+
+    fn from(e: SourceErr<LoadFault>) -> Self {
+        match e {
+            SourceErr::Bad(why) => {
+                let kind = FaultKind::Load(why.kind);
+                SourceErr::Bad(why.with_kind(kind))
+            }
+            SourceErr::Memory => SourceErr::Memory,
+        }
+    }
+}
+
+impl From<SourceErr<EvalFault>> for SourceErr<FaultKind> {
+    ghost from_gives = { λ e joined. joined ≡ err_as Eval e };
+
+    fn from(e: SourceErr<EvalFault>) -> Self {
+        match e {
+            SourceErr::Bad(why) => {
+                let kind = FaultKind::Eval(why.kind);
+                SourceErr::Bad(why.with_kind(kind))
+            }
+            SourceErr::Memory => SourceErr::Memory,
+        }
     }
 }

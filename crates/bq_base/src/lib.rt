@@ -16,4 +16,6 @@ mod fault;
 mod shown;
 
 pub use bytes::Bytes;
-pub use fault::{EvalFault, Fault, FaultKind, LoadFault, SourceErr, TextFault};
+pub use fault::{
+    EvalFault, Fault, FaultKind, LoadFault, NameFault, SourceErr, StatementFault, TokenFault,
+};

@@ -5,7 +5,7 @@ ghost use Rattle.std.specs.Fmt.{WritesOnOk};
 ghost use Rattle.bq_base.specs.Shown.{shown_byte, shown_text, fault_shown};
 
 use crate::bytes::Bytes;
-use crate::fault::Fault;
+use crate::fault::{Fault, FaultKind};
 use std::fmt;
 
 /// Writes a byte as `escape_ascii` does.
@@ -32,7 +32,7 @@ impl fmt::Debug for Bytes {
 }
 
 /// As `line 3: F36 LoadFailed //:f.bzl`.
-impl fmt::Display for Fault {
+impl fmt::Display for Fault<FaultKind> {
     ghost output = { λ e. Some (fault_shown e) };
 
     fn fmt<W: fmt::Write>(&self, f: &mut fmt::Formatter<W>) -> fmt::Result {

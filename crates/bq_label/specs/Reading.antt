@@ -3,8 +3,9 @@
 use Rattle.std.specs.Prelude.{ℕ, ◌==◌, ◌&&◌, Bool, false, List, [], ◌∷◌, Option, Some, None, Result, Ok, Err, drop, if◌then◌else◌, option_and_then}
 use Rattle.std.specs.Option.{option_map}
 use Rattle.bq_base.specs.Fault.{fault_at}
+use Rattle.bq_base.specs.declared.fault.EvalFault.{EvalFault}
 use Rattle.bq_base.specs.declared.fault.Fault.{Fault}
-use Rattle.bq_base.specs.declared.fault.FaultKind.TheVariants.{BadLabel}
+use Rattle.bq_base.specs.declared.fault.EvalFault.TheVariants.{BadLabel}
 use Rattle.bq_label.specs.Paths.{is_path, is_package, is_repository}
 use Rattle.bq_label.specs.Label.{PackageParts, LabelParts, package_at, label_at, label_in, last_segment, at_sign}
 
@@ -52,7 +53,7 @@ unfoldable pub label_of : PackageParts → List ℕ → Option LabelParts
 label_of own text = option_and_then valid_label (parts_of own text)
 
 -- a label, or fault F78 where there is none
-abbrev pub or_bad_label : Option LabelParts → Result LabelParts Fault
+abbrev pub or_bad_label : Option LabelParts → Result LabelParts (Fault EvalFault)
 or_bad_label None = Err (fault_at BadLabel 0)
 or_bad_label (Some l) = Ok l
 

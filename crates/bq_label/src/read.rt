@@ -3,7 +3,7 @@
 ghost use Rattle.std.specs.Prelude.{◌≡◌, IfOk, option_and_then};
 ghost use Rattle.bq_base.specs.Fault.{fault_at};
 ghost use Rattle.bq_base.specs.Gives.{Gives};
-ghost use Rattle.bq_base.specs.declared.fault.FaultKind.TheVariants.{BadLabel};
+ghost use Rattle.bq_base.specs.declared.fault.EvalFault.TheVariants.{BadLabel};
 ghost use Rattle.bq_base.specs.declared.fault.SourceErr.TheVariants.{Bad};
 ghost use Rattle.bq_label.specs.Label.{package_at, label_at, label_in};
 ghost use Rattle.bq_label.specs.Reading.{or_bad_label, label_of, valid_label, absolute_label, external_label, package_if_valid, package_of_text};
@@ -12,18 +12,18 @@ use crate::label::Label;
 use crate::package_id::PackageId;
 use crate::path::is_path;
 use crate::split::{last_segment, split_once};
-use bq_base::{Bytes, Fault, FaultKind, SourceErr};
+use bq_base::{Bytes, EvalFault, Fault, SourceErr};
 use std::alloc::{AllocError, Global};
 
-fn bad_label() -> SourceErr
+fn bad_label() -> SourceErr<EvalFault>
     ensures { result ≡ Bad (fault_at BadLabel 0) }
 {
-    SourceErr::Bad(Fault::at(FaultKind::BadLabel, 0))
+    SourceErr::Bad(Fault::at(EvalFault::BadLabel, 0))
 }
 
 /// Reads a name in a package.
 #[tactic(auto, unfolding(crate::specs::Reading::valid_label, crate::specs::Reading::is_label))]
-fn read_name(alloc: Global, package: PackageId, name: &[u8]) -> Result<Label, SourceErr>
+fn read_name(alloc: Global, package: PackageId, name: &[u8]) -> Result<Label, SourceErr<EvalFault>>
     ensures { Gives (λ label. label) Bad result (or_bad_label (valid_label (label_in «package» name.now))) }
 {
     if !is_path(name) {
@@ -34,7 +34,7 @@ fn read_name(alloc: Global, package: PackageId, name: &[u8]) -> Result<Label, So
 }
 
 #[tactic(auto, unfolding(crate::specs::Reading::valid_label, crate::specs::Reading::is_label))]
-fn read_parts(alloc: Global, repo: Bytes, package: &[u8], name: &[u8]) -> Result<Label, SourceErr>
+fn read_parts(alloc: Global, repo: Bytes, package: &[u8], name: &[u8]) -> Result<Label, SourceErr<EvalFault>>
     ensures { Gives (λ label. label) Bad result (or_bad_label (valid_label (label_at repo «package».now name.now))) }
 {
     let package = Bytes::from_slice(alloc, package)?;
@@ -46,7 +46,7 @@ fn read_parts(alloc: Global, repo: Bytes, package: &[u8], name: &[u8]) -> Result
 
 /// Reads what follows `//`.
 #[tactic(auto, unfolding(crate::specs::Reading::absolute_label))]
-fn read_absolute(alloc: Global, repo: Bytes, text: &[u8]) -> Result<Label, SourceErr>
+fn read_absolute(alloc: Global, repo: Bytes, text: &[u8]) -> Result<Label, SourceErr<EvalFault>>
     ensures { Gives (λ label. label) Bad result (or_bad_label (valid_label (absolute_label repo text.now))) }
 {
     match split_once(text, b':') {
@@ -57,7 +57,7 @@ fn read_absolute(alloc: Global, repo: Bytes, text: &[u8]) -> Result<Label, Sourc
 
 /// Reads what follows `@`.
 #[tactic(auto, unfolding(crate::specs::Reading::external_label, crate::specs::Reading::label_of))]
-fn read_external(alloc: Global, text: &[u8]) -> Result<Label, SourceErr>
+fn read_external(alloc: Global, text: &[u8]) -> Result<Label, SourceErr<EvalFault>>
     ensures { Gives (λ label. label) Bad result (or_bad_label (option_and_then valid_label (external_label text.now))) }
 {
     match split_once(text, b'/') {
@@ -76,7 +76,7 @@ fn read_external(alloc: Global, text: &[u8]) -> Result<Label, SourceErr>
 /// The forms are those of Bazel's page "Labels": `//package:name`, `//a/b` for `//a/b:b`, `:name`, `name`, and
 /// `@repository` in front of `//` or for `@repository//:repository`.
 #[tactic(auto, unfolding(crate::specs::Reading::parts_of, crate::specs::Reading::label_of))]
-pub fn read_label(alloc: Global, text: &[u8], package: &PackageId) -> Result<Label, SourceErr>
+pub fn read_label(alloc: Global, text: &[u8], package: &PackageId) -> Result<Label, SourceErr<EvalFault>>
     ensures { Gives (λ label. label) Bad result (or_bad_label (label_of «package».now text.now)) }
 {
     match text {
@@ -89,7 +89,7 @@ pub fn read_label(alloc: Global, text: &[u8], package: &PackageId) -> Result<Lab
 
 /// Reads a name in a package, and shares it.
 #[tactic(auto, unfolding(crate::specs::Reading::valid_label, crate::specs::Reading::is_label))]
-fn share_name(package: &PackageId, name: &Bytes) -> Result<Label, SourceErr>
+fn share_name(package: &PackageId, name: &Bytes) -> Result<Label, SourceErr<EvalFault>>
     ensures { Gives (λ label. label) Bad result (or_bad_label (valid_label (label_in «package».now name.now))) }
 {
     if !is_path(name.as_slice()) {
@@ -105,7 +105,7 @@ pub fn read_shared_label(
     alloc: Global,
     text: &Bytes,
     package: &PackageId,
-) -> Result<Label, SourceErr>
+) -> Result<Label, SourceErr<EvalFault>>
     ensures { Gives (λ label. label) Bad result (or_bad_label (label_of «package».now text.now)) }
 {
     match text.as_slice() {

@@ -2,8 +2,9 @@
 use Rattle.std.specs.Prelude.{ℕ, ◌&&◌, ◌||◌, Bool, false, not, nat_eq, List, [], ◌∷◌, Result, Ok, Err, codes, if◌then◌else◌}
 use Rattle.std.specs.List.{list_all, slice_split, starts_with}
 use Rattle.bq_base.specs.Fault.{fault_at}
+use Rattle.bq_base.specs.declared.fault.EvalFault.{EvalFault}
 use Rattle.bq_base.specs.declared.fault.Fault.{Fault}
-use Rattle.bq_base.specs.declared.fault.FaultKind.TheVariants.{GlobPattern}
+use Rattle.bq_base.specs.declared.fault.EvalFault.TheVariants.{GlobPattern}
 use Rattle.bq_label.specs.Paths.{is_slash, is_segment}
 use Rattle.bq_label_glob_pattern.specs.Matching.{is_any_segments}
 
@@ -21,5 +22,5 @@ unfoldable pub is_pattern : List ℕ → Bool
 is_pattern text = list_all is_pattern_segment (slice_split is_slash text)
 
 -- the text itself, or fault F77
-unfoldable pub pattern_of : List ℕ → Result (List ℕ) Fault
+unfoldable pub pattern_of : List ℕ → Result (List ℕ) (Fault EvalFault)
 pattern_of text = if is_pattern text then Ok text else Err (fault_at GlobPattern 0)

@@ -9,7 +9,7 @@ ghost use Rattle.bq_label_glob_pattern.specs.Matching.{matches, is_star};
 ghost use Rattle.bq_label_glob_pattern.specs.Pattern.{has_two_stars, is_pattern, pattern_of};
 
 use crate::matching::is_match;
-use bq_base::{Bytes, Fault, FaultKind, SourceErr};
+use bq_base::{Bytes, EvalFault, Fault, SourceErr};
 use bq_label::is_segment;
 use memchr::memchr;
 use std::marker::Model;
@@ -77,11 +77,11 @@ fn is_text_of(text: &Bytes, pattern: Option<&Pattern>) -> bool
 /// empty, a segment is `.` or `..`, or `**` is a part of a longer segment. The text of a pattern that was read before
 /// isn't looked through again.
 #[tactic(auto, unfolding(crate::specs::Pattern::pattern_of))]
-pub fn read_pattern(text: &Bytes, before: Option<&Pattern>) -> Result<Pattern, SourceErr>
+pub fn read_pattern(text: &Bytes, before: Option<&Pattern>) -> Result<Pattern, SourceErr<EvalFault>>
     ensures { Gives (λ p. p) Bad result (pattern_of text.now) }
 {
     if !is_text_of(text, before) && !is_pattern(text.as_slice()) {
-        return Err(SourceErr::Bad(Fault::at(FaultKind::GlobPattern, 0)));
+        return Err(SourceErr::Bad(Fault::at(EvalFault::GlobPattern, 0)));
     }
     Ok(Pattern {
         text: text.share()?,

@@ -1,6 +1,7 @@
 -- What a module evaluates to, by the modules that it loads: its own fault; else the first symbol that they lack; else what its statements
 -- give, run on a fresh machine with all its steps. The host has the package of the file.
 use Rattle.std.specs.Prelude.{ℕ, List, [], map, Option, Some, None, Result, Ok, Err, slice_get}
+use Rattle.bq_base.specs.declared.fault.FaultKind.{FaultKind}
 use Rattle.bq_base.specs.declared.fault.Fault.{Fault}
 use Rattle.bq_base.specs.declared.fault.FaultKind.TheVariants as f
 use Rattle.bq_base.specs.Fault.{fault_at}
@@ -56,7 +57,7 @@ file_after x m l file modules values = module_after file values (evaluation x m 
 abbrev pub loaded_parts : LoadingParts → Front → List ModuleView → LoadedParts
 loaded_parts x front modules = record { files = with_labels [] front.loads; modules = modules; resolved = resolved_files x.modules }
 
-abbrev pub by_imports : LoadingParts → ℕ → LabelParts → ResolvedFile → List ModuleView → Result (List Datum) Fault → Result ModuleView FailedView
+abbrev pub by_imports : LoadingParts → ℕ → LabelParts → ResolvedFile → List ModuleView → Result (List Datum) (Fault FaultKind) → Result ModuleView FailedView
 by_imports x m l file modules (Err why) = Err (not_evaluated why)
 by_imports x m l file modules (Ok values) = file_after x m l file modules values
 
@@ -64,7 +65,7 @@ unfoldable pub file_means : LoadingParts → ℕ → LabelParts → Front → Li
 file_means x m l front modules = by_imports x m l front.file modules (imports (loaded_parts x front modules) [] front.file.loads front.loads)
 
 -- the outcome of a module, by what its file is on its own
-abbrev pub by_front : LoadingParts → ℕ → LabelParts → List ModuleView → Result Front Fault → Result ModuleView FailedView
+abbrev pub by_front : LoadingParts → ℕ → LabelParts → List ModuleView → Result Front (Fault FaultKind) → Result ModuleView FailedView
 by_front x m l modules (Err why) = Err (not_evaluated why)
 by_front x m l modules (Ok front) = file_means x m l front modules
 

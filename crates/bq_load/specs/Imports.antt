@@ -83,17 +83,17 @@ exported resolved m name = if is_private name then Err f.PrivateSymbol else or_n
 -- ---- loads
 
 -- a fault names the line of the load and the symbol
-abbrev pub at_symbol : ℕ → Name → Result Datum FaultKind → Result Datum Fault
+abbrev pub at_symbol : ℕ → Name → Result Datum FaultKind → Result Datum (Fault FaultKind)
 at_symbol line name (Ok v) = Ok v
 at_symbol line name (Err kind) = Err (record { kind = kind; line = line; detail = name })
 
 -- the values so far, and one for each of these clauses; or the fault of the first bad one
-unfoldable pub clause_values : List (Option ResolvedFile) → Option ModuleView → ℕ → List Datum → List LoadedSymbol → Result (List Datum) Fault
+unfoldable pub clause_values : List (Option ResolvedFile) → Option ModuleView → ℕ → List Datum → List LoadedSymbol → Result (List Datum) (Fault FaultKind)
 clause_values resolved m line done [] = Ok done
 clause_values resolved m line done (c ∷ cs) = at_symbol line c.symbol (exported resolved m c.symbol) >>= λ v. clause_values resolved m line (done ++ v ∷ []) cs
 
 -- the values so far, and those of the clauses of these loads, which name these files
-unfoldable pub imports : LoadedParts → List Datum → List LoadStmt → List LabelParts → Result (List Datum) Fault
+unfoldable pub imports : LoadedParts → List Datum → List LoadStmt → List LabelParts → Result (List Datum) (Fault FaultKind)
 imports x done [] ls = Ok done
 imports x done (s ∷ ss) [] = Ok done
 imports x done (s ∷ ss) (l ∷ ls) = clause_values x.resolved (module_named x l) s.line done s.clauses >>= λ vs. imports x vs ss ls

@@ -25,19 +25,19 @@ line_of_load l (s ∷ ss) [] = 0
 line_of_load l (s ∷ ss) (k ∷ ks) = if bytes_eq (full_form l) (full_form k) then s.line else line_of_load l ss ks
 
 -- a file with a fault of its own loads nothing
-abbrev pub line_by : LabelParts → Result Front Fault → ℕ
+abbrev pub line_by : LabelParts → Result Front (Fault FaultKind) → ℕ
 line_by l (Err why) = 0
 line_by l (Ok front) = line_of_load l front.file.loads front.loads
 
-abbrev pub load_fault_by : FaultKind → Result Front Fault → Option Module → Fault
+abbrev pub load_fault_by : FaultKind → Result Front (Fault FaultKind) → Option Module → Fault FaultKind
 load_fault_by kind front None = fault_at kind 0
 load_fault_by kind front (Some loaded) = record { kind = kind; line = line_by loaded.label front; detail = full_form loaded.label }
 
 -- the fault of a module whose file is this, for its load of module k
-unfoldable pub load_fault : LoadingParts → Result Front Fault → FaultKind → ℕ → Fault
+unfoldable pub load_fault : LoadingParts → Result Front (Fault FaultKind) → FaultKind → ℕ → Fault FaultKind
 load_fault x front kind k = load_fault_by kind front (slice_get x.modules k)
 
-abbrev pub result_of : LoadingParts → Result Front Fault → Outcome ModuleView FailedView → Result ModuleView FailedView
+abbrev pub result_of : LoadingParts → Result Front (Fault FaultKind) → Outcome ModuleView FailedView → Result ModuleView FailedView
 result_of x front (o.Loaded v) = Ok v
 result_of x front (o.Faulty e) = Err e
 result_of x front (o.Cyclic k) = Err (not_evaluated (load_fault x front f.CycleReached k))

@@ -64,7 +64,7 @@ impl<'a> Evaluate for Loading<'a> {
 }
 
 /// Returns a module that failed before it was evaluated.
-fn not_evaluated(alloc: Global, fault: Fault) -> Result<LoadedModule, FailedModule>
+fn not_evaluated(alloc: Global, fault: Fault<FaultKind>) -> Result<LoadedModule, FailedModule>
     ensures { told module_view failed_view result ≡ Err (not_evaluated fault) }
 {
     Err(FailedModule::not_evaluated(alloc, fault))

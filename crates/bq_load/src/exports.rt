@@ -102,7 +102,7 @@ impl<'t, 'a> Exports<'t, 'a> {
     }
 
     /// Returns the value of a clause of a load in this line, or its fault.
-    fn clause_value(&self, line: u32, symbol: &Bytes) -> Result<Value, SourceErr>
+    fn clause_value(&self, line: u32, symbol: &Bytes) -> Result<Value, SourceErr<FaultKind>>
         ensures { Gives (λ v. v) Bad result (at_symbol line symbol.now (exported (lent_files self.now.resolved.now) (option_map module_view (option_copied self.now.module)) symbol.now)) }
     {
         match self.exported(symbol) {
@@ -123,7 +123,7 @@ impl<'t, 'a> Exports<'t, 'a> {
         line: u32,
         values: &mut Vec<Value>,
         clauses: &[LoadedSymbol],
-    ) -> Result<(), SourceErr>
+    ) -> Result<(), SourceErr<FaultKind>>
         ensures { Gives (λ _. values.new.items) Bad result (clause_values (lent_files self.now.resolved.now) (option_map module_view (option_copied self.now.module)) line values.old.items clauses.now) }
     {
         for clause in clauses {

@@ -5,7 +5,7 @@ ghost use Rattle.std.specs.Option.{option_copied};
 ghost use Rattle.bq_load_module.specs.Round.{lent_files};
 ghost use Rattle.bq_load.specs.ResolvedFiles.{front_file, resolved_files};
 
-use bq_base::Fault;
+use bq_base::{Fault, FaultKind};
 use bq_label::{Packages, Workspace};
 use bq_load_discover::{LoadGraph, Module};
 use bq_load_front::Front;
@@ -66,7 +66,7 @@ impl<'a> Loading<'a> {
 }
 
 /// Returns the resolved file of a module, unless it has a fault of its own.
-fn front_file(front: &Result<Front, Fault>) -> Option<&ResolvedFile>
+fn front_file(front: &Result<Front, Fault<FaultKind>>) -> Option<&ResolvedFile>
     ensures { option_copied result ≡ front_file front.now }
 {
     match front {

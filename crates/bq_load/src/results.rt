@@ -41,7 +41,7 @@ fn line_of_load(label: &Label, loads: &[LoadStmt], files: &NamedFiles) -> u32
 }
 
 /// Returns the line of the first load of this label in a file; 0 if the file has a fault of its own.
-fn line_by(label: &Label, front: &Result<Front, Fault>) -> u32
+fn line_by(label: &Label, front: &Result<Front, Fault<FaultKind>>) -> u32
     ensures { result ≡ line_by label.now front.now }
 {
     match front {
@@ -61,7 +61,7 @@ pub(crate) fn shown(alloc: Global, label: &Label) -> Result<Bytes, AllocError>
 }
 
 /// Shares a fault.
-pub(crate) fn share_fault(fault: &Fault) -> Result<Fault, AllocError>
+pub(crate) fn share_fault(fault: &Fault<FaultKind>) -> Result<Fault<FaultKind>, AllocError>
     ensures { IfOk result (λ f. f ≡ fault.now) }
 {
     Ok(Fault {
@@ -97,10 +97,10 @@ impl<'a> Loading<'a> {
     fn load_fault(
         &self,
         alloc: Global,
-        front: &Result<Front, Fault>,
+        front: &Result<Front, Fault<FaultKind>>,
         kind: FaultKind,
         k: u32,
-    ) -> Result<Fault, AllocError>
+    ) -> Result<Fault<FaultKind>, AllocError>
         ensures { IfOk result (λ f. f ≡ load_fault (loading_of self.now) front.now kind k) }
     {
         let Some(loaded) = self.modules.get(k as usize) else {
@@ -117,7 +117,7 @@ impl<'a> Loading<'a> {
     fn not_loaded(
         &self,
         alloc: Global,
-        front: &Result<Front, Fault>,
+        front: &Result<Front, Fault<FaultKind>>,
         kind: FaultKind,
         k: u32,
     ) -> Result<FailedModule, AllocError>
@@ -131,7 +131,7 @@ impl<'a> Loading<'a> {
     fn result_at(
         &self,
         alloc: Global,
-        front: &Result<Front, Fault>,
+        front: &Result<Front, Fault<FaultKind>>,
         outcome: &SharedOutcome<LoadedModule, FailedModule>,
     ) -> Result<Result<Arc<LoadedModule, Global>, FailedModule>, AllocError>
         ensures { IfOk result (λ r. result_view r ≡ result_of (loading_of self.now) front.now (shown_outcome module_view failed_view outcome.now)) }

@@ -19,7 +19,7 @@ use Rattle.bq_load_by_name.specs.Parsed.{ParsedModule, ParsedParts}
 use Rattle.bq_load_by_name.specs.Results.{line_by}
 
 -- the parsed file of a module, unless that has a fault
-abbrev pub file_by : Result ParsedFront Fault → Option ParsedFile
+abbrev pub file_by : Result ParsedFront (Fault FaultKind) → Option ParsedFile
 file_by r = elim r [ Err why ↦ None | Ok front ↦ Some front.file ]
 
 -- the names that a parsed file binds at its top level
@@ -35,14 +35,14 @@ kept_by x l kind = elim kind [
 ]
 
 -- a module, by what its loads gave
-abbrev pub by_imports : ParsedParts → ℕ → LabelParts → ParsedFile → List ModuleView → Result (List Datum) Fault → Result ModuleView FailedView
+abbrev pub by_imports : ParsedParts → ℕ → LabelParts → ParsedFile → List ModuleView → Result (List Datum) (Fault FaultKind) → Result ModuleView FailedView
 by_imports x m l file modules r = elim r [
   | Err why ↦ Err (not_evaluated why)
   | Ok values ↦ module_after file values (evaluation x m l file modules values)
 ]
 
 -- the outcome of a module, by how its file was read
-abbrev pub by_front : ParsedParts → ℕ → LabelParts → List ModuleView → Result ParsedFront Fault → Result ModuleView FailedView
+abbrev pub by_front : ParsedParts → ℕ → LabelParts → List ModuleView → Result ParsedFront (Fault FaultKind) → Result ModuleView FailedView
 by_front x m l modules r = elim r [ Err why ↦ Err (not_evaluated why) | Ok front ↦ file_means x m l front modules ]
 
 -- the outcome of a module, if there is one
@@ -50,6 +50,6 @@ abbrev pub by_module : ParsedParts → ℕ → List ModuleView → Option Parsed
 by_module x m modules o = elim o [ None ↦ Err (not_evaluated (fault_at f.NoSuchFile 0)) | Some s ↦ by_front x m s.label modules s.front ]
 
 -- the fault of a loader, by the module that it loads
-abbrev pub load_fault_by : FaultKind → Result ParsedFront Fault → Option ParsedModule → Fault
+abbrev pub load_fault_by : FaultKind → Result ParsedFront (Fault FaultKind) → Option ParsedModule → Fault FaultKind
 load_fault_by kind front o =
     elim o [ None ↦ fault_at kind 0 | Some m ↦ record { kind = kind; line = line_by m.label front; detail = full_form m.label } ]

@@ -1,5 +1,6 @@
 -- A module evaluates by names to what it evaluates to by slots.
 use Rattle.std.proofs.Common.{◌≡◌, ◌∙◌, ℕ, List, [], map, Option, Some, None, Result, Ok, Err, slice_get, refl, sym, ap}
+use Rattle.bq_base.specs.declared.fault.FaultKind.{FaultKind}
 use Rattle.bq_base.specs.declared.fault.Fault.{Fault}
 use Rattle.bq_parse_grammar.specs.declared.tree.FileKind.{FileKind}
 use Rattle.bq_parse_grammar.specs.declared.tree.FileKind.TheVariants as kinds
@@ -52,12 +53,12 @@ module _ (x : LoadingParts) (all : List ParsedModule) (are : AreReadAs all x.mod
         (λ i. module_by (agree.0 i) (package_left (agree.1 i)))
         ∙ ap (λ kept. slots.module_after front.file values (module_run x.names meaning resolved m front.file (map (λ v. v.frozen) modules) values x.limit kept)) (kept_same l (kind_of l))
 
-    imports_by : (modules : List ModuleView) (r : Result (List Datum) Fault) → by_imports named m l parsed.file modules r ≡ slots.by_imports x m l front.file modules r
+    imports_by : (modules : List ModuleView) (r : Result (List Datum) (Fault FaultKind)) → by_imports named m l parsed.file modules r ≡ slots.by_imports x m l front.file modules r
     imports_by modules (Ok values) = run_same modules values
     imports_by modules (Err why) = refl
 
     -- what its loads give, where they name these files
-    abbrev given : List ModuleView → List LabelParts → Result (List Datum) Fault
+    abbrev given : List ModuleView → List LabelParts → Result (List Datum) (Fault FaultKind)
     given modules ls = loads.imports (record { files = with_labels [] ls; modules = modules; resolved = resolved }) [] front.file.loads ls
 
     file_same : (modules : List ModuleView) → file_means named m l parsed modules ≡ slots.file_means x m l front modules
@@ -68,8 +69,8 @@ module _ (x : LoadingParts) (all : List ParsedModule) (are : AreReadAs all x.mod
         ∙ imports_by modules (given modules parsed.loads)
         ∙ ap (λ (ls : List LabelParts). slots.by_imports x m l front.file modules (given modules ls)) (sym same)
 
-  front_same : (m : ℕ) (l : LabelParts) (modules : List ModuleView) (s : Result ParsedFront Fault) (r : Result Front Fault) → IsFrontOf s r → by_front named m l modules s ≡ slots.by_front x m l modules r
-  front_same m l modules (Err why) (Err told) h = ap (λ (z : Fault). Err (not_evaluated z)) (sym h)
+  front_same : (m : ℕ) (l : LabelParts) (modules : List ModuleView) (s : Result ParsedFront (Fault FaultKind)) (r : Result Front (Fault FaultKind)) → IsFrontOf s r → by_front named m l modules s ≡ slots.by_front x m l modules r
+  front_same m l modules (Err why) (Err told) h = ap (λ (z : Fault FaultKind). Err (not_evaluated z)) (sym h)
   front_same m l modules (Err why) (Ok front) h = absurd h
   front_same m l modules (Ok parsed) (Err told) h = absurd h
   front_same m l modules (Ok parsed) (Ok front) h = file_same m l parsed front h.0 h.1 modules

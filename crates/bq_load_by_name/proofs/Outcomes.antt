@@ -49,7 +49,7 @@ line_same l [] ls = refl
 line_same l (s ∷ ss) [] = refl
 line_same l (s ∷ ss) (k ∷ ks) = ap (λ n. if bytes_eq (full_form l) (full_form k) then s.line else n) (line_same l ss ks)
 
-line_is : (l : LabelParts) (x : Result ParsedFront Fault) (r : Result Front Fault) → IsFrontOf x r → line_by l x ≡ slots.line_by l r
+line_is : (l : LabelParts) (x : Result ParsedFront (Fault FaultKind)) (r : Result Front (Fault FaultKind)) → IsFrontOf x r → line_by l x ≡ slots.line_by l r
 line_is l (Err why) (Err told) h = refl
 line_is l (Err why) (Ok front) h = absurd h
 line_is l (Ok parsed) (Err told) h = absurd h
@@ -57,10 +57,10 @@ line_is l (Ok parsed) (Ok front) h =
     ap (λ ns. line_of_load l ns parsed.loads) (sym (loads_kept parsed.file front.file h.0)) ∙ line_same l front.file.loads parsed.loads
     ∙ ap (slots.line_of_load l front.file.loads) (sym h.1)
 
-abbrev fault_on : FaultKind → List ℕ → ℕ → Fault
+abbrev fault_on : FaultKind → List ℕ → ℕ → Fault FaultKind
 fault_on kind detail line = record { kind = kind; line = line; detail = detail }
 
-fault_is : (kind : FaultKind) (x : Result ParsedFront Fault) (r : Result Front Fault) → IsFrontOf x r → (s : Option ParsedModule) (t : Option Module) → Maybe IsReadAs s t
+fault_is : (kind : FaultKind) (x : Result ParsedFront (Fault FaultKind)) (r : Result Front (Fault FaultKind)) → IsFrontOf x r → (s : Option ParsedModule) (t : Option Module) → Maybe IsReadAs s t
     → load_fault_by kind x s ≡ slots.load_fault_by kind r t
 fault_is kind x r is None None h = refl
 fault_is kind x r is None (Some t) h = absurd h
@@ -72,7 +72,7 @@ module _ (x : LoadingParts) (all : List ParsedModule) (are : AreReadAs all x.mod
   abbrev named : ParsedParts
   named = with_modules x all
 
-  module _ (s : Result ParsedFront Fault) (r : Result Front Fault) (is : IsFrontOf s r) where
+  module _ (s : Result ParsedFront (Fault FaultKind)) (r : Result Front (Fault FaultKind)) (is : IsFrontOf s r) where
     fault_same : (kind : FaultKind) (k : ℕ) → load_fault named s kind k ≡ slots.load_fault x r kind k
     unfolding load_fault slots.load_fault
     fault_same kind k = fault_is kind s r is (slice_get all k) (slice_get x.modules k) (in_place IsReadAs all x.modules k are)

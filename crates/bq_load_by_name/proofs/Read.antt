@@ -1,5 +1,6 @@
 -- The modules of a load graph are read as what their files are.
 use Rattle.std.proofs.Common.{List, [], ◌∷◌, map, Result, Ok, Err, refl, sym, subst}
+use Rattle.bq_base.specs.declared.fault.FaultKind.{FaultKind}
 use Rattle.bq_base.specs.declared.fault.Fault.{Fault}
 use Rattle.bq_label.specs.Label.{LabelParts}
 use Rattle.bq_resolve_by_name.specs.Files.{ResolvesTo}
@@ -30,7 +31,7 @@ modules_are_read files rules g is =
 
 -- ---- so they are resolved as their files are
 
-file_same : (x : Result ParsedFront Fault) (r : Result Front Fault) → IsFrontOf x r → Maybe ResolvesTo (file_by x) (front_file r)
+file_same : (x : Result ParsedFront (Fault FaultKind)) (r : Result Front (Fault FaultKind)) → IsFrontOf x r → Maybe ResolvesTo (file_by x) (front_file r)
 file_same (Ok x) (Ok front) h = h.0
 file_same (Ok x) (Err told) h = absurd h
 file_same (Err why) (Ok front) h = absurd h

@@ -40,12 +40,12 @@ exported parsed m name = if is_private name then Err f.PrivateSymbol else or_no_
 -- ---- loads
 
 -- the values so far, and one for each of these symbols; or the fault of the first bad one
-unfoldable pub symbol_values : List (Option ParsedFile) → Option ModuleView → ℕ → List Datum → List Name → Result (List Datum) Fault
+unfoldable pub symbol_values : List (Option ParsedFile) → Option ModuleView → ℕ → List Datum → List Name → Result (List Datum) (Fault FaultKind)
 symbol_values parsed m line done [] = Ok done
 symbol_values parsed m line done (n ∷ ns) = at_symbol line n (exported parsed m n) >>= λ v. symbol_values parsed m line (done ++ v ∷ []) ns
 
 -- the values so far, and those of the symbols of these loads, which name these files
-unfoldable pub imports : LoadedParts → List Datum → List WrittenLoad → List LabelParts → Result (List Datum) Fault
+unfoldable pub imports : LoadedParts → List Datum → List WrittenLoad → List LabelParts → Result (List Datum) (Fault FaultKind)
 imports x done [] ls = Ok done
 imports x done (s ∷ ss) [] = Ok done
 imports x done (s ∷ ss) (l ∷ ls) = symbol_values x.parsed (module_named x l) s.line done s.symbols >>= λ vs. imports x vs ss ls

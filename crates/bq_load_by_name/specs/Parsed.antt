@@ -1,5 +1,6 @@
 -- What decides the outcomes of modules by names: each module with what its file is on its own.
 use Rattle.std.specs.Prelude.{ℕ, List, map, Option, Some, None, Result, Ok, Err}
+use Rattle.bq_base.specs.declared.fault.FaultKind.{FaultKind}
 use Rattle.bq_base.specs.declared.fault.Fault.{Fault}
 use Rattle.bq_label.specs.declared.workspace.File.{File}
 use Rattle.bq_label.specs.declared.packages.BuildFile.{BuildFile}
@@ -14,7 +15,7 @@ pub use Rattle.bq_load_front.specs.Parsed.{Fronts, AreFronts}
 -- a module, and what its file is on its own
 pub record ParsedModule : Type 0 where
   pub label : LabelParts
-  pub front : Result ParsedFront Fault
+  pub front : Result ParsedFront (Fault FaultKind)
 
 -- The modules by their numbers; the workspace; the rules of its schema, and their names, each once; and how many steps each evaluation may
 -- take.

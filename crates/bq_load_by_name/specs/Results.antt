@@ -33,17 +33,17 @@ line_of_load l (s ∷ ss) [] = 0
 line_of_load l (s ∷ ss) (k ∷ ks) = if bytes_eq (full_form l) (full_form k) then s.line else line_of_load l ss ks
 
 -- a file with a fault of its own loads nothing
-abbrev pub line_by : LabelParts → Result ParsedFront Fault → ℕ
+abbrev pub line_by : LabelParts → Result ParsedFront (Fault FaultKind) → ℕ
 line_by l (Err why) = 0
 line_by l (Ok front) = line_of_load l (file_loads front.file.statements) front.loads
 
 -- the fault of a module whose file is this, for its load of module k
-unfoldable pub load_fault : ParsedParts → Result ParsedFront Fault → FaultKind → ℕ → Fault
+unfoldable pub load_fault : ParsedParts → Result ParsedFront (Fault FaultKind) → FaultKind → ℕ → Fault FaultKind
 load_fault x front kind k =
     elim (slice_get x.modules k) [ None ↦ fault_at kind 0 | Some m ↦ record { kind = kind; line = line_by m.label front; detail = full_form m.label } ]
 
 -- the outcome of a module, with the fault that a load gave it
-abbrev pub result_of : ParsedParts → Result ParsedFront Fault → Outcome ModuleView FailedView → Result ModuleView FailedView
+abbrev pub result_of : ParsedParts → Result ParsedFront (Fault FaultKind) → Outcome ModuleView FailedView → Result ModuleView FailedView
 result_of x front (o.Loaded v) = Ok v
 result_of x front (o.Faulty e) = Err e
 result_of x front (o.Cyclic k) = Err (not_evaluated (load_fault x front f.CycleReached k))

@@ -15,7 +15,7 @@ use std::alloc::{AllocError, Global};
 pub struct Module {
     pub label: Label,
     /// What its file is on its own, or the fault that the file has on its own.
-    pub front: Result<Front, Fault>,
+    pub front: Result<Front, Fault<FaultKind>>,
 }
 
 impl Module {

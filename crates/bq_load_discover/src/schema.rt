@@ -7,7 +7,7 @@ ghost use Rattle.bq_load_discover.specs.Schema.{declared_in, schema_in};
 ghost use Rattle.bq_load_discover.specs.declared.load_err.LoadErr.TheVariants.{Schema as BadSchema};
 
 use crate::load_err::LoadErr;
-use bq_base::SourceErr;
+use bq_base::{FaultKind, SourceErr};
 use bq_label::Workspace;
 use bq_package_schema::{Schema, read_schema};
 use std::alloc::Global;
@@ -17,7 +17,7 @@ const SCHEMA_FILE: &[u8] = b"rules.schema";
 
 /// Returns what the file of the schema declares, or its fault; the standard schema if there is no such file.
 #[tactic(auto, unfolding(crate::specs::Schema::declared_in))]
-fn declared_in(alloc: Global, workspace: &Workspace) -> Result<Schema, SourceErr>
+fn declared_in(alloc: Global, workspace: &Workspace) -> Result<Schema, SourceErr<FaultKind>>
     ensures { Gives itself Bad result (declared_in workspace.now) }
 {
     match workspace.file(SCHEMA_FILE) {

@@ -1,5 +1,6 @@
 -- What the file of a label is, by the grammar, is what is read of it: so it is one thing.
 use Rattle.std.proofs.Common.{◌≡◌, ◌∙◌, Option, None, Some, Result, Ok, Err, refl, sym, ap, subst}
+use Rattle.bq_base.specs.declared.fault.FaultKind.{FaultKind}
 use Rattle.bq_base.specs.declared.fault.Fault.{Fault}
 use Rattle.bq_label.specs.declared.workspace.File.{File}
 use Rattle.bq_label.specs.Label.{LabelParts}
@@ -18,25 +19,25 @@ module _ (inputs : InputParts) (l : LabelParts) where
   abbrev universe : UniverseParts
   universe = universe_of inputs (kind_of l)
 
-  abbrev of_file : Result ParsedFile Fault → Result ParsedFront Fault
+  abbrev of_file : Result ParsedFile (Fault FaultKind) → Result ParsedFront (Fault FaultKind)
   of_file r = r >>= front_from inputs l
 
   by_file : (o : Option File) → label_file inputs.files l ≡ o → IsFront inputs l (parsed_at inputs l o)
   by_file None at = IsFront.no_file at refl
   by_file (Some x) at =
-      let file : Result ParsedFile Fault = file_of_text universe x.content in
+      let file : Result ParsedFile (Fault FaultKind) = file_of_text universe x.content in
       IsFront.found x file at ((files_of_texts universe x.content file).0 refl) refl
 
   is_front : IsFront inputs l (parsed_of inputs l)
   unfolding parsed_of
   is_front = by_file (label_file inputs.files l) refl
 
-  only_front : (r : Result ParsedFront Fault) → IsFront inputs l r → parsed_of inputs l ≡ r
+  only_front : (r : Result ParsedFront (Fault FaultKind)) → IsFront inputs l r → parsed_of inputs l ≡ r
   unfolding parsed_of
   only_front r (IsFront.no_file at e) = ap (parsed_at inputs l) at ∙ sym e
   only_front r (IsFront.found x file at is e) = ap (parsed_at inputs l) at ∙ ap of_file ((files_of_texts universe x.content file).1 is) ∙ sym e
 
-  from_reading : (r : Result ParsedFront Fault) → parsed_of inputs l ≡ r → IsFront inputs l r
+  from_reading : (r : Result ParsedFront (Fault FaultKind)) → parsed_of inputs l ≡ r → IsFront inputs l r
   from_reading r e = subst (IsFront inputs l) e is_front
 
 pub fronts_of_labels : FrontsOfLabels

@@ -1,5 +1,6 @@
 -- What a text resolves to is what its one reading does, and its fault is that of the first step that has one.
 use Rattle.std.proofs.Common.{◌≡◌, ◌∙◌, ℕ, List, Result, Ok, Err, sym, ap, subst}
+use Rattle.bq_base.specs.declared.fault.FaultKind.{FaultKind}
 use Rattle.bq_base.specs.declared.fault.Fault.{Fault}
 use Rattle.bq_source.specs.declared.token.Token.{Token}
 use Rattle.bq_source_lexer.specs.Reading.{Lexes}
@@ -16,54 +17,54 @@ use Rattle.bq_parse_statement_laws.proofs.Verdicts.{file_reads, file_only}
 use Rattle.bq_load_front.specs.Resolved.{resolved_file, ◌>>=◌}
 use Rattle.bq_load_front.specs.Laws.{TextResolvesTo, HasFault, ResolvedFilesOfTexts, FaultsOfFiles}
 
-not_resolved : (why : Fault) (file : ResolvedFile) → Err why ≡ Ok file → ⊥
+not_resolved : (why : Fault FaultKind) (file : ResolvedFile) → Err why ≡ Ok file → ⊥
 not_resolved why file e = cc
 
-abbrev no_file : Fault → Result ResolvedFile Fault
+abbrev no_file : Fault FaultKind → Result ResolvedFile (Fault FaultKind)
 no_file why = Err why
 
-same_fault : (a b : Fault) → no_file a ≡ no_file b → a ≡ b
+same_fault : (a b : Fault FaultKind) → no_file a ≡ no_file b → a ≡ b
 same_fault a b e = cc
 
 module _ (universe : UniverseParts) (text : List ℕ) where
-  abbrev of_trees : Result (List TopLevel) Fault → Result ResolvedFile Fault
+  abbrev of_trees : Result (List TopLevel) (Fault FaultKind) → Result ResolvedFile (Fault FaultKind)
   of_trees r = r >>= λ trees. resolved universe trees
 
-  abbrev of_tokens : Result (List Token) Fault → Result ResolvedFile Fault
+  abbrev of_tokens : Result (List Token) (Fault FaultKind) → Result ResolvedFile (Fault FaultKind)
   of_tokens r = r >>= λ ts. of_trees (statements_of universe.kind (lexemes text ts))
 
-  tokens_are : (r : Result (List Token) Fault) → Lexes text r → tokens_of text ≡ r
+  tokens_are : (r : Result (List Token) (Fault FaultKind)) → Lexes text r → tokens_of text ≡ r
   tokens_are r l = one_reading text (tokens_of text) r (every_text text) l
 
-  trees_are : (tokens : List Token) (r : Result (List TopLevel) Fault) → Parses universe.kind (lexemes text tokens) r → statements_of universe.kind (lexemes text tokens) ≡ r
+  trees_are : (tokens : List Token) (r : Result (List TopLevel) (Fault FaultKind)) → Parses universe.kind (lexemes text tokens) r → statements_of universe.kind (lexemes text tokens) ≡ r
   trees_are tokens r p = sym (file_only universe.kind (lexemes text tokens) r p)
 
   -- ---- the file
 
-  resolved_by_trees : (tokens : List Token) → Lexes text (Ok tokens) → (r : Result (List TopLevel) Fault) → Parses universe.kind (lexemes text tokens) r
+  resolved_by_trees : (tokens : List Token) → Lexes text (Ok tokens) → (r : Result (List TopLevel) (Fault FaultKind)) → Parses universe.kind (lexemes text tokens) r
       → (file : ResolvedFile) → of_trees r ≡ Ok file → TextResolvesTo universe text file
   resolved_by_trees tokens l (Ok trees) p file e = record { tokens = tokens; reads = l; trees = trees; parses = p; names = e }
   resolved_by_trees tokens l (Err why) p file e = absurd (not_resolved why file e)
 
-  resolved_by_tokens : (r : Result (List Token) Fault) → Lexes text r → (file : ResolvedFile) → of_tokens r ≡ Ok file → TextResolvesTo universe text file
+  resolved_by_tokens : (r : Result (List Token) (Fault FaultKind)) → Lexes text r → (file : ResolvedFile) → of_tokens r ≡ Ok file → TextResolvesTo universe text file
   resolved_by_tokens (Ok tokens) l file e = resolved_by_trees tokens l (statements_of universe.kind (lexemes text tokens)) (file_reads universe.kind (lexemes text tokens)) file e
   resolved_by_tokens (Err why) l file e = absurd (not_resolved why file e)
 
-  along : (tokens : List Token) → Lexes text (Ok tokens) → (r : Result (List TopLevel) Fault) → Parses universe.kind (lexemes text tokens) r → of_tokens (tokens_of text) ≡ of_trees r
+  along : (tokens : List Token) → Lexes text (Ok tokens) → (r : Result (List TopLevel) (Fault FaultKind)) → Parses universe.kind (lexemes text tokens) r → of_tokens (tokens_of text) ≡ of_trees r
   along tokens l r p = ap of_tokens (tokens_are (Ok tokens) l) ∙ ap of_trees (trees_are tokens r p)
 
   -- ---- the fault
 
-  fault_by_trees : (tokens : List Token) → Lexes text (Ok tokens) → (r : Result (List TopLevel) Fault) → Parses universe.kind (lexemes text tokens) r
-      → (why : Fault) → of_trees r ≡ Err why → HasFault universe text why
+  fault_by_trees : (tokens : List Token) → Lexes text (Ok tokens) → (r : Result (List TopLevel) (Fault FaultKind)) → Parses universe.kind (lexemes text tokens) r
+      → (why : Fault FaultKind) → of_trees r ≡ Err why → HasFault universe text why
   fault_by_trees tokens l (Ok trees) p why e = HasFault.of_names tokens trees l p e
-  fault_by_trees tokens l (Err at) p why e = HasFault.of_statements tokens l (subst (λ (z : Fault). Parses universe.kind (lexemes text tokens) (Err z)) (same_fault at why e) p)
+  fault_by_trees tokens l (Err at) p why e = HasFault.of_statements tokens l (subst (λ (z : Fault FaultKind). Parses universe.kind (lexemes text tokens) (Err z)) (same_fault at why e) p)
 
-  fault_by_tokens : (r : Result (List Token) Fault) → Lexes text r → (why : Fault) → of_tokens r ≡ Err why → HasFault universe text why
+  fault_by_tokens : (r : Result (List Token) (Fault FaultKind)) → Lexes text r → (why : Fault FaultKind) → of_tokens r ≡ Err why → HasFault universe text why
   fault_by_tokens (Ok tokens) l why e = fault_by_trees tokens l (statements_of universe.kind (lexemes text tokens)) (file_reads universe.kind (lexemes text tokens)) why e
-  fault_by_tokens (Err at) l why e = HasFault.of_tokens (subst (λ (z : Fault). Lexes text (Err z)) (same_fault at why e) l)
+  fault_by_tokens (Err at) l why e = HasFault.of_tokens (subst (λ (z : Fault FaultKind). Lexes text (Err z)) (same_fault at why e) l)
 
-  fault_back : (why : Fault) → HasFault universe text why → of_tokens (tokens_of text) ≡ Err why
+  fault_back : (why : Fault FaultKind) → HasFault universe text why → of_tokens (tokens_of text) ≡ Err why
   fault_back why (HasFault.of_tokens l) = ap of_tokens (tokens_are (Err why) l)
   fault_back why (HasFault.of_statements tokens l p) = along tokens l (Err why) p
   fault_back why (HasFault.of_names tokens trees l p e) = along tokens l (Ok trees) p ∙ e

@@ -3,6 +3,7 @@ use Rattle.std.proofs.Common.{ℕ, List, Result, Ok, Err, Vec}
 use Rattle.std.specs.Prelude.{IfOk}
 use Rattle.std.specs.Global.{Global}
 use Rattle.bq_source.specs.declared.token.Token.{Token}
+use Rattle.bq_base.specs.declared.fault.TokenFault.{TokenFault}
 use Rattle.bq_base.specs.declared.fault.Fault.{Fault}
 use Rattle.bq_base.specs.declared.fault.SourceErr.{SourceErr}
 use Rattle.bq_source_lexer.specs.Reading.{Lexes}
@@ -13,13 +14,13 @@ use Rattle.bq_base.specs.Gives.{Gives, GivesOneOf}
 use Rattle.bq_base.specs.declared.fault.SourceErr.TheVariants.{Bad}
 use Rattle.bq_load_front.specs.Resolved.{items}
 
-tokens_found : (r : Result (Vec Token Global) SourceErr) (q : Result (List Token) Fault) → Gives the_tokens Bad r q → Gives items Bad r q
+tokens_found : (r : Result (Vec Token Global) (SourceErr TokenFault)) (q : Result (List Token) (Fault TokenFault)) → Gives the_tokens Bad r q → Gives items Bad r q
 tokens_found (Ok v) q h = h
 tokens_found (Err e) q h = h
 
-pub lexed : (text : List ℕ) (r : Result (Vec Token Global) SourceErr) → ((q : Result (List Token) Fault) → Lexes text q → Gives the_tokens Bad r q) → Gives items Bad r (tokens_of text)
+pub lexed : (text : List ℕ) (r : Result (Vec Token Global) (SourceErr TokenFault)) → ((q : Result (List Token) (Fault TokenFault)) → Lexes text q → Gives the_tokens Bad r q) → Gives items Bad r (tokens_of text)
 lexed text r only = tokens_found r (tokens_of text) (only (tokens_of text) (every_text text))
 
-pub lexes : (text : List ℕ) (r : Result (Vec Token Global) SourceErr) → GivesOneOf the_tokens Bad r (Lexes text) → IfOk r (λ v. Lexes text (Ok v.items))
+pub lexes : (text : List ℕ) (r : Result (Vec Token Global) (SourceErr TokenFault)) → GivesOneOf the_tokens Bad r (Lexes text) → IfOk r (λ v. Lexes text (Ok v.items))
 lexes text (Ok v) h = h
 lexes text (Err e) h = tt

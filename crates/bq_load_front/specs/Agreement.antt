@@ -1,5 +1,6 @@
 -- What is made of a file is what the file is: names and slots agree.
 use Rattle.std.specs.Prelude.{◌≡◌, Result, Ok, Err}
+use Rattle.bq_base.specs.declared.fault.FaultKind.{FaultKind}
 use Rattle.bq_base.specs.declared.fault.Fault.{Fault}
 use Rattle.bq_label.specs.Label.{LabelParts}
 use Rattle.bq_resolve_by_name.specs.Files.{ResolvesTo}
@@ -10,7 +11,7 @@ use Rattle.bq_load_front.specs.Parsed.{ParsedFront}
 use Rattle.bq_load_front.specs.Reading.{parsed_of, loads_of}
 
 -- the file that it resolves to and the same loads, or the same fault
-abbrev pub IsFrontOf : Result ParsedFront Fault → Result Front Fault → Type 0
+abbrev pub IsFrontOf : Result ParsedFront (Fault FaultKind) → Result Front (Fault FaultKind) → Type 0
 IsFrontOf (Ok x) (Ok front) = ResolvesTo x.file front.file × (front.loads ≡ x.loads)
 IsFrontOf (Err why) (Err told) = told ≡ why
 IsFrontOf _ _ = ⊥

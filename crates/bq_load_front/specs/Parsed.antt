@@ -2,9 +2,15 @@
 -- slots they get is a matter of the code (`Front`); that it is read in one way, and how, is a matter of the code too (`Reading`).
 use Rattle.std.specs.Prelude.{◌≡◌, ℕ, List, [], ◌∷◌, ◌++◌, nat_eq, None, Some, Result, Ok, Err, codes, if◌then◌else◌}
 use Rattle.std.specs.List.{ends_with}
+use Rattle.bq_base.specs.declared.fault.FaultKind.{FaultKind}
 use Rattle.bq_base.specs.declared.fault.Fault.{Fault}
 use Rattle.bq_base.specs.declared.fault.FaultKind.TheVariants as f
-use Rattle.bq_base.specs.Fault.{fault_at}
+use Rattle.bq_base.specs.declared.fault.TokenFault.{TokenFault}
+use Rattle.bq_base.specs.declared.fault.StatementFault.{StatementFault}
+use Rattle.bq_base.specs.declared.fault.NameFault.{NameFault}
+use Rattle.bq_base.specs.declared.fault.LoadFault.{LoadFault}
+use Rattle.bq_base.specs.declared.fault.LoadFault.TheVariants as of_load
+use Rattle.bq_base.specs.Fault.{fault_at, fault_as, or_fault_as}
 use Rattle.bq_source.specs.declared.token.Token.{Token}
 use Rattle.bq_source_lexer.specs.Reading.{Lexes}
 use Rattle.bq_parse_grammar.specs.Lexeme.{lexemes}
@@ -32,22 +38,22 @@ pub record ParsedFront : Type 0 where
 
 -- the text is that of this file: it reads as tokens, these as statements, and they break no rule of names and flow. Or it has this fault: of its
 -- tokens, else of its statements, else the first of these rules that is broken.
-pub data ReadsAsFile (universe : UniverseParts) (text : List ℕ) (r : Result ParsedFile Fault) : Type 0 where
-  bad_tokens : (why : Fault) → Lexes text (Err why) → r ≡ Err why → ReadsAsFile universe text r
-  bad_statements : (tokens : List Token) (why : Fault) → Lexes text (Ok tokens) → Parses universe.kind (lexemes text tokens) (Err why) → r ≡ Err why → ReadsAsFile universe text r
-  bad_names : (tokens : List Token) (trees : List TopLevel) (why : Fault) → Lexes text (Ok tokens) → Parses universe.kind (lexemes text tokens) (Ok trees)
-      → first (violations universe trees) ≡ Some why → r ≡ Err why → ReadsAsFile universe text r
+pub data ReadsAsFile (universe : UniverseParts) (text : List ℕ) (r : Result ParsedFile (Fault FaultKind)) : Type 0 where
+  bad_tokens : (why : Fault TokenFault) → Lexes text (Err why) → r ≡ Err (fault_as f.Token why) → ReadsAsFile universe text r
+  bad_statements : (tokens : List Token) (why : Fault StatementFault) → Lexes text (Ok tokens) → Parses universe.kind (lexemes text tokens) (Err why) → r ≡ Err (fault_as f.Statement why) → ReadsAsFile universe text r
+  bad_names : (tokens : List Token) (trees : List TopLevel) (why : Fault NameFault) → Lexes text (Ok tokens) → Parses universe.kind (lexemes text tokens) (Ok trees)
+      → first (violations universe trees) ≡ Some why → r ≡ Err (fault_as f.Name why) → ReadsAsFile universe text r
   good : (tokens : List Token) (trees : List TopLevel) → Lexes text (Ok tokens) → Parses universe.kind (lexemes text tokens) (Ok trees) → violations universe trees ≡ []
       → r ≡ Ok (record { universe = universe; statements = trees }) → ReadsAsFile universe text r
 
 -- ---- its loads
 
 -- the label of the file that a load in this package names, or the load's fault
-abbrev pub file_named : InputParts → PackageParts → WrittenLoad → Result LabelParts Fault
+abbrev pub file_named : InputParts → PackageParts → WrittenLoad → Result LabelParts (Fault LoadFault)
 file_named inputs own x = load_label inputs.files inputs.packages own x.line x.label
 
 -- the labels so far, and one for each of these, which are read so; or the fault of the first bad one
-unfoldable pub labels_of : {A : Type 0} → (A → Result LabelParts Fault) → List LabelParts → List A → Result (List LabelParts) Fault
+unfoldable pub labels_of : {A : Type 0} → (A → Result LabelParts (Fault LoadFault)) → List LabelParts → List A → Result (List LabelParts) (Fault LoadFault)
 labels_of read done [] = Ok done
 labels_of read done (x ∷ xs) = read x >>= λ l. labels_of read (done ++ l ∷ []) xs
 
@@ -58,24 +64,24 @@ kind_of l = if ends_with nat_eq l.name (codes ".bzl") then kinds.Bzl else kinds.
 -- ---- the file of a label
 
 -- a file with the labels that it loads, or the fault of the first bad one
-abbrev pub front_from : InputParts → LabelParts → ParsedFile → Result ParsedFront Fault
-front_from inputs l file = labels_of (file_named inputs (package_of l)) [] (file_loads file.statements) >>= λ ls. Ok (record { file = file; loads = ls })
+abbrev pub front_from : InputParts → LabelParts → ParsedFile → Result ParsedFront (Fault FaultKind)
+front_from inputs l file = or_fault_as f.Load (labels_of (file_named inputs (package_of l)) [] (file_loads file.statements)) >>= λ ls. Ok (record { file = file; loads = ls })
 
 -- what the file of this label is; no module of a workspace lacks its file
-pub data IsFront (inputs : InputParts) (l : LabelParts) (r : Result ParsedFront Fault) : Type 0 where
-  no_file : label_file inputs.files l ≡ None → r ≡ Err (fault_at f.NoSuchFile 0) → IsFront inputs l r
-  found : (x : File) (file : Result ParsedFile Fault) → label_file inputs.files l ≡ Some x → ReadsAsFile (universe_of inputs (kind_of l)) x.content file
+pub data IsFront (inputs : InputParts) (l : LabelParts) (r : Result ParsedFront (Fault FaultKind)) : Type 0 where
+  no_file : label_file inputs.files l ≡ None → r ≡ Err (fault_at (f.Load of_load.NoSuchFile) 0) → IsFront inputs l r
+  found : (x : File) (file : Result ParsedFile (Fault FaultKind)) → label_file inputs.files l ≡ Some x → ReadsAsFile (universe_of inputs (kind_of l)) x.content file
       → r ≡ (file >>= front_from inputs l) → IsFront inputs l r
 
 -- something that the file of each label is
 abbrev pub Fronts : Type 0
-Fronts = LabelParts → Result ParsedFront Fault
+Fronts = LabelParts → Result ParsedFront (Fault FaultKind)
 
 -- it is that of these files
 abbrev pub AreFronts : InputParts → Fronts → Type 0
 AreFronts inputs fronts = (l : LabelParts) → IsFront inputs l (fronts l)
 
 -- the labels of the loads of a file: none if it has a fault of its own or a bad load
-abbrev pub loads_in : Result ParsedFront Fault → List LabelParts
+abbrev pub loads_in : Result ParsedFront (Fault FaultKind) → List LabelParts
 loads_in (Err why) = []
 loads_in (Ok front) = front.loads

@@ -1,7 +1,10 @@
--- What the text of a file resolves to, or its first fault.
+-- What the text of a file resolves to, or its first fault: of its tokens, its statements or its names.
 use Rattle.std.specs.Prelude.{ℕ, List, Result, Ok, Err, Vec}
 use Rattle.std.specs.Global.{Global}
+use Rattle.bq_base.specs.declared.fault.FaultKind.{FaultKind}
+use Rattle.bq_base.specs.declared.fault.FaultKind.TheVariants as f
 use Rattle.bq_base.specs.declared.fault.Fault.{Fault}
+use Rattle.bq_base.specs.Fault.{or_fault_as}
 use Rattle.bq_source_lexer.specs.Tokens.{tokens_of}
 use Rattle.bq_parse_grammar.specs.Lexeme.{lexemes}
 use Rattle.bq_parse_grammar.specs.Parses.{statements_of}
@@ -11,13 +14,14 @@ use Rattle.bq_resolve_scope.specs.Files.{resolved}
 
 -- one step after another
 infixl 10 ◌>>=◌
-abbrev pub ◌>>=◌ : {A B : Type 0} → Result A Fault → (A → Result B Fault) → Result B Fault
+abbrev pub ◌>>=◌ : {A B K : Type 0} → Result A (Fault K) → (A → Result B (Fault K)) → Result B (Fault K)
 (Err why) >>= go = Err why
 (Ok x) >>= go = go x
 
 -- its tokens, the trees of its statements, and what their names stand for
-unfoldable pub resolved_file : UniverseParts → List ℕ → Result ResolvedFile Fault
-resolved_file universe text = tokens_of text >>= λ ts. statements_of universe.kind (lexemes text ts) >>= λ trees. resolved universe trees
+unfoldable pub resolved_file : UniverseParts → List ℕ → Result ResolvedFile (Fault FaultKind)
+resolved_file universe text =
+    or_fault_as f.Token (tokens_of text) >>= λ ts. or_fault_as f.Statement (statements_of universe.kind (lexemes text ts)) >>= λ trees. or_fault_as f.Name (resolved universe trees)
 
 -- the views of what functions return, under which `Gives` relates it to a definition
 abbrev pub itself : {A : Type 0} → A → A

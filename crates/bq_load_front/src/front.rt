@@ -10,7 +10,7 @@ ghost use Rattle.bq_load_front.specs.Parsed.{labels_of, kind_of};
 use crate::inputs::Inputs;
 use crate::named_files::NamedFiles;
 use crate::resolved::resolved_file;
-use bq_base::{Fault, FaultKind, SourceErr};
+use bq_base::{Fault, FaultKind, LoadFault, SourceErr};
 use bq_label::{Label, PackageId, label_file};
 use bq_load_label::load_label;
 use bq_parse_grammar::FileKind;
@@ -32,7 +32,7 @@ fn named_files(
     inputs: &Inputs<'_>,
     own: &PackageId,
     loads: &[LoadStmt],
-) -> Result<NamedFiles, SourceErr>
+) -> Result<NamedFiles, SourceErr<LoadFault>>
     ensures { Gives itself Bad result (labels_of (load_of inputs.now own.now) [] loads.now) }
 {
     let mut labels = Items::new(alloc);
@@ -64,11 +64,11 @@ pub fn kind_of(label: &Label) -> FileKind
 /// Returns what the file of this label resolves to and its loads, or its first fault: of its text (F1 to F24), then of its
 /// first bad load. A label that names no file is F31; no module has such a label.
 #[tactic(auto, unfolding(crate::specs::Front::front_of))]
-pub fn front_of(alloc: Global, inputs: &Inputs<'_>, label: &Label) -> Result<Front, SourceErr>
+pub fn front_of(alloc: Global, inputs: &Inputs<'_>, label: &Label) -> Result<Front, SourceErr<FaultKind>>
     ensures { Gives itself Bad result (front_of inputs.now label.now) }
 {
     let Some(file) = label_file(alloc, inputs.workspace(), label)? else {
-        return Err(SourceErr::Bad(Fault::at(FaultKind::NoSuchFile, 0)));
+        return Err(SourceErr::Bad(Fault::at(FaultKind::Load(LoadFault::NoSuchFile), 0)));
     };
     let universe = inputs.universe(kind_of(label));
     let resolved = resolved_file(alloc, universe, file.content.as_slice())?;
@@ -79,7 +79,7 @@ pub fn front_of(alloc: Global, inputs: &Inputs<'_>, label: &Label) -> Result<Fro
         }),
         Err(why) => {
             drop(resolved); // PROOF: one call lets the file go
-            Err(why)
+            Err(SourceErr::from(why))
         }
     }
 }

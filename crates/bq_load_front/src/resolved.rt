@@ -4,7 +4,7 @@ ghost use Rattle.bq_base.specs.Gives.{Gives};
 ghost use Rattle.bq_base.specs.declared.fault.SourceErr.TheVariants.{Bad};
 ghost use Rattle.bq_load_front.specs.Resolved.{resolved_file, itself};
 
-use bq_base::SourceErr;
+use bq_base::{FaultKind, SourceErr};
 use bq_parse::parse;
 use bq_resolve::resolve;
 use bq_resolve_scope::{ResolvedFile, Universe};
@@ -18,10 +18,10 @@ pub fn resolved_file(
     alloc: Global,
     universe: &Universe,
     text: &[u8],
-) -> Result<ResolvedFile, SourceErr>
+) -> Result<ResolvedFile, SourceErr<FaultKind>>
     ensures { Gives itself Bad result (resolved_file universe.now text.now) }
 {
     let tokens = lex(alloc, text)?;
     let file = parse(alloc, &tokens, text, universe.kind())?;
-    resolve(alloc, file, universe)
+    Ok(resolve(alloc, file, universe)?)
 }

@@ -4,8 +4,8 @@ use Rattle.std.specs.Prelude.{◌↔◌}
 use Rattle.std.proofs.lemmas.Bool.{cases_Bool}
 use Rattle.std.specs.Option.{is_some}
 use Rattle.std.specs.List.{ends_with}
-use Rattle.bq_base.specs.declared.fault.FaultKind.{FaultKind}
-use Rattle.bq_base.specs.declared.fault.FaultKind.TheVariants as f
+use Rattle.bq_base.specs.declared.fault.LoadFault.{LoadFault}
+use Rattle.bq_base.specs.declared.fault.LoadFault.TheVariants as f
 use Rattle.bq_label.specs.declared.workspace.File.{File}
 use Rattle.bq_label.specs.declared.packages.BuildFile.{BuildFile}
 use Rattle.bq_label.specs.Label.{PackageParts, LabelParts, ReadsAs, package_of}
@@ -77,7 +77,7 @@ named_by : (files : List File) (packages : List BuildFile) (line : ℕ) (x : Opt
     → (x ≡ Some l) × (fault_of_file files packages l ≡ None)
 named_by files packages line None l e = absurd (cc)
 named_by files packages line (Some m) l e = unless (fault_of_file files packages m) refl e where
-  unless : (why : Option FaultKind) → fault_of_file files packages m ≡ why → unless_fault line m why ≡ Ok l → (Some m ≡ Some l) × (fault_of_file files packages l ≡ None)
+  unless : (why : Option LoadFault) → fault_of_file files packages m ≡ why → unless_fault line m why ≡ Ok l → (Some m ≡ Some l) × (fault_of_file files packages l ≡ None)
   unless None is k = let same : m ≡ l = cc in (ap Some same, sym (ap (fault_of_file files packages) same) ∙ is)
   unless (Some kind) is k = absurd (cc)
 

@@ -8,7 +8,7 @@ ghost use Rattle.bq_base.specs.declared.fault.SourceErr.TheVariants.{Bad};
 ghost use Rattle.bq_load_label.specs.NamedFile.{bzl_label, fault_of_file, unless_fault, load_label};
 
 use crate::crossing::crosses;
-use bq_base::{Bytes, Fault, FaultKind, SourceErr};
+use bq_base::{Bytes, Fault, LoadFault, SourceErr};
 use bq_label::{Label, PackageId, Packages, Workspace, label_file, print_label, read_label};
 use std::alloc::{AllocError, Global};
 
@@ -34,7 +34,7 @@ fn bzl_label(alloc: Global, own: &PackageId, text: &[u8]) -> Result<Option<Label
 }
 
 /// Returns the fault of a load, in this line, of the file of this label.
-fn file_fault(alloc: Global, kind: FaultKind, line: u32, label: &Label) -> Result<Fault, AllocError>
+fn file_fault(alloc: Global, kind: LoadFault, line: u32, label: &Label) -> Result<Fault<LoadFault>, AllocError>
     ensures { IfOk result (λ fault. fault ≡ record { kind = kind; line = line; detail = full_form label.now }) }
 {
     let detail = Bytes::from_vec(alloc, print_label(alloc, label)?)?;
@@ -49,15 +49,15 @@ fn check_file(
     packages: &Packages,
     line: u32,
     label: &Label,
-) -> Result<(), SourceErr>
+) -> Result<(), SourceErr<LoadFault>>
     ensures { Gives (λ _. label.now) Bad result (unless_fault line label.now (fault_of_file workspace.now packages.now label.now)) }
 {
     let kind = if packages.named(label.package_id()).is_none() {
-        FaultKind::NoPackage
+        LoadFault::NoPackage
     } else if crosses(alloc, packages, label)? {
-        FaultKind::CrossesPackage
+        LoadFault::CrossesPackage
     } else if label_file(alloc, workspace, label)?.is_none() {
-        FaultKind::NoSuchFile
+        LoadFault::NoSuchFile
     } else {
         return Ok(());
     };
@@ -76,11 +76,11 @@ pub fn load_label(
     own: &PackageId,
     line: u32,
     text: &[u8],
-) -> Result<Label, SourceErr>
+) -> Result<Label, SourceErr<LoadFault>>
     ensures { Gives (λ label. label) Bad result (load_label workspace.now packages.now own.now line text.now) }
 {
     let Some(label) = bzl_label(alloc, own, text)? else {
-        return Err(SourceErr::Bad(Fault::at(FaultKind::BadLoadLabel, line)));
+        return Err(SourceErr::Bad(Fault::at(LoadFault::BadLoadLabel, line)));
     };
     match check_file(alloc, workspace, packages, line, &label) {
         Ok(()) => Ok(label),

@@ -1,6 +1,7 @@
 //! What holds of loads. The functions do nothing: their contracts are the laws.
 
 ghost use Rattle.std.specs.Prelude.{◌≡◌, ℕ, List, [], Some, Err, slice_get};
+ghost use Rattle.bq_base.specs.declared.fault.FaultKind.{FaultKind};
 ghost use Rattle.bq_base.specs.declared.fault.Fault.{Fault};
 ghost use Rattle.bq_label.specs.declared.workspace.File.{File};
 ghost use Rattle.bq_label.specs.declared.packages.BuildFile.{BuildFile};
@@ -19,5 +20,5 @@ pub fn loads_are_refused_in_order()
 /// In the load graph of a workspace, a module whose file has a fault of its own, or a bad load, loads nothing, not even
 /// by its good loads.
 pub fn faulty_files_load_nothing()
-    ensures { (inputs : InputParts) (g : GraphParts) (m : ℕ) (l : LabelParts) (why : Fault) → IsReadGraph inputs g → slice_get g.labels m ≡ Some l → front_of inputs l ≡ Err why → slice_get g.edges m ≡ Some [] }
+    ensures { (inputs : InputParts) (g : GraphParts) (m : ℕ) (l : LabelParts) (why : Fault FaultKind) → IsReadGraph inputs g → slice_get g.labels m ≡ Some l → front_of inputs l ≡ Err why → slice_get g.edges m ≡ Some [] }
 {}

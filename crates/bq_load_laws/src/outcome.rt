@@ -1,6 +1,7 @@
 //! What holds of modules that are loaded. The functions do nothing: their contracts are the laws.
 
 ghost use Rattle.std.specs.Prelude.{◌≡◌, ℕ, List, Option, Result};
+ghost use Rattle.bq_base.specs.declared.fault.FaultKind.{FaultKind};
 ghost use Rattle.bq_base.specs.declared.fault.Fault.{Fault};
 ghost use Rattle.bq_board.specs.Graph.{Loads};
 ghost use Rattle.bq_load_outcome_spec.specs.Outcome.{outcome};
@@ -26,7 +27,7 @@ pub fn symbols_are_refused_in_order()
 /// A module fails for the first of the reasons that are listed, and for nothing else: F35, F38, F36, and then its own
 /// fault.
 pub fn modules_fail_in_order()
-    ensures { (x : LoadingParts) (p : Loads) (m : ℕ) (front : Result Front Fault) → failure (result_of x front (outcome (means x) p m)) ≡ first_fault (loading x p m) }
+    ensures { (x : LoadingParts) (p : Loads) (m : ℕ) (front : Result Front (Fault FaultKind)) → failure (result_of x front (outcome (means x) p m)) ≡ first_fault (loading x p m) }
 {}
 
 /// F35, F36 and F38 name the line of the file's first load of the module, even if later ones load it too, and the

@@ -97,22 +97,22 @@ read_of kind p x r e (V.read {x = y} f g h i) b =
     }
 
 -- what is known of each tree of a file, or of the line of its fault
-abbrev pub TreesAre : (TopLevel → Type 0) → Result (List TopLevel) Fault → Type 0
+abbrev pub TreesAre : (TopLevel → Type 0) → Result (List TopLevel) (Fault FaultKind) → Type 0
 TreesAre P (Ok xs) = AllByRecursion P xs
 TreesAre P (Err why) = 1 ≤ why.line
 
 module _ (P : TopLevel → Type 0) (tells : (p : List Lexeme) (x : TopLevel) → IsOf p x → P x) (kind : FileKind) where
-  all_read : (ps : List (List Lexeme)) (r : Result (List TopLevel) Fault) → ReadsAll kind ps r → AllByRecursion Begun ps → TreesAre P r
+  all_read : (ps : List (List Lexeme)) (r : Result (List TopLevel) (Fault FaultKind)) → ReadsAll kind ps r → AllByRecursion Begun ps → TreesAre P r
   all_read ps r R.over b = tt
   all_read ps r (R.good {p = p} {ps = qs} {x = x} {xs = xs} h g) b = (tells p x (read_of kind p x (Ok x) refl h b.0), all_read qs (Ok xs) g b.1)
   all_read ps r (R.later {ps = qs} {why = why} h g) b = all_read qs (Err why) g b.1
-  all_read ps r (R.bad {p = p} h e) b = subst (λ (z : Fault). 1 ≤ z.line) (sym e) b.0.0
+  all_read ps r (R.bad {p = p} h e) b = subst (λ (z : Fault FaultKind). 1 ≤ z.line) (sym e) b.0.0
 
-  pub trees_are : (ts : List Lexeme) (r : Result (List TopLevel) Fault) → Numbered ts → Parses kind ts r → TreesAre P r
+  pub trees_are : (ts : List Lexeme) (r : Result (List TopLevel) (Fault FaultKind)) → Numbered ts → Parses kind ts r → TreesAre P r
   trees_are ts r h g = all_read (pieces ts) r g (pieces_begun ts h)
 
 pub statements_count : (kind : FileKind) (ts : List Lexeme) (xs : List TopLevel) → Numbered ts → Parses kind ts (Ok xs) → AllByRecursion (λ x. 1 ≤ x.line) xs
 statements_count kind ts xs h g = trees_are (λ x. 1 ≤ x.line) (λ p x i. i.line) kind ts (Ok xs) h g
 
-pub fault_counts : (kind : FileKind) (ts : List Lexeme) (why : Fault) → Numbered ts → Parses kind ts (Err why) → 1 ≤ why.line
+pub fault_counts : (kind : FileKind) (ts : List Lexeme) (why : Fault FaultKind) → Numbered ts → Parses kind ts (Err why) → 1 ≤ why.line
 fault_counts kind ts why h g = trees_are (λ x. 1 ≤ x.line) (λ p x i. i.line) kind ts (Err why) h g

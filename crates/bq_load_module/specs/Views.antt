@@ -1,5 +1,6 @@
 -- A module that was evaluated, and one that failed, as contracts see them.
 use Rattle.std.specs.Prelude.{ℕ, List, [], Option}
+use Rattle.bq_base.specs.declared.fault.FaultKind.{FaultKind}
 use Rattle.bq_base.specs.declared.fault.Fault.{Fault}
 use Rattle.bq_value.specs.Cells.{FrozenView}
 use Rattle.bq_package_target.specs.Package.{PackageTargets}
@@ -14,7 +15,7 @@ pub record ModuleView : Type 0 where
 
 -- a module that failed: why, and what it had printed by then
 pub record FailedView : Type 0 where
-  pub fault : Fault
+  pub fault : Fault FaultKind
   pub prints : List (List ℕ)
 
 abbrev pub module_view : LoadedModule → ModuleView
@@ -24,5 +25,5 @@ abbrev pub failed_view : FailedModule → FailedView
 failed_view m = record { fault = m.fault; prints = m.prints.items }
 
 -- it failed before it was evaluated
-abbrev pub not_evaluated : Fault → FailedView
+abbrev pub not_evaluated : Fault FaultKind → FailedView
 not_evaluated why = record { fault = why; prints = [] }

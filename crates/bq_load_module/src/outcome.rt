@@ -1,6 +1,6 @@
 //! A module that was evaluated, and one that failed.
 
-use bq_base::{Bytes, Fault};
+use bq_base::{Bytes, Fault, FaultKind};
 use bq_package_target::Package;
 use bq_value::Frozen;
 use std::alloc::Global;
@@ -30,7 +30,7 @@ impl Drop for LoadedModule {
 /// A module that failed.
 #[derive(Drop)]
 pub struct FailedModule {
-    pub fault: Fault,
+    pub fault: Fault<FaultKind>,
     /// What it had printed by then.
     pub prints: Vec<Bytes>,
 }
@@ -40,7 +40,7 @@ impl FailedModule {
     ghost use Rattle.bq_load_module.specs.Views.{failed_view, not_evaluated};
 
     /// Makes one that failed before it was evaluated.
-    pub fn not_evaluated(alloc: Global, fault: Fault) -> FailedModule
+    pub fn not_evaluated(alloc: Global, fault: Fault<FaultKind>) -> FailedModule
         ensures { failed_view result ≡ not_evaluated fault }
     {
         FailedModule {

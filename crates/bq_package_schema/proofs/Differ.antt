@@ -3,6 +3,7 @@ use Rattle.std.proofs.Common.{◌≡◌, ◌∙◌, ◌+◌, ◌||◌, ℕ, suc,
 use Rattle.std.specs.Option.{is_some}
 use Rattle.std.specs.Map.{lookup}
 use Rattle.std.proofs.lemmas.Slice.Eq.{bytes_eq-Decides}
+use Rattle.bq_base.specs.declared.fault.FaultKind.{FaultKind}
 use Rattle.bq_base.specs.declared.fault.Fault.{Fault}
 use Rattle.bq_value_rule_class.specs.declared.attribute.Attribute.{Attribute}
 use Rattle.bq_value_rule_class.specs.Class.{Class, has_attribute, extended}
@@ -147,7 +148,7 @@ after_are (line.Rule name) rules next are h = with_rule_are rules next name are 
 after_are (line.Attribute name a) rules next are h = with_attribute_are rules next name a are h
 after_are line.Other rules next are h = absurd (no_next next h)
 
-same_rules : (r : Result Rules Fault) (a b : Rules) → r ≡ Ok a → r ≡ Ok b → a ≡ b
+same_rules : (r : Result Rules (Fault FaultKind)) (a b : Rules) → r ≡ Ok a → r ≡ Ok b → a ≡ b
 same_rules r a b g h = cc
 
 -- what lines declare has no name twice

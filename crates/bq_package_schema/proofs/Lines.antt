@@ -1,5 +1,6 @@
 -- Reading a schema line by line.
 use Rattle.std.proofs.Common.{◌≡◌, ◌≢◌, ◌∙◌, ◌+◌, ℕ, suc, List, [], ◌∷◌, ◌++◌, length, Option, Some, None, Result, Ok, Err, refl, sym, ap, arith}
+use Rattle.bq_base.specs.declared.fault.FaultKind.{FaultKind}
 use Rattle.bq_base.specs.declared.fault.Fault.{Fault}
 use Rattle.bq_package_schema.specs.declared.line.Line.TheVariants as line
 use Rattle.bq_package_schema.specs.Line.{line_of}
@@ -20,7 +21,7 @@ unfolding declared_by
 nothing_left rules n = refl
 
 -- where reading stops: the lines before, the bad one, and those after it
-pub record Stops (rules : Rules) (n : ℕ) (ls : List (List ℕ)) (fault : Fault) : Type 0 where
+pub record Stops (rules : Rules) (n : ℕ) (ls : List (List ℕ)) (fault : Fault FaultKind) : Type 0 where
   pub before : List (List ℕ)
   pub line : List ℕ
   pub behind : List (List ℕ)
@@ -30,13 +31,13 @@ pub record Stops (rules : Rules) (n : ℕ) (ls : List (List ℕ)) (fault : Fault
   pub bad : after last (line_of line) ≡ None
   pub named : fault ≡ bad_line (n + length before)
 
-same_fault : (r : Result Rules Fault) (n : ℕ) (fault : Fault) → r ≡ Err (bad_line n) → r ≡ Err fault → fault ≡ bad_line n
+same_fault : (r : Result Rules (Fault FaultKind)) (n : ℕ) (fault : Fault FaultKind) → r ≡ Err (bad_line n) → r ≡ Err fault → fault ≡ bad_line n
 same_fault r n fault g h = cc
 
 one_on : (n : ℕ) (m : ℕ) → n + 1 + m ≡ n + suc m
 one_on n m = omega arith
 
-stops_by : (o : Option Rules) (rules : Rules) (n : ℕ) (l : List ℕ) (ls : List (List ℕ)) (fault : Fault) → after rules (line_of l) ≡ o → declared_by rules n (l ∷ ls) ≡ Err fault
+stops_by : (o : Option Rules) (rules : Rules) (n : ℕ) (l : List ℕ) (ls : List (List ℕ)) (fault : Fault FaultKind) → after rules (line_of l) ≡ o → declared_by rules n (l ∷ ls) ≡ Err fault
     → ((next : Rules) → declared_by next (n + 1) ls ≡ Err fault → Stops next (n + 1) ls fault) → Stops rules n (l ∷ ls) fault
 stops_by None rules n l ls fault e h inner =
     record {
@@ -62,10 +63,10 @@ stops_by (Some next) rules n l ls fault e h inner =
       named = s.named ∙ ap bad_line (one_on n (length s.before));
     }
 
-ended : (rules : Rules) (fault : Fault) → Ok rules ≡ Err fault → ⊥
+ended : (rules : Rules) (fault : Fault FaultKind) → Ok rules ≡ Err fault → ⊥
 ended rules fault h = cc
 
-pub stops : (rules : Rules) (n : ℕ) (ls : List (List ℕ)) (fault : Fault) → declared_by rules n ls ≡ Err fault → Stops rules n ls fault
+pub stops : (rules : Rules) (n : ℕ) (ls : List (List ℕ)) (fault : Fault FaultKind) → declared_by rules n ls ≡ Err fault → Stops rules n ls fault
 stops rules n [] fault h = absurd (ended rules fault (sym (nothing_left rules n) ∙ h))
 stops rules n (l ∷ ls) fault h = stops_by (after rules (line_of l)) rules n l ls fault refl h (λ next. stops next (n + 1) ls fault)
 

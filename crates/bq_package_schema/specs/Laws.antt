@@ -1,5 +1,6 @@
 -- Words of the laws.
 use Rattle.std.specs.Prelude.{◌≡◌, ◌≢◌, ℕ, List, [], ◌∷◌, ◌++◌, length, map, false, None, Ok, Err}
+use Rattle.bq_base.specs.declared.fault.FaultKind.{FaultKind}
 use Rattle.bq_base.specs.declared.fault.Fault.{Fault}
 use Rattle.bq_value_rule_class.specs.Class.{Class}
 use Rattle.bq_value_rule_class.specs.declared.attribute.Attribute.{Attribute}
@@ -10,7 +11,7 @@ use Rattle.bq_base_names.specs.Names.{has}
 use Rattle.bq_package_schema.specs.Reading.{lines, bad_line, declared_by, schema_of}
 
 -- the lines before this one declare rules, and it is a bad one after them
-pub record IsFirstBad (text : List (List ℕ)) (fault : Fault) : Type 0 where
+pub record IsFirstBad (text : List (List ℕ)) (fault : Fault FaultKind) : Type 0 where
   pub before : List (List ℕ)
   pub line : List ℕ
   pub behind : List (List ℕ)
@@ -21,7 +22,7 @@ pub record IsFirstBad (text : List (List ℕ)) (fault : Fault) : Type 0 where
   pub named : fault ≡ bad_line (length before)
 
 abbrev pub FaultsNameTheFirstBadLine : Type 0
-FaultsNameTheFirstBadLine = (text : List ℕ) (fault : Fault) → schema_of text ≡ Err fault → IsFirstBad (lines text) fault
+FaultsNameTheFirstBadLine = (text : List ℕ) (fault : Fault FaultKind) → schema_of text ≡ Err fault → IsFirstBad (lines text) fault
 
 -- each line of a schema is of one of the forms
 abbrev pub EachLineHasAForm : Type 0

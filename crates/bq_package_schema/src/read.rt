@@ -33,7 +33,7 @@ fn line_number(before: usize) -> u32
 
 /// Returns the schema that the lines declare.
 #[tactic(auto, unfolding(crate::specs::Reading::declared_by))]
-pub(crate) fn read_lines(alloc: Global, lines: &[&[u8]]) -> Result<Schema, SourceErr>
+pub(crate) fn read_lines(alloc: Global, lines: &[&[u8]]) -> Result<Schema, SourceErr<FaultKind>>
     ensures { Gives (λ s. s) Bad result (declared_by no_rules 0 (map (λ l. l.now) lines.now)) }
 {
     let mut draft = Draft::empty(alloc);
@@ -53,7 +53,7 @@ pub(crate) fn read_lines(alloc: Global, lines: &[&[u8]]) -> Result<Schema, Sourc
 /// neither blank nor a comment, an attribute before any rule, a name that comes twice, that is no identifier, that is
 /// an attribute of all rules, or that is predeclared and would be a rule's. It takes time linear in the text.
 #[tactic(auto, unfolding(crate::specs::Reading::schema_of))]
-pub fn read_schema(alloc: Global, text: &[u8]) -> Result<Schema, SourceErr>
+pub fn read_schema(alloc: Global, text: &[u8]) -> Result<Schema, SourceErr<FaultKind>>
     ensures { Gives (λ s. s) Bad result (schema_of text.now) }
 {
     let lines = lines(alloc, text)?;

@@ -6,7 +6,7 @@ ghost use Rattle.bq_package_schema.specs.Standard.{standard_rules};
 
 use crate::read::read_lines;
 use crate::schema::Schema;
-use bq_base::SourceErr;
+use bq_base::{FaultKind, SourceErr};
 use std::alloc::Global;
 
 /// Its lines: a part of Bazel's rules.
@@ -35,7 +35,7 @@ const STANDARD: [&[u8]; 20] = [
 
 impl Schema {
     /// Returns the schema of a workspace without a file of its own. It can only fail by running out of memory.
-    pub fn standard(alloc: Global) -> Result<Schema, SourceErr>
+    pub fn standard(alloc: Global) -> Result<Schema, SourceErr<FaultKind>>
         ensures rules { IfOk result (λ s. s ≡ standard_rules) }
         ensures refused { IfErr result (λ e. e ≡ Memory) }
     {

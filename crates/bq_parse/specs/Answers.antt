@@ -2,7 +2,7 @@
 use Rattle.std.specs.Prelude.{◌≤◌, List, Result, Ok, Err}
 use Rattle.std.specs.List.{AllByRecursion}
 use Rattle.bq_base.specs.declared.fault.Fault.{Fault}
-use Rattle.bq_base.specs.declared.fault.FaultKind.{FaultKind}
+use Rattle.bq_base.specs.declared.fault.StatementFault.{StatementFault}
 use Rattle.bq_base.specs.Fault.{fault_at}
 use Rattle.bq_parse_grammar.specs.Lexeme.{Lexeme}
 use Rattle.bq_parse_grammar.specs.Statements.{line_of}
@@ -10,7 +10,7 @@ use Rattle.bq_parse_tree_laws.specs.Depth.{max_depth, stmt_depth}
 use Rattle.bq_parse_grammar.specs.declared.tree.TopLevel.{TopLevel}
 
 -- a statement, or its fault at its first line
-abbrev pub at_line : List Lexeme → Result TopLevel FaultKind → Result TopLevel Fault
+abbrev pub at_line : List Lexeme → Result TopLevel StatementFault → Result TopLevel (Fault StatementFault)
 at_line ts (Ok x) = Ok x
 at_line ts (Err why) = Err (fault_at why (line_of ts))
 

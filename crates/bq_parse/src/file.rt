@@ -11,7 +11,7 @@ ghost use Rattle.bq_base.specs.declared.fault.SourceErr.TheVariants.{Bad};
 
 use crate::pieces::piece_len;
 use crate::verdict::verdict;
-use bq_base::SourceErr;
+use bq_base::{SourceErr, StatementFault};
 use bq_parse_cursor::Tokens;
 use bq_parse_grammar::{FileKind, TopLevel};
 use bq_source::Token;
@@ -72,7 +72,7 @@ fn statements(
     tokens: &[Token],
     text: &[u8],
     kind: FileKind,
-) -> Result<Items<TopLevel>, SourceErr>
+) -> Result<Items<TopLevel>, SourceErr<StatementFault>>
     requires { All (Lies text.now) tokens.now }
     ensures { Gives itself Bad result (statements_of kind (lexemes text.now tokens.now)) }
 {
@@ -97,7 +97,7 @@ pub fn parse(
     tokens: &[Token],
     text: &[u8],
     kind: FileKind,
-) -> Result<ParsedFile, SourceErr>
+) -> Result<ParsedFile, SourceErr<StatementFault>>
     requires { Lexes text.now (Ok tokens.now) }
     // It is what the function of the definitions gives.
     ensures gives { Gives itself Bad result (statements_of kind (lexemes text.now tokens.now)) }

@@ -1,7 +1,7 @@
 -- What the tokens of a top-level statement read as.
 use Rattle.std.specs.Prelude.{List, true, false, ◌||◌, Result, Ok, Err, ◌≡◌}
-use Rattle.bq_base.specs.declared.fault.FaultKind.{FaultKind}
-use Rattle.bq_base.specs.declared.fault.FaultKind.TheVariants as f
+use Rattle.bq_base.specs.declared.fault.StatementFault.{StatementFault}
+use Rattle.bq_base.specs.declared.fault.StatementFault.TheVariants as f
 use Rattle.bq_parse_grammar.specs.Lexeme.{Lexeme}
 use Rattle.bq_parse_grammar.specs.declared.tree.FileKind.{FileKind}
 use Rattle.bq_parse_grammar.specs.declared.tree.FileKind.TheVariants as file
@@ -23,7 +23,7 @@ abbrev pub IsBarred : FileKind → List Lexeme → Type 0
 IsBarred kind ts = (kind ≡ file.Build) × (barred_in_build ts ≡ true)
 
 -- F11 takes precedence over F10, F10 over F12, F12 over F13.
-pub data ReadsAs (kind : FileKind) : List Lexeme → Result TopLevel FaultKind → Type 0 where
+pub data ReadsAs (kind : FileKind) : List Lexeme → Result TopLevel StatementFault → Type 0 where
   too_deep : {ts : List Lexeme} → (Nests 0 ts → ⊥) → ReadsAs kind ts (Err f.Nesting)
   no_tree : {ts : List Lexeme} → Nests 0 ts → ((x : TopLevel) → IsTopLevel max_nesting ts x → ⊥) → ReadsAs kind ts (Err f.Syntax)
   left_out : {ts : List Lexeme} {x : TopLevel} → Nests 0 ts → IsTopLevel max_nesting ts x → IsLeftOut ts x → ReadsAs kind ts (Err f.LeftOut)

@@ -2,8 +2,8 @@
 use Rattle.std.proofs.Common.{◌≡◌, ℕ, suc, ◌⊎◌, inl, inr, Bool, true, false, ◌&&◌, ◌||◌, cond, leb, List, [], ◌∷◌, Result, Ok, Err, refl, sym, ap, ◌∙◌, subst}
 use Rattle.std.proofs.lemmas.Bool.{leb-true, le-leb}
 use Rattle.bq_base.specs.declared.fault.Fault.{Fault}
-use Rattle.bq_base.specs.declared.fault.FaultKind.{FaultKind}
-use Rattle.bq_base.specs.declared.fault.FaultKind.TheVariants as f
+use Rattle.bq_base.specs.declared.fault.StatementFault.{StatementFault}
+use Rattle.bq_base.specs.declared.fault.StatementFault.TheVariants as f
 use Rattle.bq_source.specs.declared.token.TokenKind.{TokenKind}
 use Rattle.bq_source.specs.declared.token.TokenKind.TheVariants as k
 use Rattle.bq_parse_grammar.specs.Lexeme.{Lexeme}
@@ -176,7 +176,7 @@ verdict_reads kind ts = nested (nests 0 ts) refl
     nested true h = by_tree (nests_is 0 ts h) (top_level (suc max_nesting) ts) refl (top_sound max_nesting ts)
     nested false h = V.too_deep (not_nests ts h)
 
-pub verdict_only : (kind : FileKind) (ts : List Lexeme) (r : Result TopLevel FaultKind) → ReadsAs kind ts r → r ≡ verdict kind ts
+pub verdict_only : (kind : FileKind) (ts : List Lexeme) (r : Result TopLevel StatementFault) → ReadsAs kind ts r → r ≡ verdict kind ts
 unfolding verdict
 verdict_only kind ts r p = sym (by r p)
   where
@@ -201,7 +201,7 @@ verdict_only kind ts r p = sym (by r p)
         go (inl g) = g
         go (inr g) = let w = both_off (leaves_out ts) (nested_def max_nesting false x.statement) h in absurd (top_plain (suc max_nesting) ts (no_lambda ts w.0) g)
 
-    by : (r : Result TopLevel FaultKind) → ReadsAs kind ts r → cond (nests 0 ts) (judged kind ts (top_level (suc max_nesting) ts)) (Err f.Nesting) ≡ r
+    by : (r : Result TopLevel StatementFault) → ReadsAs kind ts r → cond (nests 0 ts) (judged kind ts (top_level (suc max_nesting) ts)) (Err f.Nesting) ≡ r
     by r (V.too_deep n) = too_deep_is (nests 0 ts) refl n
     by r (V.no_tree n h) = shallow n ∙ none (top_level (suc max_nesting) ts) refl (top_sound max_nesting ts) h
     by r (V.left_out {x = x} n q h) = shallow n ∙ go (top_met max_nesting ts x q)
@@ -225,12 +225,12 @@ all_reads : (kind : FileKind) (ps : List (List Lexeme)) → ReadsAll kind ps (al
 all_reads kind [] = R.over
 all_reads kind (p ∷ ps) = go (verdict kind p) (verdict_reads kind p) (all_read kind ps) (all_reads kind ps)
   where
-    go : (r : Result TopLevel FaultKind) → ReadsAs kind p r → (q : Result (List TopLevel) Fault) → ReadsAll kind ps q → ReadsAll kind (p ∷ ps) (first_and p r q)
+    go : (r : Result TopLevel StatementFault) → ReadsAs kind p r → (q : Result (List TopLevel) (Fault StatementFault)) → ReadsAll kind ps q → ReadsAll kind (p ∷ ps) (first_and p r q)
     go (Err why) h q g = R.bad h refl
     go (Ok x) h (Err why) g = R.later h g
     go (Ok x) h (Ok xs) g = R.good h g
 
-all_only : (kind : FileKind) (ps : List (List Lexeme)) (r : Result (List TopLevel) Fault) → ReadsAll kind ps r → r ≡ all_read kind ps
+all_only : (kind : FileKind) (ps : List (List Lexeme)) (r : Result (List TopLevel) (Fault StatementFault)) → ReadsAll kind ps r → r ≡ all_read kind ps
 all_only kind ps r R.over = refl
 all_only kind ps r (R.good {p = p} {ps = qs} {x = x} {xs = xs} h g) = ap (λ q. first_and p (Ok x) q) (all_only kind qs (Ok xs) g) ∙ ap (λ v. first_and p v (all_read kind qs)) (verdict_only kind p (Ok x) h)
 all_only kind ps r (R.later {p = p} {ps = qs} {x = x} {why = why} h g) = ap (λ q. first_and p (Ok x) q) (all_only kind qs (Err why) g) ∙ ap (λ v. first_and p v (all_read kind qs)) (verdict_only kind p (Ok x) h)
@@ -240,7 +240,7 @@ pub file_reads : (kind : FileKind) (ts : List Lexeme) → Parses kind ts (statem
 unfolding statements_of
 file_reads kind ts = all_reads kind (pieces ts)
 
-pub file_only : (kind : FileKind) (ts : List Lexeme) (r : Result (List TopLevel) Fault) → Parses kind ts r → r ≡ statements_of kind ts
+pub file_only : (kind : FileKind) (ts : List Lexeme) (r : Result (List TopLevel) (Fault StatementFault)) → Parses kind ts r → r ≡ statements_of kind ts
 unfolding statements_of
 file_only kind ts r p = all_only kind (pieces ts) r p
 

@@ -1,7 +1,7 @@
 -- What the grammar of statements and their reading have to do with each other.
 use Rattle.std.specs.Prelude.{ℕ, suc, List, [], ◌∷◌, Bool, true, false, ◌≡◌, ◌⊎◌, Result, Ok, Err}
 use Rattle.bq_base.specs.declared.fault.Fault.{Fault}
-use Rattle.bq_base.specs.declared.fault.FaultKind.{FaultKind}
+use Rattle.bq_base.specs.declared.fault.StatementFault.{StatementFault}
 use Rattle.bq_source.specs.declared.token.TokenKind.{TokenKind}
 use Rattle.bq_source.specs.declared.token.TokenKind.TheVariants as k
 use Rattle.bq_parse_grammar.specs.Lexeme.{Lexeme}
@@ -52,8 +52,8 @@ OneStatement depth ts rest = NoLambda ts → EndsStatement rest → (x y : Stmt)
 
 -- the tokens of a top-level statement read as what `verdict` says, and as nothing else
 abbrev pub OneVerdict : FileKind → List Lexeme → Type 0
-OneVerdict kind ts = ReadsAs kind ts (verdict kind ts) × ((r : Result TopLevel FaultKind) → ReadsAs kind ts r → r ≡ verdict kind ts)
+OneVerdict kind ts = ReadsAs kind ts (verdict kind ts) × ((r : Result TopLevel StatementFault) → ReadsAs kind ts r → r ≡ verdict kind ts)
 
 -- a file's tokens read as what `statements_of` says, and as nothing else
 abbrev pub OneReading : FileKind → List Lexeme → Type 0
-OneReading kind ts = Parses kind ts (statements_of kind ts) × ((r : Result (List TopLevel) Fault) → Parses kind ts r → r ≡ statements_of kind ts)
+OneReading kind ts = Parses kind ts (statements_of kind ts) × ((r : Result (List TopLevel) (Fault StatementFault)) → Parses kind ts r → r ≡ statements_of kind ts)

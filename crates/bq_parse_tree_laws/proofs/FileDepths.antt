@@ -1,6 +1,7 @@
 -- No statement that reads as one is deeper than the limit.
 use Rattle.std.proofs.Common.{◌≡◌, ℕ, ◌+◌, ◌*◌, ◌≤◌, List, [], ◌∷◌, Result, Ok, refl, ap, subst, arith}
 use Rattle.std.specs.List.{AllByRecursion}
+use Rattle.bq_base.specs.declared.fault.StatementFault.{StatementFault}
 use Rattle.bq_base.specs.declared.fault.Fault.{Fault}
 use Rattle.bq_parse_grammar.specs.Lexeme.{Lexeme}
 use Rattle.bq_parse_grammar.specs.Nesting.{max_nesting}
@@ -24,7 +25,7 @@ top_within depth ts x (S.top_level y p f) =
 pub statement_within : (kind : FileKind) (ts : List Lexeme) (x : TopLevel) → ReadsAs kind ts (Ok x) → stmt_depth x.statement ≤ max_depth
 statement_within kind ts x p = top_within max_nesting ts x (read_is kind ts x (Ok x) refl p)
 
-pub file_within : (kind : FileKind) (ps : List (List Lexeme)) (xs : List TopLevel) (r : Result (List TopLevel) Fault) → r ≡ Ok xs → ReadsAll kind ps r
+pub file_within : (kind : FileKind) (ps : List (List Lexeme)) (xs : List TopLevel) (r : Result (List TopLevel) (Fault StatementFault)) → r ≡ Ok xs → ReadsAll kind ps r
     → AllByRecursion (λ x. stmt_depth x.statement ≤ max_depth) xs
 file_within kind ps xs r e (R.later h g) = absurd (cc)
 file_within kind ps xs r e (R.bad h g) = absurd (cc)

@@ -1,7 +1,7 @@
 -- A file that reads as statements has what they write.
 use Rattle.std.proofs.Common.{◌≡◌, List, [], ◌∷◌, Result, Ok, sym, ap, subst}
 use Rattle.bq_base.specs.declared.fault.Fault.{Fault}
-use Rattle.bq_base.specs.declared.fault.FaultKind.{FaultKind}
+use Rattle.bq_base.specs.declared.fault.StatementFault.{StatementFault}
 use Rattle.bq_parse_grammar.specs.Lexeme.{Lexeme}
 use Rattle.bq_parse_grammar.specs.declared.tree.FileKind.{FileKind}
 use Rattle.bq_parse_grammar.specs.declared.tree.TopLevel.{TopLevel}
@@ -22,14 +22,14 @@ top_level_tells depth ts x (S.top_level y p f) =
     (ap (λ z. z.line) f, subst (λ z. Writes (parts.stmt z ∷ []) ts) (sym (ap (λ z. z.statement) f)) (stmt_to_tells depth ts [] y p [] W.over))
 
 -- what reads as a statement is one
-pub read_is : (kind : FileKind) (ts : List Lexeme) (x : TopLevel) (r : Result TopLevel FaultKind) → r ≡ Ok x → ReadsAs kind ts r → IsTopLevel max_nesting ts x
+pub read_is : (kind : FileKind) (ts : List Lexeme) (x : TopLevel) (r : Result TopLevel StatementFault) → r ≡ Ok x → ReadsAs kind ts r → IsTopLevel max_nesting ts x
 read_is kind ts x r e (V.too_deep f) = absurd (cc)
 read_is kind ts x r e (V.no_tree f g) = absurd (cc)
 read_is kind ts x r e (V.left_out f g h) = absurd (cc)
 read_is kind ts x r e (V.not_in_build f g h i) = absurd (cc)
 read_is kind ts x r e (V.read {x = y} f g h i) = let same : y ≡ x = cc in subst (λ z. IsTopLevel max_nesting ts z) same g
 
-pub file_tells : (kind : FileKind) (ps : List (List Lexeme)) (xs : List TopLevel) (r : Result (List TopLevel) Fault) → r ≡ Ok xs → ReadsAll kind ps r → EachWrites ps xs
+pub file_tells : (kind : FileKind) (ps : List (List Lexeme)) (xs : List TopLevel) (r : Result (List TopLevel) (Fault StatementFault)) → r ≡ Ok xs → ReadsAll kind ps r → EachWrites ps xs
 file_tells kind ps xs r e (R.later h g) = absurd (cc)
 file_tells kind ps xs r e (R.bad h g) = absurd (cc)
 file_tells kind ps [] r e R.over = tt

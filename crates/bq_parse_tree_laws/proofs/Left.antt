@@ -1,6 +1,6 @@
 -- Tokens that the language doesn't leave out are written by trees in which it leaves out nothing.
 use Rattle.std.proofs.Common.{◌≡◌, ℕ, ◌+◌, ◌≤◌, Bool, true, false, ◌||◌, ◌&&◌, not, ◌⊎◌, inl, inr, List, [], ◌∷◌, map, Ok, Result, refl, sym, ap, ◌∙◌, subst, arith}
-use Rattle.bq_base.specs.declared.fault.FaultKind.{FaultKind}
+use Rattle.bq_base.specs.declared.fault.StatementFault.{StatementFault}
 use Rattle.bq_source.specs.declared.token.TokenKind.{TokenKind}
 use Rattle.bq_source.specs.declared.token.TokenKind.TheVariants as k
 use Rattle.bq_source.specs.Token.{same_kind}
@@ -314,7 +314,7 @@ clean_of kind ts x f g = record { kept = (either_off (leaves_out ts) (nested_def
     starless file.Build n = (either_off (is_compound (kinds ts)) (has_starred (kinds ts)) (off (barred_in_build ts) (λ e. n (refl, e)))).1
     starless file.Bzl n = refl
 
-pub none_left : (kind : FileKind) (ts : List Lexeme) (x : TopLevel) (r : Result TopLevel FaultKind) → r ≡ Ok x → ReadsAs kind ts r
+pub none_left : (kind : FileKind) (ts : List Lexeme) (x : TopLevel) (r : Result TopLevel StatementFault) → r ≡ Ok x → ReadsAs kind ts r
     → (stmt_count (is_build kind) x.statement ≡ 0) × (nested_def max_nesting false x.statement ≡ false)
 none_left kind ts x r e (V.too_deep f) = absurd (cc)
 none_left kind ts x r e (V.no_tree f g) = absurd (cc)

@@ -1,6 +1,6 @@
 -- A statement of a BUILD file is a line of small statements.
 use Rattle.std.proofs.Common.{◌≡◌, ℕ, zero, suc, Bool, true, false, ◌||◌, List, [], ◌∷◌, Result, Ok, refl, sym, ap, ◌∙◌, subst}
-use Rattle.bq_base.specs.declared.fault.FaultKind.{FaultKind}
+use Rattle.bq_base.specs.declared.fault.StatementFault.{StatementFault}
 use Rattle.bq_parse_grammar.specs.Lexeme.{Lexeme}
 use Rattle.bq_parse_grammar.specs.LeftOut.{kinds, is_compound, has_starred}
 use Rattle.bq_parse_grammar.specs.Nesting.{max_nesting}
@@ -36,7 +36,7 @@ compound_off : (a b : Bool) → ((a || b) ≡ true → ⊥) → a ≡ false
 compound_off true b n = absurd (n refl)
 compound_off false b n = refl
 
-pub build_line : (ts : List Lexeme) (x : TopLevel) (r : Result TopLevel FaultKind) → r ≡ Ok x → ReadsAs file.Build ts r → IsLine x.statement
+pub build_line : (ts : List Lexeme) (x : TopLevel) (r : Result TopLevel StatementFault) → r ≡ Ok x → ReadsAs file.Build ts r → IsLine x.statement
 build_line ts x r e (V.too_deep f) = absurd (cc)
 build_line ts x r e (V.no_tree f g) = absurd (cc)
 build_line ts x r e (V.left_out f g h) = absurd (cc)

@@ -1,6 +1,7 @@
 -- Function values that resolve the statements of a block.
 use Rattle.std.specs.Prelude.{ℕ, List, Bool, Result}
 use denote.Ref.{Bor, MutBor}
+use Rattle.bq_base.specs.declared.fault.NameFault.{NameFault}
 use Rattle.bq_base.specs.declared.fault.SourceErr.{SourceErr}
 use Rattle.bq_parse_grammar.specs.declared.tree.Stmt.{Stmt}
 use Rattle.bq_resolve_scope.specs.Scope.{BlockParts, FileParts}
@@ -19,7 +20,7 @@ with_inner rule scope layers looping = rule scope.file.now (inner scope layers l
 
 -- statements that are at most `layers` layers deep
 pub record WritesStatement (layers : ℕ) (pre : Bor Scope → ℕ → Bool → MutBor Passed → MutBor Stmt → Type 0)
-    (post : Bor Scope → ℕ → Bool → MutBor Passed → MutBor Stmt → Result (Unit {0}) SourceErr → MutBor Passed → MutBor Stmt → Type 0) : Type 0 where
+    (post : Bor Scope → ℕ → Bool → MutBor Passed → MutBor Stmt → Result (Unit {0}) (SourceErr NameFault) → MutBor Passed → MutBor Stmt → Type 0) : Type 0 where
   pub callable : (scope : Bor Scope) (looping : Bool) (old : MutBor Passed) (x : MutBor Stmt) → pre scope layers looping old x
-  pub writes : (scope : Bor Scope) (looping : Bool) (old new : MutBor Passed) (x y : MutBor Stmt) (r : Result (Unit {0}) SourceErr)
+  pub writes : (scope : Bor Scope) (looping : Bool) (old new : MutBor Passed) (x y : MutBor Stmt) (r : Result (Unit {0}) (SourceErr NameFault))
       → post scope layers looping old x r new y → Writes (stmt_to scope.now.file.now layers scope.now.blocks.now looping x.now old.now) r y.now new.now

@@ -10,7 +10,7 @@ ghost use Rattle.bq_resolve.specs.Inner.{inner, with_inner, WritesStatement};
 
 use crate::expressions::{expr, target};
 use crate::small::{line, misplaced};
-use bq_base::SourceErr;
+use bq_base::{NameFault, SourceErr};
 use bq_parse_grammar::{Branch, Expr, Stmt, TargetExpr};
 use bq_resolve_expression::{Scope, Walk};
 use bq_tree_items::Items;
@@ -26,7 +26,7 @@ pub struct BlockResolver<'a, F> {
 
 impl<
     'a,
-    F: Fn(&Scope<'_>, usize, bool, &mut Walk, &mut Stmt) -> Result<(), SourceErr>,
+    F: Fn(&Scope<'_>, usize, bool, &mut Walk, &mut Stmt) -> Result<(), SourceErr<NameFault>>,
 > BlockResolver<'a, F> {
     /// Resolves a statement inside; `looping` is true inside a `for` of the function.
     fn statement(
@@ -34,7 +34,7 @@ impl<
         looping: bool,
         walk: &mut Walk,
         statement: &mut Stmt,
-    ) -> Result<(), SourceErr>
+    ) -> Result<(), SourceErr<NameFault>>
         requires { WritesStatement self.now.layers (F.pre self.now.inner) (F.post self.now.inner) }
         ensures { Writes (inner self.now.scope self.now.layers looping statement.old walk.old) result statement.new walk.new }
     {
@@ -47,7 +47,7 @@ impl<
         looping: bool,
         walk: &mut Walk,
         statements: &mut Items<Stmt>,
-    ) -> Result<(), SourceErr>
+    ) -> Result<(), SourceErr<NameFault>>
         requires { WritesStatement self.now.layers (F.pre self.now.inner) (F.post self.now.inner) }
         ensures { Writes (visit.each (inner self.now.scope self.now.layers looping) [] statements.old walk.old) result statements.new walk.new }
     {
@@ -64,7 +64,7 @@ impl<
         looping: bool,
         walk: &mut Walk,
         branch: &mut Branch,
-    ) -> Result<(), SourceErr>
+    ) -> Result<(), SourceErr<NameFault>>
         requires { WritesStatement self.now.layers (F.pre self.now.inner) (F.post self.now.inner) }
         ensures { Writes (with_inner spec.branch self.now.scope self.now.layers looping branch.old walk.old) result branch.new walk.new }
     {
@@ -77,7 +77,7 @@ impl<
         looping: bool,
         walk: &mut Walk,
         branches: &mut Items<Branch>,
-    ) -> Result<(), SourceErr>
+    ) -> Result<(), SourceErr<NameFault>>
         requires { WritesStatement self.now.layers (F.pre self.now.inner) (F.post self.now.inner) }
         ensures { Writes (visit.each (with_inner spec.branch self.now.scope self.now.layers looping) [] branches.old walk.old) result branches.new walk.new }
     {
@@ -95,7 +95,7 @@ impl<
         walk: &mut Walk,
         branches: &mut Items<Branch>,
         otherwise: &mut Items<Stmt>,
-    ) -> Result<(), SourceErr>
+    ) -> Result<(), SourceErr<NameFault>>
         requires { WritesStatement self.now.layers (F.pre self.now.inner) (F.post self.now.inner) }
         ensures { Writes (with_inner spec.if_stmt self.now.scope self.now.layers looping branches.old otherwise.old walk.old) result (form.If branches.new otherwise.new) walk.new }
     {
@@ -111,7 +111,7 @@ impl<
         variables: &mut TargetExpr,
         iterable: &mut Expr,
         body: &mut Items<Stmt>,
-    ) -> Result<(), SourceErr>
+    ) -> Result<(), SourceErr<NameFault>>
         requires { WritesStatement self.now.layers (F.pre self.now.inner) (F.post self.now.inner) }
         ensures { Writes (with_inner spec.for_stmt self.now.scope self.now.layers true variables.old iterable.old body.old walk.old) result (form.For variables.new iterable.new body.new) walk.new }
     {
@@ -126,7 +126,7 @@ impl<
         looping: bool,
         walk: &mut Walk,
         statement: &mut Stmt,
-    ) -> Result<(), SourceErr>
+    ) -> Result<(), SourceErr<NameFault>>
         requires { WritesStatement self.now.layers (F.pre self.now.inner) (F.post self.now.inner) }
         ensures { Writes (spec.stmt_by self.now.scope.file.now (inner self.now.scope self.now.layers) self.now.scope.blocks.now looping (out-Stmt statement.old) walk.old) result statement.new walk.new }
     {

@@ -7,7 +7,7 @@ ghost use Rattle.bq_resolve_scope.specs.Files.{resolved};
 ghost use Rattle.bq_parse.specs.Answers.{itself};
 
 use crate::outside::top_levels;
-use bq_base::SourceErr;
+use bq_base::{NameFault, SourceErr};
 use bq_parse::ParsedFile;
 use bq_resolve_expression::Walk;
 use bq_resolve_scope::{FileNames, LoadStmt, ResolvedFile, Universe};
@@ -20,7 +20,7 @@ pub fn resolve(
     alloc: Global,
     file: ParsedFile,
     universe: &Universe,
-) -> Result<ResolvedFile, SourceErr>
+) -> Result<ResolvedFile, SourceErr<NameFault>>
     ensures { Gives itself Bad result (resolved universe.now file) }
 {
     let names = FileNames::new(alloc, universe, file.statements())?;

@@ -10,7 +10,7 @@ ghost use Rattle.bq_resolve_expression.specs.Walks.{Walks};
 use crate::blocks::BlockResolver;
 use crate::parameters::{ParameterList, parameters};
 use crate::statements::stmt_to;
-use bq_base::{Bytes, SourceErr};
+use bq_base::{Bytes, NameFault, SourceErr};
 use bq_parse_grammar::{Identifier, Parameter, Stmt};
 use bq_resolve_expression::{Scope, Walk, bound_at};
 use bq_resolve_scope::{
@@ -29,7 +29,7 @@ fn function(
     parameters: Items<Formal>,
     names: Names,
     body: Trees<Stmt>,
-) -> Result<usize, SourceErr>
+) -> Result<usize, SourceErr<NameFault>>
     ensures { Walks (spec.function outside.now.file.now name parameters names body walk.old) result walk.new }
 {
     let mut body = body;
@@ -60,7 +60,7 @@ pub fn def_stmt(
     name: Identifier,
     listed: Trees<Parameter>,
     body: Trees<Stmt>,
-) -> Result<Def, SourceErr>
+) -> Result<Def, SourceErr<NameFault>>
     ensures { Gives (λ d. (line.Def d, walk.new)) Bad result (files.def_stmt file.now name listed body walk.old) }
 {
     let mut name = name;

@@ -4,7 +4,7 @@ ghost use Rattle.bq_parse_grammar.specs.declared.tree.SmallKind.TheVariants as s
 ghost use Rattle.bq_resolve_scope.specs.Statements as spec;
 ghost use Rattle.bq_resolve_expression.specs.Walks.{Writes};
 
-use bq_base::{FaultKind, SourceErr};
+use bq_base::{NameFault, SourceErr};
 use bq_parse_grammar::Load;
 use bq_resolve_expression::{Walk, fault_of};
 use bq_resolve_scope::{FileNames, LoadStmt, LoadedSymbol};
@@ -20,17 +20,17 @@ pub fn load(
     walk: &mut Walk,
     line: u32,
     load: &Load,
-) -> Result<(), SourceErr>
+) -> Result<(), SourceErr<NameFault>>
     ensures { Writes (spec.load file.now line load.now walk.old) result (small.Load load.now) walk.new }
 {
     let mut clauses = Items::from_vec(Vec::with_capacity(alloc, load.clauses.len())?);
     for clause in load.clauses.as_slice() {
         let name = &clause.local;
         if walk.is_loaded(&name.name) {
-            return Err(SourceErr::Bad(fault_of(FaultKind::BoundTwice, name)?));
+            return Err(SourceErr::Bad(fault_of(NameFault::BoundTwice, name)?));
         }
         if walk.is_bound(file.kind(), &name.name) {
-            return Err(SourceErr::Bad(fault_of(FaultKind::Rebound, name)?));
+            return Err(SourceErr::Bad(fault_of(NameFault::Rebound, name)?));
         }
         walk.load(&name.name)?;
         clauses.push(LoadedSymbol {

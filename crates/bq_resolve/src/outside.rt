@@ -7,7 +7,7 @@ ghost use Rattle.bq_resolve_expression.specs.Walks.{Walks};
 
 use crate::functions::def_stmt;
 use crate::small::{line, misplaced};
-use bq_base::SourceErr;
+use bq_base::{NameFault, SourceErr};
 use bq_parse_grammar::{Stmt, TopLevel};
 use bq_resolve_expression::{Scope, Walk};
 use bq_resolve_scope::{FileLine, FileNames, Outside};
@@ -22,7 +22,7 @@ fn top_level(
     file: &FileNames,
     walk: &mut Walk,
     top_level: TopLevel,
-) -> Result<FileLine, SourceErr>
+) -> Result<FileLine, SourceErr<NameFault>>
     ensures { Walks (files.top_level file.now top_level walk.old) result walk.new }
 {
     let TopLevel {
@@ -55,7 +55,7 @@ pub fn top_levels(
     file: &FileNames,
     walk: &mut Walk,
     statements: Trees<TopLevel>,
-) -> Result<Items<FileLine>, SourceErr>
+) -> Result<Items<FileLine>, SourceErr<NameFault>>
     ensures { Walks (visit.each (files.top_level file.now) [] statements walk.old) result walk.new }
 {
     let mut done = Items::from_vec(Vec::with_capacity(alloc, statements.len())?);

@@ -7,7 +7,7 @@ ghost use Rattle.bq_resolve_expression.specs.Walks.{Walks};
 ghost use Rattle.bq_resolve.specs.Parameters.{slotted};
 
 use crate::expressions::expr;
-use bq_base::{FaultKind, SourceErr};
+use bq_base::{NameFault, SourceErr};
 use bq_parse_grammar::{Expr, Identifier, Parameter, Referent};
 use bq_resolve_expression::{Scope, Walk, fault_of};
 use bq_resolve_scope::{FileNames, Formal, Names};
@@ -39,11 +39,11 @@ impl Model for ParameterList {
 impl ParameterList {
     /// Gives a parameter's name the next slot. No other has the name: else F24.
     #[tactic(auto, unfolding(bq_resolve_scope::specs::Names::with_name))]
-    fn slotted(&mut self, name: Identifier) -> Result<Identifier, SourceErr>
+    fn slotted(&mut self, name: Identifier) -> Result<Identifier, SourceErr<NameFault>>
         ensures { Gives (λ n. (n, self.new)) Bad result (slotted self.old name) }
     {
         if self.names.has(&name.name) {
-            return Err(SourceErr::Bad(fault_of(FaultKind::DoubleParameter, &name)?));
+            return Err(SourceErr::Bad(fault_of(NameFault::DoubleParameter, &name)?));
         }
         let slot = self.names.len();
         self.names.add(&name.name)?;
@@ -60,7 +60,7 @@ impl ParameterList {
         file: &FileNames,
         walk: &mut Walk,
         parameter: Parameter,
-    ) -> Result<(), SourceErr>
+    ) -> Result<(), SourceErr<NameFault>>
         ensures { Gives (λ _. (self.new, walk.new)) Bad result (spec.next_parameter file.now self.old parameter walk.old) }
     {
         match parameter {
@@ -102,7 +102,7 @@ pub fn parameters(
     file: &FileNames,
     walk: &mut Walk,
     parameters: Trees<Parameter>,
-) -> Result<ParameterList, SourceErr>
+) -> Result<ParameterList, SourceErr<NameFault>>
     ensures { Walks (spec.parameters file.now spec.no_parameters parameters walk.old) result walk.new }
 {
     let mut list = ParameterList {

@@ -1,7 +1,7 @@
 //! Statements without a block.
 
 ghost use Rattle.std.specs.Prelude.{◌≡◌, [], Ok, Err, if◌then◌else◌};
-ghost use Rattle.bq_base.specs.declared.fault.FaultKind.TheVariants as f;
+ghost use Rattle.bq_base.specs.declared.fault.NameFault.TheVariants as f;
 ghost use Rattle.bq_base.specs.declared.fault.SourceErr.TheVariants.{Bad};
 ghost use Rattle.bq_base.specs.Fault.{fault_at};
 ghost use Rattle.bq_parse_grammar.specs.declared.tree.SmallKind.TheVariants as small;
@@ -11,20 +11,20 @@ ghost use Rattle.bq_resolve_expression.specs.Walks.{Writes};
 
 use crate::expressions::{expr, target};
 use crate::load::load;
-use bq_base::{Fault, FaultKind, SourceErr};
+use bq_base::{Fault, NameFault, SourceErr};
 use bq_parse_grammar::{Expr, Operator, SmallKind, SmallStmt, TargetExpr};
 use bq_resolve_expression::{Scope, Walk};
 use bq_tree_items::Items;
 
 /// Returns F23, the fault of what stands where it may not.
-pub fn misplaced<T>(line: u32) -> Result<T, SourceErr>
+pub fn misplaced<T>(line: u32) -> Result<T, SourceErr<NameFault>>
     ensures { result ≡ Err (Bad (fault_at f.BadFlow line)) }
 {
-    Err(SourceErr::Bad(Fault::at(FaultKind::BadFlow, line)))
+    Err(SourceErr::Bad(Fault::at(NameFault::BadFlow, line)))
 }
 
 /// Returns F23 for what is allowed in loops alone.
-fn in_loop(looping: bool, line: u32) -> Result<(), SourceErr>
+fn in_loop(looping: bool, line: u32) -> Result<(), SourceErr<NameFault>>
     ensures { result ≡ (if looping then Ok tt else Err (Bad (fault_at f.BadFlow line))) }
 {
     if looping {
@@ -40,7 +40,7 @@ fn assign(
     walk: &mut Walk,
     left: &mut TargetExpr,
     value: &mut Expr,
-) -> Result<(), SourceErr>
+) -> Result<(), SourceErr<NameFault>>
     ensures { Writes (spec.assign scope.now.file.now scope.now.blocks.now left.old value.old walk.old) result (small.Assign left.new value.new) walk.new }
 {
     target(scope, walk, left)?;
@@ -55,7 +55,7 @@ fn augment(
     left: &mut TargetExpr,
     operator: Operator,
     value: &mut Expr,
-) -> Result<(), SourceErr>
+) -> Result<(), SourceErr<NameFault>>
     ensures { Writes (spec.augment scope.now.file.now scope.now.blocks.now left.old operator value.old walk.old) result (small.Augment left.new operator value.new) walk.new }
 {
     target(scope, walk, left)?;
@@ -69,7 +69,7 @@ fn returned(
     walk: &mut Walk,
     line: u32,
     value: &mut Option<Expr>,
-) -> Result<(), SourceErr>
+) -> Result<(), SourceErr<NameFault>>
     ensures { Writes (spec.returned scope.now.file.now scope.now.blocks.now line value.old walk.old) result (small.Return value.new) walk.new }
 {
     if scope.blocks.is_empty() {
@@ -88,7 +88,7 @@ fn small_stmt(
     looping: bool,
     walk: &mut Walk,
     statement: &mut SmallStmt,
-) -> Result<(), SourceErr>
+) -> Result<(), SourceErr<NameFault>>
     ensures { Writes (spec.small_stmt scope.now.file.now scope.now.blocks.now looping statement.old walk.old) result statement.new walk.new }
 {
     let line = statement.line;
@@ -118,7 +118,7 @@ pub fn line(
     looping: bool,
     walk: &mut Walk,
     statements: &mut Items<SmallStmt>,
-) -> Result<(), SourceErr>
+) -> Result<(), SourceErr<NameFault>>
     ensures { Writes (visit.each (spec.small_stmt scope.now.file.now scope.now.blocks.now looping) [] statements.old walk.old) result statements.new walk.new }
 {
     for at in 0..statements.len() {

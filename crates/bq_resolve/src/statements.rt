@@ -4,7 +4,7 @@ ghost use Rattle.bq_resolve_scope.specs.Statements as spec;
 ghost use Rattle.bq_resolve_expression.specs.Walks.{Writes};
 
 use crate::blocks::BlockResolver;
-use bq_base::{Fault, FaultKind, SourceErr};
+use bq_base::{Fault, NameFault, SourceErr};
 use bq_parse_grammar::Stmt;
 use bq_resolve_expression::{Scope, Walk};
 
@@ -15,11 +15,11 @@ pub fn stmt_to(
     looping: bool,
     walk: &mut Walk,
     statement: &mut Stmt,
-) -> Result<(), SourceErr>
+) -> Result<(), SourceErr<NameFault>>
     ensures { Writes (spec.stmt_to scope.now.file.now layers scope.now.blocks.now looping statement.old walk.old) result statement.new walk.new }
 {
     if layers == 0 {
-        return Err(SourceErr::Bad(Fault::at(FaultKind::Nesting, 0)));
+        return Err(SourceErr::Bad(Fault::at(NameFault::Nesting, 0)));
     }
     BlockResolver {
         scope: *scope,

@@ -1,7 +1,8 @@
 -- Expressions need no more slots than the frame has after them.
 use Rattle.std.proofs.Common.{◌≡◌, ◌≤◌, ℕ, zero, suc, ◌+◌, max, List, [], ◌∷◌, map, length, Option, Some, None, Result, Ok, Err, refl, sym, ap, subst, ◌++◌, ◌∙◌, arith}
+use Rattle.bq_base.specs.declared.fault.NameFault.{NameFault}
 use Rattle.bq_base.specs.declared.fault.Fault.{Fault}
-use Rattle.bq_base.specs.declared.fault.FaultKind.TheVariants as f
+use Rattle.bq_base.specs.declared.fault.NameFault.TheVariants as f
 use Rattle.bq_base.specs.Fault.{fault_at}
 use Rattle.bq_parse_grammar.specs.declared.tree.Argument.TheOpen.{Expr-F, Suffix-F, Argument-F, Clause-F, TargetExpr-F}
 use Rattle.bq_parse_grammar.specs.declared.tree.Argument.{Argument, out-Argument}
@@ -61,7 +62,7 @@ record Alone (s t : Passed) (w : ComprehensionFrame → Expr) : Type 0 where
   fits : expr_slots (w (frame.Own t.slots)) ≤ 0
 
 -- a comprehension outside all blocks has a frame of its own, with all slots that it needs
-framed_by : (v : Visit (ComprehensionFrame → Expr)) → ((s t : Passed) (w : ComprehensionFrame → Expr) → v s ≡ Ok (w, t) → Alone s t w) → (s t : Passed) (x : Expr) (r : Result ((ComprehensionFrame → Expr) × Passed) Fault) → v (record s { slots = 0 }) ≡ r
+framed_by : (v : Visit (ComprehensionFrame → Expr)) → ((s t : Passed) (w : ComprehensionFrame → Expr) → v s ≡ Ok (w, t) → Alone s t w) → (s t : Passed) (x : Expr) (r : Result ((ComprehensionFrame → Expr) × Passed) (Fault NameFault)) → v (record s { slots = 0 }) ≡ r
     → framed s.slots r ≡ Ok (x, t) → Made expr_slots [] s t x
 framed_by v alone s t x (Err why) d h = absurd (let no : ⊥ = cc in no)
 framed_by v alone s t x (Ok p) d h =

@@ -1,8 +1,9 @@
 -- The fault of an expression is the first rule that it breaks.
 use Rattle.std.specs.List.{flat_map}
 use Rattle.std.proofs.Common.{ℕ, zero, suc, ◌+◌, List, [], ◌∷◌, ◌++◌, length, Option, Some, None, is_some, Result, Ok, Err, inl, inr, refl, subst}
+use Rattle.bq_base.specs.declared.fault.NameFault.{NameFault}
 use Rattle.bq_base.specs.declared.fault.Fault.{Fault}
-use Rattle.bq_base.specs.declared.fault.FaultKind.TheVariants as f
+use Rattle.bq_base.specs.declared.fault.NameFault.TheVariants as f
 use Rattle.bq_parse_grammar.specs.declared.tree.Argument.TheOpen.{Expr-F, Suffix-F, Argument-F, Clause-F, TargetExpr-F}
 use Rattle.bq_parse_grammar.specs.declared.tree.Argument.{Argument, out-Argument}
 use Rattle.bq_parse_grammar.specs.declared.tree.Choice.{Choice, out-Choice, roll-Choice}
@@ -36,18 +37,18 @@ use Rattle.bq_resolve_by_name.proofs.UnknownNames.{around_of, use_finds, the_spa
 
 -- ---- frames
 
-framed_finds : (slots : ℕ) (r : Result ((ComprehensionFrame → Expr) × Passed) Fault) (faults : List Fault) (b : Before) → Finding {A = ComprehensionFrame → Expr} faults b r → Finding {A = Expr} faults b (framed slots r)
+framed_finds : (slots : ℕ) (r : Result ((ComprehensionFrame → Expr) × Passed) (Fault NameFault)) (faults : List (Fault NameFault)) (b : Before) → Finding {A = ComprehensionFrame → Expr} faults b r → Finding {A = Expr} faults b (framed slots r)
 framed_finds slots (Err why) faults b h = h
 framed_finds slots (Ok p) faults b h = h
 
-frame_finds : (blocks : List BlockParts) (v : Visit (ComprehensionFrame → Expr)) (faults : List Fault) → Finds {A = ComprehensionFrame → Expr} faults v → Finds {A = Expr} faults (in_frame blocks v)
+frame_finds : (blocks : List BlockParts) (v : Visit (ComprehensionFrame → Expr)) (faults : List (Fault NameFault)) → Finds {A = ComprehensionFrame → Expr} faults v → Finds {A = Expr} faults (in_frame blocks v)
 frame_finds [] v faults h = λ u. framed_finds u.slots (v (record u { slots = 0 })) faults (before u) (h (record u { slots = 0 }))
 frame_finds (b ∷ bs) v faults h = finds_map v (λ w. w frame.Shared) faults h
 
-module _ (file : FileParts) (visit : List BlockParts → Expr → Visit Expr) (inner : Around → Expr → List Fault) (visits : (blocks : List BlockParts) (x : Expr) → Finds (inner (around_of blocks) x) (visit blocks x)) where
+module _ (file : FileParts) (visit : List BlockParts → Expr → Visit Expr) (inner : Around → Expr → List (Fault NameFault)) (visits : (blocks : List BlockParts) (x : Expr) → Finds (inner (around_of blocks) x) (visit blocks x)) where
   -- ---- targets, whose names the block holds
 
-  target_by_finds : (go : TargetExpr → Visit TargetExpr) (F : TargetExpr → List Fault) (P : Name → TargetExpr → Type 0) (block : BlockParts) (blocks : List BlockParts)
+  target_by_finds : (go : TargetExpr → Visit TargetExpr) (F : TargetExpr → List (Fault NameFault)) (P : Name → TargetExpr → Type 0) (block : BlockParts) (blocks : List BlockParts)
       → ((u : TargetExpr) → Holds block.names (λ name. P name u) → Finds (F u) (go u)) → (o : TargetLayer) → Holds block.names (λ name. target_binds_by (P name) name o)
       → Finds (in_target_by file inner F (around_of (block ∷ blocks)) o) (target_by file visit go (block ∷ blocks) o)
   target_by_finds go F P block blocks goes (TargetExpr-F.TargetExpr::Name n) held = finds_map (bound_at file (block ∷ blocks) n) (λ m. t.Name m) [] (local_finds file block blocks n (held n.name refl))
@@ -184,7 +185,7 @@ module _ (file : FileParts) (visit : List BlockParts → Expr → Visit Expr) (i
       (λ y. finds_held block.names (λ z. clause_by file visit own own (out-Clause z)) (λ z. in_clause_by file inner (around_of own) (around_of own) (out-Clause z)) ClauseBinds
       (λ z h. clause_finds own block blocks z h) (y ∷ []) xs (λ name p. held name (inr p)))
 
-  block_finds : {A : Type 0} (element : List BlockParts → Visit A) (F : Around → List Fault) (make : A → List Clause → ComprehensionFrame → Expr) → ((bs : List BlockParts) → Finds {A = A} (F (around_of bs)) (element bs))
+  block_finds : {A : Type 0} (element : List BlockParts → Visit A) (F : Around → List (Fault NameFault)) (make : A → List Clause → ComprehensionFrame → Expr) → ((bs : List BlockParts) → Finds {A = A} (F (around_of bs)) (element bs))
       → (blocks : List BlockParts) (xs : List Clause) → Finds {A = ComprehensionFrame → Expr} (in_comprehension file inner F (around_of blocks) xs) (in_block file visit element make blocks xs)
   unfolding in_comprehension in_block
   block_finds element F make elements blocks xs u =
@@ -193,7 +194,7 @@ module _ (file : FileParts) (visit : List BlockParts → Expr → Visit Expr) (i
       finds_two (element (block ∷ blocks)) (clauses file visit blocks (block ∷ blocks) xs) make (F (names ∷ around_of blocks)) (in_clauses file inner (around_of blocks) (names ∷ around_of blocks) xs)
       (elements (block ∷ blocks)) (clauses_find blocks block blocks xs (λ name p. (comprehension_binds xs name).1 p)) (record u { slots = u.slots + length names })
 
-  comprehension_finds : {A : Type 0} (element : List BlockParts → Visit A) (F : Around → List Fault) (make : A → List Clause → ComprehensionFrame → Expr) → ((bs : List BlockParts) → Finds {A = A} (F (around_of bs)) (element bs))
+  comprehension_finds : {A : Type 0} (element : List BlockParts → Visit A) (F : Around → List (Fault NameFault)) (make : A → List Clause → ComprehensionFrame → Expr) → ((bs : List BlockParts) → Finds {A = A} (F (around_of bs)) (element bs))
       → (blocks : List BlockParts) (xs : List Clause) → Finds {A = Expr} (in_comprehension file inner F (around_of blocks) xs) (comprehension file visit element make blocks xs)
   unfolding comprehension
   comprehension_finds element F make elements blocks xs =

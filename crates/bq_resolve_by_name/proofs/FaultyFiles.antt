@@ -2,8 +2,9 @@
 use Rattle.std.proofs.Common.{◌≡◌, ℕ, zero, suc, Bool, true, false, ◌&&◌, List, [], ◌∷◌, ◌++◌, length, Some, None, Result, Ok, Err, inr, refl, sym, ◌∙◌, ap, subst}
 use Rattle.std.specs.Prelude.{◌↔◌, if◌then◌else◌}
 use Rattle.std.specs.List.{flat_map}
+use Rattle.bq_base.specs.declared.fault.NameFault.{NameFault}
 use Rattle.bq_base.specs.declared.fault.Fault.{Fault}
-use Rattle.bq_base.specs.declared.fault.FaultKind.TheVariants as f
+use Rattle.bq_base.specs.declared.fault.NameFault.TheVariants as f
 use Rattle.bq_parse_grammar.specs.declared.tree.Argument.TheOpen.{TargetExpr-F}
 use Rattle.bq_parse_grammar.specs.declared.tree.Branch.{Branch}
 use Rattle.bq_parse_grammar.specs.declared.tree.Expr.{Expr}
@@ -64,7 +65,7 @@ all_small b (x ∷ xs) = all_small (after_small b x) xs
 module _ (file : FileParts) where
   -- ---- targets outside functions
 
-  target_by_tells : (go : TargetExpr → Visit TargetExpr) (F : Before → TargetExpr → List Fault) (add : List Name → TargetExpr → List Name) (P : Name → TargetExpr → Type 0)
+  target_by_tells : (go : TargetExpr → Visit TargetExpr) (F : Before → TargetExpr → List (Fault NameFault)) (add : List Name → TargetExpr → List Name) (P : Name → TargetExpr → Type 0)
       → ((u : TargetExpr) → Holds file.globals (λ name. P name u) → Tells (λ b. F b u) (λ b. record b { bound = add b.bound u }) (go u)) → (o : TargetLayer)
       → Holds file.globals (λ name. target_binds_by (P name) name o)
       → Tells (λ b. in_file_target_by file F add b o) (λ b. record b { bound = with_target_by add b.bound o }) (target_by file (expr_to max_layers file) go [] o)
@@ -96,7 +97,7 @@ module _ (file : FileParts) where
 
   -- ---- loads
 
-  clause_by : (t d : Bool) (twice rebound : Fault) (x : LoadedSymbol) (names : List Name) (u : Passed)
+  clause_by : (t d : Bool) (twice rebound : Fault NameFault) (x : LoadedSymbol) (names : List Name) (u : Passed)
       → Finding {A = LoadedSymbol} (if t then twice ∷ [] else when d rebound) (record (before u) { loaded = names }) (if t then Err twice else (if d then Err rebound else Ok (x, record u { loaded = names })))
   clause_by true d twice rebound x names u = refl
   clause_by false true twice rebound x names u = refl
@@ -106,15 +107,15 @@ module _ (file : FileParts) where
   unfolding in_load_clause load_clause
   clause_tells x u =
       let y : LoadedSymbol = record { local = x.local.name; symbol = x.symbol; global = place_among x.local.name file.globals } in
-      let twice : Fault = fault_of f.BoundTwice x.local in
-      let rebound : Fault = fault_of f.Rebound x.local in
+      let twice : Fault NameFault = fault_of f.BoundTwice x.local in
+      let rebound : Fault NameFault = fault_of f.Rebound x.local in
       let names : List Name = with_name u.loaded x.local.name in
       let before_it : Bool = has u.bound x.local.name in
       subst (λ k. Finding {A = LoadedSymbol} (if has u.loaded x.local.name then twice ∷ [] else when (k && before_it) rebound) (record (before u) { loaded = names })
       (if has u.loaded x.local.name then Err twice else (if is_bzl file.universe.kind && before_it then Err rebound else Ok (y, record u { loaded = names }))))
       (one_kind file.universe.kind) (clause_by (has u.loaded x.local.name) (is_bzl file.universe.kind && before_it) twice rebound y names u)
 
-  loaded_by : (line : ℕ) (l : Load) (r : Result (List LoadedSymbol × Passed) Fault) (faults : List Fault) (b : Before) → Finding {A = List LoadedSymbol} faults b r
+  loaded_by : (line : ℕ) (l : Load) (r : Result (List LoadedSymbol × Passed) (Fault NameFault)) (faults : List (Fault NameFault)) (b : Before) → Finding {A = List LoadedSymbol} faults b r
       → Finding {A = SmallKind} faults b (following r (λ xs. st.with_load file line l xs >>= λ _. pure (small.Load l)))
   loaded_by line l (Err why) faults b h = h
   loaded_by line l (Ok p) faults b h = h
@@ -124,7 +125,7 @@ module _ (file : FileParts) where
   unfolding load
   load_tells line l u =
       let on : Before → LoadClause → Before = λ o x. record o { loaded = with_load_clause o.loaded x } in
-      let all : Before → List Fault = λ b. in_turn (in_load_clause file) on b l.clauses in
+      let all : Before → List (Fault NameFault) = λ b. in_turn (in_load_clause file) on b l.clauses in
       let later : Before → Before = λ b. record b { loaded = with_each with_load_clause b.loaded l.clauses } in
       let v : Visit (List LoadedSymbol) = each (load_clause file) [] l.clauses in
       let told : Tells {A = List LoadedSymbol} all later v = tells_as v all (λ b. all_on on b l.clauses) later (λ b. all_loaded with_load_clause b l.clauses) (tells_all (load_clause file) (in_load_clause file) on clause_tells [] l.clauses) in
@@ -167,11 +168,11 @@ module _ (file : FileParts) where
   -- ---- parameters, and the names of those so far
 
   -- the fault is the first of these; where there is none, these are the names of the parameters so far
-  abbrev Naming : List Fault → Before → List Name → Result (ParameterParts × Passed) Fault → Type 0
+  abbrev Naming : List (Fault NameFault) → Before → List Name → Result (ParameterParts × Passed) (Fault NameFault) → Type 0
   Naming faults b names (Err why) = first faults ≡ Some why
   Naming faults b names (Ok p) = (faults ≡ []) × (before p.1 ≡ b) × (p.0.names ≡ names)
 
-  named_by : (t : Bool) (why : Fault) (l : ParameterParts) (n : Identifier) (x : Formal) (u : Passed)
+  named_by : (t : Bool) (why : Fault NameFault) (l : ParameterParts) (n : Identifier) (x : Formal) (u : Passed)
       → Naming (when t why) (before u) (if t then l.names else l.names ++ n.name ∷ [])
       (let go : Visit ParameterParts = if t then stop why else pure (record l { names = l.names ++ n.name ∷ []; parameters = l.parameters ++ x ∷ [] }) in go u)
   named_by true why l n x u = refl
@@ -181,12 +182,12 @@ module _ (file : FileParts) where
   unfolding named_parameter with_name
   named_finds l n x u = named_by (has l.names n.name) (fault_of f.DoubleParameter n) l n x u
 
-  default_made : (m : ParameterParts) (q : Result (Expr × Passed) Fault) (faults : List Fault) (a b : Before) (names : List Name) → a ≡ b → m.names ≡ names → Finding {A = Expr} faults a q
+  default_made : (m : ParameterParts) (q : Result (Expr × Passed) (Fault NameFault)) (faults : List (Fault NameFault)) (a b : Before) (names : List Name) → a ≡ b → m.names ≡ names → Finding {A = Expr} faults a q
       → Naming faults b names (following q (λ y. pure (record m { defaults = m.defaults ++ y ∷ [] })))
   default_made m (Err why) faults a b names same named h = h
   default_made m (Ok p) faults a b names same named h = (h.0, h.1 ∙ same, named)
 
-  default_by : (x : Expr) (r : Result (ParameterParts × Passed) Fault) (faults : List Fault) (b : Before) (names : List Name) → Naming faults b names r
+  default_by : (x : Expr) (r : Result (ParameterParts × Passed) (Fault NameFault)) (faults : List (Fault NameFault)) (b : Before) (names : List Name) → Naming faults b names r
       → Naming (faults ++ in_expr file [] x) b names (following r (λ m. expr file [] x >>= λ y. pure (record m { defaults = m.defaults ++ y ∷ [] })))
   default_by x (Err why) faults b names h = first_left faults (in_expr file [] x) why h
   default_by x (Ok p) faults b names h =
@@ -209,10 +210,10 @@ module _ (file : FileParts) where
   next_finds l (parameter.StarStar n) u = named_finds l n (formal.StarStar (refer n (b.Local (length l.names)))) u
 
   -- the faults in parameters, after those of these names
-  abbrev in_parameters : List Name → List Parameter → List Fault
+  abbrev in_parameters : List Name → List Parameter → List (Fault NameFault)
   in_parameters names ps = in_turn (in_parameter file) with_parameter names ps
 
-  rest_by : (ps : List Parameter) (r : Result (ParameterParts × Passed) Fault) (faults : List Fault) (b : Before) (names : List Name)
+  rest_by : (ps : List Parameter) (r : Result (ParameterParts × Passed) (Fault NameFault)) (faults : List (Fault NameFault)) (b : Before) (names : List Name)
       → ((m : ParameterParts) (u : Passed) → Finding {A = ParameterParts} (in_parameters m.names ps) (before u) (parameters file m ps u)) → Naming faults b names r
       → Finding {A = ParameterParts} (faults ++ in_parameters names ps) b (following r (λ m. parameters file m ps))
   rest_by ps (Err why) faults b names rest h = first_left faults (in_parameters names ps) why h
@@ -229,13 +230,13 @@ module _ (file : FileParts) where
 
   -- ---- functions
 
-  function_by : (name : Name) (ps : List Formal) (slots : ℕ) (r : Result (List Stmt × Passed) Fault) (faults : List Fault) (b : Before) → Finding {A = List Stmt} faults b r
+  function_by : (name : Name) (ps : List Formal) (slots : ℕ) (r : Result (List Stmt × Passed) (Fault NameFault)) (faults : List (Fault NameFault)) (b : Before) → Finding {A = List Stmt} faults b r
       → Finding {A = ℕ} faults b (with_function file name ps slots r)
   function_by name ps slots (Err why) faults b h = h
   function_by name ps slots (Ok p) faults b h = h
 
   -- the faults in the statements of a function
-  abbrev in_body : List Name → List Stmt → List Fault
+  abbrev in_body : List Name → List Stmt → List (Fault NameFault)
   in_body names body = flat_map (in_stmt_to file max_layers (names ∷ []) false) body
 
   body_finds : (names : List Name) (body : List Stmt) → Holds names (λ name. AnyOf (StmtBinds name) body) → Finds (in_body names body) (statements_in file names body)
@@ -291,7 +292,7 @@ file_finds : (universe : UniverseParts) (ts : List TopLevel)
 unfolding violations file_names
 file_finds universe ts = all_tell (file_names universe ts) ts (λ name p. (file_binds ts name).1 p) nothing_passed
 
-first_by : (file : FileParts) (r : Result (List FileLine × Passed) Fault) (faults : List Fault) (b : Before) (why : Fault) → Finding {A = List FileLine} faults b r
+first_by : (file : FileParts) (r : Result (List FileLine × Passed) (Fault NameFault)) (faults : List (Fault NameFault)) (b : Before) (why : Fault NameFault) → Finding {A = List FileLine} faults b r
     → (resolved_by file r ≡ Err why) ↔ (first faults ≡ Some why)
 first_by file (Err w) faults b why h = (λ e. let same : w ≡ why = cc in h ∙ ap (λ z. Some z) same, λ e. let same : Some w ≡ Some why = sym h ∙ e in cc)
 first_by file (Ok p) faults b why h = (λ e. absurd (let no : ⊥ = cc in no), λ e. let none : None ≡ Some why = sym (ap (λ xs. first xs) h.0) ∙ e in absurd (let no : ⊥ = cc in no))
@@ -302,7 +303,7 @@ first_violation universe ts why =
     let file : FileParts = file_names universe ts in
     first_by file (each (top_level file) [] ts nothing_passed) (violations universe ts) (all_on after nothing_before ts) why (file_finds universe ts)
 
-none_by : (file : FileParts) (r : Result (List FileLine × Passed) Fault) (faults : List Fault) (b : Before) → Finding {A = List FileLine} faults b r
+none_by : (file : FileParts) (r : Result (List FileLine × Passed) (Fault NameFault)) (faults : List (Fault NameFault)) (b : Before) → Finding {A = List FileLine} faults b r
     → ((x : ResolvedFile) × (resolved_by file r ≡ Ok x)) ↔ (faults ≡ [])
 none_by file (Err w) faults b h = (λ e. let wrong : Err w ≡ Ok e.0 = e.1 in absurd (let no : ⊥ = cc in no), λ e. let none : None ≡ Some w = sym (ap (λ xs. first xs) e) ∙ h in absurd (let no : ⊥ = cc in no))
 none_by file (Ok p) faults b h = (λ e. h.0, λ e. (record { statements = p.0; functions = p.1.functions; globals = file.globals; loads = p.1.loads }, refl))

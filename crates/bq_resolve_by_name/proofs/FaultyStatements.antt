@@ -1,8 +1,9 @@
 -- The fault of a statement of a function is the first rule that it breaks.
 use Rattle.std.specs.List.{flat_map}
 use Rattle.std.proofs.Common.{ℕ, zero, suc, Bool, true, false, List, [], ◌∷◌, ◌++◌, Option, inl, inr, refl}
+use Rattle.bq_base.specs.declared.fault.NameFault.{NameFault}
 use Rattle.bq_base.specs.declared.fault.Fault.{Fault}
-use Rattle.bq_base.specs.declared.fault.FaultKind.TheVariants as f
+use Rattle.bq_base.specs.declared.fault.NameFault.TheVariants as f
 use Rattle.bq_base.specs.Fault.{fault_at}
 use Rattle.bq_parse_grammar.specs.declared.tree.Branch.{Branch, out-Branch, roll-Branch}
 use Rattle.bq_parse_grammar.specs.declared.tree.Expr.{Expr}
@@ -85,7 +86,7 @@ module _ (file : FileParts) where
   -- ---- statements with blocks, in the block of their function
 
   module _ (block : BlockParts) (blocks : List BlockParts) (P : Name → Stmt → Type 0) where
-    branch_finds : (go : Stmt → Visit Stmt) (F : Stmt → List Fault) → ((x : Stmt) → Holds block.names (λ name. P name x) → Finds (F x) (go x)) → (b : Branch)
+    branch_finds : (go : Stmt → Visit Stmt) (F : Stmt → List (Fault NameFault)) → ((x : Stmt) → Holds block.names (λ name. P name x) → Finds (F x) (go x)) → (b : Branch)
         → Holds block.names (λ name. AnyOf (P name) (out-Branch b).block) → Finds (in_branch file F (around_of (block ∷ blocks)) b) (branch file go (block ∷ blocks) b)
     unfolding in_branch branch
     branch_finds go F goes b held =
@@ -93,7 +94,7 @@ module _ (file : FileParts) where
         (in_expr file (around_of (block ∷ blocks)) (out-Branch b).condition) (flat_map F (out-Branch b).block)
         (an_expr_finds (block ∷ blocks) (out-Branch b).condition) (finds_held block.names go F P goes [] (out-Branch b).block held)
 
-    if_finds : (go : Stmt → Visit Stmt) (F : Stmt → List Fault) → ((x : Stmt) → Holds block.names (λ name. P name x) → Finds (F x) (go x)) → (bs : List Branch) (zs : List Stmt)
+    if_finds : (go : Stmt → Visit Stmt) (F : Stmt → List (Fault NameFault)) → ((x : Stmt) → Holds block.names (λ name. P name x) → Finds (F x) (go x)) → (bs : List Branch) (zs : List Stmt)
         → Holds block.names (λ name. AnyOf (λ b. AnyOf (P name) (out-Branch b).block) bs) → Holds block.names (λ name. AnyOf (P name) zs)
         → Finds (flat_map (in_branch file F (around_of (block ∷ blocks))) bs ++ flat_map F zs) (if_stmt file go (block ∷ blocks) bs zs)
     unfolding if_stmt
@@ -102,7 +103,7 @@ module _ (file : FileParts) where
         (finds_held block.names (branch file go (block ∷ blocks)) (in_branch file F (around_of (block ∷ blocks))) (λ name b. AnyOf (P name) (out-Branch b).block) (branch_finds go F goes) [] bs held)
         (finds_held block.names go F P goes [] zs other)
 
-    for_finds : (go : Stmt → Visit Stmt) (F : Stmt → List Fault) → ((x : Stmt) → Holds block.names (λ name. P name x) → Finds (F x) (go x)) → (t : TargetExpr) (x : Expr) (body : List Stmt)
+    for_finds : (go : Stmt → Visit Stmt) (F : Stmt → List (Fault NameFault)) → ((x : Stmt) → Holds block.names (λ name. P name x) → Finds (F x) (go x)) → (t : TargetExpr) (x : Expr) (body : List Stmt)
         → Holds block.names (λ name. TargetBinds name t) → Holds block.names (λ name. AnyOf (P name) body)
         → Finds (in_target file (around_of (block ∷ blocks)) t ++ (in_expr file (around_of (block ∷ blocks)) x ++ flat_map F body)) (for_stmt file go (block ∷ blocks) t x body)
     unfolding for_stmt
@@ -111,7 +112,7 @@ module _ (file : FileParts) where
         (in_target file (around_of (block ∷ blocks)) t) (in_expr file (around_of (block ∷ blocks)) x) (flat_map F body)
         (a_target_finds block blocks t held) (an_expr_finds (block ∷ blocks) x) (finds_held block.names go F P goes [] body other)
 
-    stmt_by_finds : (go : Bool → Stmt → Visit Stmt) (F : Bool → Stmt → List Fault) → ((l : Bool) (x : Stmt) → Holds block.names (λ name. P name x) → Finds (F l x) (go l x))
+    stmt_by_finds : (go : Bool → Stmt → Visit Stmt) (F : Bool → Stmt → List (Fault NameFault)) → ((l : Bool) (x : Stmt) → Holds block.names (λ name. P name x) → Finds (F l x) (go l x))
         → (looping : Bool) (o : Stmt-F Stmt Branch) → Holds block.names (λ name. stmt_binds_by (P name) name o)
         → Finds (in_stmt_by file F (around_of (block ∷ blocks)) looping o) (stmt_by file go (block ∷ blocks) looping o)
     stmt_by_finds go F goes looping (Stmt-F.Simple xs) held =

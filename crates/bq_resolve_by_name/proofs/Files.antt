@@ -2,8 +2,9 @@
 use Rattle.std.proofs.Common.{◌≡◌, ◌≤◌, ℕ, ◌+◌, Bool, true, false, List, [], ◌∷◌, ◌++◌, map, length, length-append, Result, Ok, Err, refl, sym, ap, ◌∙◌, subst, arith}
 use Rattle.std.specs.Prelude.{if◌then◌else◌}
 use Rattle.std.specs.List.{AllByRecursion}
+use Rattle.bq_base.specs.declared.fault.NameFault.{NameFault}
 use Rattle.bq_base.specs.declared.fault.Fault.{Fault}
-use Rattle.bq_base.specs.declared.fault.FaultKind.TheVariants as f
+use Rattle.bq_base.specs.declared.fault.NameFault.TheVariants as f
 use Rattle.bq_base.specs.Fault.{fault_at}
 use Rattle.bq_parse_grammar.specs.declared.tree.Branch.{Branch}
 use Rattle.bq_parse_grammar.specs.declared.tree.Expr.{Expr}
@@ -58,7 +59,7 @@ added : (names : List Name) (name : Name) → has names name ≡ false → with_
 unfolding with_name
 added names name h = rw h refl
 
-named_by : (b : Bool) (why : Fault) (l m : ParameterParts) (n : Identifier) (x : Formal) (u t : Passed) → has l.names n.name ≡ b → parameter_slots x ≤ length l.names + 1 → Fitting l
+named_by : (b : Bool) (why : Fault NameFault) (l m : ParameterParts) (n : Identifier) (x : Formal) (u t : Passed) → has l.names n.name ≡ b → parameter_slots x ≤ length l.names + 1 → Fitting l
     → (let go : Visit ParameterParts = if b then stop why else pure (record l { names = l.names ++ n.name ∷ []; parameters = l.parameters ++ x ∷ [] }) in go u) ≡ Ok (m, t)
     → Next l (with_name l.names n.name) u t m
 named_by true why l m n x u t d small fits h = absurd (let no : ⊥ = cc in no)
@@ -119,7 +120,7 @@ module _ (file : FileParts) where
   -- ---- functions
 
   function_by : (name : Name) (ps : List Formal) (names : List Name) (u t : Passed) (k : ℕ) → most (map parameter_slots ps) ≤ length names → AllFit u.functions
-      → (r : Result (List Stmt × Passed) Fault)
+      → (r : Result (List Stmt × Passed) (Fault NameFault))
       → ((p : List Stmt × Passed) → r ≡ Ok p → Made (λ ys. most (map stmt_slots ys)) (record { base = 0; names = names } ∷ []) (record u { slots = length names }) p.1 p.0)
       → with_function file name ps u.slots r ≡ Ok (k, t) → AllFit t.functions
   function_by name ps names u t k small all (Err why) body h = absurd (let no : ⊥ = cc in no)
@@ -201,7 +202,7 @@ module _ (file : FileParts) where
       let k : top_level_slots a.0.0 ≤ 0 = m.none in
       all_fit is (done ++ a.0.0 ∷ []) xs a.0.1 t m.all (omega (arith, most_more top_level_slots done a.0.0)) a.2
 
-file_by : (file : FileParts) (r : Result (List FileLine × Passed) Fault) (x : ResolvedFile) → ((p : List FileLine × Passed) → r ≡ Ok p → Stands file (λ ys. most (map top_level_slots ys)) p.1 p.0)
+file_by : (file : FileParts) (r : Result (List FileLine × Passed) (Fault NameFault)) (x : ResolvedFile) → ((p : List FileLine × Passed) → r ≡ Ok p → Stands file (λ ys. most (map top_level_slots ys)) p.1 p.0)
     → resolved_by file r ≡ Ok x → SlotsAreBelow x
 file_by file (Err why) x known h = absurd (let no : ⊥ = cc in no)
 file_by file (Ok p) x known h =

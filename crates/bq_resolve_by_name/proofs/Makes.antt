@@ -1,5 +1,6 @@
 -- What walks make, where they add no function and no load; and what those make that may.
 use Rattle.std.proofs.Common.{◌≡◌, ℕ, ◌+◌, List, [], ◌∷◌, ◌++◌, length, Option, Some, None, Result, Ok, Err, refl, sym, ap, ◌∙◌, subst, length-append}
+use Rattle.bq_base.specs.declared.fault.NameFault.{NameFault}
 use Rattle.bq_base.specs.declared.fault.Fault.{Fault}
 use Rattle.bq_resolve_scope.specs.declared.file.Function.{Function}
 use Rattle.bq_resolve_scope.specs.declared.loads.LoadStmt.{LoadStmt}
@@ -21,7 +22,7 @@ append_all (x ∷ xs) ys zs = ap (λ ws. x ∷ ws) (append_all xs ys zs)
 -- ---- walks that add no function and no load
 
 -- what a walk from here gave holds `P`, and it added no function and no load
-abbrev pub Making : {A : Type 0} → (A → Type 0) → Passed → Result (A × Passed) Fault → Type 0
+abbrev pub Making : {A : Type 0} → (A → Type 0) → Passed → Result (A × Passed) (Fault NameFault) → Type 0
 Making P s (Err why) = Unit {0}
 Making P s (Ok p) = P p.0 × (p.1.functions ≡ s.functions) × (p.1.loads ≡ s.loads)
 
@@ -29,11 +30,11 @@ Making P s (Ok p) = P p.0 × (p.1.functions ≡ s.functions) × (p.1.loads ≡ s
 abbrev pub Makes : {A : Type 0} → (A → Type 0) → Visit A → Type 0
 Makes {A = A} P v = (s : Passed) → Making {A = A} P s (v s)
 
-pub from : {A : Type 0} (P : A → Type 0) (s u : Passed) (r : Result (A × Passed) Fault) → u.functions ≡ s.functions → u.loads ≡ s.loads → Making {A = A} P u r → Making {A = A} P s r
+pub from : {A : Type 0} (P : A → Type 0) (s u : Passed) (r : Result (A × Passed) (Fault NameFault)) → u.functions ≡ s.functions → u.loads ≡ s.loads → Making {A = A} P u r → Making {A = A} P s r
 from P s u (Err why) f l h = tt
 from P s u (Ok p) f l h = (h.0, h.1 ∙ f, h.2 ∙ l)
 
-then_by : {A B : Type 0} (P : A → Type 0) (Q : B → Type 0) (s : Passed) (r : Result (A × Passed) Fault) (go : A → Visit B) → Making {A = A} P s r → ((x : A) → P x → Makes {A = B} Q (go x))
+then_by : {A B : Type 0} (P : A → Type 0) (Q : B → Type 0) (s : Passed) (r : Result (A × Passed) (Fault NameFault)) (go : A → Visit B) → Making {A = A} P s r → ((x : A) → P x → Makes {A = B} Q (go x))
     → Making {A = B} Q s (following r go)
 then_by P Q s (Err why) go h next = tt
 then_by P Q s (Ok p) go h next = from Q s p.1 (go p.0 p.1) h.1 h.2 (next p.0 h.0 p.1)
@@ -41,7 +42,7 @@ then_by P Q s (Ok p) go h next = from Q s p.1 (go p.0 p.1) h.1 h.2 (next p.0 h.0
 pub makes_bind : {A B : Type 0} (P : A → Type 0) (Q : B → Type 0) (v : Visit A) (go : A → Visit B) → Makes {A = A} P v → ((x : A) → P x → Makes {A = B} Q (go x)) → Makes {A = B} Q (v >>= go)
 makes_bind P Q v go first next s = then_by P Q s (v s) go (first s) next
 
-weaker_by : {A : Type 0} (P Q : A → Type 0) (s : Passed) (r : Result (A × Passed) Fault) → ((x : A) → P x → Q x) → Making {A = A} P s r → Making {A = A} Q s r
+weaker_by : {A : Type 0} (P Q : A → Type 0) (s : Passed) (r : Result (A × Passed) (Fault NameFault)) → ((x : A) → P x → Q x) → Making {A = A} P s r → Making {A = A} Q s r
 weaker_by P Q s (Err why) w h = tt
 weaker_by P Q s (Ok p) w h = (w p.0 h.0, h.1, h.2)
 
@@ -64,7 +65,7 @@ makes_three {A} {B} {C} {D} P Q R v u w make one two three =
     makes_bind P S v (λ x. u >>= λ y. w >>= λ t. pure (make x y t)) one
     (λ x p. makes_bind Q S u (λ y. w >>= λ t. pure (make x y t)) two (λ y q. makes_bind R S w (λ t. pure (make x y t)) three (λ t r s. ((x, y, t, p, q, r, refl), refl, refl))))
 
-pub makes_given : {A : Type 0} (why : Fault) (o : Option A) → Makes {A = A} (λ x. o ≡ Some x) (given why o)
+pub makes_given : {A : Type 0} (why : Fault NameFault) (o : Option A) → Makes {A = A} (λ x. o ≡ Some x) (given why o)
 makes_given why None s = tt
 makes_given why (Some x) s = (refl, refl, refl)
 
@@ -97,7 +98,7 @@ makes_optional {A = A} R one ones (Some x) =
 -- ---- walks that add these functions and loads
 
 -- a walk from here added these functions and loads: `P` holds of them, of what it made, and of how many functions stood before
-abbrev pub Gaining : {A : Type 0} → (ℕ → A → List Function → List LoadStmt → Type 0) → Passed → Result (A × Passed) Fault → Type 0
+abbrev pub Gaining : {A : Type 0} → (ℕ → A → List Function → List LoadStmt → Type 0) → Passed → Result (A × Passed) (Fault NameFault) → Type 0
 Gaining P s (Err why) = Unit {0}
 Gaining P s (Ok p) = (f : List Function) × (l : List LoadStmt) × P (length s.functions) p.0 f l × (p.1.functions ≡ s.functions ++ f) × (p.1.loads ≡ s.loads ++ l)
 
@@ -105,7 +106,7 @@ Gaining P s (Ok p) = (f : List Function) × (l : List LoadStmt) × P (length s.f
 abbrev pub Gains : {A : Type 0} → (ℕ → A → List Function → List LoadStmt → Type 0) → Visit A → Type 0
 Gains {A = A} P v = (s : Passed) → Gaining {A = A} P s (v s)
 
-made_by : {A : Type 0} (P : A → Type 0) (Q : ℕ → A → List Function → List LoadStmt → Type 0) (s : Passed) (r : Result (A × Passed) Fault) → ((k : ℕ) (x : A) → P x → Q k x [] []) → Making {A = A} P s r
+made_by : {A : Type 0} (P : A → Type 0) (Q : ℕ → A → List Function → List LoadStmt → Type 0) (s : Passed) (r : Result (A × Passed) (Fault NameFault)) → ((k : ℕ) (x : A) → P x → Q k x [] []) → Making {A = A} P s r
     → Gaining {A = A} Q s r
 made_by P Q s (Err why) w h = tt
 made_by P Q s (Ok p) w h = ([], [], w (length s.functions) p.0 h.0, h.1 ∙ append_none s.functions, h.2 ∙ append_none s.loads)
@@ -114,7 +115,7 @@ made_by P Q s (Ok p) w h = ([], [], w (length s.functions) p.0 h.0, h.1 ∙ appe
 pub gains_none : {A : Type 0} (P : A → Type 0) (Q : ℕ → A → List Function → List LoadStmt → Type 0) (v : Visit A) → ((k : ℕ) (x : A) → P x → Q k x [] []) → Makes {A = A} P v → Gains {A = A} Q v
 gains_none P Q v w h s = made_by P Q s (v s) w (h s)
 
-mapped_by : {A B : Type 0} (P : ℕ → A → List Function → List LoadStmt → Type 0) (make : A → B) (s : Passed) (r : Result (A × Passed) Fault) → Gaining {A = A} P s r
+mapped_by : {A B : Type 0} (P : ℕ → A → List Function → List LoadStmt → Type 0) (make : A → B) (s : Passed) (r : Result (A × Passed) (Fault NameFault)) → Gaining {A = A} P s r
     → Gaining {A = B} (λ k z f l. (x : A) × P k x f l × (z ≡ make x)) s (following r (λ x. pure (make x)))
 mapped_by P make s (Err why) h = tt
 mapped_by P make s (Ok p) h = (h.0, h.1, (p.0, h.2, refl), h.3, h.4)
@@ -123,7 +124,7 @@ pub gains_map : {A B : Type 0} (P : ℕ → A → List Function → List LoadStm
     → Gains {A = B} (λ k z f l. (x : A) × P k x f l × (z ≡ make x)) (v >>= λ x. pure (make x))
 gains_map P v make h s = mapped_by P make s (v s) (h s)
 
-pub gains_weaker : {A : Type 0} (P Q : ℕ → A → List Function → List LoadStmt → Type 0) (s : Passed) (r : Result (A × Passed) Fault)
+pub gains_weaker : {A : Type 0} (P Q : ℕ → A → List Function → List LoadStmt → Type 0) (s : Passed) (r : Result (A × Passed) (Fault NameFault))
     → ((k : ℕ) (x : A) (f : List Function) (l : List LoadStmt) → P k x f l → Q k x f l) → Gaining {A = A} P s r → Gaining {A = A} Q s r
 gains_weaker P Q s (Err why) w h = tt
 gains_weaker P Q s (Ok p) w h = (h.0, h.1, w (length s.functions) p.0 h.0 h.1 h.2, h.3, h.4)
@@ -135,7 +136,7 @@ Turns {A = A} R done xs k zs f l = (ys : List A) × InTurn R k xs ys f l × (zs 
 length_of : {A : Type 0} (xs ys : List A) → length (xs ++ ys) ≡ length xs + length ys
 length_of xs ys = length-append xs ys
 
-rest_by : {A B : Type 0} (R : ℕ → B → A → List Function → List LoadStmt → Type 0) (x : B) (xs : List B) (done : List A) (y : A) (s u : Passed) (f : List Function) (l : List LoadStmt) (r : Result (List A × Passed) Fault)
+rest_by : {A B : Type 0} (R : ℕ → B → A → List Function → List LoadStmt → Type 0) (x : B) (xs : List B) (done : List A) (y : A) (s u : Passed) (f : List Function) (l : List LoadStmt) (r : Result (List A × Passed) (Fault NameFault))
     → R (length s.functions) x y f l → u.functions ≡ s.functions ++ f → u.loads ≡ s.loads ++ l → Gaining {A = List A} (Turns R (done ++ y ∷ []) xs) u r → Gaining {A = List A} (Turns R done (x ∷ xs)) s r
 rest_by R x xs done y s u f l (Err why) first ef el h = tt
 rest_by R x xs done y s u f l (Ok p) first ef el h =
@@ -148,7 +149,7 @@ rest_by R x xs done y s u f l (Ok p) first ef el h =
       h.4 ∙ ap (λ z. z ++ h.1) el ∙ append_all s.loads l h.1,
     )
 
-turn_by : {A B : Type 0} (R : ℕ → B → A → List Function → List LoadStmt → Type 0) (x : B) (xs : List B) (done : List A) (s : Passed) (r : Result (A × Passed) Fault) (go : A → Visit (List A))
+turn_by : {A B : Type 0} (R : ℕ → B → A → List Function → List LoadStmt → Type 0) (x : B) (xs : List B) (done : List A) (s : Passed) (r : Result (A × Passed) (Fault NameFault)) (go : A → Visit (List A))
     → Gaining {A = A} (λ k y f l. R k x y f l) s r → ((y : A) → Gains {A = List A} (Turns R (done ++ y ∷ []) xs) (go y)) → Gaining {A = List A} (Turns R done (x ∷ xs)) s (following r go)
 turn_by R x xs done s (Err why) go h next = tt
 turn_by R x xs done s (Ok p) go h next = rest_by R x xs done p.0 s p.1 h.0 h.1 (go p.0 p.1) h.2 h.3 h.4 (next p.0 p.1)
@@ -159,12 +160,12 @@ unfolding each
 gains_each R one ones done [] s = ([], [], ([], (refl, refl, refl), append_none done), append_none s.functions, append_none s.loads)
 gains_each R one ones done (x ∷ xs) s = turn_by R x xs done s (one x s) (λ y. each one (done ++ y ∷ []) xs) (ones x s) (λ y. gains_each R one ones (done ++ y ∷ []) xs)
 
-gains_from : {A : Type 0} (P : ℕ → A → List Function → List LoadStmt → Type 0) (s u : Passed) (r : Result (A × Passed) Fault) → u.functions ≡ s.functions → u.loads ≡ s.loads → Gaining {A = A} P u r → Gaining {A = A} P s r
+gains_from : {A : Type 0} (P : ℕ → A → List Function → List LoadStmt → Type 0) (s u : Passed) (r : Result (A × Passed) (Fault NameFault)) → u.functions ≡ s.functions → u.loads ≡ s.loads → Gaining {A = A} P u r → Gaining {A = A} P s r
 gains_from P s u (Err why) ef el h = tt
 gains_from P s u (Ok p) ef el h =
     (h.0, h.1, subst (λ k. P k p.0 h.0 h.1) (ap length ef) h.2, h.3 ∙ ap (λ z. z ++ h.0) ef, h.4 ∙ ap (λ z. z ++ h.1) el)
 
-gains_by : {A B : Type 0} (P : A → Type 0) (Q : ℕ → B → List Function → List LoadStmt → Type 0) (s : Passed) (r : Result (A × Passed) Fault) (go : A → Visit B) → Making {A = A} P s r
+gains_by : {A B : Type 0} (P : A → Type 0) (Q : ℕ → B → List Function → List LoadStmt → Type 0) (s : Passed) (r : Result (A × Passed) (Fault NameFault)) (go : A → Visit B) → Making {A = A} P s r
     → ((x : A) → P x → Gains {A = B} Q (go x)) → Gaining {A = B} Q s (following r go)
 gains_by P Q s (Err why) go h next = tt
 gains_by P Q s (Ok p) go h next = gains_from Q s p.1 (go p.0 p.1) h.1 h.2 (next p.0 h.0 p.1)

@@ -1,5 +1,6 @@
 -- What a walk makes needs no more slots than the frame has after it.
 use Rattle.std.proofs.Common.{◌≡◌, ◌≤◌, ℕ, ◌+◌, max, List, [], ◌∷◌, ◌++◌, map, length, Option, Some, None, Result, Ok, Err, refl, sym, ap, ◌∙◌, arith}
+use Rattle.bq_base.specs.declared.fault.NameFault.{NameFault}
 use Rattle.bq_base.specs.declared.fault.Fault.{Fault}
 use Rattle.bq_resolve_scope.specs.Scope.{BlockParts}
 use Rattle.bq_resolve_scope.specs.Visit.{Passed, Visit, following, ◌>>=◌, pure, stop, given, each, optional}
@@ -40,10 +41,10 @@ pub weaker : {A : Type 0} (blocks : List BlockParts) (m : ℕ) (f : A → ℕ) (
 weaker blocks m f v n s t x w h e = n s t x w (omega arith) e
 
 -- a walk that ends here, with this
-abbrev pub ends : {A : Type 0} → A → Passed → Result (A × Passed) Fault
+abbrev pub ends : {A : Type 0} → A → Passed → Result (A × Passed) (Fault NameFault)
 ends x s = Ok (x, s)
 
-pub ended : {A : Type 0} (p q : A × Passed) (a b : Result (A × Passed) Fault) → a ≡ Ok p → b ≡ Ok q → a ≡ b → p ≡ q
+pub ended : {A : Type 0} (p q : A × Passed) (a b : Result (A × Passed) (Fault NameFault)) → a ≡ Ok p → b ≡ Ok q → a ≡ b → p ≡ q
 ended p q a b g h e = let w : Ok p ≡ Ok q = sym g ∙ e ∙ h in cc
 
 -- what ends at a place with the same slots and functions
@@ -60,17 +61,17 @@ moved {A = A} blocks m f x y s u t slots functions fits h e =
 pub needs_pure : {A : Type 0} (blocks : List BlockParts) (m : ℕ) (f : A → ℕ) (x : A) → f x ≤ m → Needs blocks m f (pure x)
 needs_pure blocks m f x fits s t y w h e = moved blocks m f x y s s t refl refl fits h e
 
-pub needs_stop : {A : Type 0} (blocks : List BlockParts) (m : ℕ) (f : A → ℕ) (why : Fault) → Needs blocks m f (stop why)
+pub needs_stop : {A : Type 0} (blocks : List BlockParts) (m : ℕ) (f : A → ℕ) (why : Fault NameFault) → Needs blocks m f (stop why)
 needs_stop blocks m f why s t y w h e = absurd (let no : ⊥ = cc in no)
 
-pub needs_given : {A : Type 0} (blocks : List BlockParts) (m : ℕ) (f : A → ℕ) (why : Fault) (o : Option A)
+pub needs_given : {A : Type 0} (blocks : List BlockParts) (m : ℕ) (f : A → ℕ) (why : Fault NameFault) (o : Option A)
     → ((n : ℕ) (x : A) → Within blocks n → o ≡ Some x → f x ≤ room blocks n) → Needs blocks m f (given why o)
 needs_given blocks m f why None known s t y w h e = needs_stop blocks m f why s t y w h e
 needs_given blocks m f why (Some x) known s t y w h e = moved blocks (room blocks s.slots) f x y s s t refl refl (known s.slots x w refl) (omega arith) e
 
 bind_by : {A B : Type 0} (blocks : List BlockParts) (m : ℕ) (f : A → ℕ) (g : B → ℕ) (v : Visit A) (go : A → Visit B)
     → Needs blocks m f v → ((x : A) → Needs blocks (max m (f x)) g (go x)) → (s t : Passed) (y : B) → Within blocks s.slots → m ≤ room blocks s.slots
-    → (r : Result (A × Passed) Fault) → v s ≡ r → following r go ≡ Ok (y, t) → Made g blocks s t y
+    → (r : Result (A × Passed) (Fault NameFault)) → v s ≡ r → following r go ≡ Ok (y, t) → Made g blocks s t y
 bind_by blocks m f g v go first next s t y w h (Err why) d e = absurd (let no : ⊥ = cc in no)
 bind_by blocks m f g v go first next s t y w h (Ok p) d e =
     let a : Made f blocks s p.1 p.0 = first s p.1 p.0 w h d in
@@ -87,7 +88,7 @@ needs_bind blocks m f g v go first next s t y w h e = bind_by blocks m f g v go 
 
 -- ---- where a walk ended
 
-split_by : {A B : Type 0} (go : A → Visit B) (t : Passed) (y : B) (r : Result (A × Passed) Fault) → following r go ≡ Ok (y, t) → (p : A × Passed) × (r ≡ Ok p) × (go p.0 p.1 ≡ Ok (y, t))
+split_by : {A B : Type 0} (go : A → Visit B) (t : Passed) (y : B) (r : Result (A × Passed) (Fault NameFault)) → following r go ≡ Ok (y, t) → (p : A × Passed) × (r ≡ Ok p) × (go p.0 p.1 ≡ Ok (y, t))
 split_by go t y (Err why) h = absurd (let no : ⊥ = cc in no)
 split_by go t y (Ok p) h = (p, refl, h)
 

@@ -1,8 +1,9 @@
 -- What expressions resolve to is what the relation says.
 use Rattle.std.proofs.Common.{◌≡◌, ℕ, zero, suc, ◌+◌, Bool, true, false, ◌&&◌, ◌||◌, List, [], ◌∷◌, ◌++◌, length, Option, Some, None, Result, Ok, Err, refl, sym, ap, ◌∙◌, subst}
 use Rattle.std.specs.Prelude.{if◌then◌else◌}
+use Rattle.bq_base.specs.declared.fault.NameFault.{NameFault}
 use Rattle.bq_base.specs.declared.fault.Fault.{Fault}
-use Rattle.bq_base.specs.declared.fault.FaultKind.TheVariants as f
+use Rattle.bq_base.specs.declared.fault.NameFault.TheVariants as f
 use Rattle.bq_parse_grammar.specs.declared.tree.Argument.TheOpen.{Expr-F, Suffix-F, Argument-F, Clause-F, TargetExpr-F}
 use Rattle.bq_parse_grammar.specs.declared.tree.Argument.{Argument, out-Argument}
 use Rattle.bq_parse_grammar.specs.declared.tree.Choice.{Choice, out-Choice, roll-Choice}
@@ -35,7 +36,7 @@ use Rattle.bq_resolve_by_name.proofs.Makes.{Making, Makes, After, from, makes_bi
 
 -- ---- names
 
-global_by : (t : Bool) (why : Fault) (names : List Name) (u : Passed) → Making {A = Unit {0}} (λ _. Unit {0}) u (if t then Err why else Ok (tt, record u { bound = names }))
+global_by : (t : Bool) (why : Fault NameFault) (names : List Name) (u : Passed) → Making {A = Unit {0}} (λ _. Unit {0}) u (if t then Err why else Ok (tt, record u { bound = names }))
 global_by true why names u = tt
 global_by false why names u = (tt, refl, refl)
 
@@ -44,7 +45,7 @@ unfolding bind_global
 bind_makes kind [] n = λ u. global_by (is_bzl kind && (has u.bound n.name || has u.loaded n.name)) (fault_of f.Rebound n) (with_name u.bound n.name) u
 bind_makes kind (b ∷ bs) n = λ u. (tt, refl, refl)
 
-referred_makes : (why : Fault) (n : Identifier) (o : Option Referent) → Makes {A = Identifier} (λ m. (x : Referent) × (o ≡ Some x) × (m ≡ refer n x)) (given why o >>= λ x. pure (refer n x))
+referred_makes : (why : Fault NameFault) (n : Identifier) (o : Option Referent) → Makes {A = Identifier} (λ m. (x : Referent) × (o ≡ Some x) × (m ≡ refer n x)) (given why o >>= λ x. pure (refer n x))
 referred_makes why n o = makes_map {A = Referent} {B = Identifier} (λ x. o ≡ Some x) (given why o) (λ x. refer n x) (makes_given why o)
 
 pub name_makes : (file : FileParts) (blocks : List BlockParts) (n : Identifier)
@@ -200,12 +201,12 @@ module _ (file : FileParts) (visit : List BlockParts → Expr → Visit Expr) (I
         → comprehension_is file Is E make blocks xs (w own)
     in_frame_makes blocks xs base w own h is = (block_of xs base, h.0, h.1, own, refl, is, h.2, h.3, ap (λ m. m own) h.4)
 
-    own_by : (xs : List Clause) (u : Passed) (r : Result ((ComprehensionFrame → Expr) × Passed) Fault) → Making {A = ComprehensionFrame → Expr} (OfFrame [] xs 0) (record u { slots = 0 }) r
+    own_by : (xs : List Clause) (u : Passed) (r : Result ((ComprehensionFrame → Expr) × Passed) (Fault NameFault)) → Making {A = ComprehensionFrame → Expr} (OfFrame [] xs 0) (record u { slots = 0 }) r
         → Making {A = Expr} (comprehension_is file Is E make [] xs) u (framed u.slots r)
     own_by xs u (Err why) h = tt
     own_by xs u (Ok p) h = (in_frame_makes [] xs 0 p.0 (frame.Own p.1.slots) h.0 (p.1.slots, refl, refl), h.1, h.2)
 
-    shared_by : (b : BlockParts) (bs : List BlockParts) (xs : List Clause) (u : Passed) (r : Result ((ComprehensionFrame → Expr) × Passed) Fault) → Making {A = ComprehensionFrame → Expr} (OfFrame (b ∷ bs) xs u.slots) u r
+    shared_by : (b : BlockParts) (bs : List BlockParts) (xs : List Clause) (u : Passed) (r : Result ((ComprehensionFrame → Expr) × Passed) (Fault NameFault)) → Making {A = ComprehensionFrame → Expr} (OfFrame (b ∷ bs) xs u.slots) u r
         → Making {A = Expr} (comprehension_is file Is E make (b ∷ bs) xs) u (following r (λ w. pure (w frame.Shared)))
     shared_by b bs xs u (Err why) h = tt
     shared_by b bs xs u (Ok p) h = (in_frame_makes (b ∷ bs) xs u.slots p.0 frame.Shared h.0 refl, h.1, h.2)

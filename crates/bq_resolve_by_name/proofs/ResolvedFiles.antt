@@ -2,8 +2,9 @@
 use Rattle.std.proofs.Common.{◌≡◌, ℕ, ◌+◌, Bool, true, false, ◌&&◌, List, [], ◌∷◌, ◌++◌, length, Some, Result, Ok, Err, refl, sym, ◌∙◌, ap, subst, arith, length-append}
 use Rattle.std.specs.Prelude.{if◌then◌else◌}
 use Rattle.std.specs.List.{flat_map}
+use Rattle.bq_base.specs.declared.fault.NameFault.{NameFault}
 use Rattle.bq_base.specs.declared.fault.Fault.{Fault}
-use Rattle.bq_base.specs.declared.fault.FaultKind.TheVariants as f
+use Rattle.bq_base.specs.declared.fault.NameFault.TheVariants as f
 use Rattle.bq_parse_grammar.specs.declared.tree.Branch.{Branch}
 use Rattle.bq_parse_grammar.specs.declared.tree.Expr.{Expr}
 use Rattle.bq_parse_grammar.specs.declared.tree.Identifier.{Identifier}
@@ -43,7 +44,7 @@ use Rattle.bq_resolve_by_name.proofs.ResolvedStatements.{an_expr_makes, assign_m
 module _ (file : FileParts) where
   -- ---- loads
 
-  clause_by : (t d : Bool) (why rebound : Fault) (y : LoadedSymbol) (names : List Name) (u : Passed)
+  clause_by : (t d : Bool) (why rebound : Fault NameFault) (y : LoadedSymbol) (names : List Name) (u : Passed)
       → Making {A = LoadedSymbol} (λ z. z ≡ y) u (if t then Err why else (if d then Err rebound else Ok (y, record u { loaded = names })))
   clause_by true d why rebound y names u = tt
   clause_by false true why rebound y names u = tt
@@ -59,7 +60,7 @@ module _ (file : FileParts) where
   abbrev outer : ℕ → SmallKind → ℕ → SmallKind → List Function → List LoadStmt → Type 0
   outer line k n z fs ls = kind_is file [] k z × (fs ≡ []) × loads_are file line k ls
 
-  load_by : (line : ℕ) (l : Load) (u : Passed) (r : Result (List LoadedSymbol × Passed) Fault) → Making {A = List LoadedSymbol} (λ ys. InOrder (SymbolIs file) l.clauses ys) u r
+  load_by : (line : ℕ) (l : Load) (u : Passed) (r : Result (List LoadedSymbol × Passed) (Fault NameFault)) → Making {A = List LoadedSymbol} (λ ys. InOrder (SymbolIs file) l.clauses ys) u r
       → Gaining {A = SmallKind} (outer line (small.Load l)) u (following r (λ xs. st.with_load file line l xs >>= λ _. pure (small.Load l)))
   unfolding LoadIs
   load_by line l u (Err why) h = tt
@@ -109,7 +110,7 @@ module _ (file : FileParts) where
   Rows l ps m =
       (ds : List Expr) × InOrder (ExprIs file []) (flat_map default_of ps) ds × (m.parameters ≡ l.parameters ++ formals (length l.names) ps) × (m.defaults ≡ l.defaults ++ ds)
 
-  named_by : (t : Bool) (why : Fault) (l : ParameterParts) (n : Identifier) (x : Formal) (u : Passed)
+  named_by : (t : Bool) (why : Fault NameFault) (l : ParameterParts) (n : Identifier) (x : Formal) (u : Passed)
       → Making {A = ParameterParts} (Row l (length l.names + 1) x []) u (let go : Visit ParameterParts = if t then stop why else pure (record l { names = l.names ++ n.name ∷ []; parameters = l.parameters ++ x ∷ [] }) in go u)
   named_by true why l n x u = tt
   named_by false why l n x u = ((omega (arith, length-append l.names (n.name ∷ [])), refl, append_none l.defaults), refl, refl)
@@ -161,7 +162,7 @@ module _ (file : FileParts) where
   abbrev Counted : Identifier → List Parameter → List Stmt → ℕ → ℕ → List Function → List LoadStmt → Type 0
   Counted n ps body k z fs ls = (z ≡ k) × ((g : Function) × FunctionIs file n ps body g × (fs ≡ g ∷ [])) × (ls ≡ [])
 
-  function_by : (n : Identifier) (ps : List Parameter) (rows : List Formal) (body : List Stmt) (u old : Passed) (r : Result (List Stmt × Passed) Fault) → u.functions ≡ old.functions → u.loads ≡ old.loads
+  function_by : (n : Identifier) (ps : List Parameter) (rows : List Formal) (body : List Stmt) (u old : Passed) (r : Result (List Stmt × Passed) (Fault NameFault)) → u.functions ≡ old.functions → u.loads ≡ old.loads
       → rows ≡ formals 0 ps → Making {A = List Stmt} (λ ys. InOrder (StmtTo file max_layers (record { base = 0; names = function_names ps body } ∷ [])) body ys) u r
       → Gaining {A = ℕ} (Counted n ps body) old (with_function file n.name rows old.slots r)
   unfolding FunctionIs
@@ -238,7 +239,7 @@ module _ (file : FileParts) where
   top_level_gains i =
       gains_map (λ k z fs ls. file_stmt_is file k (out-Stmt i.statement) z fs ls) (file_stmt file i.line (out-Stmt i.statement)) (λ x. record { line = i.line; statement = x }) (file_stmt_gains i.line (out-Stmt i.statement))
 
-file_by : (file : FileParts) (ts : List TopLevel) (r : Result (List FileLine × Passed) Fault) (x : ResolvedFile) → Gaining {A = List FileLine} (Turns (TopLevelIs file) [] ts) nothing_passed r
+file_by : (file : FileParts) (ts : List TopLevel) (r : Result (List FileLine × Passed) (Fault NameFault)) (x : ResolvedFile) → Gaining {A = List FileLine} (Turns (TopLevelIs file) [] ts) nothing_passed r
     → resolved_by file r ≡ Ok x → InTurn (TopLevelIs file) 0 ts x.statements x.functions x.loads × (x.globals ≡ file.globals)
 file_by file ts (Err why) x h e = absurd (let no : ⊥ = cc in no)
 file_by file ts (Ok p) x h e =

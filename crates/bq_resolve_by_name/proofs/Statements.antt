@@ -1,8 +1,9 @@
 -- Statements of functions need no more slots than the frame has after them.
 use Rattle.std.proofs.Common.{◌≡◌, ◌≤◌, ℕ, zero, suc, max, Bool, true, false, List, [], ◌∷◌, ◌++◌, map, Option, Some, None, Err, refl, arith}
 use Rattle.std.specs.Prelude.{if◌then◌else◌}
+use Rattle.bq_base.specs.declared.fault.NameFault.{NameFault}
 use Rattle.bq_base.specs.declared.fault.Fault.{Fault}
-use Rattle.bq_base.specs.declared.fault.FaultKind.TheVariants as f
+use Rattle.bq_base.specs.declared.fault.NameFault.TheVariants as f
 use Rattle.bq_base.specs.Fault.{fault_at}
 use Rattle.bq_parse_grammar.specs.declared.tree.Branch.{Branch, out-Branch, roll-Branch}
 use Rattle.bq_parse_grammar.specs.declared.tree.Expr.{Expr}
@@ -43,7 +44,7 @@ module _ (file : FileParts) where
 
   -- ---- loads
 
-  clause_by : (b d : Bool) (why rebound : Fault) (l : LoadedSymbol) (names : List Name) (blocks : List BlockParts) (u t : Passed) (x : LoadedSymbol) → 0 ≤ room blocks u.slots
+  clause_by : (b d : Bool) (why rebound : Fault NameFault) (l : LoadedSymbol) (names : List Name) (blocks : List BlockParts) (u t : Passed) (x : LoadedSymbol) → 0 ≤ room blocks u.slots
       → (if b then Err why else (if d then Err rebound else ends l (record u { loaded = names }))) ≡ ends x t → Made nothing blocks u t x
   clause_by true d why rebound l names blocks u t x h e = absurd (let no : ⊥ = cc in no)
   clause_by false true why rebound l names blocks u t x h e = absurd (let no : ⊥ = cc in no)

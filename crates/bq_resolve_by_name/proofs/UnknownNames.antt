@@ -3,8 +3,9 @@ use Rattle.std.proofs.Common.{◌≡◌, ◌<◌, ◌+◌, length, ℕ, suc, Boo
 use Rattle.std.specs.Prelude.{if◌then◌else◌}
 use Rattle.std.specs.Option.{option_map}
 use Rattle.std.specs.List.{list_any}
+use Rattle.bq_base.specs.declared.fault.NameFault.{NameFault}
 use Rattle.bq_base.specs.declared.fault.Fault.{Fault}
-use Rattle.bq_base.specs.declared.fault.FaultKind.TheVariants as f
+use Rattle.bq_base.specs.declared.fault.NameFault.TheVariants as f
 use Rattle.bq_parse_grammar.specs.declared.tree.FileKind.{FileKind}
 use Rattle.bq_parse_grammar.specs.declared.tree.FileKind.TheVariants as kinds
 use Rattle.bq_parse_grammar.specs.declared.tree.Argument.TheOpen.{Expr-F}
@@ -143,7 +144,7 @@ local_finds file block blocks n h s =
     let l = local_at file block blocks n.name h in
     subst (λ o. Finding {A = Identifier} [] (before s) (following (given (fault_of f.UnknownName n) (place_of o) s) (λ x. pure (refer n x)))) (sym l.2) (refl, refl)
 
-bound_by : (t : Bool) (why : Fault) (names : List Name) (s : Passed) → Finding {A = Unit {0}} (when t why) (record (before s) { bound = names }) (if t then Err why else Ok (tt, record s { bound = names }))
+bound_by : (t : Bool) (why : Fault NameFault) (names : List Name) (s : Passed) → Finding {A = Unit {0}} (when t why) (record (before s) { bound = names }) (if t then Err why else Ok (tt, record s { bound = names }))
 bound_by true why names s = refl
 bound_by false why names s = (refl, refl)
 
@@ -152,11 +153,11 @@ bind_tells : (file : FileParts) (n : Identifier) → Tells (λ b. in_binding fil
 unfolding in_binding bind_global
 bind_tells file n s =
     let twice : Bool = has s.bound n.name || has s.loaded n.name in
-    let why : Fault = fault_of f.Rebound n in
+    let why : Fault NameFault = fault_of f.Rebound n in
     subst (λ t. Finding {A = Unit {0}} (when (t && twice) why) (record (before s) { bound = with_name s.bound n.name }) (if is_bzl file.universe.kind && twice then Err why else Ok (tt, record s { bound = with_name s.bound n.name })))
     (one_kind file.universe.kind) (bound_by (is_bzl file.universe.kind && twice) why (with_name s.bound n.name) s)
 
-given_by : (r : Result (Unit {0} × Passed) Fault) (why : Fault) (n : Identifier) (t : Referent) (o : Option Referent) (faults : List Fault) (after : Before) → o ≡ Some t → Finding {A = Unit {0}} faults after r
+given_by : (r : Result (Unit {0} × Passed) (Fault NameFault)) (why : Fault NameFault) (n : Identifier) (t : Referent) (o : Option Referent) (faults : List (Fault NameFault)) (after : Before) → o ≡ Some t → Finding {A = Unit {0}} faults after r
     → Finding {A = Identifier} faults after (following r (λ _. given why o >>= λ x. pure (refer n x)))
 given_by (Err w) why n t o faults after e h = h
 given_by (Ok p) why n t o faults after e h = subst (λ q. Finding {A = Identifier} faults after (following (given why q p.1) (λ x. pure (refer n x)))) (sym e) h

@@ -2,8 +2,9 @@
 use Rattle.std.proofs.Common.{◌≡◌, ◌<◌, ◌≤◌, ℕ, suc, ◌+◌, max, Bool, true, false, cond, List, [], ◌∷◌, length, Option, Some, None, Err, refl, sym, ap, bytes_eq, arith}
 use Rattle.std.specs.Prelude.{if◌then◌else◌}
 use Rattle.std.specs.Option.{option_map}
+use Rattle.bq_base.specs.declared.fault.NameFault.{NameFault}
 use Rattle.bq_base.specs.declared.fault.Fault.{Fault}
-use Rattle.bq_base.specs.declared.fault.FaultKind.TheVariants as f
+use Rattle.bq_base.specs.declared.fault.NameFault.TheVariants as f
 use Rattle.bq_parse_grammar.specs.declared.tree.FileKind.{FileKind}
 use Rattle.bq_parse_grammar.specs.declared.tree.Identifier.{Identifier}
 use Rattle.bq_resolve_predeclared.specs.declared.predeclared.Predeclared.{Predeclared}
@@ -79,7 +80,7 @@ place_slots (Some (b.Unresolved l)) y m known h = absurd (let no : ⊥ = cc in n
 abbrev pub name_slots : Identifier → ℕ
 name_slots n = referent_slots n.referent
 
-referred_needs : (blocks : List BlockParts) (m : ℕ) (why : Fault) (n : Identifier) (o : Option Referent) → ((k : ℕ) (x : Referent) → Within blocks k → o ≡ Some x → referent_slots x ≤ room blocks k)
+referred_needs : (blocks : List BlockParts) (m : ℕ) (why : Fault NameFault) (n : Identifier) (o : Option Referent) → ((k : ℕ) (x : Referent) → Within blocks k → o ≡ Some x → referent_slots x ≤ room blocks k)
     → Needs blocks m name_slots (given why o >>= λ x. pure (refer n x))
 referred_needs blocks m why n o known = needs_map blocks m referent_slots name_slots (given why o) (λ x. refer n x) (needs_given blocks m referent_slots why o known) (λ x. omega arith)
 
@@ -90,7 +91,7 @@ use_needs file blocks n = referred_needs blocks 0 (fault_of f.UnknownName n) n (
 none_needed : Unit {0} → ℕ
 none_needed u = 0
 
-bound_by : (c : Bool) (why : Fault) (names : List Name) (s t : Passed) (u : Unit {0}) → (if c then Err why else ends tt (record s { bound = names })) ≡ ends u t → Made none_needed [] s t u
+bound_by : (c : Bool) (why : Fault NameFault) (names : List Name) (s t : Passed) (u : Unit {0}) → (if c then Err why else ends tt (record s { bound = names })) ≡ ends u t → Made none_needed [] s t u
 unfolding none_needed
 bound_by true why names s t u e = absurd (let no : ⊥ = cc in no)
 bound_by false why names s t u e = moved [] 0 none_needed tt u s (record s { bound = names }) t refl refl (omega arith) (omega arith) e

@@ -1,5 +1,6 @@
 -- What is said of files by names and of what they resolve to.
 use Rattle.std.specs.Prelude.{◌≡◌, ◌↔◌, List, [], map, Some, Ok, Err}
+use Rattle.bq_base.specs.declared.fault.NameFault.{NameFault}
 use Rattle.bq_base.specs.declared.fault.Fault.{Fault}
 use Rattle.bq_parse_grammar.specs.declared.tree.TopLevel.{TopLevel}
 use Rattle.bq_resolve_scope.specs.Files.{resolved}
@@ -12,7 +13,7 @@ use Rattle.bq_resolve_by_name.specs.Violations.{first, violations}
 
 -- The fault of a file is the first rule that it breaks; it names the token at which that is broken ..
 abbrev pub FaultsAreFirstViolations : Type 0
-FaultsAreFirstViolations = (universe : UniverseParts) (ts : List TopLevel) (why : Fault) → (resolved universe ts ≡ Err why) ↔ (first (violations universe ts) ≡ Some why)
+FaultsAreFirstViolations = (universe : UniverseParts) (ts : List TopLevel) (why : Fault NameFault) → (resolved universe ts ≡ Err why) ↔ (first (violations universe ts) ≡ Some why)
 
 -- .. and a file resolves exactly where it breaks none.
 abbrev pub FilesWithoutViolationsResolve : Type 0

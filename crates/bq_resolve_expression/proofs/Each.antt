@@ -2,6 +2,7 @@
 use Rattle.std.proofs.Common.{◌≡◌, ◌∙◌, ◌<◌, ◌≤◌, ◌+◌, ℕ, zero, suc, List, [], ◌∷◌, ◌++◌, length, take, drop, Ok, Err, Some, slice_get, slice_set, refl, sym, ap, arith}
 use Rattle.std.proofs.lemmas.List.{drop_more, drop-set-lt, take_more_set}
 use Rattle.std.proofs.lemmas.Option.{slice_get_within, get_or_from_slice_get}
+use Rattle.bq_base.specs.declared.fault.NameFault.{NameFault}
 use Rattle.bq_base.specs.declared.fault.Fault.{Fault}
 use Rattle.bq_parse_grammar.specs.declared.tree.Clause.{Clause, out-Clause}
 use Rattle.bq_parse_grammar.specs.declared.tree.Expr.{Expr}
@@ -29,7 +30,7 @@ module _ {A : Type 0} (one : A → Visit A) (xs : List A) (i : ℕ) (x : A) (s :
       ∙ sym (each_at ∙ ap (λ r. following r (λ z. each one (take i xs ++ z ∷ []) (drop (i + 1) xs))) h)
 
   -- the item has the first fault
-  pub each_fault : (why : Fault) → one x s ≡ Err why → each one (take i xs) (drop i xs) s ≡ Err why
+  pub each_fault : (why : Fault NameFault) → one x s ≡ Err why → each one (take i xs) (drop i xs) s ≡ Err why
   each_fault why h = each_at ∙ ap (λ r. following r (λ z. each one (take i xs ++ z ∷ []) (drop (i + 1) xs))) h
 
 -- all are done
@@ -81,6 +82,6 @@ module _ (file : FileParts) (visit : List BlockParts → Expr → Visit Expr) (r
       ∙ ap (λ v. further v (drop 1 (slice_set xs 0 y)) t) (sym (first_taken xs x y is))
 
   pub clauses_fault : (xs : List Clause) (x : Clause) (s : Passed) → slice_get xs 0 ≡ Some x
-      → (why : Fault) → clause_by file visit round blocks (out-Clause x) s ≡ Err why → clauses file visit round blocks xs s ≡ Err why
+      → (why : Fault NameFault) → clause_by file visit round blocks (out-Clause x) s ≡ Err why → clauses file visit round blocks xs s ≡ Err why
   clauses_fault xs x s is why h =
       clauses_at xs x x s is ∙ ap (λ r. following r (λ z. further (z ∷ []) (drop 1 (slice_set xs 0 x)))) h

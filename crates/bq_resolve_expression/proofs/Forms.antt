@@ -1,5 +1,6 @@
 -- Comprehensions, by their forms.
 use Rattle.std.proofs.Common.{◌≡◌, ◌∙◌, List, Result, sym, ap, subst}
+use Rattle.bq_base.specs.declared.fault.NameFault.{NameFault}
 use Rattle.bq_base.specs.declared.fault.SourceErr.{SourceErr}
 use Rattle.bq_parse_grammar.specs.declared.tree.Argument.TheOpen.{Expr-F}
 use Rattle.bq_parse_grammar.specs.declared.tree.Clause.{Clause}
@@ -14,7 +15,7 @@ use Rattle.bq_resolve_scope.specs.Visit.{Passed, Visit}
 use Rattle.bq_resolve_scope.specs.Expressions.{comprehension, expr_by, pair}
 use Rattle.bq_resolve_expression.specs.Walks.{Writes}
 
-module _ (file : FileParts) (visit : List BlockParts → Expr → Visit Expr) (blocks : List BlockParts) (x made : Expr) (s new : Passed) (r : Result (Unit {0}) SourceErr) where
+module _ (file : FileParts) (visit : List BlockParts → Expr → Visit Expr) (blocks : List BlockParts) (x made : Expr) (s new : Passed) (r : Result (Unit {0}) (SourceErr NameFault)) where
   of_form : (l : ExprLayer) → out-Expr x ≡ l → Writes (expr_by file visit blocks l s) r made new → Writes (expr_by file visit blocks (out-Expr x) s) r made new
   of_form l is writes = let P : ExprLayer → Type 0 = λ v. Writes (expr_by file visit blocks v s) r made new in subst P (sym is) writes
 

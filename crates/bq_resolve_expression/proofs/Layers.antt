@@ -1,5 +1,6 @@
 -- One layer of a tree, where more than none are looked at.
 use Rattle.std.proofs.Common.{◌≡◌, ◌∙◌, ◌-◌, ℕ, zero, suc, List, [], Result, Ok, Err, refl, ap, arith}
+use Rattle.bq_base.specs.declared.fault.NameFault.{NameFault}
 use Rattle.bq_base.specs.declared.fault.Fault.{Fault}
 use Rattle.bq_base.specs.declared.fault.SourceErr.{SourceErr}
 use Rattle.bq_parse_grammar.specs.declared.tree.TargetExpr.{TargetExpr, out-TargetExpr}
@@ -18,12 +19,12 @@ target_layer file visit zero blocks t s some = absurd (some refl)
 target_layer file visit (suc layers) blocks t s some = let e : suc layers - 1 ≡ layers = omega arith in rw e refl
 
 -- the walk along a part, and what is made of the part
-made_of : {A B : Type 0} (make : A → B) (v : Result (A × Passed) Fault) (w : Result (B × Passed) Fault) (r : Result (Unit {0}) SourceErr) (x : A) (new : Passed)
+made_of : {A B : Type 0} (make : A → B) (v : Result (A × Passed) (Fault NameFault)) (w : Result (B × Passed) (Fault NameFault)) (r : Result (Unit {0}) (SourceErr NameFault)) (x : A) (new : Passed)
     → w ≡ following v (λ y. pure (make y)) → Writes v r x new → Writes w r (make x) new
 made_of make v w (Ok u) x new is walks = is ∙ ap (λ found. following found (λ y. pure (make y))) walks
 made_of make v w (Err e) x new is walks = λ why h. is ∙ ap (λ found. following found (λ y. pure (make y))) (walks why h)
 
-module _ (file : FileParts) (visit : List BlockParts → Expr → Visit Expr) (layers : ℕ) (blocks : List BlockParts) (s new : Passed) (some : layers ≡ 0 → ⊥) (r : Result (Unit {0}) SourceErr) where
+module _ (file : FileParts) (visit : List BlockParts → Expr → Visit Expr) (layers : ℕ) (blocks : List BlockParts) (s new : Passed) (some : layers ≡ 0 → ⊥) (r : Result (Unit {0}) (SourceErr NameFault)) where
   -- a tuple of targets
   pub tuple_form : (xs ys : List TargetExpr) → Writes (each (target_to file visit (layers - 1) blocks) [] xs s) r ys new
       → Writes (target_to file visit layers blocks (form.Tuple xs) s) r (form.Tuple ys) new

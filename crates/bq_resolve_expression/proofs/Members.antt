@@ -1,5 +1,6 @@
 -- A call of a member: the suffix that calls it, and then those after it.
 use Rattle.std.proofs.Common.{◌≡◌, ◌∙◌, List, [], ◌∷◌, take, drop, Result, Ok, Err, Some, slice_get, slice_set, refl, sym, ap}
+use Rattle.bq_base.specs.declared.fault.NameFault.{NameFault}
 use Rattle.bq_base.specs.declared.fault.Fault.{Fault}
 use Rattle.bq_base.specs.declared.fault.SourceErr.{SourceErr}
 use Rattle.bq_parse_grammar.specs.declared.tree.Expr.{Expr, out-Expr}
@@ -26,7 +27,7 @@ module _ (file : FileParts) (visit : List BlockParts → Expr → Visit Expr) (b
   first_taken [] y h = absurd (let no : ⊥ = cc in no)
   first_taken (z ∷ zs) y h = refl
 
-  pub member_fault : (why : Fault) → member_suffix_by file visit blocks p (out-Suffix f) s ≡ Err why → member_primary file visit blocks p x xs s ≡ Err why
+  pub member_fault : (why : Fault NameFault) → member_suffix_by file visit blocks p (out-Suffix f) s ≡ Err why → member_primary file visit blocks p x xs s ≡ Err why
   member_fault why h = first_at xs f is ∙ ap (λ r. following r (λ z. after (z ∷ []) (drop 1 (slice_set xs 0 f)))) h
 
   module _ (y : Suffix) (t : Passed) (went : member_suffix_by file visit blocks p (out-Suffix f) s ≡ Ok (y, t)) where
@@ -36,7 +37,7 @@ module _ (file : FileParts) (visit : List BlockParts → Expr → Visit Expr) (b
         ∙ ap (λ v. after v (drop 1 (slice_set xs 0 y)) t) (sym (first_taken xs y is))
 
     -- the suffix that calls it was walked along
-    pub member_more : (z : Expr) (zs : List Suffix) (new : Passed) (r : Result (Unit {0}) SourceErr) → z ≡ as_member p (out-Expr x) x
+    pub member_more : (z : Expr) (zs : List Suffix) (new : Passed) (r : Result (Unit {0}) (SourceErr NameFault)) → z ≡ as_member p (out-Expr x) x
         → Writes (suffixes file visit blocks (take 1 (slice_set xs 0 y)) (drop 1 (slice_set xs 0 y)) t) r zs new → Writes (member_primary file visit blocks p x xs s) r (e.Primary z zs) new
     member_more z zs new (Ok u) named walks =
         rest ∙ ap (λ r. following r (λ ts. pure (e.Primary (as_member p (out-Expr x) x) ts))) walks ∙ ap (λ v. Ok (e.Primary v zs, new)) (sym named)

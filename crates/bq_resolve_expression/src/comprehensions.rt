@@ -9,18 +9,18 @@ ghost use Rattle.bq_resolve_expression.specs.Comprehensions.{clause_in, clauses_
 use crate::rules::Rules;
 use crate::scope::Scope;
 use crate::walk::Walk;
-use bq_base::SourceErr;
+use bq_base::{NameFault, SourceErr};
 use bq_parse_grammar::{Clause, ComprehensionFrame, Expr, Pair};
 use bq_resolve_scope::{Block, MAX_LAYERS, comprehension_names};
 use bq_tree_items::{Boxed, Items};
 
-impl<'a, F: Copy + Fn(&Scope<'_>, usize, &mut Walk, &mut Expr) -> Result<(), SourceErr>> Rules<
+impl<'a, F: Copy + Fn(&Scope<'_>, usize, &mut Walk, &mut Expr) -> Result<(), SourceErr<NameFault>>> Rules<
     'a,
     F,
 > {
     /// Resolves a clause: its iterable among the blocks `round`.
     #[tactic(auto, unfolding(bq_resolve_scope::specs::Names::max_layers))]
-    fn clause(&self, round: &[Block], walk: &mut Walk, clause: &mut Clause) -> Result<(), SourceErr>
+    fn clause(&self, round: &[Block], walk: &mut Walk, clause: &mut Clause) -> Result<(), SourceErr<NameFault>>
         requires { WritesNested self.now.depth (F.pre self.now.visit) (F.post self.now.visit) }
         ensures { Writes (clause_in self.now.depth self.now.scope round.now (out-Clause clause.old) walk.old) result clause.new walk.new }
     {
@@ -35,7 +35,7 @@ impl<'a, F: Copy + Fn(&Scope<'_>, usize, &mut Walk, &mut Expr) -> Result<(), Sou
     }
 
     /// Resolves the clauses after the first, which lie inside.
-    fn further_clauses(&self, walk: &mut Walk, clauses: &mut Items<Clause>) -> Result<(), SourceErr>
+    fn further_clauses(&self, walk: &mut Walk, clauses: &mut Items<Clause>) -> Result<(), SourceErr<NameFault>>
         requires { WritesNested self.now.depth (F.pre self.now.visit) (F.post self.now.visit) }
         ensures { Writes (further_clauses self.now.depth self.now.scope (take 1 clauses.old) (drop 1 clauses.old) walk.old) result clauses.new walk.new }
     {
@@ -52,7 +52,7 @@ impl<'a, F: Copy + Fn(&Scope<'_>, usize, &mut Walk, &mut Expr) -> Result<(), Sou
         round: &[Block],
         walk: &mut Walk,
         clauses: &mut Items<Clause>,
-    ) -> Result<(), SourceErr>
+    ) -> Result<(), SourceErr<NameFault>>
         requires { WritesNested self.now.depth (F.pre self.now.visit) (F.post self.now.visit) }
         ensures { Writes (clauses_in self.now.depth self.now.scope round.now clauses.old walk.old) result clauses.new walk.new }
     {
@@ -70,7 +70,7 @@ impl<'a, F: Copy + Fn(&Scope<'_>, usize, &mut Walk, &mut Expr) -> Result<(), Sou
         walk: &mut Walk,
         element: &mut Boxed<Expr>,
         clauses: &mut Boxed<Items<Clause>>,
-    ) -> Result<(), SourceErr>
+    ) -> Result<(), SourceErr<NameFault>>
         requires { WritesNested self.now.depth (F.pre self.now.visit) (F.post self.now.visit) }
         ensures { Writes (list_in_block self.now.depth self.now.scope element.old clauses.old walk.old) result (e.ListComprehension element.new clauses.new) walk.new }
     {
@@ -93,7 +93,7 @@ impl<'a, F: Copy + Fn(&Scope<'_>, usize, &mut Walk, &mut Expr) -> Result<(), Sou
         element: &mut Boxed<Expr>,
         clauses: &mut Boxed<Items<Clause>>,
         frame: &mut ComprehensionFrame,
-    ) -> Result<(), SourceErr>
+    ) -> Result<(), SourceErr<NameFault>>
         requires { WritesNested self.now.depth (F.pre self.now.visit) (F.post self.now.visit) }
         ensures { Writes (list_comprehension self.now.depth self.now.scope element.old clauses.old walk.old) result (e.ListComprehension element.new clauses.new frame.new) walk.new }
     {
@@ -114,7 +114,7 @@ impl<'a, F: Copy + Fn(&Scope<'_>, usize, &mut Walk, &mut Expr) -> Result<(), Sou
         walk: &mut Walk,
         pair: &mut Boxed<Pair>,
         clauses: &mut Boxed<Items<Clause>>,
-    ) -> Result<(), SourceErr>
+    ) -> Result<(), SourceErr<NameFault>>
         requires { WritesNested self.now.depth (F.pre self.now.visit) (F.post self.now.visit) }
         ensures { Writes (dict_in_block self.now.depth self.now.scope pair.old clauses.old walk.old) result (e.DictComprehension pair.new clauses.new) walk.new }
     {
@@ -137,7 +137,7 @@ impl<'a, F: Copy + Fn(&Scope<'_>, usize, &mut Walk, &mut Expr) -> Result<(), Sou
         pair: &mut Boxed<Pair>,
         clauses: &mut Boxed<Items<Clause>>,
         frame: &mut ComprehensionFrame,
-    ) -> Result<(), SourceErr>
+    ) -> Result<(), SourceErr<NameFault>>
         requires { WritesNested self.now.depth (F.pre self.now.visit) (F.post self.now.visit) }
         ensures { Writes (dict_comprehension self.now.depth self.now.scope pair.old clauses.old walk.old) result (e.DictComprehension pair.new clauses.new frame.new) walk.new }
     {

@@ -13,17 +13,17 @@ use crate::identifier::fault_of;
 use crate::rules::Rules;
 use crate::scope::Scope;
 use crate::walk::Walk;
-use bq_base::{Fault, FaultKind, SourceErr};
+use bq_base::{Fault, NameFault, SourceErr};
 use bq_parse_grammar::{Choice, Comparison, Expr, Identifier, Operation};
 use bq_tree_items::{Boxed, Items};
 
-impl<'a, F: Copy + Fn(&Scope<'_>, usize, &mut Walk, &mut Expr) -> Result<(), SourceErr>> Rules<
+impl<'a, F: Copy + Fn(&Scope<'_>, usize, &mut Walk, &mut Expr) -> Result<(), SourceErr<NameFault>>> Rules<
     'a,
     F,
 > {
     /// Resolves the use of a name: it is of the innermost block that holds it, else F20.
     #[tactic(auto, unfolding(bq_resolve_scope::specs::Expressions::use_at))]
-    fn name(&self, walk: &mut Walk, name: &mut Identifier) -> Result<(), SourceErr>
+    fn name(&self, walk: &mut Walk, name: &mut Identifier) -> Result<(), SourceErr<NameFault>>
         ensures { Writes (in_scope spec.expr_by self.now.depth self.now.scope (Expr-F.Expr::Name name.old) walk.old) result (e.Name name.new) walk.new }
     {
         match self.scope.file.use_of(self.scope.blocks, &name.name) {
@@ -31,12 +31,12 @@ impl<'a, F: Copy + Fn(&Scope<'_>, usize, &mut Walk, &mut Expr) -> Result<(), Sou
                 name.referent = referent;
                 Ok(())
             }
-            None => Err(SourceErr::Bad(fault_of(FaultKind::UnknownName, name)?)),
+            None => Err(SourceErr::Bad(fault_of(NameFault::UnknownName, name)?)),
         }
     }
 
     #[tactic(auto, unfolding(bq_resolve_scope::specs::Expressions::operation))]
-    fn operation(&self, walk: &mut Walk, operation: &mut Operation) -> Result<(), SourceErr>
+    fn operation(&self, walk: &mut Walk, operation: &mut Operation) -> Result<(), SourceErr<NameFault>>
         requires { WritesNested self.now.depth (F.pre self.now.visit) (F.post self.now.visit) }
         ensures { Writes (in_scope spec.operation self.now.depth self.now.scope operation.old walk.old) result operation.new walk.new }
     {
@@ -47,7 +47,7 @@ impl<'a, F: Copy + Fn(&Scope<'_>, usize, &mut Walk, &mut Expr) -> Result<(), Sou
         &self,
         walk: &mut Walk,
         operations: &mut Items<Operation>,
-    ) -> Result<(), SourceErr>
+    ) -> Result<(), SourceErr<NameFault>>
         requires { WritesNested self.now.depth (F.pre self.now.visit) (F.post self.now.visit) }
         ensures { Writes (visit.each (in_scope spec.operation self.now.depth self.now.scope) [] operations.old walk.old) result operations.new walk.new }
     {
@@ -63,7 +63,7 @@ impl<'a, F: Copy + Fn(&Scope<'_>, usize, &mut Walk, &mut Expr) -> Result<(), Sou
         walk: &mut Walk,
         first: &mut Boxed<Expr>,
         operations: &mut Items<Operation>,
-    ) -> Result<(), SourceErr>
+    ) -> Result<(), SourceErr<NameFault>>
         requires { WritesNested self.now.depth (F.pre self.now.visit) (F.post self.now.visit) }
         ensures { Writes (in_scope spec.expr_by self.now.depth self.now.scope (Expr-F.Binary first.old operations.old) walk.old) result (e.Binary first.new operations.new) walk.new }
     {
@@ -77,7 +77,7 @@ impl<'a, F: Copy + Fn(&Scope<'_>, usize, &mut Walk, &mut Expr) -> Result<(), Sou
         left: &mut Boxed<Expr>,
         comparison: Comparison,
         right: &mut Boxed<Expr>,
-    ) -> Result<(), SourceErr>
+    ) -> Result<(), SourceErr<NameFault>>
         requires { WritesNested self.now.depth (F.pre self.now.visit) (F.post self.now.visit) }
         ensures { Writes (in_scope spec.expr_by self.now.depth self.now.scope (Expr-F.Compare left.old comparison right.old) walk.old) result (e.Compare left.new comparison right.new) walk.new }
     {
@@ -91,7 +91,7 @@ impl<'a, F: Copy + Fn(&Scope<'_>, usize, &mut Walk, &mut Expr) -> Result<(), Sou
         walk: &mut Walk,
         choices: &mut Items<Choice>,
         last: &mut Boxed<Expr>,
-    ) -> Result<(), SourceErr>
+    ) -> Result<(), SourceErr<NameFault>>
         requires { WritesNested self.now.depth (F.pre self.now.visit) (F.post self.now.visit) }
         ensures { Writes (in_scope spec.expr_by self.now.depth self.now.scope (Expr-F.Conditional choices.old last.old) walk.old) result (e.Conditional choices.new last.new) walk.new }
     {
@@ -100,7 +100,7 @@ impl<'a, F: Copy + Fn(&Scope<'_>, usize, &mut Walk, &mut Expr) -> Result<(), Sou
     }
 
     /// Resolves an expression, of any form.
-    fn expr_by(&self, walk: &mut Walk, expr: &mut Expr) -> Result<(), SourceErr>
+    fn expr_by(&self, walk: &mut Walk, expr: &mut Expr) -> Result<(), SourceErr<NameFault>>
         requires { WritesNested self.now.depth (F.pre self.now.visit) (F.post self.now.visit) }
         ensures { Writes (in_scope spec.expr_by self.now.depth self.now.scope (out-Expr expr.old) walk.old) result expr.new walk.new }
     {
@@ -136,11 +136,11 @@ pub fn expr_to(
     depth: usize,
     walk: &mut Walk,
     expr: &mut Expr,
-) -> Result<(), SourceErr>
+) -> Result<(), SourceErr<NameFault>>
     ensures { Writes (spec.expr_to depth scope.now.file.now scope.now.blocks.now expr.old walk.old) result expr.new walk.new }
 {
     if depth == 0 {
-        return Err(SourceErr::Bad(Fault::at(FaultKind::Nesting, 0)));
+        return Err(SourceErr::Bad(Fault::at(NameFault::Nesting, 0)));
     }
     Rules {
         scope: *scope,

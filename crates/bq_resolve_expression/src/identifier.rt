@@ -7,12 +7,12 @@ ghost use Rattle.bq_resolve_expression.specs.Walks.{Writes};
 
 use crate::scope::Scope;
 use crate::walk::Walk;
-use bq_base::{Fault, FaultKind, SourceErr};
+use bq_base::{Fault, NameFault, SourceErr};
 use bq_parse_grammar::{FileKind, Identifier, Referent};
 use std::alloc::AllocError;
 
 /// Returns a fault at a name.
-pub fn fault_of(kind: FaultKind, name: &Identifier) -> Result<Fault, AllocError>
+pub fn fault_of(kind: NameFault, name: &Identifier) -> Result<Fault<NameFault>, AllocError>
     ensures { IfOk result (λ f. f ≡ fault_of kind name.now) }
 {
     Ok(Fault {
@@ -25,7 +25,7 @@ pub fn fault_of(kind: FaultKind, name: &Identifier) -> Result<Fault, AllocError>
 /// Resolves a name that is bound: its block holds it. Outside functions and comprehensions, where there is no enclosing block, it is a
 /// name of the file, which a .bzl file binds once.
 #[tactic(auto, unfolding(bq_resolve_scope::specs::Expressions::bound_at, bq_resolve_scope::specs::Expressions::bind_global))]
-pub fn bound_at(scope: &Scope<'_>, walk: &mut Walk, name: &mut Identifier) -> Result<(), SourceErr>
+pub fn bound_at(scope: &Scope<'_>, walk: &mut Walk, name: &mut Identifier) -> Result<(), SourceErr<NameFault>>
     ensures writes { Writes (spec.bound_at scope.now.file.now scope.now.blocks.now name.old walk.old) result name.new walk.new }
     ensures spelling { name.new.name ≡ name.old.name }
 {
@@ -35,7 +35,7 @@ pub fn bound_at(scope: &Scope<'_>, walk: &mut Walk, name: &mut Identifier) -> Re
             FileKind::Bzl => walk.bound.has(&name.name) || walk.loaded.has(&name.name),
         };
         if is_rebound {
-            return Err(SourceErr::Bad(fault_of(FaultKind::Rebound, name)?));
+            return Err(SourceErr::Bad(fault_of(NameFault::Rebound, name)?));
         }
         walk.bound.add(&name.name)?;
     }
@@ -48,6 +48,6 @@ pub fn bound_at(scope: &Scope<'_>, walk: &mut Walk, name: &mut Identifier) -> Re
             name.referent = Referent::Global(k);
             Ok(())
         }
-        _ => Err(SourceErr::Bad(fault_of(FaultKind::UnknownName, name)?)),
+        _ => Err(SourceErr::Bad(fault_of(NameFault::UnknownName, name)?)),
     }
 }

@@ -13,7 +13,7 @@ use crate::identifier::fault_of;
 use crate::rules::Rules;
 use crate::scope::Scope;
 use crate::walk::Walk;
-use bq_base::{FaultKind, SourceErr};
+use bq_base::{NameFault, SourceErr};
 use bq_parse_grammar::{Expr, FileKind, Referent, Suffix};
 use bq_resolve_predeclared::Predeclared;
 use bq_resolve_scope::Namespace;
@@ -51,7 +51,7 @@ fn refer(operand: &mut Expr, member: Predeclared)
     }
 }
 
-impl<'a, F: Copy + Fn(&Scope<'_>, usize, &mut Walk, &mut Expr) -> Result<(), SourceErr>> Rules<
+impl<'a, F: Copy + Fn(&Scope<'_>, usize, &mut Walk, &mut Expr) -> Result<(), SourceErr<NameFault>>> Rules<
     'a,
     F,
 > {
@@ -62,7 +62,7 @@ impl<'a, F: Copy + Fn(&Scope<'_>, usize, &mut Walk, &mut Expr) -> Result<(), Sou
         walk: &mut Walk,
         operand: &mut Boxed<Expr>,
         suffixes: &mut Items<Suffix>,
-    ) -> Result<(), SourceErr>
+    ) -> Result<(), SourceErr<NameFault>>
         requires { WritesNested self.now.depth (F.pre self.now.visit) (F.post self.now.visit) }
         ensures { Writes (in_scope spec.operand self.now.depth self.now.scope operand.old suffixes.old walk.old) result (e.Primary operand.new suffixes.new) walk.new }
     {
@@ -76,7 +76,7 @@ impl<'a, F: Copy + Fn(&Scope<'_>, usize, &mut Walk, &mut Expr) -> Result<(), Sou
         member: Predeclared,
         walk: &mut Walk,
         suffix: &mut Suffix,
-    ) -> Result<(), SourceErr>
+    ) -> Result<(), SourceErr<NameFault>>
         requires { WritesNested self.now.depth (F.pre self.now.visit) (F.post self.now.visit) }
         ensures { Writes (in_scope members.member_suffix_by self.now.depth self.now.scope member (out-Suffix suffix.old) walk.old) result suffix.new walk.new }
     {
@@ -96,7 +96,7 @@ impl<'a, F: Copy + Fn(&Scope<'_>, usize, &mut Walk, &mut Expr) -> Result<(), Sou
         walk: &mut Walk,
         operand: &mut Boxed<Expr>,
         suffixes: &mut Items<Suffix>,
-    ) -> Result<(), SourceErr>
+    ) -> Result<(), SourceErr<NameFault>>
         requires nested { WritesNested self.now.depth (F.pre self.now.visit) (F.post self.now.visit) }
         requires some { 0 < length suffixes.old }
         ensures { Writes (in_scope members.member_primary self.now.depth self.now.scope member operand.old suffixes.old walk.old) result (e.Primary operand.new suffixes.new) walk.new }
@@ -114,14 +114,14 @@ impl<'a, F: Copy + Fn(&Scope<'_>, usize, &mut Walk, &mut Expr) -> Result<(), Sou
         walk: &mut Walk,
         operand: &mut Boxed<Expr>,
         suffixes: &mut Items<Suffix>,
-    ) -> Result<(), SourceErr>
+    ) -> Result<(), SourceErr<NameFault>>
         requires { WritesNested self.now.depth (F.pre self.now.visit) (F.post self.now.visit) }
         ensures { Writes (in_scope spec.primary self.now.depth self.now.scope operand.old suffixes.old walk.old) result (e.Primary operand.new suffixes.new) walk.new }
     {
         if let Some(space) = namespace_at(&self.scope, operand.get()) {
             if let [Suffix::Method(name, _), ..] = suffixes.as_slice() {
                 let Some(member) = self.scope.file.member(space, &name.name) else {
-                    return Err(SourceErr::Bad(fault_of(FaultKind::UnknownName, name)?));
+                    return Err(SourceErr::Bad(fault_of(NameFault::UnknownName, name)?));
                 };
                 return self.member_call(member, walk, operand, suffixes);
             }

@@ -8,7 +8,7 @@ ghost use Rattle.bq_resolve_expression.specs.Walks.{Writes, WritesNested};
 
 use crate::scope::Scope;
 use crate::walk::Walk;
-use bq_base::SourceErr;
+use bq_base::{NameFault, SourceErr};
 use bq_parse_grammar::{Choice, Expr, Pair};
 use bq_tree_items::{Boxed, Items};
 
@@ -20,12 +20,12 @@ pub struct Rules<'a, F> {
     pub visit: F,
 }
 
-impl<'a, F: Copy + Fn(&Scope<'_>, usize, &mut Walk, &mut Expr) -> Result<(), SourceErr>> Rules<
+impl<'a, F: Copy + Fn(&Scope<'_>, usize, &mut Walk, &mut Expr) -> Result<(), SourceErr<NameFault>>> Rules<
     'a,
     F,
 > {
     /// Resolves an expression inside.
-    pub fn expr(&self, walk: &mut Walk, expr: &mut Expr) -> Result<(), SourceErr>
+    pub fn expr(&self, walk: &mut Walk, expr: &mut Expr) -> Result<(), SourceErr<NameFault>>
         requires { WritesNested self.now.depth (F.pre self.now.visit) (F.post self.now.visit) }
         ensures { Writes (spec.expr_to self.now.depth self.now.scope.file.now self.now.scope.blocks.now expr.old walk.old) result expr.new walk.new }
     {
@@ -33,7 +33,7 @@ impl<'a, F: Copy + Fn(&Scope<'_>, usize, &mut Walk, &mut Expr) -> Result<(), Sou
     }
 
     /// Resolves an expression inside, in its box.
-    pub fn boxed(&self, walk: &mut Walk, expr: &mut Boxed<Expr>) -> Result<(), SourceErr>
+    pub fn boxed(&self, walk: &mut Walk, expr: &mut Boxed<Expr>) -> Result<(), SourceErr<NameFault>>
         requires { WritesNested self.now.depth (F.pre self.now.visit) (F.post self.now.visit) }
         ensures { Writes (spec.expr_to self.now.depth self.now.scope.file.now self.now.scope.blocks.now expr.old walk.old) result expr.new walk.new }
     {
@@ -41,7 +41,7 @@ impl<'a, F: Copy + Fn(&Scope<'_>, usize, &mut Walk, &mut Expr) -> Result<(), Sou
     }
 
     /// Resolves expressions, one after another.
-    pub fn exprs(&self, walk: &mut Walk, exprs: &mut Items<Expr>) -> Result<(), SourceErr>
+    pub fn exprs(&self, walk: &mut Walk, exprs: &mut Items<Expr>) -> Result<(), SourceErr<NameFault>>
         requires { WritesNested self.now.depth (F.pre self.now.visit) (F.post self.now.visit) }
         ensures { Writes (visit.each (spec.expr_to self.now.depth self.now.scope.file.now self.now.scope.blocks.now) [] exprs.old walk.old) result exprs.new walk.new }
     {
@@ -53,7 +53,7 @@ impl<'a, F: Copy + Fn(&Scope<'_>, usize, &mut Walk, &mut Expr) -> Result<(), Sou
 
     /// `key: value`
     #[tactic(auto, unfolding(bq_resolve_scope::specs::Expressions::pair))]
-    pub fn pair(&self, walk: &mut Walk, pair: &mut Pair) -> Result<(), SourceErr>
+    pub fn pair(&self, walk: &mut Walk, pair: &mut Pair) -> Result<(), SourceErr<NameFault>>
         requires { WritesNested self.now.depth (F.pre self.now.visit) (F.post self.now.visit) }
         ensures { Writes (in_scope spec.pair self.now.depth self.now.scope pair.old walk.old) result pair.new walk.new }
     {
@@ -61,7 +61,7 @@ impl<'a, F: Copy + Fn(&Scope<'_>, usize, &mut Walk, &mut Expr) -> Result<(), Sou
         self.expr(walk, &mut pair.value)
     }
 
-    pub fn pairs(&self, walk: &mut Walk, pairs: &mut Items<Pair>) -> Result<(), SourceErr>
+    pub fn pairs(&self, walk: &mut Walk, pairs: &mut Items<Pair>) -> Result<(), SourceErr<NameFault>>
         requires { WritesNested self.now.depth (F.pre self.now.visit) (F.post self.now.visit) }
         ensures { Writes (visit.each (in_scope spec.pair self.now.depth self.now.scope) [] pairs.old walk.old) result pairs.new walk.new }
     {
@@ -73,7 +73,7 @@ impl<'a, F: Copy + Fn(&Scope<'_>, usize, &mut Walk, &mut Expr) -> Result<(), Sou
 
     /// `value if condition`: the value stands before the condition.
     #[tactic(auto, unfolding(bq_resolve_scope::specs::Expressions::choice))]
-    fn choice(&self, walk: &mut Walk, choice: &mut Choice) -> Result<(), SourceErr>
+    fn choice(&self, walk: &mut Walk, choice: &mut Choice) -> Result<(), SourceErr<NameFault>>
         requires { WritesNested self.now.depth (F.pre self.now.visit) (F.post self.now.visit) }
         ensures { Writes (in_scope spec.choice self.now.depth self.now.scope choice.old walk.old) result choice.new walk.new }
     {
@@ -81,7 +81,7 @@ impl<'a, F: Copy + Fn(&Scope<'_>, usize, &mut Walk, &mut Expr) -> Result<(), Sou
         self.expr(walk, &mut choice.condition)
     }
 
-    pub fn choices(&self, walk: &mut Walk, choices: &mut Items<Choice>) -> Result<(), SourceErr>
+    pub fn choices(&self, walk: &mut Walk, choices: &mut Items<Choice>) -> Result<(), SourceErr<NameFault>>
         requires { WritesNested self.now.depth (F.pre self.now.visit) (F.post self.now.visit) }
         ensures { Writes (visit.each (in_scope spec.choice self.now.depth self.now.scope) [] choices.old walk.old) result choices.new walk.new }
     {

@@ -13,15 +13,15 @@ ghost use Rattle.bq_resolve_expression.specs.Walks.{Writes, WritesNested};
 use crate::rules::Rules;
 use crate::scope::Scope;
 use crate::walk::Walk;
-use bq_base::SourceErr;
+use bq_base::{NameFault, SourceErr};
 use bq_parse_grammar::{Argument, Expr, Suffix};
 use bq_tree_items::{Boxed, Items};
 
-impl<'a, F: Copy + Fn(&Scope<'_>, usize, &mut Walk, &mut Expr) -> Result<(), SourceErr>> Rules<
+impl<'a, F: Copy + Fn(&Scope<'_>, usize, &mut Walk, &mut Expr) -> Result<(), SourceErr<NameFault>>> Rules<
     'a,
     F,
 > {
-    fn argument(&self, walk: &mut Walk, argument: &mut Argument) -> Result<(), SourceErr>
+    fn argument(&self, walk: &mut Walk, argument: &mut Argument) -> Result<(), SourceErr<NameFault>>
         requires { WritesNested self.now.depth (F.pre self.now.visit) (F.post self.now.visit) }
         ensures { Writes (in_scope spec.argument_by self.now.depth self.now.scope (out-Argument argument.old) walk.old) result argument.new walk.new }
     {
@@ -38,7 +38,7 @@ impl<'a, F: Copy + Fn(&Scope<'_>, usize, &mut Walk, &mut Expr) -> Result<(), Sou
         &self,
         walk: &mut Walk,
         arguments: &mut Items<Argument>,
-    ) -> Result<(), SourceErr>
+    ) -> Result<(), SourceErr<NameFault>>
         requires { WritesNested self.now.depth (F.pre self.now.visit) (F.post self.now.visit) }
         ensures { Writes (in_scope spec.arguments self.now.depth self.now.scope arguments.old walk.old) result arguments.new walk.new }
     {
@@ -48,7 +48,7 @@ impl<'a, F: Copy + Fn(&Scope<'_>, usize, &mut Walk, &mut Expr) -> Result<(), Sou
         Ok(())
     }
 
-    fn optional(&self, walk: &mut Walk, part: &mut Option<Boxed<Expr>>) -> Result<(), SourceErr>
+    fn optional(&self, walk: &mut Walk, part: &mut Option<Boxed<Expr>>) -> Result<(), SourceErr<NameFault>>
         requires { WritesNested self.now.depth (F.pre self.now.visit) (F.post self.now.visit) }
         ensures { Writes (visit.optional (spec.expr_to self.now.depth self.now.scope.file.now self.now.scope.blocks.now) part.old walk.old) result part.new walk.new }
     {
@@ -65,7 +65,7 @@ impl<'a, F: Copy + Fn(&Scope<'_>, usize, &mut Walk, &mut Expr) -> Result<(), Sou
         start: &mut Option<Boxed<Expr>>,
         stop: &mut Option<Boxed<Expr>>,
         step: &mut Option<Boxed<Expr>>,
-    ) -> Result<(), SourceErr>
+    ) -> Result<(), SourceErr<NameFault>>
         requires { WritesNested self.now.depth (F.pre self.now.visit) (F.post self.now.visit) }
         ensures { Writes (in_scope spec.suffix_by self.now.depth self.now.scope (Suffix-F.Slice start.old stop.old step.old) walk.old) result (form.Slice start.new stop.new step.new) walk.new }
     {
@@ -75,7 +75,7 @@ impl<'a, F: Copy + Fn(&Scope<'_>, usize, &mut Walk, &mut Expr) -> Result<(), Sou
     }
 
     /// Resolves what is done to an operand. The name of a method refers to nothing: it is looked up in the operand's value.
-    pub fn suffix(&self, walk: &mut Walk, suffix: &mut Suffix) -> Result<(), SourceErr>
+    pub fn suffix(&self, walk: &mut Walk, suffix: &mut Suffix) -> Result<(), SourceErr<NameFault>>
         requires { WritesNested self.now.depth (F.pre self.now.visit) (F.post self.now.visit) }
         ensures { Writes (in_scope spec.suffix_by self.now.depth self.now.scope (out-Suffix suffix.old) walk.old) result suffix.new walk.new }
     {
@@ -95,7 +95,7 @@ impl<'a, F: Copy + Fn(&Scope<'_>, usize, &mut Walk, &mut Expr) -> Result<(), Sou
         first: usize,
         walk: &mut Walk,
         suffixes: &mut Items<Suffix>,
-    ) -> Result<(), SourceErr>
+    ) -> Result<(), SourceErr<NameFault>>
         requires { WritesNested self.now.depth (F.pre self.now.visit) (F.post self.now.visit) }
         ensures { Writes (in_scope spec.suffixes self.now.depth self.now.scope (take first suffixes.old) (drop first suffixes.old) walk.old) result suffixes.new walk.new }
     {

@@ -9,11 +9,11 @@ use crate::identifier::bound_at;
 use crate::rules::Rules;
 use crate::scope::Scope;
 use crate::walk::Walk;
-use bq_base::{Fault, FaultKind, SourceErr};
+use bq_base::{Fault, NameFault, SourceErr};
 use bq_parse_grammar::{Expr, TargetExpr};
 use bq_tree_items::Items;
 
-impl<'a, F: Copy + Fn(&Scope<'_>, usize, &mut Walk, &mut Expr) -> Result<(), SourceErr>> Rules<
+impl<'a, F: Copy + Fn(&Scope<'_>, usize, &mut Walk, &mut Expr) -> Result<(), SourceErr<NameFault>>> Rules<
     'a,
     F,
 > {
@@ -23,7 +23,7 @@ impl<'a, F: Copy + Fn(&Scope<'_>, usize, &mut Walk, &mut Expr) -> Result<(), Sou
         layers: usize,
         walk: &mut Walk,
         targets: &mut Items<TargetExpr>,
-    ) -> Result<(), SourceErr>
+    ) -> Result<(), SourceErr<NameFault>>
         requires { WritesNested self.now.depth (F.pre self.now.visit) (F.post self.now.visit) }
         ensures { Writes (visit.each (target_in self.now.depth self.now.scope layers) [] targets.old walk.old) result targets.new walk.new }
     {
@@ -41,12 +41,12 @@ impl<'a, F: Copy + Fn(&Scope<'_>, usize, &mut Walk, &mut Expr) -> Result<(), Sou
         layers: usize,
         walk: &mut Walk,
         target: &mut TargetExpr,
-    ) -> Result<(), SourceErr>
+    ) -> Result<(), SourceErr<NameFault>>
         requires { WritesNested self.now.depth (F.pre self.now.visit) (F.post self.now.visit) }
         ensures { Writes (target_in self.now.depth self.now.scope layers target.old walk.old) result target.new walk.new }
     {
         if layers == 0 {
-            return Err(SourceErr::Bad(Fault::at(FaultKind::Nesting, 0)));
+            return Err(SourceErr::Bad(Fault::at(NameFault::Nesting, 0)));
         }
         match target {
             TargetExpr::Name(name) => bound_at(&self.scope, walk, name),

@@ -20,5 +20,5 @@
 mod depth;
 mod slot;
 
-pub use depth::{faults_are_of_names, no_file_is_too_deep};
+pub use depth::no_file_is_too_deep;
 pub use slot::slots_are_shared_by_name_and_block;

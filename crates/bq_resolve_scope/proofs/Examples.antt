@@ -2,8 +2,9 @@
 use Rattle.std.proofs.Common.{◌≡◌, ◌∙◌, refl, ap, ℕ, suc, List, [], ◌∷◌, Some, None, Result, Ok, Err, rules}
 use Rattle.std.specs.Prelude.{codes, pos}
 use denote.Hole.Carrier.{out}
+use Rattle.bq_base.specs.declared.fault.NameFault.{NameFault}
 use Rattle.bq_base.specs.declared.fault.Fault.{Fault}
-use Rattle.bq_base.specs.declared.fault.FaultKind.TheVariants as f
+use Rattle.bq_base.specs.declared.fault.NameFault.TheVariants as f
 use Rattle.bq_parse_grammar.specs.declared.tree.Argument.{Argument}
 use Rattle.bq_parse_grammar.specs.declared.tree.Argument.TheOpen.{Expr-F, Suffix-F, Clause-F}
 use Rattle.bq_parse_grammar.specs.declared.tree.ComprehensionFrame.{ComprehensionFrame}
@@ -102,11 +103,11 @@ first_iterable =
 abbrev file_of : UniverseParts → FileParts
 file_of u = record { universe = u; globals = []; loaded = [] }
 
-abbrev line_by : Result (Expr × Passed) Fault → Result ResolvedFile Fault
+abbrev line_by : Result (Expr × Passed) (Fault NameFault) → Result ResolvedFile (Fault NameFault)
 line_by (Err why) = Err why
 line_by (Ok r) = Ok (record { statements = line_of 1 (small.Expr r.0) ∷ []; functions = r.1.functions; globals = []; loads = r.1.loads })
 
-one_line : (u : UniverseParts) (x : Expr) (r : Result (Expr × Passed) Fault) → expr_to max_layers (file_of u) [] x nothing_passed ≡ r
+one_line : (u : UniverseParts) (x : Expr) (r : Result (Expr × Passed) (Fault NameFault)) → expr_to max_layers (file_of u) [] x nothing_passed ≡ r
     → resolved u (top 1 (simple 1 (small.Expr x)) ∷ []) ≡ line_by r
 unfolding with_small with_stmt_to with_stmt global_names with_load with_loads loaded_names each expr small_stmt file_names top_level resolved out-Stmt roll-Stmt out expr_to max_layers
 one_line u x (Err why) e = rw e refl
@@ -122,7 +123,7 @@ unfolding suffixes arguments each
 no_arguments file visit s = rw (open_call []) refl
 
 module _ (file : FileParts) (n : List ℕ) where
-  abbrev unknown : List ℕ → Fault
+  abbrev unknown : List ℕ → Fault NameFault
   unknown name = record { kind = f.UnknownName; line = 1; detail = name }
 
   use_layer : (depth : ℕ) (s : Passed) → expr_to (suc depth) file [] (named 1 n) s ≡ following (use_at file [] (word 1 n) s) (λ x. pure (e.Name x))

@@ -1,8 +1,8 @@
 -- What some files resolve to, by hand from the Starlark specification, "Name binding and variables", and Bazel's rules on .bzl files.
 use Rattle.std.specs.Prelude.{◌≡◌, ℕ, pos, List, [], ◌∷◌, Some, None, Result, Ok, Err, codes}
 use Rattle.bq_base.specs.declared.fault.Fault.{Fault}
-use Rattle.bq_base.specs.declared.fault.FaultKind.{FaultKind}
-use Rattle.bq_base.specs.declared.fault.FaultKind.TheVariants as f
+use Rattle.bq_base.specs.declared.fault.NameFault.{NameFault}
+use Rattle.bq_base.specs.declared.fault.NameFault.TheVariants as f
 use Rattle.bq_parse_grammar.specs.declared.tree.Clause.TheVariants as clause
 use Rattle.bq_parse_grammar.specs.declared.tree.ComprehensionFrame.{ComprehensionFrame}
 use Rattle.bq_parse_grammar.specs.declared.tree.ComprehensionFrame.TheVariants as frame
@@ -95,13 +95,13 @@ each_of line name x = e.ListComprehension (named line name) (clause.For (target.
 
 -- ---- what comes of them
 
-abbrev pub fault : FaultKind → ℕ → List ℕ → Result ResolvedFile Fault
+abbrev pub fault : NameFault → ℕ → List ℕ → Result ResolvedFile (Fault NameFault)
 fault kind line name = Err (record { kind = kind; line = line; detail = name })
 
 abbrev pub line_of : ℕ → SmallKind → FileLine
 line_of line kind = record { line = line; statement = outside.Simple (record { line = line; kind = kind } ∷ []) }
 
-abbrev pub of_lines : List FileLine → List (List ℕ) → Result ResolvedFile Fault
+abbrev pub of_lines : List FileLine → List (List ℕ) → Result ResolvedFile (Fault NameFault)
 of_lines ls globals = Ok (record { statements = ls; functions = []; globals = globals; loads = [] })
 
 -- a name that is resolved

@@ -1,7 +1,8 @@
 -- What an expression resolves to, a case for each form, in the order of its text. `visit` resolves the expressions in it.
 use Rattle.std.specs.Prelude.{ℕ, zero, suc, ◌+◌, List, [], ◌∷◌, length, Bool, true, false, ◌||◌, ◌&&◌, Option, Some, None, Result, Ok, Err, if◌then◌else◌}
+use Rattle.bq_base.specs.declared.fault.NameFault.{NameFault}
 use Rattle.bq_base.specs.declared.fault.Fault.{Fault}
-use Rattle.bq_base.specs.declared.fault.FaultKind.TheVariants as f
+use Rattle.bq_base.specs.declared.fault.NameFault.TheVariants as f
 use Rattle.bq_base.specs.Fault.{fault_at}
 use Rattle.bq_parse_grammar.specs.declared.tree.FileKind.{FileKind}
 use Rattle.bq_parse_grammar.specs.declared.tree.FileKind.TheVariants as kinds
@@ -65,7 +66,7 @@ abbrev pub open_block : {A : Type 0} → List Name → (BlockParts → Visit A) 
 open_block names go = λ s. go (record { base = s.slots; names = names }) (record s { slots = s.slots + length names })
 
 -- a comprehension outside functions has a frame of its own; behind it there are as many slots as before
-abbrev pub framed : ℕ → Result ((ComprehensionFrame → Expr) × Passed) Fault → Result (Expr × Passed) Fault
+abbrev pub framed : ℕ → Result ((ComprehensionFrame → Expr) × Passed) (Fault NameFault) → Result (Expr × Passed) (Fault NameFault)
 framed slots (Err why) = Err why
 framed slots (Ok r) = Ok (r.0 (frame.Own r.1.slots), record r.1 { slots = slots })
 

@@ -1,5 +1,6 @@
 -- What a file resolves to, or its first fault.
 use Rattle.std.specs.Prelude.{ℕ, List, [], false, Result, Ok, Err}
+use Rattle.bq_base.specs.declared.fault.NameFault.{NameFault}
 use Rattle.bq_base.specs.declared.fault.Fault.{Fault}
 use Rattle.bq_parse_grammar.specs.declared.tree.Branch.{Branch}
 use Rattle.bq_parse_grammar.specs.declared.tree.Identifier.{Identifier}
@@ -41,14 +42,14 @@ module _ (file : FileParts) where
   top_level t = file_stmt t.line (out-Stmt t.statement) >>= λ x. pure (record { line = t.line; statement = x })
 
 -- what a walk over a file gives
-abbrev pub resolved_by : FileParts → Result (List FileLine × Passed) Fault → Result ResolvedFile Fault
+abbrev pub resolved_by : FileParts → Result (List FileLine × Passed) (Fault NameFault) → Result ResolvedFile (Fault NameFault)
 resolved_by file (Err why) = Err why
 resolved_by file (Ok r) = Ok (record { statements = r.0; functions = r.1.functions; globals = file.globals; loads = r.1.loads })
 
 -- a file, resolved among its names
-abbrev pub resolved_in : FileParts → List TopLevel → Result ResolvedFile Fault
+abbrev pub resolved_in : FileParts → List TopLevel → Result ResolvedFile (Fault NameFault)
 resolved_in file ts = resolved_by file (each (top_level file) [] ts nothing_passed)
 
 -- a file, resolved in a universe of predeclared names
-unfoldable pub resolved : UniverseParts → List TopLevel → Result ResolvedFile Fault
+unfoldable pub resolved : UniverseParts → List TopLevel → Result ResolvedFile (Fault NameFault)
 resolved universe ts = resolved_in (file_names universe ts) ts

@@ -1,7 +1,8 @@
 -- What a statement resolves to, in the order of its text, and what stands where it may not (F23).
 use Rattle.std.specs.Prelude.{ℕ, zero, suc, List, [], ◌∷◌, ◌++◌, length, Bool, true, false, ◌&&◌, Option, Result, Ok, Err, if◌then◌else◌}
+use Rattle.bq_base.specs.declared.fault.NameFault.{NameFault}
 use Rattle.bq_base.specs.declared.fault.Fault.{Fault}
-use Rattle.bq_base.specs.declared.fault.FaultKind.TheVariants as f
+use Rattle.bq_base.specs.declared.fault.NameFault.TheVariants as f
 use Rattle.bq_base.specs.Fault.{fault_at}
 use Rattle.bq_parse_grammar.specs.declared.tree.Branch.{Branch, out-Branch, roll-Branch}
 use Rattle.bq_parse_grammar.specs.declared.tree.Expr.{Expr}
@@ -164,7 +165,7 @@ module _ (file : FileParts) where
   statements_in names body = each (stmt_to max_layers (record { base = 0; names = names } ∷ []) false) [] body
 
   -- a function joins those of the file; its number is its place there
-  abbrev pub with_function : Name → List Formal → ℕ → Result (List Stmt × Passed) Fault → Result (ℕ × Passed) Fault
+  abbrev pub with_function : Name → List Formal → ℕ → Result (List Stmt × Passed) (Fault NameFault) → Result (ℕ × Passed) (Fault NameFault)
   with_function name ps slots (Err why) = Err why
   with_function name ps slots (Ok r) =
       Ok (length r.1.functions, record r.1 { slots = slots; functions = r.1.functions ++ record { name = name; parameters = ps; slots = r.1.slots; body = r.0 } ∷ [] })

@@ -1,7 +1,7 @@
 -- A walk along a tree in the order of its text, which ends at the first fault.
 use Rattle.std.specs.Prelude.{ℕ, List, [], ◌∷◌, ◌++◌, Option, Some, None, Result, Ok, Err}
 use Rattle.bq_base.specs.declared.fault.Fault.{Fault}
-use Rattle.bq_base.specs.declared.fault.FaultKind.{FaultKind}
+use Rattle.bq_base.specs.declared.fault.NameFault.{NameFault}
 use Rattle.bq_parse_grammar.specs.declared.tree.Identifier.{Identifier}
 use Rattle.bq_parse_grammar.specs.Literals.{name_line}
 use Rattle.bq_resolve_scope.specs.declared.file.Function.{Function}
@@ -25,10 +25,10 @@ nothing_passed = record { slots = 0; bound = []; loaded = []; functions = []; lo
 
 -- a part of the walk: it goes on with what was passed, or ends in a fault
 abbrev pub Visit : Type 0 → Type 0
-Visit A = Passed → Result (A × Passed) Fault
+Visit A = Passed → Result (A × Passed) (Fault NameFault)
 
 -- what follows a part, unless that met a fault
-abbrev pub following : {A B : Type 0} → Result (A × Passed) Fault → (A → Visit B) → Result (B × Passed) Fault
+abbrev pub following : {A B : Type 0} → Result (A × Passed) (Fault NameFault) → (A → Visit B) → Result (B × Passed) (Fault NameFault)
 following (Err f) go = Err f
 following (Ok r) go = go r.0 r.1
 
@@ -42,15 +42,15 @@ abbrev pub pure : {A : Type 0} → A → Visit A
 pure x = λ s. Ok (x, s)
 
 -- a fault about a name
-abbrev pub fault_of : FaultKind → Identifier → Fault
+abbrev pub fault_of : NameFault → Identifier → Fault NameFault
 fault_of kind n = record { kind = kind; line = name_line n; detail = n.name }
 
 -- the walk ends in a fault
-abbrev pub stop : {A : Type 0} → Fault → Visit A
+abbrev pub stop : {A : Type 0} → Fault NameFault → Visit A
 stop f = λ s. Err f
 
 -- a value, or this fault where it is missing
-abbrev pub given : {A : Type 0} → Fault → Option A → Visit A
+abbrev pub given : {A : Type 0} → Fault NameFault → Option A → Visit A
 given f None = stop f
 given f (Some x) = pure x
 

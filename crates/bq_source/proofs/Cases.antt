@@ -12,7 +12,7 @@ use Rattle.bq_source.specs.declared.piece.Piece.{Piece}
 use Rattle.bq_source.specs.declared.piece.Piece.TheVariants.{Lexed, Bad, LineEnd}
 use Rattle.bq_source.specs.Lexis.{newlines, newline_len, is_reserved}
 use Rattle.bq_source.specs.declared.token.TokenKind.TheVariants as k
-use Rattle.bq_base.specs.declared.fault.FaultKind.TheVariants as f
+use Rattle.bq_base.specs.declared.fault.TokenFault.TheVariants as f
 use Rattle.bq_source.specs.declared.operators.Lexeme.{Lexeme}
 use Rattle.bq_source.specs.Piece.{bytes}
 use Rattle.bq_source.specs.declared.token.TokenKind.{TokenKind}

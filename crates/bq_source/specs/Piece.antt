@@ -8,7 +8,7 @@ use Rattle.bq_source.specs.declared.piece.Extent.{Extent}
 use Rattle.bq_source.specs.declared.piece.Piece.{Piece}
 use Rattle.bq_source.specs.declared.piece.Piece.TheVariants.{Gap, LineEnd, Lexed, Bad}
 use Rattle.bq_source.specs.declared.token.TokenKind.TheVariants as k
-use Rattle.bq_base.specs.declared.fault.FaultKind.TheVariants as f
+use Rattle.bq_base.specs.declared.fault.TokenFault.TheVariants as f
 use Rattle.bq_source.specs.Lexis.{has, is_blank, is_letter, newlines, newline_len, comment_len, word_kind}
 use Rattle.bq_source.specs.Operators.{operator}
 use Rattle.bq_source.specs.Number.{begins_number, number_len, int_value}

@@ -4,8 +4,8 @@ use Rattle.std.specs.Prelude.{ℕ, ◌<◌, ◌≤◌, ◌≡◌, ◌⊎◌, Lis
 use Rattle.std.specs.List.{AllByRecursion, starts_with}
 use Rattle.bq_source.specs.declared.token.Token.{Token}
 use Rattle.bq_source.specs.declared.token.TokenKind.TheVariants as k
-use Rattle.bq_base.specs.declared.fault.FaultKind.{FaultKind}
-use Rattle.bq_base.specs.declared.fault.FaultKind.TheVariants as f
+use Rattle.bq_base.specs.declared.fault.TokenFault.{TokenFault}
+use Rattle.bq_base.specs.declared.fault.TokenFault.TheVariants as f
 use Rattle.bq_source.specs.declared.operators.Lexeme.{Lexeme}
 use Rattle.bq_source.specs.declared.operators.Lexeme.TheVariants.{Plain}
 use Rattle.bq_source.specs.declared.string_literal.StringLiteral.{StringLiteral}
@@ -98,7 +98,7 @@ pub record BeginsNothing (text : List ℕ) : Type 0 where
   pub no_joint : (rest : List ℕ) → text ≡ 92 ∷ rest → BeginsLineEnd rest → ⊥
 
 -- what is no piece, with how many lines further on its fault is
-pub data IsMisspelled (text : List ℕ) : FaultKind → ℕ → Type 0 where
+pub data IsMisspelled (text : List ℕ) : TokenFault → ℕ → Type 0 where
   bad_byte : 0 < length text → BeginsNothing text → IsMisspelled text f.BadByte 0
   bad_int : (bs rest : List ℕ) → text ≡ bs ++ rest → IsNumber bs rest → int_value bs ≡ None → IsMisspelled text f.BadInt 0
   open_string : begins_string text ≡ true → scan_string text ≡ None → IsMisspelled text f.OpenString 0
@@ -108,7 +108,7 @@ pub data IsMisspelled (text : List ℕ) : FaultKind → ℕ → Type 0 where
 -- what is no gap and no line end: a token, or what is none
 pub data IsNoGap (text : List ℕ) : Type 0 where
   spelled : (lexeme : Lexeme) (bs rest : List ℕ) → text ≡ bs ++ rest → IsSpelled lexeme bs rest → IsNoGap text
-  misspelled : (kind : FaultKind) (lines : ℕ) → IsMisspelled text kind lines → IsNoGap text
+  misspelled : (kind : TokenFault) (lines : ℕ) → IsMisspelled text kind lines → IsNoGap text
 
 -- A token lies in the text, and a string literal has a value.
 pub record Lies (text : List ℕ) (t : Token) : Type 0 where

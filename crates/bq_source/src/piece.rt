@@ -9,7 +9,7 @@ use crate::number::{begins_number, int_value, number_len};
 use crate::operators::{Lexeme, operator};
 use crate::string_literal::{begins_pair, begins_string, past_plain, rest_of, scan_string};
 use crate::token::TokenKind;
-use bq_base::FaultKind;
+use bq_base::TokenFault;
 
 /// How far a piece reaches.
 #[derive(Clone, Copy)]
@@ -27,7 +27,7 @@ pub enum Piece {
     LineEnd(Extent),
     Lexed(Lexeme, Extent),
     /// No piece begins here; the fault is this many lines further on.
-    Bad(FaultKind, usize),
+    Bad(TokenFault, usize),
 }
 
 #[tactic(auto, unfolding(crate::specs::Piece::number))]
@@ -39,7 +39,7 @@ fn number(text: &[u8]) -> Piece
     let len = number_len(text);
     match int_value(&text[..len]) {
         Some(_) => Piece::Lexed(Lexeme::Plain(TokenKind::Int), Extent { len, lines: 0 }),
-        None => Piece::Bad(FaultKind::BadInt, 0),
+        None => Piece::Bad(TokenFault::BadInt, 0),
     }
 }
 
@@ -50,10 +50,10 @@ fn any_string(text: &[u8]) -> Piece
     ensures fits { spec.Fits text.now result }
 {
     let Some(literal) = scan_string(text) else {
-        return Piece::Bad(FaultKind::OpenString, 0);
+        return Piece::Bad(TokenFault::OpenString, 0);
     };
     match literal.bad_escape {
-        Some(before) => Piece::Bad(FaultKind::Escape, newlines(&text[..before])),
+        Some(before) => Piece::Bad(TokenFault::Escape, newlines(&text[..before])),
         None => {
             let extent = Extent {
                 len: literal.len,
@@ -94,7 +94,7 @@ fn joined(behind: &[u8]) -> Piece
 {
     let n = newline_len(behind);
     if n == 0 {
-        return Piece::Bad(FaultKind::BadByte, 0);
+        return Piece::Bad(TokenFault::BadByte, 0);
     }
     Piece::Gap(Extent {
         len: n + 1,
@@ -109,7 +109,7 @@ pub fn next_piece(text: &[u8]) -> Piece
     ensures fits { spec.Fits text.now result }
 {
     let [first, behind @ ..] = text else {
-        return Piece::Bad(FaultKind::BadByte, 0);
+        return Piece::Bad(TokenFault::BadByte, 0);
     };
     if *first == b' ' || *first == b'\t' {
         let len = run_len(text, RunClass::Blank);
@@ -141,6 +141,6 @@ pub fn next_piece(text: &[u8]) -> Piece
     }
     match operator(*first, behind) {
         Some((len, lexeme)) => Piece::Lexed(lexeme, Extent { len, lines: 0 }),
-        None => Piece::Bad(FaultKind::BadByte, 0),
+        None => Piece::Bad(TokenFault::BadByte, 0),
     }
 }

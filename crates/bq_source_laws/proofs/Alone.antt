@@ -3,6 +3,7 @@ use Rattle.std.proofs.Common.{◌≡◌, ℕ, List, Result, Ok, refl, subst}
 use Rattle.std.specs.List.{AllByRecursion}
 use Rattle.bq_source.specs.declared.token.TokenKind.TheVariants as k
 use Rattle.bq_source.specs.declared.token.Token.{Token}
+use Rattle.bq_base.specs.declared.fault.TokenFault.{TokenFault}
 use Rattle.bq_base.specs.declared.fault.Fault.{Fault}
 use Rattle.bq_source.specs.Lexis.{word_kind}
 use Rattle.bq_source.specs.Operators.{operator}
@@ -14,7 +15,7 @@ use Rattle.bq_source_lexer.proofs.Reached.{every_text}
 use Rattle.bq_source_laws.specs.Tables.{keyword_table, reserved_table, mark_table, alone}
 use Rattle.bq_source_laws.proofs.Rows.{all_of}
 
-reads : (bs : List ℕ) (r : Result (List Token) Fault) → tokens_of bs ≡ r → Lexes bs r
+reads : (bs : List ℕ) (r : Result (List Token) (Fault TokenFault)) → tokens_of bs ≡ r → Lexes bs r
 reads bs r e = subst (Lexes bs) e (every_text bs)
 
 keyword_rows : AllByRecursion (λ row. tokens_of row.0 ≡ Ok (alone row.0 row.1)) keyword_table

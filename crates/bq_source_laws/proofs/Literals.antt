@@ -3,8 +3,8 @@ use Rattle.std.proofs.Common.{◌≡◌, ℕ, ◌+◌, List, [], ◌∷◌, ◌+
 use Rattle.std.specs.Prelude.{is_some}
 use Rattle.std.proofs.lemmas.List.{take_at, drop_at}
 use Rattle.bq_source.specs.declared.string_literal.Quoting.{Quoting}
-use Rattle.bq_base.specs.declared.fault.FaultKind.{FaultKind}
-use Rattle.bq_base.specs.declared.fault.FaultKind.TheVariants as f
+use Rattle.bq_base.specs.declared.fault.TokenFault.{TokenFault}
+use Rattle.bq_base.specs.declared.fault.TokenFault.TheVariants as f
 use Rattle.bq_source.specs.Lexis.{newlines}
 use Rattle.bq_source.specs.StringLiteral.{opening, opening_len, quotes_len, BodyItem, spelling, bad_escape, scan_string, prefix, prefix_by, quotes, quotes_by, IsLiteral, IsOpenLiteral, literal_of, AllStand}
 use Rattle.bq_source.specs.Spelling.{IsMisspelled, bad_byte, bad_int, open_string, bad_escape as escape_fault}
@@ -139,7 +139,7 @@ is_some_of : {A : Type 0} (o : Option A) → is_some o ≡ true → IsSome o
 is_some_of None h = cc
 is_some_of (Some x) h = refl
 
-unended_by : {text : List ℕ} {kind : FaultKind} {lines : ℕ} → IsMisspelled text kind lines → kind ≡ f.OpenString → IsOpenLiteral text × (lines ≡ 0)
+unended_by : {text : List ℕ} {kind : TokenFault} {lines : ℕ} → IsMisspelled text kind lines → kind ≡ f.OpenString → IsOpenLiteral text × (lines ≡ 0)
 unended_by (bad_byte some h) e = cc
 unended_by (bad_int bs rest h g v) e = cc
 unended_by {text = text} (open_string begins none) e = (found_open text (is_some_of (opening text) begins) none, refl)
@@ -166,7 +166,7 @@ module _ (q : Quoting) (text : List ℕ) (before : List BodyItem) (item : BodyIt
       let long : length (o ++ spelling before) ≡ n = omega arith in
       ap (take n) all ∙ take_at (o ++ spelling before) tail n long
 
-escape_by : {text : List ℕ} {kind : FaultKind} {lines : ℕ} → IsMisspelled text kind lines → kind ≡ f.Escape → HasBadEscape text lines
+escape_by : {text : List ℕ} {kind : TokenFault} {lines : ℕ} → IsMisspelled text kind lines → kind ≡ f.Escape → HasBadEscape text lines
 escape_by (bad_byte some h) e = cc
 escape_by (bad_int bs rest h g v) e = cc
 escape_by (open_string begins none) e = cc

@@ -11,8 +11,8 @@ use Rattle.bq_source.specs.declared.piece.Extent.{Extent}
 use Rattle.bq_source.specs.declared.piece.Piece.{Piece}
 use Rattle.bq_source.specs.declared.piece.Piece.TheVariants.{Gap, LineEnd, Lexed, Bad}
 use Rattle.bq_base.specs.declared.fault.Fault.{Fault}
-use Rattle.bq_base.specs.declared.fault.FaultKind.{FaultKind}
-use Rattle.bq_base.specs.declared.fault.FaultKind.TheVariants as f
+use Rattle.bq_base.specs.declared.fault.TokenFault.{TokenFault}
+use Rattle.bq_base.specs.declared.fault.TokenFault.TheVariants as f
 use Rattle.bq_base.specs.Fault.{fault_at}
 use Rattle.bq_source.specs.Operators.{kind_of}
 use Rattle.bq_source.specs.Spelling.{IsSpelled, IsNoGap, spelled, misspelled}
@@ -25,7 +25,7 @@ use Rattle.bq_source_laws.proofs.Places.{one_leaving, LastOf, last_of, before_la
 
 -- where the text leads: the place after the next piece and the rest, or a fault
 abbrev Way : Type 0
-Way = Result (Before × List ℕ) Fault
+Way = Result (Before × List ℕ) (Fault TokenFault)
 
 -- the text is the bytes of this piece and the rest
 record Split (text : List ℕ) (e : Extent) : Type 0 where
@@ -79,7 +79,7 @@ after_token b lexeme bs (Some marks) = past bs (record (with_tokens (marks ++ to
 
 data Lexes (b : Before) (lexeme : Lexeme) (bs rest : List ℕ) : Way → Type 0 where
   taken : (m : Option (List Token)) (us : List OpenBracket) → Indents b (Ok m) → Leaves (after_token b lexeme bs m).tokens us → Lexes b lexeme bs rest (Ok (after_token b lexeme bs m, rest))
-  not_indented : (x : Fault) → Indents b (Err x) → Lexes b lexeme bs rest (Err x)
+  not_indented : (x : Fault TokenFault) → Indents b (Err x) → Lexes b lexeme bs rest (Err x)
   closes_none : (m : Option (List Token)) (kind : TokenKind) (os : List OpenBracket) → Indents b (Ok m) → lexeme ≡ Closes kind → IsSpelled lexeme bs rest → Leaves b.tokens os
       → closed_by os kind ≡ None → Lexes b lexeme bs rest (Err (fault_at f.Bracket b.line))
 
@@ -111,7 +111,7 @@ closing_taken b lexeme kind bs rest (Some marks) os us ind is spells h g none =
     let earlier : Leaves (b.tokens ++ marks) os = marked_leaves b marks os ind h in
     closing_leaves b (b.tokens ++ marks) t lexeme kind bs rest os us refl is spells earlier (subst P (sym (append_assoc b.tokens marks (t ∷ []))) g) none
   where
-    marked_by : (b : Before) (marks : List Token) (r : Result (Option (List Token)) Fault) → Indents b r → r ≡ Ok (Some marks) → IsIndented b marks
+    marked_by : (b : Before) (marks : List Token) (r : Result (Option (List Token)) (Fault TokenFault)) → Indents b r → r ≡ Ok (Some marks) → IsIndented b marks
     marked_by b marks r (in_line h) e = let never : None ≡ Some marks = cc in cc
     marked_by b marks r (at_start more h) e = let same : more ≡ marks = cc in subst (IsIndented b) same h
     marked_by b marks r (at_tab h t) e = cc
@@ -127,7 +127,7 @@ one_lexed {b = b} {lexeme = lexeme} {bs = bs} {rest = rest} (taken m us h l) (cl
 one_lexed (not_indented x g) (taken m us h l) = absurd (ok_err m x (one_indent h g))
 one_lexed (not_indented x g) (not_indented y h) = same_err x y (one_indent g h)
   where
-    same_err : {A B : Type 0} (x y : Fault) → ◌≡◌ {A = Result A Fault} (Err x) (Err y) → ◌≡◌ {A = Result B Fault} (Err x) (Err y)
+    same_err : {A B : Type 0} (x y : Fault TokenFault) → ◌≡◌ {A = Result A (Fault TokenFault)} (Err x) (Err y) → ◌≡◌ {A = Result B (Fault TokenFault)} (Err x) (Err y)
     same_err x y e = let same : x ≡ y = cc in ap Err same
 one_lexed (not_indented x g) (closes_none n kind os h is spells before none) = absurd (ok_err n x (one_indent h g))
 one_lexed {b = b} {lexeme = lexeme} {bs = bs} {rest = rest} (closes_none n kind os g is spells before none) (taken m us h l) = absurd (closing_taken b lexeme kind bs rest m os us h is spells before l none)
@@ -136,11 +136,11 @@ one_lexed (closes_none n kind os h is spells before none) (closes_none m kind2 o
 
 -- ---- no piece
 
-data Fails (b : Before) (kind : FaultKind) (lines : ℕ) : Way → Type 0 where
-  ill_indented : (x : Fault) → Indents b (Err x) → Fails b kind lines (Err x)
+data Fails (b : Before) (kind : TokenFault) (lines : ℕ) : Way → Type 0 where
+  ill_indented : (x : Fault TokenFault) → Indents b (Err x) → Fails b kind lines (Err x)
   ill_spelled : (m : Option (List Token)) → Indents b (Ok m) → Fails b kind lines (Err (fault_at kind (b.line + lines)))
 
-one_failure : {b : Before} {kind : FaultKind} {lines : ℕ} {r q : Way} → Fails b kind lines r → Fails b kind lines q → r ≡ q
+one_failure : {b : Before} {kind : TokenFault} {lines : ℕ} {r q : Way} → Fails b kind lines r → Fails b kind lines q → r ≡ q
 one_failure (ill_indented x h) (ill_indented y g) = let both = one_indent h g in let same : x ≡ y = cc in ap Err same
 one_failure (ill_indented x h) (ill_spelled m g) = absurd (ok_err m x (one_indent g h))
 one_failure (ill_spelled m g) (ill_indented x h) = absurd (ok_err m x (one_indent g h))
@@ -174,12 +174,12 @@ one_doing b text (Lexed lexeme e) r q (s, h) (t, g) =
 one_doing b text (Bad kind lines) r q h g = one_failure h g
 
 -- the way from a place where the text goes on
-pub record Leads (b : Before) (text : List ℕ) (r : Result (Before × List ℕ) Fault) : Type 0 where
+pub record Leads (b : Before) (text : List ℕ) (r : Result (Before × List ℕ) (Fault TokenFault)) : Type 0 where
   piece : Piece
   next : Next text piece
   does : Does b text piece r
 
-pub one_way : (b : Before) (text : List ℕ) (r q : Result (Before × List ℕ) Fault) → Leads b text r → Leads b text q → r ≡ q
+pub one_way : (b : Before) (text : List ℕ) (r q : Result (Before × List ℕ) (Fault TokenFault)) → Leads b text r → Leads b text q → r ≡ q
 one_way b text r q h g =
     let same : h.piece ≡ g.piece = sym h.next.1 ∙ g.next.1 in
     let P : Piece → Type 0 = λ p. Does b text p r in
@@ -221,7 +221,7 @@ takes_leads b c text rest (layout.first_token lexeme bs us marks e h ind l is) =
     }
 
 -- a fault at the end of the text, or at a piece
-pub data FaultWay (b : Before) (text : List ℕ) (x : Fault) : Type 0 where
+pub data FaultWay (b : Before) (text : List ℕ) (x : Fault TokenFault) : Type 0 where
   at_end : (o : OpenBracket) (os : List OpenBracket) → text ≡ [] → Leaves b.tokens (o ∷ os) → x ≡ fault_at f.Bracket o.line → FaultWay b text x
   at_piece : Leads b text (Err x) → FaultWay b text x
 
@@ -229,15 +229,15 @@ placed : (b : Before) → IsPlaced b → (m : Option (List Token)) × Indents b 
 placed b (layout.inside h) = (None, in_line h)
 placed b (layout.indented marks h) = (Some marks, at_start marks h)
 
-with_fault : (b : Before) (text : List ℕ) (x y : Fault) → x ≡ y → Leads b text (Err y) → FaultWay b text x
-with_fault b text x y e h = let P : Fault → Type 0 = λ z. Leads b text (Err z) in at_piece (subst P (sym e) h)
+with_fault : (b : Before) (text : List ℕ) (x y : Fault TokenFault) → x ≡ y → Leads b text (Err y) → FaultWay b text x
+with_fault b text x y e h = let P : Fault TokenFault → Type 0 = λ z. Leads b text (Err z) in at_piece (subst P (sym e) h)
 
-ill_placed : (b : Before) (text : List ℕ) (x : Fault) → IsNoGap text → Indents b (Err x) → Leads b text (Err x)
+ill_placed : (b : Before) (text : List ℕ) (x : Fault TokenFault) → IsNoGap text → Indents b (Err x) → Leads b text (Err x)
 ill_placed b text x (spelled lexeme bs rest e h) ind =
     record { piece = Lexed lexeme (extent_of bs); next = next_of text bs rest _ e (spelled_next lexeme bs rest h); does = (split_of text bs rest e, not_indented x ind) }
 ill_placed b text x (misspelled kind lines h) ind = record { piece = Bad kind lines; next = misspelled_next h; does = ill_indented x ind }
 
-pub fault_leads : (b : Before) (text : List ℕ) (x : Fault) → FaultAfter b text x → FaultWay b text x
+pub fault_leads : (b : Before) (text : List ℕ) (x : Fault TokenFault) → FaultAfter b text x → FaultWay b text x
 fault_leads b text x (layout.misspelled kind lines h at_ is) =
     let p = placed b at_ in
     with_fault b text x _ is record { piece = Bad kind lines; next = misspelled_next h; does = ill_spelled p.0 p.1 }
@@ -255,16 +255,16 @@ fault_leads b text x (layout.never_closed o os e l is) = at_end o os e l is
 -- ---- a text as a whole
 
 -- what the words say of a text from a place on
-data Goes : Before → List ℕ → Result (List Token) Fault → Type 0 where
+data Goes : Before → List ℕ → Result (List Token) (Fault TokenFault) → Type 0 where
   over : {b : Before} {text : List ℕ} {ts : List Token} → text ≡ [] → Finishes b ts → Goes b text (Ok ts)
   unclosed : {b : Before} {text : List ℕ} (o : OpenBracket) (os : List OpenBracket) → text ≡ [] → Leaves b.tokens (o ∷ os) → Goes b text (Err (fault_at f.Bracket o.line))
-  stops : {b : Before} {text : List ℕ} {x : Fault} → Leads b text (Err x) → Goes b text (Err x)
-  onward : {b c : Before} {text rest : List ℕ} {r : Result (List Token) Fault} → Leads b text (Ok (c, rest)) → Goes c rest r → Goes b text r
+  stops : {b : Before} {text : List ℕ} {x : Fault TokenFault} → Leads b text (Err x) → Goes b text (Err x)
+  onward : {b c : Before} {text rest : List ℕ} {r : Result (List Token) (Fault TokenFault)} → Leads b text (Ok (c, rest)) → Goes c rest r → Goes b text r
 
-ended : {b : Before} {text : List ℕ} {r : Result (Before × List ℕ) Fault} → text ≡ [] → Leads b text r → ⊥
+ended : {b : Before} {text : List ℕ} {r : Result (Before × List ℕ) (Fault TokenFault)} → text ≡ [] → Leads b text r → ⊥
 ended e h = let some = h.next.0 in let none : length _ ≡ 0 = ap length e in absurd (omega arith)
 
-one_going : {b : Before} {text : List ℕ} {r q : Result (List Token) Fault} → Goes b text r → Goes b text q → r ≡ q
+one_going : {b : Before} {text : List ℕ} {r q : Result (List Token) (Fault TokenFault)} → Goes b text r → Goes b text q → r ≡ q
 one_going {b = b} (over {ts = ts} e h) (over {ts = us} i g) = ap Ok (one_finish b ts us h g)
 one_going (over e h) (unclosed o os i g) = absurd (none_and_some o os (one_leaving g h.closed))
 one_going (over e h) (stops g) = absurd (ended e g)
@@ -284,25 +284,25 @@ one_going {b = b} {text = text} {q = q} (onward {c = c} {rest = rest} g m) (onwa
     let same = same_ok (d, tail) (c, rest) (one_way b text _ _ h g) in
     one_going m (subst (λ p. Goes p.0 p.1 q) same n)
 
-cut_goes : {b c : Before} {text rest : List ℕ} {r : Result (List Token) Fault} → Cut b text c rest → Goes c rest r → Goes b text r
+cut_goes : {b c : Before} {text rest : List ℕ} {r : Result (List Token) (Fault TokenFault)} → Cut b text c rest → Goes c rest r → Goes b text r
 cut_goes here h = h
 cut_goes {b = b} {text = text} (on {c = d} {mid = mid} t cut) h = onward (takes_leads b d text mid t) (cut_goes cut h)
 
-stopped : (b : Before) (text : List ℕ) (x : Fault) → FaultWay b text x → Goes b text (Err x)
-stopped b text x (at_end o os e h is) = let P : Fault → Type 0 = λ z. Goes b text (Err z) in subst P (sym is) (unclosed o os e h)
+stopped : (b : Before) (text : List ℕ) (x : Fault TokenFault) → FaultWay b text x → Goes b text (Err x)
+stopped b text x (at_end o os e h is) = let P : Fault TokenFault → Type 0 = λ z. Goes b text (Err z) in subst P (sym is) (unclosed o os e h)
 stopped b text x (at_piece h) = stops h
 
 reads_goes : (text : List ℕ) (ts : List Token) → Reads text ts → Goes (beginning text) text (Ok ts)
 reads_goes text ts h = cut_goes h.cut (over refl h.finishes)
 
-faulty_goes : (text : List ℕ) (x : Fault) → IsFaulty text x → Goes (beginning text) text (Err x)
+faulty_goes : (text : List ℕ) (x : Fault TokenFault) → IsFaulty text x → Goes (beginning text) text (Err x)
 faulty_goes text x h = cut_goes h.cut (stopped h.end h.rest x (fault_leads h.end h.rest x h.fault))
 
 pub one_cutting : (text : List ℕ) (ts us : List Token) → Reads text ts → Reads text us → ts ≡ us
 one_cutting text ts us h g = let both = one_going (reads_goes text ts h) (reads_goes text us g) in same_ok ts us both
 
-pub one_fault : (text : List ℕ) (x y : Fault) → IsFaulty text x → IsFaulty text y → x ≡ y
+pub one_fault : (text : List ℕ) (x y : Fault TokenFault) → IsFaulty text x → IsFaulty text y → x ≡ y
 one_fault text x y h g = let both = one_going (faulty_goes text x h) (faulty_goes text y g) in cc
 
-pub apart : (text : List ℕ) (ts : List Token) (x : Fault) → Reads text ts → IsFaulty text x → ⊥
+pub apart : (text : List ℕ) (ts : List Token) (x : Fault TokenFault) → Reads text ts → IsFaulty text x → ⊥
 apart text ts x h g = ok_err ts x (one_going (reads_goes text ts h) (faulty_goes text x g))

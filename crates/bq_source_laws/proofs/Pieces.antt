@@ -15,8 +15,8 @@ use Rattle.bq_source.specs.declared.piece.Piece.{Piece}
 use Rattle.bq_source.specs.declared.piece.Piece.TheVariants.{Gap, LineEnd, Lexed, Bad}
 use Rattle.bq_source.specs.declared.string_literal.StringLiteral.{StringLiteral}
 use Rattle.bq_source.specs.declared.token.TokenKind.TheVariants as k
-use Rattle.bq_base.specs.declared.fault.FaultKind.{FaultKind}
-use Rattle.bq_base.specs.declared.fault.FaultKind.TheVariants as f
+use Rattle.bq_base.specs.declared.fault.TokenFault.{TokenFault}
+use Rattle.bq_base.specs.declared.fault.TokenFault.TheVariants as f
 use Rattle.bq_source.specs.Lexis.{has, is_blank, is_letter, is_word, is_digit, newlines, newline_len, comment_len, word_kind}
 use Rattle.bq_source.specs.Operators.{operators, first_spelled, operator as operator_at}
 use Rattle.bq_source.specs.Number.{begins_number, begins_decimal, number_len, is_number_byte, int_value}
@@ -431,7 +431,7 @@ spelled_next lexeme bs rest (number n is h e) = let P : Lexeme → Type 0 = λ l
 spelled_next lexeme bs rest (string is h) = let P : Lexeme → Type 0 = λ l. Next (bs ++ rest) (Lexed l (extent_of bs)) in subst P (sym is) (string_next bs rest h)
 spelled_next lexeme bs rest (operator h) = operator_next lexeme bs rest h
 
-pub misspelled_next : {text : List ℕ} {kind : FaultKind} {lines : ℕ} → IsMisspelled text kind lines → Next text (Bad kind lines)
+pub misspelled_next : {text : List ℕ} {kind : TokenFault} {lines : ℕ} → IsMisspelled text kind lines → Next text (Bad kind lines)
 misspelled_next {text = text} (bad_byte some h) = bad_byte_next text some h
 misspelled_next (bad_int bs rest e h v) = let P : List ℕ → Type 0 = λ xs. Next xs (Bad f.BadInt 0) in subst P (sym e) (bad_int_next bs rest h v)
 misspelled_next {text = text} (open_string begins h) = open_string_next text begins h

@@ -5,8 +5,9 @@ use Rattle.std.specs.Prelude.{replicate}
 use Rattle.bq_source.specs.declared.token.TokenKind.TheVariants as k
 use Rattle.bq_source.specs.declared.token.Token.{Token}
 use Rattle.bq_source_lexer.specs.declared.place.OpenBracket.{OpenBracket}
+use Rattle.bq_base.specs.declared.fault.TokenFault.{TokenFault}
 use Rattle.bq_base.specs.declared.fault.Fault.{Fault}
-use Rattle.bq_base.specs.declared.fault.FaultKind.TheVariants as f
+use Rattle.bq_base.specs.declared.fault.TokenFault.TheVariants as f
 use Rattle.bq_base.specs.Fault.{fault_at}
 use Rattle.bq_source.specs.Token.{same_kind}
 use Rattle.bq_source_lexer.specs.Indentation.{IsOpen, width_before, IsAmong, IsDescending, AreOpenAbove, AreMarks, wider, open_}
@@ -116,7 +117,7 @@ one_marking b w vs ts us (open_ ws t le opened above kind bare whole) (open_ xs 
     whole ∙ (λ i. replicate (length (n i)) (e i)) ∙ sym all
 
 -- What the indentation does before the next token: nothing inside a line; at its start these tokens come, or it is a fault.
-pub data Indents (b : Before) : Result (Option (List Token)) Fault → Type 0 where
+pub data Indents (b : Before) : Result (Option (List Token)) (Fault TokenFault) → Type 0 where
   in_line : IsInLine b.tokens → Indents b (Ok None)
   at_start : (marks : List Token) → IsIndented b marks → Indents b (Ok (Some marks))
   at_tab : IsBetween b.tokens → has_tab b → Indents b (Err (fault_at f.Tab b.from_line))
@@ -126,7 +127,7 @@ marked_even : (b : Before) (marks : List Token) → AreMarks (IsEmptyAt b) (widt
 marked_even b marks (wider t less kind bare whole) le never = let no_more : ⊥ = omega arith in no_more
 marked_even b marks (open_ ws t le opened above kind bare whole) less never = never opened
 
-pub one_indent : {b : Before} {r q : Result (Option (List Token)) Fault} → Indents b r → Indents b q → r ≡ q
+pub one_indent : {b : Before} {r q : Result (Option (List Token)) (Fault TokenFault)} → Indents b r → Indents b q → r ≡ q
 one_indent (in_line h) (in_line g) = refl
 one_indent {b = b} (in_line h) (at_start marks g) = absurd (not_both b.tokens h g.between)
 one_indent {b = b} (in_line h) (at_tab g t) = absurd (not_both b.tokens h g)

@@ -5,8 +5,8 @@ use Rattle.std.specs.Prelude.{ℕ, ◌≡◌, ◌⊎◌, List, [], ◌∷◌, le
 use Rattle.bq_source.specs.declared.token.TokenKind.{TokenKind}
 use Rattle.bq_source.specs.declared.token.TokenKind.TheVariants as k
 use Rattle.bq_source.specs.declared.token.Token.{Token}
-use Rattle.bq_base.specs.declared.fault.FaultKind.{FaultKind}
-use Rattle.bq_base.specs.declared.fault.FaultKind.TheVariants as f
+use Rattle.bq_base.specs.declared.fault.TokenFault.{TokenFault}
+use Rattle.bq_base.specs.declared.fault.TokenFault.TheVariants as f
 
 -- a line of a table, and an entry of a list
 abbrev pub IsRow : {A B : Type 0} → A → B → List (A × B) → Type 0
@@ -143,7 +143,7 @@ abbrev pub alone : List ℕ → TokenKind → List Token
 alone bs kind = record { kind = kind; start = 0; end = length bs; line = 1 } ∷ record { kind = k.Newline; start = length bs; end = length bs; line = 1 } ∷ []
 
 -- the faults of the lexis: their numbers and names (ours)
-abbrev pub fault_table : List (FaultKind × ℕ × List ℕ)
+abbrev pub fault_table : List (TokenFault × ℕ × List ℕ)
 fault_table =
     (f.BadByte, 1, codes "BadByte")
     ∷ (f.Indent, 2, codes "Indent")

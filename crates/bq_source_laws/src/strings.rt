@@ -3,7 +3,7 @@
 ghost use Rattle.std.specs.Prelude.{◌≡◌, ◌++◌, List, Some, None, ℕ, length};
 ghost use Rattle.bq_source.specs.StringLiteral.{IsOpenLiteral, scan_string};
 ghost use Rattle.bq_source.specs.Spelling.{IsMisspelled};
-ghost use Rattle.bq_base.specs.declared.fault.FaultKind.TheVariants as f;
+ghost use Rattle.bq_base.specs.declared.fault.TokenFault.TheVariants as f;
 ghost use Rattle.bq_source_laws.specs.Strings.{IsString, HasBadEscape};
 
 /// A string token is a literal each item of which stands for something. A string without end (F4) is an opening and items that

@@ -10,6 +10,7 @@ use Rattle.bq_source.specs.declared.piece.Piece.{Piece}
 use Rattle.bq_source.specs.declared.piece.Piece.TheVariants.{Gap, LineEnd, Lexed, Bad}
 use Rattle.bq_source_lexer.specs.declared.place.Margin.{Margin}
 use Rattle.bq_source_lexer.specs.declared.place.OpenBracket.{OpenBracket}
+use Rattle.bq_base.specs.declared.fault.TokenFault.{TokenFault}
 use Rattle.bq_base.specs.declared.fault.Fault.{Fault}
 use Rattle.bq_source.specs.Token.{same_kind}
 use Rattle.bq_source.specs.Operators.{kind_of}
@@ -20,7 +21,7 @@ use Rattle.bq_base.proofs.Choices.{by_test}
 use Rattle.bq_source.proofs.Fitting.{fits}
 
 -- where the step leads on, the same bytes are next
-abbrev pub KeepsRest : State → Result State Fault → Type 0
+abbrev pub KeepsRest : State → Result State (Fault TokenFault) → Type 0
 KeepsRest s (Ok t) = t.rest ≡ s.rest
 KeepsRest s (Err e) = Unit {0}
 
@@ -66,7 +67,7 @@ pub nest_rest : (lexeme : Lexeme) (s t : State) → nest lexeme s ≡ Ok t → t
 nest_rest lexeme s t h = subst (KeepsRest s) h (nest_keeps lexeme s)
 
 -- where the step leads on, fewer bytes are next
-abbrev pub Shortens : State → Result State Fault → Type 0
+abbrev pub Shortens : State → Result State (Fault TokenFault) → Type 0
 Shortens s (Ok t) = length t.rest < length s.rest
 Shortens s (Err e) = Unit {0}
 
@@ -79,15 +80,15 @@ end_line_shortens [] (Some m) extent s part = drops extent extent s (skip extent
 end_line_shortens [] None extent s part = drops extent extent s (skip extent s) refl part refl
 
 module _ (lexeme : Lexeme) (extent : Extent) (s : State) (part : IsPart s.rest extent) where
-  nested : (t : State) → t.rest ≡ s.rest → (r : Result State Fault) → KeepsRest t r → Shortens s (and_then r (λ u. Ok (push_token (kind_of lexeme) extent u)))
+  nested : (t : State) → t.rest ≡ s.rest → (r : Result State (Fault TokenFault)) → KeepsRest t r → Shortens s (and_then r (λ u. Ok (push_token (kind_of lexeme) extent u)))
   nested t same (Ok u) keeps = drops extent extent s (push_token (kind_of lexeme) extent u) refl part (ap (drop extent.len) (keeps ∙ same))
   nested t same (Err e) keeps = tt
 
-  indented : (r : Result State Fault) → KeepsRest s r → Shortens s (and_then r (λ t. and_then (nest lexeme t) (λ u. Ok (push_token (kind_of lexeme) extent u))))
+  indented : (r : Result State (Fault TokenFault)) → KeepsRest s r → Shortens s (and_then r (λ t. and_then (nest lexeme t) (λ u. Ok (push_token (kind_of lexeme) extent u))))
   indented (Ok t) keeps = nested t keeps (nest lexeme t) (nest_keeps lexeme t)
   indented (Err e) keeps = tt
 
-refused : (fault : Fault) (s : State) (r : Result State Fault) → Shortens s (and_then r (λ t. Err fault))
+refused : (fault : Fault TokenFault) (s : State) (r : Result State (Fault TokenFault)) → Shortens s (and_then r (λ t. Err fault))
 refused fault s (Ok t) = tt
 refused fault s (Err e) = tt
 

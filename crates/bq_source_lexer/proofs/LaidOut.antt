@@ -15,8 +15,8 @@ use Rattle.bq_source.specs.declared.piece.Extent.{Extent}
 use Rattle.bq_source.specs.declared.piece.Piece.{Piece}
 use Rattle.bq_source.specs.declared.piece.Piece.TheVariants.{Gap, LineEnd, Lexed, Bad}
 use Rattle.bq_base.specs.declared.fault.Fault.{Fault}
-use Rattle.bq_base.specs.declared.fault.FaultKind.{FaultKind}
-use Rattle.bq_base.specs.declared.fault.FaultKind.TheVariants as f
+use Rattle.bq_base.specs.declared.fault.TokenFault.{TokenFault}
+use Rattle.bq_base.specs.declared.fault.TokenFault.TheVariants as f
 use Rattle.bq_base.specs.Fault.{fault_at}
 use Rattle.bq_source.specs.Token.{same_kind}
 use Rattle.bq_source.specs.Lexis.{newlines}
@@ -92,7 +92,7 @@ module _ (b : Before) (s : State) (e : Extent) (cut : IsCut s.rest e) (g : Stand
   all : s.rest ≡ take e.len s.rest ++ drop e.len s.rest
   all = sym (take-append-drop e.len s.rest)
 
-abbrev SoundStep : Before → State → Result State Fault → Type 0
+abbrev SoundStep : Before → State → Result State (Fault TokenFault) → Type 0
 SoundStep b s (Ok t) = (c : Before) × Takes b s.rest c t.rest × Stands c t
 SoundStep b s (Err e) = FaultAfter b s.rest e
 
@@ -161,10 +161,10 @@ marks_leave empty w vs ts before os (open_ us t le opened above is bare whole) h
 abbrev indented_state : Before → State → List Token → State
 indented_state b s marks = record s { margin = None; widths = stack (width b ∷ b.widths); tokens = s.tokens ++ marks }
 
-data Outcome (b : Before) (s : State) (r : Result State Fault) : Type 0 where
+data Outcome (b : Before) (s : State) (r : Result State (Fault TokenFault)) : Type 0 where
   stays : IsInLine b.tokens → s.margin ≡ None → r ≡ Ok s → Outcome b s r
   begins : (marks : List Token) → IsIndented b marks → s.open_brackets ≡ [] → r ≡ Ok (indented_state b s marks) → Outcome b s r
-  fails : (e : Fault) → r ≡ Err e → (IsNoGap s.rest → FaultAfter b s.rest e) → Outcome b s r
+  fails : (e : Fault TokenFault) → r ≡ Err e → (IsNoGap s.rest → FaultAfter b s.rest e) → Outcome b s r
 
 module _ (b : Before) (s : State) (g : Stands b s) (between : IsBetween b.tokens) (no_tab : has_tab b → ⊥) (flat : s.open_brackets ≡ []) where
   w : ℕ
@@ -233,7 +233,7 @@ indents b s g = indent_outcome s.margin b s refl g
 
 -- ---- brackets
 
-data NestOutcome (lexeme : Lexeme) (t : State) (r : Result State Fault) : Type 0 where
+data NestOutcome (lexeme : Lexeme) (t : State) (r : Result State (Fault TokenFault)) : Type 0 where
   nests_to : (us : List OpenBracket) → nested lexeme t.line t.open_brackets ≡ Some us → r ≡ Ok (record t { open_brackets = us }) → NestOutcome lexeme t r
   none_open : (kind : TokenKind) → lexeme ≡ Closes kind → closed_by t.open_brackets kind ≡ None → r ≡ Err (fault_at f.Bracket t.line) → NestOutcome lexeme t r
 
@@ -260,14 +260,14 @@ module _ (b : Before) (s : State) (lexeme : Lexeme) (e : Extent) (cut : IsCut s.
   u : Token
   u = token_of (kind_of lexeme) (take e.len s.rest) b
 
-  abbrev Next : Result State Fault → Type 0
+  abbrev Next : Result State (Fault TokenFault) → Type 0
   Next r = SoundStep b s (and_then r (λ v. Ok (push_token (kind_of lexeme) e v)))
 
   opened_so : (us : List OpenBracket) → nested lexeme s.line s.open_brackets ≡ Some us
       → opened_by (kind_of lexeme) b.line s.open_brackets ≡ Some us
   opened_so us n = nests lexeme _ _ spells b.line s.open_brackets ∙ ap (λ l. nested lexeme l s.open_brackets) (sym g.line) ∙ n
 
-  in_line : IsInLine b.tokens → s.margin ≡ None → (r : Result State Fault) → NestOutcome lexeme s r → Next r
+  in_line : IsInLine b.tokens → s.margin ≡ None → (r : Result State (Fault TokenFault)) → NestOutcome lexeme s r → Next r
   in_line inl_ unset r (nests_to us n is) =
       let tok : Token = token_of (kind_of lexeme) (take e.len s.rest) b in
       let next = skip_stands b s e cut g in
@@ -290,7 +290,7 @@ module _ (b : Before) (s : State) (lexeme : Lexeme) (e : Extent) (cut : IsCut s.
       let P : Lexeme → Type 0 = λ l. IsSpelled l (take e.len s.rest) (drop e.len s.rest) in
       subst Next (sym is) (closes_none kind (take e.len s.rest) (drop e.len s.rest) s.open_brackets (all b s e cut g) (subst P same spells) (inside inl_) g.leaves n (ap (fault_at f.Bracket) g.line))
 
-  at_first : (marks : List Token) → IsIndented b marks → (r : Result State Fault) → NestOutcome lexeme (indented_state b s marks) r → Next r
+  at_first : (marks : List Token) → IsIndented b marks → (r : Result State (Fault TokenFault)) → NestOutcome lexeme (indented_state b s marks) r → Next r
   at_first marks ind r (nests_to us n is) =
       let tok : Token = token_of (kind_of lexeme) (take e.len s.rest) b in
       let next = skip_stands b s e cut g in
@@ -315,24 +315,24 @@ module _ (b : Before) (s : State) (lexeme : Lexeme) (e : Extent) (cut : IsCut s.
       let P : Lexeme → Type 0 = λ l. IsSpelled l (take e.len s.rest) (drop e.len s.rest) in
       subst Next (sym is) (closes_none kind (take e.len s.rest) (drop e.len s.rest) s.open_brackets (all b s e cut g) (subst P same spells) (indented marks ind) g.leaves n (ap (fault_at f.Bracket) g.line))
 
-  abbrev Whole : Result State Fault → Type 0
+  abbrev Whole : Result State (Fault TokenFault) → Type 0
   Whole r = SoundStep b s (and_then r (λ t. and_then (nest lexeme t) (λ v. Ok (push_token (kind_of lexeme) e v))))
 
-  by_indent : (r : Result State Fault) → Outcome b s r → Whole r
+  by_indent : (r : Result State (Fault TokenFault)) → Outcome b s r → Whole r
   by_indent r (stays inl_ unset is) = subst Whole (sym is) (in_line inl_ unset (nest lexeme s) (nest_outcome lexeme s))
   by_indent r (begins marks ind flat is) = subst Whole (sym is) (at_first marks ind (nest lexeme (indented_state b s marks)) (nest_outcome lexeme (indented_state b s marks)))
   by_indent r (fails x is why) = subst Whole (sym is) (why (spelled lexeme (take e.len s.rest) (drop e.len s.rest) (all b s e cut g) spells))
 
-refuses : (b : Before) (s : State) (kind : FaultKind) (lines : ℕ) → IsMisspelled s.rest kind lines → Stands b s → (r : Result State Fault) → Outcome b s r
+refuses : (b : Before) (s : State) (kind : TokenFault) (lines : ℕ) → IsMisspelled s.rest kind lines → Stands b s → (r : Result State (Fault TokenFault)) → Outcome b s r
     → SoundStep b s (and_then r (λ t. Err (fault_at kind (s.line + lines))))
 refuses b s kind lines m g r (stays inl_ unset is) =
-    let P : Result State Fault → Type 0 = λ x. SoundStep b s (and_then x (λ t. Err (fault_at kind (s.line + lines)))) in
+    let P : Result State (Fault TokenFault) → Type 0 = λ x. SoundStep b s (and_then x (λ t. Err (fault_at kind (s.line + lines)))) in
     subst P (sym is) (unspelled kind lines m (inside inl_) (ap (λ l. fault_at kind (l + lines)) g.line))
 refuses b s kind lines m g r (begins marks ind flat is) =
-    let P : Result State Fault → Type 0 = λ x. SoundStep b s (and_then x (λ t. Err (fault_at kind (s.line + lines)))) in
+    let P : Result State (Fault TokenFault) → Type 0 = λ x. SoundStep b s (and_then x (λ t. Err (fault_at kind (s.line + lines)))) in
     subst P (sym is) (unspelled kind lines m (indented marks ind) (ap (λ l. fault_at kind (l + lines)) g.line))
 refuses b s kind lines m g r (fails x is why) =
-    let P : Result State Fault → Type 0 = λ x. SoundStep b s (and_then x (λ t. Err (fault_at kind (s.line + lines)))) in
+    let P : Result State (Fault TokenFault) → Type 0 = λ x. SoundStep b s (and_then x (λ t. Err (fault_at kind (s.line + lines)))) in
     subst P (sym is) (why (misspelled kind lines m))
 
 advances : (p : Piece) (b : Before) (s : State) → Fits s.rest p → Means s.rest p → Stands b s → SoundStep b s (advance p s)
@@ -350,7 +350,7 @@ steps b s some g = advances (next_piece s.rest) b s (fits s.rest some) (means s.
 
 -- ---- the end of the text
 
-abbrev Told : Before → List ℕ → Result (List Token) Fault → Type 0
+abbrev Told : Before → List ℕ → Result (List Token) (Fault TokenFault) → Type 0
 Told b text (Ok ts) = (c : Before) × Cut b text c [] × Finishes c ts
 Told b text (Err e) = (c : Before) × (rest : List ℕ) × Cut b text c rest × FaultAfter c rest e
 
@@ -396,35 +396,35 @@ module _ (b : Before) (s : State) (g : Stands b s) where
   unfolding finish
   finishes e = finished s.open_brackets refl e
 
-goes_on : (b c : Before) (text mid : List ℕ) (r : Result (List Token) Fault) → Takes b text c mid → Told c mid r → Told b text r
+goes_on : (b c : Before) (text mid : List ℕ) (r : Result (List Token) (Fault TokenFault)) → Takes b text c mid → Told c mid r → Told b text r
 goes_on b c text mid (Ok ts) t (d, cut, end) = (d, on t cut, end)
 goes_on b c text mid (Err e) t (d, rest, cut, fault) = (d, rest, on t cut, fault)
 
-told : {s : State} {r : Result (List Token) Fault} → Runs s r → (b : Before) → Stands b s → Told b s.rest r
+told : {s : State} {r : Result (List Token) (Fault TokenFault)} → Runs s r → (b : Before) → Stands b s → Told b s.rest r
 told {s = s} (ends e h) b g = subst (Told b s.rest) h (finishes b s g e)
-told {s = s} (stops {e = x} some h) b g = let P : Result State Fault → Type 0 = SoundStep b s in (b, s.rest, here, subst P h (steps b s some g))
+told {s = s} (stops {e = x} some h) b g = let P : Result State (Fault TokenFault) → Type 0 = SoundStep b s in (b, s.rest, here, subst P h (steps b s some g))
 told {s = s} {r = r} (goes {t = t} some h more) b g =
-    let P : Result State Fault → Type 0 = SoundStep b s in
+    let P : Result State (Fault TokenFault) → Type 0 = SoundStep b s in
     let n = subst P h (steps b s some g) in
     goes_on b n.0 s.rest t.rest r n.1 (told more n.0 n.2)
 
 at_start : (text : List ℕ) → Stands (beginning text) (start text)
 at_start text = record { at = refl; line = refl; tokens = refl; leaves = no_token; widths = refl; margin = (first refl, refl, refl) }
 
-abbrev Law : List ℕ → Result (List Token) Fault → Type 0
+abbrev Law : List ℕ → Result (List Token) (Fault TokenFault) → Type 0
 Law text (Ok ts) = Reads text ts
 Law text (Err e) = (e ≡ fault_at f.FileTooLong (line_behind (take max_file_bytes text))) × (max_file_bytes < length text) ⊎ IsFaulty text e
 
-by_told : (text : List ℕ) (r : Result (List Token) Fault) → Told (beginning text) text r → Law text r
+by_told : (text : List ℕ) (r : Result (List Token) (Fault TokenFault)) → Told (beginning text) text r → Law text r
 by_told text (Ok ts) (c, cut, end) = record { end = c; cut = cut; finishes = end }
 by_told text (Err e) (c, rest, cut, fault) = inr record { end = c; rest = rest; cut = cut; fault = fault }
 
-law : (text : List ℕ) (r : Result (List Token) Fault) → Lexes text r → Law text r
+law : (text : List ℕ) (r : Result (List Token) (Fault TokenFault)) → Lexes text r → Law text r
 law text r (too_long l) = inl (refl, l)
 law text r (cut_short l h) = by_told text r (told h (beginning text) (at_start text))
 
 pub reads : (text : List ℕ) (ts : List Token) → Lexes text (Ok ts) → Reads text ts
 reads text ts h = law text (Ok ts) h
 
-pub faulty : (text : List ℕ) (e : Fault) → Lexes text (Err e) → (e ≡ fault_at f.FileTooLong (line_behind (take max_file_bytes text))) × (max_file_bytes < length text) ⊎ IsFaulty text e
+pub faulty : (text : List ℕ) (e : Fault TokenFault) → Lexes text (Err e) → (e ≡ fault_at f.FileTooLong (line_behind (take max_file_bytes text))) × (max_file_bytes < length text) ⊎ IsFaulty text e
 faulty text e h = law text (Err e) h

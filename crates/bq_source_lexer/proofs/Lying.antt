@@ -13,6 +13,7 @@ use Rattle.bq_source.specs.declared.operators.Lexeme.TheVariants.{Plain, Opens, 
 use Rattle.bq_source.specs.declared.piece.Extent.{Extent}
 use Rattle.bq_source.specs.declared.piece.Piece.{Piece}
 use Rattle.bq_source.specs.declared.piece.Piece.TheVariants.{Gap, LineEnd, Lexed, Bad}
+use Rattle.bq_base.specs.declared.fault.TokenFault.{TokenFault}
 use Rattle.bq_base.specs.declared.fault.Fault.{Fault}
 use Rattle.bq_source.specs.declared.string_literal.StringLiteral.{StringLiteral}
 use Rattle.std.proofs.Math.Seq.{take-append_seam}
@@ -40,7 +41,7 @@ module _ (text : List ℕ) where
     within : s.at ≤ length text
     lie : AllByRecursion (Lies text) s.tokens
 
-  abbrev StaysIn : Result State Fault → Type 0
+  abbrev StaysIn : Result State (Fault TokenFault) → Type 0
   StaysIn (Ok t) = InText t
   StaysIn (Err e) = Unit {0}
 
@@ -145,16 +146,16 @@ module _ (text : List ℕ) where
       }
 
   nested_in : (lexeme : Lexeme) (e : Extent) (s t : State) → IsPart s.rest e → IsSpelled lexeme (take e.len s.rest) (drop e.len s.rest) → t.rest ≡ s.rest
-      → (r : Result State Fault) → nest lexeme t ≡ r → StaysIn r → StaysIn (and_then r (λ u. Ok (push_token (kind_of lexeme) e u)))
+      → (r : Result State (Fault TokenFault)) → nest lexeme t ≡ r → StaysIn r → StaysIn (and_then r (λ u. Ok (push_token (kind_of lexeme) e u)))
   nested_in lexeme e s t part spelled same (Ok u) is g = taken lexeme e s u part spelled (nest_rest lexeme t u is ∙ same) g
   nested_in lexeme e s t part spelled same (Err x) is g = tt
 
   indented_in : (lexeme : Lexeme) (e : Extent) (s : State) → IsPart s.rest e → IsSpelled lexeme (take e.len s.rest) (drop e.len s.rest)
-      → (r : Result State Fault) → indent s ≡ r → StaysIn r → StaysIn (and_then r (λ t. and_then (nest lexeme t) (λ u. Ok (push_token (kind_of lexeme) e u))))
+      → (r : Result State (Fault TokenFault)) → indent s ≡ r → StaysIn r → StaysIn (and_then r (λ t. and_then (nest lexeme t) (λ u. Ok (push_token (kind_of lexeme) e u))))
   indented_in lexeme e s part spelled (Ok t) is g = nested_in lexeme e s t part spelled (indent_rest s t is) (nest lexeme t) refl (nest_in lexeme t g)
   indented_in lexeme e s part spelled (Err x) is g = tt
 
-  refused_in : (fault : Fault) (r : Result State Fault) → StaysIn (and_then r (λ t. Err fault))
+  refused_in : (fault : Fault TokenFault) (r : Result State (Fault TokenFault)) → StaysIn (and_then r (λ t. Err fault))
   refused_in fault (Ok t) = tt
   refused_in fault (Err e) = tt
 
@@ -173,7 +174,7 @@ module _ (text : List ℕ) where
   ended None s g = pushed k.Newline s not_newline g
   ended (Some m) s g = g
 
-  abbrev AllLie : Result (List Token) Fault → Type 0
+  abbrev AllLie : Result (List Token) (Fault TokenFault) → Type 0
   AllLie (Ok ts) = AllByRecursion (Lies text) ts
   AllLie (Err e) = Unit {0}
 
@@ -185,12 +186,12 @@ module _ (text : List ℕ) where
   unfolding finish
   finishes s g = finished s.open_brackets s g
 
-  lying : {s : State} {r : Result (List Token) Fault} → Runs s r → InText s → AllLie r
+  lying : {s : State} {r : Result (List Token) (Fault TokenFault)} → Runs s r → InText s → AllLie r
   lying {s = s} (ends e h) g = subst AllLie h (finishes s g)
   lying (stops some h) g = tt
   lying {s = s} (goes some h on) g = lying on (subst StaysIn h (stepped s some g))
 
-read : (text : List ℕ) (r : Result (List Token) Fault) → Lexes text r → AllLie text r
+read : (text : List ℕ) (r : Result (List Token) (Fault TokenFault)) → Lexes text r → AllLie text r
 read text r (too_long l) = tt
 read text r (cut l h) = lying text h record { rest = refl; within = omega arith; lie = tt }
 

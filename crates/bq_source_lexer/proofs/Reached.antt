@@ -1,14 +1,15 @@
 -- Every text has its reading: the pieces come to an end.
 use Rattle.std.proofs.Common.{◌≡◌, ℕ, zero, suc, ◌+◌, ◌<◌, List, [], ◌∷◌, length, take, Bool, true, false, cond, nat_lt, Result, Ok, Err, refl, arith}
 use borrow.Author.Tests.{ltb-true, ltb-false}
+use Rattle.bq_base.specs.declared.fault.TokenFault.{TokenFault}
 use Rattle.bq_base.specs.declared.fault.Fault.{Fault}
-use Rattle.bq_base.specs.declared.fault.FaultKind.TheVariants as f
+use Rattle.bq_base.specs.declared.fault.TokenFault.TheVariants as f
 use Rattle.bq_base.specs.Fault.{fault_at}
 use Rattle.bq_source_lexer.specs.Reading.{State, start, step, Runs, ends, stops, goes, Lexes, too_long, cut, max_file_bytes, line_behind}
 use Rattle.bq_source_lexer.specs.Tokens.{by_step, by_rest, pieces, tokens_of}
 use Rattle.bq_source_lexer.proofs.Keeping.{step_shortens}
 
-stepped : (n : ℕ) (s : State) (some : 0 < length s.rest) (r : Result State Fault) → step s ≡ r
+stepped : (n : ℕ) (s : State) (some : 0 < length s.rest) (r : Result State (Fault TokenFault)) → step s ≡ r
     → ((t : State) → length t.rest < length s.rest → Runs t (pieces n t)) → Runs s (by_step (pieces n) r)
 stepped n s some (Ok t) e on = goes some e (on t (step_shortens s t some e))
 stepped n s some (Err why) e on = stops some e

@@ -10,8 +10,8 @@ use Rattle.bq_source_lexer.specs.declared.place.OpenBracket.{OpenBracket}
 use Rattle.bq_source.specs.declared.operators.Lexeme.{Lexeme}
 use Rattle.bq_source.specs.declared.operators.Lexeme.TheVariants.{Closes}
 use Rattle.bq_base.specs.declared.fault.Fault.{Fault}
-use Rattle.bq_base.specs.declared.fault.FaultKind.{FaultKind}
-use Rattle.bq_base.specs.declared.fault.FaultKind.TheVariants as f
+use Rattle.bq_base.specs.declared.fault.TokenFault.{TokenFault}
+use Rattle.bq_base.specs.declared.fault.TokenFault.TheVariants as f
 use Rattle.bq_base.specs.Fault.{fault_at}
 use Rattle.bq_source.specs.Token.{same_kind}
 use Rattle.bq_source.specs.Lexis.{begins_with, newlines}
@@ -143,8 +143,8 @@ pub data IsPlaced (b : Before) : Type 0 where
   indented : (marks : List Token) → IsIndented b marks → IsPlaced b
 
 -- after these bytes the rest begins with this fault
-pub data FaultAfter (b : Before) (rest : List ℕ) (e : Fault) : Type 0 where
-  misspelled : (kind : FaultKind) (lines : ℕ) → IsMisspelled rest kind lines → IsPlaced b → e ≡ fault_at kind (b.line + lines) → FaultAfter b rest e
+pub data FaultAfter (b : Before) (rest : List ℕ) (e : Fault TokenFault) : Type 0 where
+  misspelled : (kind : TokenFault) (lines : ℕ) → IsMisspelled rest kind lines → IsPlaced b → e ≡ fault_at kind (b.line + lines) → FaultAfter b rest e
   tab : IsBetween b.tokens → IsNoGap rest → has_tab b → e ≡ fault_at f.Tab b.from_line → FaultAfter b rest e
   uneven : IsBetween b.tokens → IsNoGap rest → (has_tab b → ⊥) → width b ≤ width_before b.widths → (IsOpen (width b) b.widths → ⊥)
       → e ≡ fault_at f.Indent b.from_line → FaultAfter b rest e
@@ -153,7 +153,7 @@ pub data FaultAfter (b : Before) (rest : List ℕ) (e : Fault) : Type 0 where
   never_closed : (o : OpenBracket) (os : List OpenBracket) → rest ≡ [] → Leaves b.tokens (o ∷ os) → e ≡ fault_at f.Bracket o.line → FaultAfter b rest e
 
 -- the text can be cut up to a fault
-pub record IsFaulty (text : List ℕ) (e : Fault) : Type 0 where
+pub record IsFaulty (text : List ℕ) (e : Fault TokenFault) : Type 0 where
   pub end : Before
   pub rest : List ℕ
   pub cut : Cut (beginning text) text end rest

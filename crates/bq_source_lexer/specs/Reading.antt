@@ -15,8 +15,9 @@ use Rattle.bq_source.specs.declared.piece.Extent.{Extent}
 use Rattle.bq_source.specs.declared.piece.Piece.TheVariants.{Gap, LineEnd, Lexed, Bad}
 use Rattle.bq_source_lexer.specs.declared.place.Margin.{Margin}
 use Rattle.bq_source_lexer.specs.declared.place.OpenBracket.{OpenBracket}
+use Rattle.bq_base.specs.declared.fault.TokenFault.{TokenFault}
 use Rattle.bq_base.specs.declared.fault.Fault.{Fault}
-use Rattle.bq_base.specs.declared.fault.FaultKind.TheVariants as f
+use Rattle.bq_base.specs.declared.fault.TokenFault.TheVariants as f
 use Rattle.bq_base.specs.Fault.{fault_at}
 use Rattle.bq_source.specs.Token.{same_kind}
 use Rattle.bq_source.specs.Lexis.{has, begins_with, newlines}
@@ -89,18 +90,18 @@ width_of [] = 0
 width_of (w ∷ ws) = w
 
 -- "Indentation": a greater width is opened; a smaller one closes those above it, and has to be open
-abbrev pub at_width : ℕ → ℕ → State → Result State Fault
+abbrev pub at_width : ℕ → ℕ → State → Result State (Fault TokenFault)
 at_width width line s =
     if width_of s.widths == width then Ok s else Err (fault_at f.Indent line)
 
 -- a line is indented so: further in, as far as before, or as far as a line further out
-unfoldable pub set_width : ℕ → ℕ → State → Result State Fault
+unfoldable pub set_width : ℕ → ℕ → State → Result State (Fault TokenFault)
 set_width width line s =
     if nat_lt (width_of s.widths) width then Ok (record (push_empty k.Indent s) { widths = width ∷ s.widths })
     else at_width width line (close_above width s.widths s)
 
 -- The first token of a line is preceded by what its margin makes, which has no tab (ours).
-unfoldable pub indent : State → Result State Fault
+unfoldable pub indent : State → Result State (Fault TokenFault)
 indent s = elim s.margin [
   | None ↦ Ok s
   | Some margin ↦ if margin.tab then Err (fault_at f.Tab margin.line)
@@ -108,35 +109,35 @@ indent s = elim s.margin [
 ]
 
 -- a closing bracket must be of the innermost open one's kind
-abbrev pub close_by : List OpenBracket → TokenKind → State → Result State Fault
+abbrev pub close_by : List OpenBracket → TokenKind → State → Result State (Fault TokenFault)
 close_by [] kind s = Err (fault_at f.Bracket s.line)
 close_by (o ∷ os) kind s = if same_kind o.closing kind then Ok (record s { open_brackets = os }) else Err (fault_at f.Bracket s.line)
 
 -- what a token does to the brackets
-abbrev pub nest_by : Lexeme → State → Result State Fault
+abbrev pub nest_by : Lexeme → State → Result State (Fault TokenFault)
 nest_by (Plain kind) s = Ok s
 nest_by (Opens kind closing) s = Ok (record s { open_brackets = record { closing = closing; line = s.line } ∷ s.open_brackets })
 nest_by (Closes kind) s = close_by s.open_brackets kind s
 
 -- a bracket opens or closes
-unfoldable pub nest : Lexeme → State → Result State Fault
+unfoldable pub nest : Lexeme → State → Result State (Fault TokenFault)
 nest lexeme s = nest_by lexeme s
 
 -- what follows, unless there was a fault
-abbrev pub and_then : Result State Fault → (State → Result State Fault) → Result State Fault
+abbrev pub and_then : Result State (Fault TokenFault) → (State → Result State (Fault TokenFault)) → Result State (Fault TokenFault)
 and_then (Ok s) next = next s
 and_then (Err e) next = Err e
 
 -- a token, behind what its margin makes
-unfoldable pub take_token : Lexeme → Extent → State → Result State Fault
+unfoldable pub take_token : Lexeme → Extent → State → Result State (Fault TokenFault)
 take_token lexeme extent s = and_then (indent s) (λ t. and_then (nest lexeme t) (λ u. Ok (push_token (kind_of lexeme) extent u)))
 
 -- a byte of the lexis at a wrong place takes precedence over one that is not of it
-unfoldable pub refuse : Fault → State → Result State Fault
+unfoldable pub refuse : Fault TokenFault → State → Result State (Fault TokenFault)
 refuse fault s = and_then (indent s) (λ t. Err fault)
 
 -- past the next piece of the text
-unfoldable pub step : State → Result State Fault
+unfoldable pub step : State → Result State (Fault TokenFault)
 step s = elim (next_piece s.rest) [
   | Gap extent ↦ Ok (skip extent s)
   | LineEnd extent ↦ Ok (end_line extent s)
@@ -146,17 +147,17 @@ step s = elim (next_piece s.rest) [
 
 -- The end of the text ends a logical line that no newline ended, and closes every width. A bracket that is open is never closed: the
 -- innermost one is named.
-unfoldable pub finish : State → Result (List Token) Fault
+unfoldable pub finish : State → Result (List Token) (Fault TokenFault)
 finish s = elim s.open_brackets [
   | o ∷ os ↦ Err (fault_at f.Bracket o.line)
   | [] ↦ Ok ((close_above 0 s.widths (elim s.margin [ Some margin ↦ s | None ↦ push_empty k.Newline s ])).tokens)
 ]
 
 -- from a state the text is cut up to its end, or up to the first place from where it can't be cut
-pub data Runs : State → Result (List Token) Fault → Type 0 where
-  ends : {s : State} {r : Result (List Token) Fault} → s.rest ≡ [] → finish s ≡ r → Runs s r
-  stops : {s : State} {e : Fault} → 0 < length s.rest → step s ≡ Err e → Runs s (Err e)
-  goes : {s t : State} {r : Result (List Token) Fault} → 0 < length s.rest → step s ≡ Ok t → Runs t r → Runs s r
+pub data Runs : State → Result (List Token) (Fault TokenFault) → Type 0 where
+  ends : {s : State} {r : Result (List Token) (Fault TokenFault)} → s.rest ≡ [] → finish s ≡ r → Runs s r
+  stops : {s : State} {e : Fault TokenFault} → 0 < length s.rest → step s ≡ Err e → Runs s (Err e)
+  goes : {s t : State} {r : Result (List Token) (Fault TokenFault)} → 0 < length s.rest → step s ≡ Ok t → Runs t r → Runs s r
 
 -- the most bytes that a file may have
 abbrev pub max_file_bytes : ℕ
@@ -168,6 +169,6 @@ line_behind bs = 1 + newlines bs
 
 -- A text reads as these tokens, or has this fault. A file that is too long takes precedence over all, and names the line of the
 -- first byte past the limit.
-pub data Lexes : List ℕ → Result (List Token) Fault → Type 0 where
+pub data Lexes : List ℕ → Result (List Token) (Fault TokenFault) → Type 0 where
   too_long : {text : List ℕ} → max_file_bytes < length text → Lexes text (Err (fault_at f.FileTooLong (line_behind (take max_file_bytes text))))
-  cut : {text : List ℕ} {r : Result (List Token) Fault} → length text ≤ max_file_bytes → Runs (start text) r → Lexes text r
+  cut : {text : List ℕ} {r : Result (List Token) (Fault TokenFault)} → length text ≤ max_file_bytes → Runs (start text) r → Lexes text r

@@ -7,7 +7,8 @@ ghost use Rattle.bq_source_lexer.specs.Tokens.{tokens_of};
 ghost use Rattle.bq_source.specs.Spelling.{Lies};
 ghost use Rattle.bq_source_lexer.specs.Layout.{Reads, IsFaulty};
 ghost use Rattle.bq_base.specs.Fault.{fault_at};
-ghost use Rattle.bq_base.specs.declared.fault.FaultKind.TheVariants as f;
+ghost use Rattle.bq_base.specs.declared.fault.TokenFault.{TokenFault};
+ghost use Rattle.bq_base.specs.declared.fault.TokenFault.TheVariants as f;
 ghost use Rattle.bq_base.specs.declared.fault.Fault.{Fault};
 ghost use Rattle.bq_source.specs.declared.token.Token.{Token};
 
@@ -20,7 +21,7 @@ pub fn every_text_has_its_reading()
 
 /// A text has one reading at most: it doesn't read as two lists of tokens, nor as tokens and a fault.
 pub fn one_reading()
-    ensures { (text : List ℕ) (r q : Result (List Token) Fault) → Lexes text r → Lexes text q → r ≡ q }
+    ensures { (text : List ℕ) (r q : Result (List Token) (Fault TokenFault)) → Lexes text r → Lexes text q → r ≡ q }
 {}
 
 /// The tokens of a text lie in it, and those of strings have a value: slices of the text by their places are in bounds.
@@ -42,6 +43,6 @@ pub fn tokens_cut_the_text()
 /// (F5), a bad number (F6), a bracket that closes none, or the end of the text while a bracket is open (F7). Else the text is too
 /// long (F8).
 pub fn faults_are_in_the_text()
-    ensures { (text : List ℕ) (fault : Fault) → Lexes text (Err fault)
+    ensures { (text : List ℕ) (fault : Fault TokenFault) → Lexes text (Err fault)
         → ((fault ≡ fault_at f.FileTooLong (line_behind (take max_file_bytes text))) × (max_file_bytes < length text)) ⊎ IsFaulty text fault }
 {}

@@ -10,7 +10,7 @@ ghost use Rattle.bq_source.specs.Piece.{IsPart, Fits};
 
 use crate::frequent::piece;
 use crate::place::{Lexer, MAX_FILE_BYTES, Margin, OpenBracket};
-use bq_base::{Fault, FaultKind, SourceErr};
+use bq_base::{Fault, SourceErr, TokenFault};
 use bq_source::{Extent, Lexeme, Piece, RunClass, Token, TokenKind, newlines, run_len};
 use std::alloc::{AllocError, Global};
 
@@ -118,14 +118,14 @@ impl<'a> Lexer<'a> {
     /// Returns the indentation of the line, where its first token is next: a greater width is opened, a smaller one closes those above it,
     /// and has to be open.
     #[tactic(auto, unfolding(crate::specs::Reading::indent, crate::specs::Reading::set_width))]
-    fn indent(&mut self) -> Result<(), SourceErr>
+    fn indent(&mut self) -> Result<(), SourceErr<TokenFault>>
         ensures { Gives (λ _. self.new) SourceErr.Bad result (spec.indent self.old) }
     {
         let Some(margin) = self.margin else {
             return Ok(());
         };
         if margin.tab {
-            return Err(SourceErr::Bad(Fault::at(FaultKind::Tab, margin.line)));
+            return Err(SourceErr::Bad(Fault::at(TokenFault::Tab, margin.line)));
         }
         self.margin = None;
         if self.width() < margin.width {
@@ -135,7 +135,7 @@ impl<'a> Lexer<'a> {
         }
         self.close_above(margin.width)?;
         if self.width() != margin.width {
-            return Err(SourceErr::Bad(Fault::at(FaultKind::Indent, margin.line)));
+            return Err(SourceErr::Bad(Fault::at(TokenFault::Indent, margin.line)));
         }
         Ok(())
     }
@@ -143,7 +143,7 @@ impl<'a> Lexer<'a> {
     /// Takes a token, and opens or closes a bracket as it does. Most begin no line and are no brackets: to look at both would cost more than
     /// the rest.
     #[tactic(auto, unfolding(crate::specs::Reading::take_token, crate::specs::Reading::indent, crate::specs::Reading::nest))]
-    fn take_token(&mut self, lexeme: Lexeme, extent: Extent) -> Result<(), SourceErr>
+    fn take_token(&mut self, lexeme: Lexeme, extent: Extent) -> Result<(), SourceErr<TokenFault>>
         requires { IsPart self.old.rest extent }
         ensures { Gives (λ _. self.new) SourceErr.Bad result (spec.take_token lexeme extent self.old) }
     {
@@ -160,14 +160,14 @@ impl<'a> Lexer<'a> {
             }
             Lexeme::Closes(kind) => match self.open_brackets.pop() {
                 Some(open) if open.closing.is(kind) => self.push_token(kind, extent)?,
-                _ => return Err(SourceErr::Bad(Fault::at(FaultKind::Bracket, self.line))),
+                _ => return Err(SourceErr::Bad(Fault::at(TokenFault::Bracket, self.line))),
             },
         }
         Ok(())
     }
 
     #[tactic(auto, unfolding(crate::specs::Reading::refuse))]
-    fn refuse(&mut self, fault: Fault) -> Result<(), SourceErr>
+    fn refuse(&mut self, fault: Fault<TokenFault>) -> Result<(), SourceErr<TokenFault>>
         ensures { Gives (λ _. self.new) SourceErr.Bad result (spec.refuse fault self.old) }
     {
         self.indent()?;
@@ -176,7 +176,7 @@ impl<'a> Lexer<'a> {
 
     /// Passes the next piece of the text.
     #[tactic(auto, unfolding(crate::specs::Reading::step))]
-    fn step(&mut self) -> Result<(), SourceErr>
+    fn step(&mut self) -> Result<(), SourceErr<TokenFault>>
         requires { 0 < length self.old.rest }
         ensures { Gives (λ _. self.new) SourceErr.Bad result (spec.step self.old) }
     {
@@ -196,11 +196,11 @@ impl<'a> Lexer<'a> {
 
     /// Ends the text.
     #[tactic(auto, unfolding(crate::specs::Reading::finish))]
-    fn finish(mut self) -> Result<Vec<Token>, SourceErr>
+    fn finish(mut self) -> Result<Vec<Token>, SourceErr<TokenFault>>
         ensures { Gives the_tokens SourceErr.Bad result (spec.finish self.entry) }
     {
         if let Some(innermost) = self.open_brackets.pop() {
-            return Err(SourceErr::Bad(Fault::at(FaultKind::Bracket, innermost.line)));
+            return Err(SourceErr::Bad(Fault::at(TokenFault::Bracket, innermost.line)));
         }
         if self.margin.is_none() {
             self.push_empty(TokenKind::Newline)?;
@@ -223,14 +223,14 @@ fn line_past_limit(text: &[u8]) -> u32
 /// memory in proportion to the text.
 ///
 /// The lexis is that of the Starlark specification, "Lexical elements"; docs/LANGUAGE.md says where `bq` differs.
-pub fn lex(alloc: Global, text: &[u8]) -> Result<Vec<Token>, SourceErr>
+pub fn lex(alloc: Global, text: &[u8]) -> Result<Vec<Token>, SourceErr<TokenFault>>
     // What is returned is a reading of the text.
     ensures reads { GivesOneOf the_tokens SourceErr.Bad result (Lexes text.now) }
     // Every reading of the text is what is returned.
     ensures only { (r : _) → Lexes text.now r → Gives the_tokens SourceErr.Bad result r }
 {
     if text.len() > MAX_FILE_BYTES {
-        return Err(SourceErr::Bad(Fault::at(FaultKind::FileTooLong, line_past_limit(text))));
+        return Err(SourceErr::Bad(Fault::at(TokenFault::FileTooLong, line_past_limit(text))));
     }
     let tokens = Vec::with_capacity(alloc, text.len() / BYTES_OF_TOKEN)?;
     let mut lexer = Lexer {

@@ -1,6 +1,7 @@
 -- Along loads each module can call the functions of those that it loads, of those that these load, and so on.
 use Rattle.std.proofs.Common.{◌≡◌, ◌∙◌, ℕ, zero, suc, inl, inr, List, [], ◌∷◌, map, Option, Some, None, Result, Ok, Err, slice_get, option_map, Contains, refl, sym, ap, subst}
 use Rattle.std.specs.Prelude.{IfOk}
+use Rattle.bq_base.specs.declared.fault.FaultKind.{FaultKind}
 use Rattle.bq_base.specs.declared.fault.Fault.{Fault}
 use Rattle.bq_parse_grammar.specs.declared.tree.FileKind.{FileKind}
 use Rattle.bq_parse_grammar.specs.declared.tree.FileKind.TheVariants as kinds
@@ -86,11 +87,11 @@ module _ (x : LoadingParts) (k : ℕ) (home : ℕ) where
         (package_left (kept_after (module_run x.names meaning (resolved_files x.modules) k file (map frozen_of modules) imported x.limit (kept_first x l)))) v
         (stay_callable x.names meaning calls_own (resolved_files x.modules) k file at (map frozen_of modules) imported (kept_first x l) x.limit home callable) is none
 
-    by_values : (l : LabelParts) (file : ResolvedFile) → slice_get (resolved_files x.modules) k ≡ Some (Some file) → (r : Result (List Datum) Fault) → by_imports x k l file modules r ≡ Ok v → ForLoaders v.frozen
+    by_values : (l : LabelParts) (file : ResolvedFile) → slice_get (resolved_files x.modules) k ≡ Some (Some file) → (r : Result (List Datum) (Fault FaultKind)) → by_imports x k l file modules r ≡ Ok v → ForLoaders v.frozen
     by_values l file at (Err why) is = absurd (cc)
     by_values l file at (Ok imported) is = by_run l file at imported is
 
-    of_front : (l : LabelParts) (r : Result Front Fault) → slice_get (resolved_files x.modules) k ≡ Some (front_file r) → by_front x k l modules r ≡ Ok v → ForLoaders v.frozen
+    of_front : (l : LabelParts) (r : Result Front (Fault FaultKind)) → slice_get (resolved_files x.modules) k ≡ Some (front_file r) → by_front x k l modules r ≡ Ok v → ForLoaders v.frozen
     unfolding file_means
     of_front l (Err why) at is = absurd (cc)
     of_front l (Ok front) at is = by_values l front.file at (imports (loaded_parts x front modules) [] front.file.loads front.loads) is

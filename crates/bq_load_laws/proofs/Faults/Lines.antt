@@ -62,7 +62,7 @@ none_in : (line : FaultLine) → Contains [] line → ⊥
 none_in line c = omega arith
 
 -- what holds of each fault of a module, by its number and its line, holds of each fault line
-module _ (Q : FaultKind → ℕ → Type 0) (holds : (inputs : InputParts) (l : LabelParts) (why : Fault) → FailsIn inputs l why → Q why.kind why.line) where
+module _ (Q : FaultKind → ℕ → Type 0) (holds : (inputs : InputParts) (l : LabelParts) (why : Fault FaultKind) → FailsIn inputs l why → Q why.kind why.line) where
   module _ (inputs : InputParts) (line : FaultLine) where
     by_result : (l : LabelParts) (r : Result ModuleView FailedView) → IfErr r (λ m. FailsIn inputs l m.fault) → Contains (lines_by l r) line → Q line.kind line.line
     by_result l (Ok m) h c = absurd (none_in line c)

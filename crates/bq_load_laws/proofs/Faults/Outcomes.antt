@@ -68,16 +68,16 @@ use Rattle.bq_load_laws.proofs.Packages.Made.{Declares, IsMade, file_made}
 -- ---- symbols
 
 -- a result that fails, if it does, with a fault of loads at the line of one of these
-abbrev ByLoads : {A : Type 0} → List LoadStmt → Result A Fault → Type 0
+abbrev ByLoads : {A : Type 0} → List LoadStmt → Result A (Fault FaultKind) → Type 0
 ByLoads all (Ok x) = Unit {0}
 ByLoads all (Err why) = (is_of_loads why.kind ≡ true) × IsAtLoad all why
 
-then_only : {A B : Type 0} (all : List LoadStmt) (r : Result A Fault) (go : A → Result B Fault) → ByLoads all r → ((x : A) → ByLoads all (go x)) → ByLoads all (r >>= go)
+then_only : {A B : Type 0} (all : List LoadStmt) (r : Result A (Fault FaultKind)) (go : A → Result B (Fault FaultKind)) → ByLoads all r → ((x : A) → ByLoads all (go x)) → ByLoads all (r >>= go)
 then_only all (Ok x) go h next = next x
 then_only all (Err why) go h next = h
 
 module _ (all : List LoadStmt) (load : LoadStmt) (among : Contains all load) where
-  at_it : (why : Fault) → why.line ≡ load.line → IsAtLoad all why
+  at_it : (why : Fault FaultKind) → why.line ≡ load.line → IsAtLoad all why
   at_it why e = record { load = load; among = among; line = e }
 
   of_global : (name : Name) (v : Option Datum) → ByLoads all (at_symbol load.line name (or_no_symbol v))
@@ -110,7 +110,7 @@ imports_fail all x done (s ∷ ss) (l ∷ ls) inside =
 has_package : (p : PackageTargets) → Some p ≡ None → ⊥
 has_package p e = cc
 
-abbrev of_front : Front → Result Front Fault
+abbrev of_front : Front → Result Front (Fault FaultKind)
 of_front front = Ok front
 
 same_front : (a b : Front) → of_front a ≡ of_front b → a ≡ b
@@ -135,7 +135,7 @@ module _ (inputs : InputParts) where
   abbrev pub IsComeTo : OutcomeView → Type 0
   IsComeTo o = ComesTo o.label o.result
 
-  resolved_by : (l : LabelParts) (r : Result Front Fault) → IsFront inputs l r → IfAny (front_file r)
+  resolved_by : (l : LabelParts) (r : Result Front (Fault FaultKind)) → IsFront inputs l r → IfAny (front_file r)
   resolved_by l (Err why) h = tt
   resolved_by l (Ok front) h =
       let has = h.2 in
@@ -184,7 +184,7 @@ module _ (inputs : InputParts) (x : LoadingParts) (all : AllByRecursion IfAny (r
     by_run : (values : List Datum) → Comes l (module_after front.file values (evaluation x m l front.file modules values))
     by_run values = by_both (module_after front.file values (evaluation x m l front.file modules values)) (run_fails values) (file_made x m l front.file modules values)
 
-    by_values : (r : Result (List Datum) Fault) → ByLoads front.file.loads r → Comes l (by_imports x m l front.file modules r)
+    by_values : (r : Result (List Datum) (Fault FaultKind)) → ByLoads front.file.loads r → Comes l (by_imports x m l front.file modules r)
     by_values (Err why) h = FailsIn.of_loads is.0 front.file is.1 is.2 h.0 h.1
     by_values (Ok values) h = by_run values
 
@@ -194,13 +194,13 @@ module _ (inputs : InputParts) (x : LoadingParts) (all : AllByRecursion IfAny (r
       by_values l front is m modules (imports (loaded_parts x front modules) [] front.file.loads front.loads)
       (imports_fail front.file.loads (loaded_parts x front modules) [] front.file.loads front.loads (λ r c. c))
 
-  front_comes : (l : LabelParts) (r : Result Front Fault) → IsFront inputs l r → (m : ℕ) (modules : List ModuleView) → Comes l (by_front x m l modules r)
+  front_comes : (l : LabelParts) (r : Result Front (Fault FaultKind)) → IsFront inputs l r → (m : ℕ) (modules : List ModuleView) → Comes l (by_front x m l modules r)
   front_comes l (Ok front) is m modules = file_comes l front is m modules
   front_comes l (Err why) is m modules = is
 
   -- ---- a module in its place
 
-  module _ (p : Loads) (m : ℕ) (l : LabelParts) (at : slice_get x.modules m ≡ Some (module_of inputs l)) (none : (why : Fault) → front_of inputs l ≡ Err why → row p m ≡ []) (known : Known p)
+  module _ (p : Loads) (m : ℕ) (l : LabelParts) (at : slice_get x.modules m ≡ Some (module_of inputs l)) (none : (why : Fault FaultKind) → front_of inputs l ≡ Err why → row p m ≡ []) (known : Known p)
       (told : LoadsAreTold inputs x p m l) (is_file : is_some (label_file inputs.files l) ≡ true) where
     abbrev Holds : Outcome ModuleView FailedView → Type 0
     Holds one = Comes l (result_of x (front_of inputs l) one)
@@ -262,7 +262,7 @@ module _ (inputs : InputParts) (x : LoadingParts) (all : AllByRecursion IfAny (r
           ∙ ap (λ (z : List ℕ). evaluated (means x m) (values (outcome (means x) p) z)) empty))
           (by_result (means x m []) (means_comes []))
 
-    by_what_is_read : (r : Result Front Fault) → front_of inputs l ≡ r → IsFront inputs l r → Holds (outcome (means x) p m)
+    by_what_is_read : (r : Result Front (Fault FaultKind)) → front_of inputs l ≡ r → IsFront inputs l r → Holds (outcome (means x) p m)
     by_what_is_read (Ok front) e is = with_file front e is
     by_what_is_read (Err why) e is = without_file (none why e)
 
@@ -272,7 +272,7 @@ module _ (inputs : InputParts) (x : LoadingParts) (all : AllByRecursion IfAny (r
 -- ---- all modules
 
 module _ (inputs : InputParts) (x : LoadingParts) (labels : List LabelParts) (read : x.modules ≡ map (module_of inputs) labels) (p : Loads)
-    (none : (m : ℕ) (l : LabelParts) (why : Fault) → slice_get labels m ≡ Some l → front_of inputs l ≡ Err why → row p m ≡ []) (known : Known p)
+    (none : (m : ℕ) (l : LabelParts) (why : Fault FaultKind) → slice_get labels m ≡ Some l → front_of inputs l ≡ Err why → row p m ≡ []) (known : Known p)
     (told : (m : ℕ) (l : LabelParts) → slice_get labels m ≡ Some l → LoadsAreTold inputs x p m l) (all_there : AreThere inputs labels) where
   all_files : AllByRecursion IfAny (resolved_files x.modules)
   all_files = subst (λ (z : List Module). AllByRecursion IfAny (resolved_files z)) (sym read) (all_resolved inputs labels all_there)

@@ -48,17 +48,17 @@ of_piece rest kind lines (spelling.bad_int bs after a b c) = refl
 of_piece rest kind lines (spelling.open_string a b) = refl
 of_piece rest kind lines (spelling.bad_escape literal at a b) = refl
 
-is_token_fault : (why : Fault) (kind : FaultKind) (line : ℕ) → why ≡ fault_at kind line → is_of_tokens kind ≡ true → is_of_tokens why.kind ≡ true
-is_token_fault why kind line e h = subst (λ z. is_of_tokens z ≡ true) (sym (ap (λ (x : Fault). x.kind) e)) h
+is_token_fault : (why : Fault FaultKind) (kind : FaultKind) (line : ℕ) → why ≡ fault_at kind line → is_of_tokens kind ≡ true → is_of_tokens why.kind ≡ true
+is_token_fault why kind line e h = subst (λ z. is_of_tokens z ≡ true) (sym (ap (λ (x : Fault FaultKind). x.kind) e)) h
 
-of_place : (b : Before) (rest : List ℕ) (why : Fault) → FaultAfter b rest why → is_of_tokens why.kind ≡ true
+of_place : (b : Before) (rest : List ℕ) (why : Fault FaultKind) → FaultAfter b rest why → is_of_tokens why.kind ≡ true
 of_place b rest why (layout.misspelled kind lines m p e) = is_token_fault why kind _ e (of_piece rest kind lines m)
 of_place b rest why (layout.tab i n t e) = is_token_fault why f.Tab _ e refl
 of_place b rest why (layout.uneven i n t w o e) = is_token_fault why f.Indent _ e refl
 of_place b rest why (layout.closes_none kind bs after os w s p l c e) = is_token_fault why f.Bracket _ e refl
 of_place b rest why (layout.never_closed o os w l e) = is_token_fault why f.Bracket _ e refl
 
-tokens_fail : (text : List ℕ) (why : Fault) → Lexes text (Err why) → is_of_tokens why.kind ≡ true
+tokens_fail : (text : List ℕ) (why : Fault FaultKind) → Lexes text (Err why) → is_of_tokens why.kind ≡ true
 tokens_fail text why reads = elim (faulty text why reads) [
   | inl long ↦ is_token_fault why f.FileTooLong _ long.0 refl
   | inr h ↦ of_place h.end h.rest why h.fault
@@ -73,13 +73,13 @@ of_statement kind ts r why e (V.left_out a b c) = let same : f.LeftOut ≡ why =
 of_statement kind ts r why e (V.not_in_build a b c d) = let same : f.NotInBuild ≡ why = cc in subst (λ z. is_of_statements z ≡ true) same refl
 of_statement kind ts r why e (V.read a b c d) = absurd (cc)
 
-of_pieces : (kind : FileKind) (ps : List (List Lexeme)) (r : Result (List TopLevel) Fault) (why : Fault) → r ≡ Err why → ReadsAll kind ps r → is_of_statements why.kind ≡ true
+of_pieces : (kind : FileKind) (ps : List (List Lexeme)) (r : Result (List TopLevel) (Fault FaultKind)) (why : Fault FaultKind) → r ≡ Err why → ReadsAll kind ps r → is_of_statements why.kind ≡ true
 of_pieces kind ps r why e P.over = absurd (cc)
 of_pieces kind ps r why e (P.good h g) = absurd (cc)
 of_pieces kind ps r why e (P.later {p = p} {ps = qs} {x = x} {why = at} h g) = of_pieces kind qs (Err at) why e g
 of_pieces kind ps r why e (P.bad {p = p} {ps = qs} {why = one} {at = at} h g) =
     let same : at ≡ why = cc in
-    let kinds : why.kind ≡ one = ap (λ (x : Fault). x.kind) (sym same) ∙ ap (λ (x : Fault). x.kind) g in
+    let kinds : why.kind ≡ one = ap (λ (x : Fault FaultKind). x.kind) (sym same) ∙ ap (λ (x : Fault FaultKind). x.kind) g in
     subst (λ z. is_of_statements z ≡ true) (sym kinds) (of_statement kind p (Err one) one refl h)
 
 -- ---- loads
@@ -103,31 +103,31 @@ of_file files packages l kind e = elim (by_bool (is_some (package_named packages
     none_is : None ≡ Some kind → is_of_loads kind ≡ true
     none_is same = absurd (cc)
 
-of_label : (files : List File) (packages : List BuildFile) (line : ℕ) (l : LabelParts) (o : Option FaultKind) (why : Fault) → ((kind : FaultKind) → o ≡ Some kind → is_of_loads kind ≡ true)
+of_label : (files : List File) (packages : List BuildFile) (line : ℕ) (l : LabelParts) (o : Option FaultKind) (why : Fault FaultKind) → ((kind : FaultKind) → o ≡ Some kind → is_of_loads kind ≡ true)
     → unless_fault line l o ≡ Err why → is_of_loads why.kind ≡ true
 of_label files packages line l None why h e = absurd (cc)
 of_label files packages line l (Some kind) why h e =
     let same : record { kind = kind; line = line; detail = full_form l } ≡ why = cc in
-    subst (λ (x : Fault). is_of_loads x.kind ≡ true) same (h kind refl)
+    subst (λ (x : Fault FaultKind). is_of_loads x.kind ≡ true) same (h kind refl)
 
-of_name : (files : List File) (packages : List BuildFile) (line : ℕ) (o : Option LabelParts) (why : Fault) → file_named files packages line o ≡ Err why → is_of_loads why.kind ≡ true
-of_name files packages line None why e = let same : fault_at f.BadLoadLabel line ≡ why = cc in subst (λ (x : Fault). is_of_loads x.kind ≡ true) same refl
+of_name : (files : List File) (packages : List BuildFile) (line : ℕ) (o : Option LabelParts) (why : Fault FaultKind) → file_named files packages line o ≡ Err why → is_of_loads why.kind ≡ true
+of_name files packages line None why e = let same : fault_at f.BadLoadLabel line ≡ why = cc in subst (λ (x : Fault FaultKind). is_of_loads x.kind ≡ true) same refl
 of_name files packages line (Some l) why e = of_label files packages line l (fault_of_file files packages l) why (of_file files packages l) e
 
-load_fails : (files : List File) (packages : List BuildFile) (own : PackageParts) (line : ℕ) (text : List ℕ) (why : Fault) → load_label files packages own line text ≡ Err why → is_of_loads why.kind ≡ true
+load_fails : (files : List File) (packages : List BuildFile) (own : PackageParts) (line : ℕ) (text : List ℕ) (why : Fault FaultKind) → load_label files packages own line text ≡ Err why → is_of_loads why.kind ≡ true
 unfolding load_label
 load_fails files packages own line text why e = of_name files packages line (bzl_label own text) why e
 
 -- at the line of the load
-line_of_label : (line : ℕ) (l : LabelParts) (o : Option FaultKind) (why : Fault) → unless_fault line l o ≡ Err why → why.line ≡ line
+line_of_label : (line : ℕ) (l : LabelParts) (o : Option FaultKind) (why : Fault FaultKind) → unless_fault line l o ≡ Err why → why.line ≡ line
 line_of_label line l None why e = absurd (cc)
-line_of_label line l (Some kind) why e = let same : record { kind = kind; line = line; detail = full_form l } ≡ why = cc in sym (ap (λ (x : Fault). x.line) same)
+line_of_label line l (Some kind) why e = let same : record { kind = kind; line = line; detail = full_form l } ≡ why = cc in sym (ap (λ (x : Fault FaultKind). x.line) same)
 
-line_of_name : (files : List File) (packages : List BuildFile) (line : ℕ) (o : Option LabelParts) (why : Fault) → file_named files packages line o ≡ Err why → why.line ≡ line
-line_of_name files packages line None why e = let same : fault_at f.BadLoadLabel line ≡ why = cc in sym (ap (λ (x : Fault). x.line) same)
+line_of_name : (files : List File) (packages : List BuildFile) (line : ℕ) (o : Option LabelParts) (why : Fault FaultKind) → file_named files packages line o ≡ Err why → why.line ≡ line
+line_of_name files packages line None why e = let same : fault_at f.BadLoadLabel line ≡ why = cc in sym (ap (λ (x : Fault FaultKind). x.line) same)
 line_of_name files packages line (Some l) why e = line_of_label line l (fault_of_file files packages l) why e
 
-line_of_load : (files : List File) (packages : List BuildFile) (own : PackageParts) (line : ℕ) (text : List ℕ) (why : Fault) → load_label files packages own line text ≡ Err why → why.line ≡ line
+line_of_load : (files : List File) (packages : List BuildFile) (own : PackageParts) (line : ℕ) (text : List ℕ) (why : Fault FaultKind) → load_label files packages own line text ≡ Err why → why.line ≡ line
 unfolding load_label
 line_of_load files packages own line text why e = line_of_name files packages line (bzl_label own text) why e
 
@@ -138,7 +138,7 @@ among_all (b ∷ bs) x after = in_tail b (bs ++ x ∷ after) x (among_all bs x a
 -- ---- files
 
 module _ (inputs : InputParts) (l : LabelParts) where
-  of_text : (x : File) → label_file inputs.files l ≡ Some x → (why : Fault) → HasFault (universe_at inputs l) x.content why → FailsIn inputs l why
+  of_text : (x : File) → label_file inputs.files l ≡ Some x → (why : Fault FaultKind) → HasFault (universe_at inputs l) x.content why → FailsIn inputs l why
   of_text x is why (HasFault.of_tokens reads) = FailsIn.of_tokens x is reads (tokens_fail x.content why reads)
   of_text x is why (HasFault.of_statements tokens reads parses) =
       FailsIn.of_statements x tokens is reads parses (of_pieces (kind_of l) (pieces (lexemes x.content tokens)) (Err why) why refl parses)
@@ -146,21 +146,21 @@ module _ (inputs : InputParts) (l : LabelParts) where
       FailsIn.of_names x tokens trees is reads parses names
       (all_of_names (universe_at inputs l) trees why (file_within (kind_of l) (pieces (lexemes x.content tokens)) trees (Ok trees) refl parses) names)
 
-  abbrev labels : ResolvedFile → Result (List LabelParts) Fault
+  abbrev labels : ResolvedFile → Result (List LabelParts) (Fault FaultKind)
   labels file = labels_of (load_of inputs (package_of l)) [] file.loads
 
-  abbrev front_in : ResolvedFile → Result (List LabelParts) Fault → Result Front Fault
+  abbrev front_in : ResolvedFile → Result (List LabelParts) (Fault FaultKind) → Result Front (Fault FaultKind)
   front_in file r = r >>= λ ls. Ok (record { file = file; loads = ls })
 
-  abbrev front_with : Result ResolvedFile Fault → Result Front Fault
+  abbrev front_with : Result ResolvedFile (Fault FaultKind) → Result Front (Fault FaultKind)
   front_with r = r >>= λ file. front_in file (labels file)
 
   -- what is read is what the file resolves to, or a fault of one of its parts
-  abbrev pub IsFront : Result Front Fault → Type 0
+  abbrev pub IsFront : Result Front (Fault FaultKind) → Type 0
   IsFront (Ok front) = (x : File) × (label_file inputs.files l ≡ Some x) × TextResolvesTo (universe_at inputs l) x.content front.file
   IsFront (Err why) = FailsIn inputs l why
 
-  by_labels : (x : File) → label_file inputs.files l ≡ Some x → (file : ResolvedFile) → TextResolvesTo (universe_at inputs l) x.content file → (r : Result (List LabelParts) Fault) → labels file ≡ r
+  by_labels : (x : File) → label_file inputs.files l ≡ Some x → (file : ResolvedFile) → TextResolvesTo (universe_at inputs l) x.content file → (r : Result (List LabelParts) (Fault FaultKind)) → labels file ≡ r
       → IsFront (front_in file r)
   by_labels x is file has (Ok ls) e = (x, is, has)
   by_labels x is file has (Err why) e =
@@ -172,7 +172,7 @@ module _ (inputs : InputParts) (l : LabelParts) where
       } in
       FailsIn.of_loads x file is has (load_fails inputs.files inputs.packages (package_of l) bad.load.line bad.load.label why bad.bad) at
 
-  by_text : (x : File) → label_file inputs.files l ≡ Some x → (r : Result ResolvedFile Fault) → resolved_file (universe_at inputs l) x.content ≡ r → IsFront (front_with r)
+  by_text : (x : File) → label_file inputs.files l ≡ Some x → (r : Result ResolvedFile (Fault FaultKind)) → resolved_file (universe_at inputs l) x.content ≡ r → IsFront (front_with r)
   by_text x is (Ok file) e = by_labels x is file ((resolved_files_of_texts (universe_at inputs l) x.content file).0 e) (labels file) refl
   by_text x is (Err why) e = of_text x is why ((faults_of_files (universe_at inputs l) x.content why).0 e)
 

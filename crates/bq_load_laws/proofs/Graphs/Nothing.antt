@@ -1,5 +1,6 @@
 -- A file with a fault loads nothing.
 use Rattle.std.proofs.Common.{◌≡◌, ◌∙◌, ap, refl, sym, ℕ, zero, suc, List, [], ◌∷◌, map, slice_get, Some, Err}
+use Rattle.bq_base.specs.declared.fault.FaultKind.{FaultKind}
 use Rattle.bq_base.specs.declared.fault.Fault.{Fault}
 use Rattle.bq_label.specs.Label.{LabelParts}
 use Rattle.bq_label_set.specs.Labels.{with_labels}
@@ -10,7 +11,7 @@ use Rattle.bq_load_front.proofs.ByName.{loads_agree}
 use Rattle.bq_load_discover.specs.LoadGraph.{GraphParts, IsReadGraph}
 use Rattle.bq_load_discover.specs.Modules.{edges_from}
 
-no_loads : (inputs : InputParts) (l : LabelParts) (why : Fault) → front_of inputs l ≡ Err why → loads_of inputs l ≡ []
+no_loads : (inputs : InputParts) (l : LabelParts) (why : Fault FaultKind) → front_of inputs l ≡ Err why → loads_of inputs l ≡ []
 no_loads inputs l why h = sym (loads_agree inputs l) ∙ ap loads_by h
 
 pub record At {A : Type 0} (xs : List A) (n : ℕ) (Q : A → Type 0) : Type 0 where
@@ -36,7 +37,7 @@ no_edge : (labels : List LabelParts) (row : List ℕ) → map (slice_get labels)
 no_edge labels [] e = refl
 no_edge labels (n ∷ row) e = absurd (cc)
 
-pub loads_nothing : (inputs : InputParts) (g : GraphParts) (m : ℕ) (l : LabelParts) (why : Fault) → IsReadGraph inputs g → slice_get g.labels m ≡ Some l → front_of inputs l ≡ Err why → slice_get g.edges m ≡ Some []
+pub loads_nothing : (inputs : InputParts) (g : GraphParts) (m : ℕ) (l : LabelParts) (why : Fault FaultKind) → IsReadGraph inputs g → slice_get g.labels m ≡ Some l → front_of inputs l ≡ Err why → slice_get g.edges m ≡ Some []
 unfolding with_labels
 loads_nothing inputs g m l why graph at bad =
     let r = both (map (slice_get g.labels)) (λ k. map Some (edges_from (parsed_of inputs) k)) g.edges g.labels m l graph.graph.edges at in

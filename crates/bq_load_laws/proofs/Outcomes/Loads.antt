@@ -116,19 +116,19 @@ module _ (inputs : InputParts) (l : LabelParts) (front : Front) where
   abbrev made : ResolvedFile → List LabelParts → Front
   made file ls = record { file = file; loads = ls }
 
-  abbrev ok : Front → Result Front Fault
+  abbrev ok : Front → Result Front (Fault FaultKind)
   ok x = Ok x
 
   same_front : (x y : Front) → ok x ≡ ok y → x ≡ y
   same_front x y e = cc
 
-  wide_labels : (file : ResolvedFile) (r : Result (List LabelParts) Fault) → labels_of (load_of inputs (package_of l)) [] file.loads ≡ r → (r >>= λ ls. ok (made file ls)) ≡ ok front → Wide front
+  wide_labels : (file : ResolvedFile) (r : Result (List LabelParts) (Fault FaultKind)) → labels_of (load_of inputs (package_of l)) [] file.loads ≡ r → (r >>= λ ls. ok (made file ls)) ≡ ok front → Wide front
   wide_labels file (Ok ls) is e =
       let names : NameFiles (load_of inputs (package_of l)) file.loads ls = ((are_read (load_of inputs (package_of l)) file.loads).0 ls).0 is in
       subst Wide (same_front (made file ls) front e) (sym (length-map file.loads (load_of inputs (package_of l))) ∙ ap length names ∙ length-map ls named)
   wide_labels file (Err why) is e = absurd (cc)
 
-  wide_text : (r : Result ResolvedFile Fault) → (r >>= λ file. labels_of (load_of inputs (package_of l)) [] file.loads >>= λ ls. ok (made file ls)) ≡ ok front → Wide front
+  wide_text : (r : Result ResolvedFile (Fault FaultKind)) → (r >>= λ file. labels_of (load_of inputs (package_of l)) [] file.loads >>= λ ls. ok (made file ls)) ≡ ok front → Wide front
   wide_text (Ok file) e = wide_labels file (labels_of (load_of inputs (package_of l)) [] file.loads) refl e
   wide_text (Err why) e = absurd (cc)
 
@@ -170,7 +170,7 @@ module _ (files : List File) (rules : Rules) (limit : ℕ) (g : GraphParts) (is 
     by_outcome (o.LoadFailed k) h told = told f.LoadFailed k h
 
     -- a file that does not resolve loads nothing
-    by_front : (r : Result Front Fault) → front_of inputs l ≡ r → (kind : FaultKind) (k : ℕ) → Has (row g.edges m) k → IsAtItsLoad x k (front_of inputs l) kind
+    by_front : (r : Result Front (Fault FaultKind)) → front_of inputs l ≡ r → (kind : FaultKind) (k : ℕ) → Has (row g.edges m) k → IsAtItsLoad x k (front_of inputs l) kind
     by_front (Ok front) e kind k h = at_load m l front at e kind k h
     by_front (Err why) e kind k h =
         let none : row g.edges m ≡ [] = get_or_from_slice_get g.edges m [] [] (loads_nothing inputs g m l why is at e) in

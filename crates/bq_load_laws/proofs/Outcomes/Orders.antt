@@ -39,7 +39,7 @@ exported_in_order resolved m name = elim (by_bool (is_private name)) [
 
 -- ---- modules
 
-module _ (x : LoadingParts) (p : Loads) (m : ℕ) (front : Result Front Fault) where
+module _ (x : LoadingParts) (p : Loads) (m : ℕ) (front : Result Front (Fault FaultKind)) where
   -- a fault of a load is of this kind
   of_kind : (kind : FaultKind) (k : ℕ) → (load_fault x front kind k).kind ≡ kind
   unfolding load_fault

@@ -1,6 +1,7 @@
 -- Lines are counted from 1: so no fault line of a workspace that is loaded names line 0, and no target but a source file is in one.
 use Rattle.std.specs.Prelude.{◌≡◌, ◌≤◌, ◌⊎◌, ℕ, List, Ok, IfErr}
 use Rattle.std.specs.List.{AllByRecursion, Contains}
+use Rattle.bq_base.specs.declared.fault.FaultKind.{FaultKind}
 use Rattle.bq_base.specs.declared.fault.Fault.{Fault}
 use Rattle.bq_label.specs.declared.workspace.File.{File}
 use Rattle.bq_label.specs.Label.{LabelParts}
@@ -21,7 +22,7 @@ use Rattle.bq_load_laws.specs.Faults.Parts.{FailsIn}
 
 -- whatever part of its file a module fails in
 abbrev pub FaultsStandOnLines : Type 0
-FaultsStandOnLines = (inputs : InputParts) (l : LabelParts) (why : Fault) → FailsIn inputs l why → 1 ≤ why.line
+FaultsStandOnLines = (inputs : InputParts) (l : LabelParts) (why : Fault FaultKind) → FailsIn inputs l why → 1 ≤ why.line
 
 abbrev pub StandsOnALine : OutcomeView → Type 0
 StandsOnALine o = IfErr o.result (λ m. 1 ≤ m.fault.line)

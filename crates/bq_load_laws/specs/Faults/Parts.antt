@@ -57,14 +57,14 @@ abbrev pub universe_at : InputParts → LabelParts → UniverseParts
 universe_at inputs l = universe_of inputs (kind_of l)
 
 -- the fault names the line of one of these loads
-pub record IsAtLoad (loads : List LoadStmt) (why : Fault) : Type 0 where
+pub record IsAtLoad (loads : List LoadStmt) (why : Fault FaultKind) : Type 0 where
   pub load : LoadStmt
   pub among : Contains loads load
   pub line : why.line ≡ load.line
 
 -- The module of this label fails with this fault: its text has no tokens; or these are no statements; or the names of these stand for nothing;
 -- or it resolves, and fails by its loads, at the line of one of them, or in its evaluation, at the line of one of its statements.
-pub data FailsIn (inputs : InputParts) (l : LabelParts) (why : Fault) : Type 0 where
+pub data FailsIn (inputs : InputParts) (l : LabelParts) (why : Fault FaultKind) : Type 0 where
   of_tokens : (x : File) → label_file inputs.files l ≡ Some x → Lexes x.content (Err why) → is_of_tokens why.kind ≡ true → FailsIn inputs l why
   of_statements : (x : File) (tokens : List Token) → label_file inputs.files l ≡ Some x → Lexes x.content (Ok tokens) → Parses (kind_of l) (lexemes x.content tokens) (Err why)
       → is_of_statements why.kind ≡ true → FailsIn inputs l why
@@ -92,7 +92,7 @@ LoadedModulesFailInTheirParts =
 
 -- whatever part it is, the fault is one of these
 abbrev pub FaultsAreOfModules : Type 0
-FaultsAreOfModules = (inputs : InputParts) (l : LabelParts) (why : Fault) → FailsIn inputs l why → is_of_module why.kind ≡ true
+FaultsAreOfModules = (inputs : InputParts) (l : LabelParts) (why : Fault FaultKind) → FailsIn inputs l why → is_of_module why.kind ≡ true
 
 -- each fault line of a workspace that is loaded
 abbrev pub FaultLinesAreOfModules : Type 0

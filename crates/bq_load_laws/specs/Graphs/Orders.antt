@@ -1,5 +1,6 @@
 -- In which order a load is refused for the file that it names (ours: the order).
 use Rattle.std.specs.Prelude.{◌≡◌, ℕ, not, List, [], ◌∷◌, Option, Some, None, Result, Ok, Err, is_some}
+use Rattle.bq_base.specs.declared.fault.FaultKind.{FaultKind}
 use Rattle.bq_base.specs.declared.fault.Fault.{Fault}
 use Rattle.bq_base.specs.declared.fault.FaultKind.TheVariants.{BadLoadLabel, NoSuchFile, NoPackage, CrossesPackage}
 use Rattle.bq_label.specs.declared.workspace.File.{File}
@@ -24,10 +25,10 @@ abbrev pub loading : List File → List BuildFile → PackageParts → List ℕ 
 loading files packages own text = when (not (is_some (bzl_label own text))) BadLoadLabel ∷ finding_any files packages (bzl_label own text) ∷ []
 
 -- why a load names no file, if it names none
-abbrev pub fault_of_load : Result LabelParts Fault → Check
+abbrev pub fault_of_load : Result LabelParts (Fault FaultKind) → Check
 fault_of_load (Ok l) = None
 fault_of_load (Err why) = Some why.kind
 
 -- a load names no file for the first fault that these checks find, and names one where they find none
-abbrev pub LoadFailsForFirst : Result LabelParts Fault → List Check → Type 0
+abbrev pub LoadFailsForFirst : Result LabelParts (Fault FaultKind) → List Check → Type 0
 LoadFailsForFirst load checks = fault_of_load load ≡ first_fault checks

@@ -33,30 +33,30 @@ pub record IsFirstLoadOf (file : LabelParts) (load : LoadStmt) (loads : List Loa
   pub others : AllByRecursion (λ l. bytes_eq (full_form file) (full_form l) ≡ false) other
 
 -- of the loads in this file, this is the first of module `k`, which is this one
-pub record LoadsFirst (x : LoadingParts) (k : ℕ) (front : Result Front Fault) (loaded : Module) (load : LoadStmt) : Type 0 where
+pub record LoadsFirst (x : LoadingParts) (k : ℕ) (front : Result Front (Fault FaultKind)) (loaded : Module) (load : LoadStmt) : Type 0 where
   pub own : Front
   pub read : front ≡ Ok own
   pub known : slice_get x.modules k ≡ Some loaded
   pub first : IsFirstLoadOf loaded.label load own.file.loads own.loads
 
 -- the fault at that load, which names what it loads
-abbrev pub fault_at_load : FaultKind → LoadStmt → Module → Fault
+abbrev pub fault_at_load : FaultKind → LoadStmt → Module → Fault FaultKind
 fault_at_load kind load loaded = record { kind = kind; line = load.line; detail = full_form loaded.label }
 
 -- the fault of a module for its load of another is at the first load of that one in its file
 abbrev pub FaultsAreAtFirstLoads : Type 0
-FaultsAreAtFirstLoads = (x : LoadingParts) (k : ℕ) (front : Result Front Fault) (loaded : Module) (kind : FaultKind) (load : LoadStmt)
+FaultsAreAtFirstLoads = (x : LoadingParts) (k : ℕ) (front : Result Front (Fault FaultKind)) (loaded : Module) (kind : FaultKind) (load : LoadStmt)
     → LoadsFirst x k front loaded load → load_fault x front kind k ≡ fault_at_load kind load loaded
 
 -- the fault of a module whose file is this, for its load of module `k`, is at the first such load in its file
-pub record IsAtItsLoad (x : LoadingParts) (k : ℕ) (front : Result Front Fault) (kind : FaultKind) : Type 0 where
+pub record IsAtItsLoad (x : LoadingParts) (k : ℕ) (front : Result Front (Fault FaultKind)) (kind : FaultKind) : Type 0 where
   pub loaded : Module
   pub load : LoadStmt
   pub first : LoadsFirst x k front loaded load
   pub fault : load_fault x front kind k ≡ fault_at_load kind load loaded
 
 -- so it is where the module comes to nothing by its loads
-abbrev pub NamesItsLoad : LoadingParts → Result Front Fault → Outcome ModuleView FailedView → Type 0
+abbrev pub NamesItsLoad : LoadingParts → Result Front (Fault FaultKind) → Outcome ModuleView FailedView → Type 0
 NamesItsLoad x front (o.Loaded v) = Unit {0}
 NamesItsLoad x front (o.Faulty e) = Unit {0}
 NamesItsLoad x front (o.Cyclic k) = IsAtItsLoad x k front f.CycleReached

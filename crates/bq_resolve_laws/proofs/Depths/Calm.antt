@@ -1,13 +1,22 @@
 -- Walks whose faults are of names alone, so none is F11.
 use Rattle.std.proofs.Common.{◌≡◌, ◌≤◌, refl, ℕ, Bool, true, false, List, [], ◌∷◌, ◌++◌, map, Option, Some, None, Result, Ok, Err, arith}
 use Rattle.std.specs.Prelude.{if◌then◌else◌}
+use Rattle.bq_base.specs.declared.fault.NameFault.{NameFault}
 use Rattle.bq_base.specs.declared.fault.Fault.{Fault}
-use Rattle.bq_base.specs.declared.fault.FaultKind.TheVariants as f
+use Rattle.bq_base.specs.declared.fault.NameFault.TheVariants as f
 use Rattle.bq_parse_tree_laws.specs.Depth.{deepest}
-use Rattle.bq_resolve_laws.specs.Depths.Nesting.{is_of_names}
 use Rattle.bq_resolve_scope.specs.Visit.{Passed, Visit, following, ◌>>=◌, pure, stop, given, each, optional}
 
-abbrev pub IsCalm : {A : Type 0} → Result (A × Passed) Fault → Type 0
+-- F20 to F24
+abbrev pub is_of_names : NameFault → Bool
+is_of_names f.Nesting = false
+is_of_names f.UnknownName = true
+is_of_names f.Rebound = true
+is_of_names f.BoundTwice = true
+is_of_names f.BadFlow = true
+is_of_names f.DoubleParameter = true
+
+abbrev pub IsCalm : {A : Type 0} → Result (A × Passed) (Fault NameFault) → Type 0
 IsCalm (Ok p) = Unit {0}
 IsCalm (Err why) = is_of_names why.kind ≡ true
 
@@ -33,7 +42,7 @@ double_is_named = refl
 
 -- ---- walks
 
-pub after : {A B : Type 0} (r : Result (A × Passed) Fault) (go : A → Visit B) → IsCalm {A = A} r → ((x : A) → Calm {A = B} (go x)) → IsCalm {A = B} (following r go)
+pub after : {A B : Type 0} (r : Result (A × Passed) (Fault NameFault)) (go : A → Visit B) → IsCalm {A = A} r → ((x : A) → Calm {A = B} (go x)) → IsCalm {A = B} (following r go)
 after (Err why) go h next = h
 after (Ok p) go h next = next p.0 p.1
 
@@ -52,16 +61,16 @@ pub calm_three : {A B C D : Type 0} (v : Visit A) (u : Visit B) (w : Visit C) (m
     → Calm {A = D} (v >>= λ x. u >>= λ y. w >>= λ z. pure (make x y z))
 calm_three v u w make first second third = calm_bind v (λ x. u >>= λ y. w >>= λ z. pure (make x y z)) first (λ x. calm_two u w (make x) second third)
 
-pub calm_given : {A : Type 0} (why : Fault) (o : Option A) → is_of_names why.kind ≡ true → Calm {A = A} (given why o)
+pub calm_given : {A : Type 0} (why : Fault NameFault) (o : Option A) → is_of_names why.kind ≡ true → Calm {A = A} (given why o)
 calm_given why None h s = h
 calm_given why (Some x) h s = tt
 
 -- a fault, or what is made
-pub calm_if : {A : Type 0} (b : Bool) (why : Fault) (p : A × Passed) → is_of_names why.kind ≡ true → IsCalm {A = A} (if b then Err why else Ok p)
+pub calm_if : {A : Type 0} (b : Bool) (why : Fault NameFault) (p : A × Passed) → is_of_names why.kind ≡ true → IsCalm {A = A} (if b then Err why else Ok p)
 calm_if true why p h = h
 calm_if false why p h = tt
 
-pub calm_choice : {A : Type 0} (b : Bool) (why : Fault) (x : A) (u : Passed) → is_of_names why.kind ≡ true → IsCalm {A = A} (let go : Visit A = if b then stop why else pure x in go u)
+pub calm_choice : {A : Type 0} (b : Bool) (why : Fault NameFault) (x : A) (u : Passed) → is_of_names why.kind ≡ true → IsCalm {A = A} (let go : Visit A = if b then stop why else pure x in go u)
 calm_choice true why x u h = h
 calm_choice false why x u h = tt
 

@@ -1,7 +1,8 @@
 -- Expressions that are not too deep have faults of names alone.
 use Rattle.std.proofs.Common.{◌≤◌, ℕ, zero, suc, ◌+◌, ◌&&◌, ◌||◌, List, [], ◌∷◌, map, length, Option, Some, None, Result, Ok, Err, arith}
+use Rattle.bq_base.specs.declared.fault.NameFault.{NameFault}
 use Rattle.bq_base.specs.declared.fault.Fault.{Fault}
-use Rattle.bq_base.specs.declared.fault.FaultKind.TheVariants as f
+use Rattle.bq_base.specs.declared.fault.NameFault.TheVariants as f
 use Rattle.bq_parse_grammar.specs.declared.tree.Argument.{Argument, out-Argument}
 use Rattle.bq_parse_grammar.specs.declared.tree.Argument.TheOpen.{Expr-F, Suffix-F, Argument-F, Clause-F, TargetExpr-F}
 use Rattle.bq_parse_grammar.specs.declared.tree.Argument.TheVariants as a
@@ -58,7 +59,7 @@ use_calm file blocks m =
 
 -- ---- frames
 
-framed_calm : (k : ℕ) (r : Result ((ComprehensionFrame → Expr) × Passed) Fault) → IsCalm {A = ComprehensionFrame → Expr} r → IsCalm (framed k r)
+framed_calm : (k : ℕ) (r : Result ((ComprehensionFrame → Expr) × Passed) (Fault NameFault)) → IsCalm {A = ComprehensionFrame → Expr} r → IsCalm (framed k r)
 framed_calm k (Err why) h = h
 framed_calm k (Ok p) h = tt
 

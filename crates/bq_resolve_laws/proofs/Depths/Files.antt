@@ -1,8 +1,9 @@
 -- Files whose statements are not too deep have faults of names alone, so none is F11.
 use Rattle.std.proofs.Common.{◌≡◌, ◌≤◌, ℕ, true, false, List, [], ◌∷◌, ◌++◌, map, length, Result, Ok, Err, subst, arith}
 use Rattle.std.specs.List.{AllByRecursion}
+use Rattle.bq_base.specs.declared.fault.NameFault.{NameFault}
 use Rattle.bq_base.specs.declared.fault.Fault.{Fault}
-use Rattle.bq_base.specs.declared.fault.FaultKind.TheVariants as f
+use Rattle.bq_base.specs.declared.fault.NameFault.TheVariants as f
 use Rattle.bq_parse_grammar.specs.declared.tree.Branch.{Branch}
 use Rattle.bq_parse_grammar.specs.declared.tree.Expr.{Expr}
 use Rattle.bq_parse_grammar.specs.declared.tree.Identifier.{Identifier}
@@ -23,9 +24,9 @@ use Rattle.bq_resolve_scope.specs.Expressions.{refer, bound_at}
 use Rattle.bq_resolve_scope.specs.Statements.{ParameterParts, no_parameters, expr, small_stmt, stmt_to, named_parameter, default_parameter, next_parameter, parameters, statements_in, with_function, function}
 use Rattle.bq_resolve_scope.specs.Files.{file_names, def_stmt, file_stmt, top_level, resolved_by, resolved}
 use Rattle.bq_parse_tree_laws.specs.Depth.{deepest, max_depth, expr_depth, parameter_depth, small_depth, stmt_depth}
-use Rattle.bq_resolve_laws.specs.Depths.Nesting.{is_of_names, FaultsAreOfNames, NoFileIsTooDeep}
+use Rattle.bq_resolve_laws.specs.Depths.Nesting.{NoFileIsTooDeep}
 use Rattle.bq_resolve_laws.proofs.Depths.Layers.{stmt_layer, opened_stmt}
-use Rattle.bq_resolve_laws.proofs.Depths.Calm.{IsCalm, Calm, flow_is_named, double_is_named, calm_bind, calm_map, calm_choice, calm_each}
+use Rattle.bq_resolve_laws.proofs.Depths.Calm.{is_of_names, IsCalm, Calm, flow_is_named, double_is_named, calm_bind, calm_map, calm_choice, calm_each}
 use Rattle.bq_resolve_laws.proofs.Depths.Expressions.{name_calm}
 use Rattle.bq_resolve_laws.proofs.Depths.Statements.{an_expr_calm, small_calm, stmt_calm}
 
@@ -67,7 +68,7 @@ module _ (file : FileParts) where
 
   -- ---- functions
 
-  with_calm : (name : Name) (ps : List Formal) (k : ℕ) (r : Result (List Stmt × Passed) Fault) → IsCalm {A = List Stmt} r → IsCalm {A = ℕ} (with_function file name ps k r)
+  with_calm : (name : Name) (ps : List Formal) (k : ℕ) (r : Result (List Stmt × Passed) (Fault NameFault)) → IsCalm {A = List Stmt} r → IsCalm {A = ℕ} (with_function file name ps k r)
   with_calm name ps k (Err why) h = h
   with_calm name ps k (Ok p) h = tt
 
@@ -110,13 +111,13 @@ module _ (file : FileParts) where
       let a : stmt_depth t.statement ≤ max_depth = all.0 in
       calm_bind (top_level file t) (λ y. each (top_level file) (done ++ y ∷ []) ts) (top_level_calm t (omega (arith, enough))) (λ y. all_calm ts (done ++ y ∷ []) all.1)
 
-file_by : (file : FileParts) (r : Result (List FileLine × Passed) Fault) (why : Fault) → IsCalm {A = List FileLine} r → resolved_by file r ≡ Err why → is_of_names why.kind ≡ true
+file_by : (file : FileParts) (r : Result (List FileLine × Passed) (Fault NameFault)) (why : Fault NameFault) → IsCalm {A = List FileLine} r → resolved_by file r ≡ Err why → is_of_names why.kind ≡ true
 file_by file (Err w) why h e =
     let same : w ≡ why = cc in
-    let P : Fault → Type 0 = λ z. is_of_names z.kind ≡ true in subst P same h
+    let P : Fault NameFault → Type 0 = λ z. is_of_names z.kind ≡ true in subst P same h
 file_by file (Ok p) why h e = absurd (let no : ⊥ = cc in no)
 
-pub all_of_names : FaultsAreOfNames
+all_of_names : (universe : UniverseParts) (ts : List TopLevel) (why : Fault NameFault) → AllByRecursion (λ t. stmt_depth t.statement ≤ max_depth) ts → resolved universe ts ≡ Err why → is_of_names why.kind ≡ true
 unfolding resolved
 all_of_names universe ts why all e =
     let file : FileParts = file_names universe ts in

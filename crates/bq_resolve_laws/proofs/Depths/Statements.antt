@@ -1,8 +1,9 @@
 -- Statements of functions that are not too deep have faults of names alone.
 use Rattle.std.proofs.Common.{◌≡◌, ◌≤◌, ℕ, zero, suc, ◌+◌, Bool, true, false, ◌&&◌, List, [], ◌∷◌, map, Option, Some, None, Ok, Err, arith}
 use Rattle.std.specs.Prelude.{if◌then◌else◌}
+use Rattle.bq_base.specs.declared.fault.NameFault.{NameFault}
 use Rattle.bq_base.specs.declared.fault.Fault.{Fault}
-use Rattle.bq_base.specs.declared.fault.FaultKind.TheVariants as f
+use Rattle.bq_base.specs.declared.fault.NameFault.TheVariants as f
 use Rattle.bq_parse_grammar.specs.declared.tree.Branch.{Branch, out-Branch, roll-Branch}
 use Rattle.bq_parse_grammar.specs.declared.tree.Expr.{Expr}
 use Rattle.bq_parse_grammar.specs.declared.tree.Load.{Load}
@@ -22,12 +23,11 @@ use Rattle.bq_resolve_scope.specs.Visit.{Passed, Visit, ◌>>=◌, pure, fault_o
 use Rattle.bq_resolve_scope.specs.Expressions.{is_bzl, expr_to}
 use Rattle.bq_resolve_scope.specs.Statements.{expr, target, load_clause, with_load, load, assign, augment, returned, load_in, in_loop, small_by, small_stmt, branch, if_stmt, for_stmt, stmt_by, stmt_to}
 use Rattle.bq_parse_tree_laws.specs.Depth.{deepest, expr_depth, target_depth, kind_depth, small_depth, branch_depth, stmt_depth}
-use Rattle.bq_resolve_laws.specs.Depths.Nesting.{is_of_names}
 use Rattle.bq_resolve_laws.proofs.Depths.Layers.{stmt_layer, opened_stmt, stmt_has_depth, opened_branch}
-use Rattle.bq_resolve_laws.proofs.Depths.Calm.{IsCalm, Calm, rebound_is_named, twice_is_named, flow_is_named, calm_bind, calm_map, calm_two, calm_three, calm_all, calm_each}
+use Rattle.bq_resolve_laws.proofs.Depths.Calm.{is_of_names, IsCalm, Calm, rebound_is_named, twice_is_named, flow_is_named, calm_bind, calm_map, calm_two, calm_three, calm_all, calm_each}
 use Rattle.bq_resolve_laws.proofs.Depths.Expressions.{expr_calm, target_calm}
 
-clause_by : (b d : Bool) (why rebound : Fault) (p : LoadedSymbol × Passed) → is_of_names why.kind ≡ true → is_of_names rebound.kind ≡ true
+clause_by : (b d : Bool) (why rebound : Fault NameFault) (p : LoadedSymbol × Passed) → is_of_names why.kind ≡ true → is_of_names rebound.kind ≡ true
     → IsCalm {A = LoadedSymbol} (if b then Err why else (if d then Err rebound else Ok p))
 clause_by true d why rebound p h k = h
 clause_by false true why rebound p h k = k

@@ -2,8 +2,9 @@
 use Rattle.std.proofs.Common.{◌≡◌, ◌∙◌, ℕ, Bool, true, false, List, [], ◌∷◌, ◌++◌, map, length, Some, Result, Ok, Err, refl, sym, ap, subst, append_assoc, arith}
 use Rattle.std.specs.Prelude.{if◌then◌else◌, ◌&&◌}
 use Rattle.std.proofs.lemmas.List.{append-nil}
+use Rattle.bq_base.specs.declared.fault.NameFault.{NameFault}
 use Rattle.bq_base.specs.declared.fault.Fault.{Fault}
-use Rattle.bq_base.specs.declared.fault.FaultKind.TheVariants as f
+use Rattle.bq_base.specs.declared.fault.NameFault.TheVariants as f
 use Rattle.bq_base.specs.Fault.{fault_at}
 use Rattle.bq_parse_grammar.specs.declared.tree.Branch.{Branch}
 use Rattle.bq_parse_grammar.specs.declared.tree.Expr.{Expr}
@@ -49,7 +50,7 @@ use Rattle.bq_resolve_laws.proofs.Slots.Statements.{stmt_lists}
 
 -- ---- walks that add no function
 
-split_by : {A B : Type 0} (go : A → Visit B) (t : Passed) (y : B) (r : Result (A × Passed) Fault) → following r go ≡ Ok (y, t) → (p : A × Passed) × (r ≡ Ok p) × (go p.0 p.1 ≡ Ok (y, t))
+split_by : {A B : Type 0} (go : A → Visit B) (t : Passed) (y : B) (r : Result (A × Passed) (Fault NameFault)) → following r go ≡ Ok (y, t) → (p : A × Passed) × (r ≡ Ok p) × (go p.0 p.1 ≡ Ok (y, t))
 split_by {A} {B} go t y (Err why) h = absurd (no_fault {A = B} why (y, t) h)
 split_by go t y (Ok p) h = (p, refl, h)
 
@@ -65,12 +66,12 @@ abbrev Quiet : {A : Type 0} → Visit A → Type 0
 Quiet {A = A} v = (u t : Passed) (x : A) → v u ≡ Ok (x, t) → t.functions ≡ u.functions
 
 quiet_makes : {A : Type 0} (P : A → Type 0) (v : Visit A) → Makes {A = A} P v → Quiet {A = A} v
-quiet_makes {A = A} P v makes u t x h = (subst (λ (r : Result (A × Passed) Fault). Making {A = A} P u r) h (makes u)).1
+quiet_makes {A = A} P v makes u t x h = (subst (λ (r : Result (A × Passed) (Fault NameFault)). Making {A = A} P u r) h (makes u)).1
 
 quiet_pure : {A : Type 0} (x : A) → Quiet {A = A} (pure x)
 quiet_pure x u t y h = sym (ap (λ (z : Passed). z.functions) (pure_is x y u t h).1)
 
-quiet_stop : {A : Type 0} (why : Fault) → Quiet {A = A} (stop why)
+quiet_stop : {A : Type 0} (why : Fault NameFault) → Quiet {A = A} (stop why)
 quiet_stop {A = A} why u t x h = absurd (no_fault {A = A} why (x, t) h)
 
 quiet_bind : {A B : Type 0} (v : Visit A) (go : A → Visit B) → Quiet {A = A} v → ((x : A) → Quiet {A = B} (go x)) → Quiet {A = B} (v >>= go)
@@ -84,7 +85,7 @@ quiet_each one ones done (x ∷ xs) = quiet_bind (one x) (λ y. each one (done +
 module _ (file : FileParts) where
   -- ---- small statements
 
-  clause_by : (b d : Bool) (why rebound : Fault) (l : LoadedSymbol) (names : List Name) (u t : Passed) (x : LoadedSymbol) → (let r : Result (LoadedSymbol × Passed) Fault = if b then Err why else (if d then Err rebound else Ok (l, record u { loaded = names })) in r ≡ Ok (x, t)) → t.functions ≡ u.functions
+  clause_by : (b d : Bool) (why rebound : Fault NameFault) (l : LoadedSymbol) (names : List Name) (u t : Passed) (x : LoadedSymbol) → (let r : Result (LoadedSymbol × Passed) (Fault NameFault) = if b then Err why else (if d then Err rebound else Ok (l, record u { loaded = names })) in r ≡ Ok (x, t)) → t.functions ≡ u.functions
   clause_by true d why rebound l names u t x h = absurd (no_fault {A = LoadedSymbol} why (x, t) h)
   clause_by false true why rebound l names u t x h = absurd (no_fault {A = LoadedSymbol} rebound (x, t) h)
   clause_by false false why rebound l names u t x h = sym (ap (λ (z : LoadedSymbol × Passed). z.1.functions) (ended {A = LoadedSymbol} (l, record u { loaded = names }) (x, t) h))
@@ -123,7 +124,7 @@ module _ (file : FileParts) where
 
   -- ---- parameters
 
-  named_by : (b : Bool) (why : Fault) (l : ParameterParts) → (let go : Visit ParameterParts = if b then stop why else pure l in Quiet {A = ParameterParts} go)
+  named_by : (b : Bool) (why : Fault NameFault) (l : ParameterParts) → (let go : Visit ParameterParts = if b then stop why else pure l in Quiet {A = ParameterParts} go)
   named_by true why l = quiet_stop {A = ParameterParts} why
   named_by false why l = quiet_pure l
 
@@ -167,7 +168,7 @@ module _ (file : FileParts) where
   abbrev Adds : WrittenDef → Passed → Passed → Type 0
   Adds d u t = (g : Function) × SharesSlots d g × (t.functions ≡ u.functions ++ g ∷ [])
 
-  function_by : (name : Name) (rows : List Formal) (ps : List Parameter) (body : List Stmt) (u t : Passed) (k : ℕ) (r : Result (List Stmt × Passed) Fault)
+  function_by : (name : Name) (rows : List Formal) (ps : List Parameter) (body : List Stmt) (u t : Passed) (k : ℕ) (r : Result (List Stmt × Passed) (Fault NameFault))
       → statements_in file (function_names ps body) body (record u { slots = length (function_names ps body) }) ≡ r → with_function file name rows u.slots r ≡ Ok (k, t) → Adds (record { parameters = ps; body = body }) u t
   function_by name rows ps body u t k (Err why) d h = absurd (no_fault {A = ℕ} why (k, t) h)
   function_by name rows ps body u t k (Ok p) d h =
@@ -235,7 +236,7 @@ module _ (file : FileParts) where
       let one : Share (ds ++ def_by (out-Stmt i.statement)) a.0.1 = top_shares i ds u a.0.1 a.0.0 h a.1 in
       subst (λ (es : List WrittenDef). Share es t) (append_assoc ds (def_by (out-Stmt i.statement)) (defs_of is)) (all_share is (done ++ a.0.0 ∷ []) xs (ds ++ def_by (out-Stmt i.statement)) a.0.1 t one a.2)
 
-file_by : (file : FileParts) (ts : List TopLevel) (r : Result (List FileLine × Passed) Fault) (x : ResolvedFile) → ((p : List FileLine × Passed) → r ≡ Ok p → InOrder SharesSlots (defs_of ts) p.1.functions)
+file_by : (file : FileParts) (ts : List TopLevel) (r : Result (List FileLine × Passed) (Fault NameFault)) (x : ResolvedFile) → ((p : List FileLine × Passed) → r ≡ Ok p → InOrder SharesSlots (defs_of ts) p.1.functions)
     → resolved_by file r ≡ Ok x → InOrder SharesSlots (defs_of ts) x.functions
 file_by file ts (Err why) x known h = absurd (let no : ⊥ = cc in no)
 file_by file ts (Ok p) x known h =

@@ -1,6 +1,7 @@
 -- Walks that list the slots of what they make beside the uses of what they walk over, inside a function.
 use Rattle.std.proofs.Common.{◌≡◌, ◌∙◌, ℕ, List, [], ◌∷◌, ◌++◌, length, map, Option, Some, None, Result, Ok, Err, refl, sym, ap, subst, append_assoc}
 use Rattle.std.proofs.lemmas.List.{append-nil}
+use Rattle.bq_base.specs.declared.fault.NameFault.{NameFault}
 use Rattle.bq_base.specs.declared.fault.Fault.{Fault}
 use Rattle.bq_resolve_scope.specs.Scope.{BlockParts}
 use Rattle.bq_resolve_scope.specs.Visit.{Passed, Visit, following, ◌>>=◌, pure, stop, given, each, optional}
@@ -35,20 +36,20 @@ Lists {A = A} rs bs done f part v =
 
 -- ---- one walk
 
-abbrev pub ends : {A : Type 0} → A × Passed → Result (A × Passed) Fault
+abbrev pub ends : {A : Type 0} → A × Passed → Result (A × Passed) (Fault NameFault)
 ends p = Ok p
 
-abbrev pub faulty : {A : Type 0} → Fault → Result (A × Passed) Fault
+abbrev pub faulty : {A : Type 0} → Fault NameFault → Result (A × Passed) (Fault NameFault)
 faulty why = Err why
 
-abbrev or_this : {A : Type 0} → A × Passed → Result (A × Passed) Fault → A × Passed
+abbrev or_this : {A : Type 0} → A × Passed → Result (A × Passed) (Fault NameFault) → A × Passed
 or_this other (Ok p) = p
 or_this other (Err why) = other
 
 pub ended : {A : Type 0} (p q : A × Passed) → ends {A = A} p ≡ ends {A = A} q → p ≡ q
 ended {A = A} p q e = ap (or_this {A = A} p) e
 
-pub no_fault : {A : Type 0} (why : Fault) (p : A × Passed) → faulty {A = A} why ≡ ends {A = A} p → ⊥
+pub no_fault : {A : Type 0} (why : Fault NameFault) (p : A × Passed) → faulty {A = A} why ≡ ends {A = A} p → ⊥
 no_fault why p e = cc
 
 pub listed_none : (opened : List BlockParts) (us : List Use) (slots : List ℕ) (n : ℕ) → Stacked 0 opened n → InOrder (IsSlot opened) us slots → Listed opened slots us (length opened) n
@@ -68,7 +69,7 @@ joined opened more us vs ns ms count to h l =
     }
 
 module _ (rs : List Block) (bs : List BlockParts) where
-  pub lists_stop : {A : Type 0} (done : List ℕ) (f : A → List ℕ) (part : Part) (why : Fault) → Lists {A = A} rs bs done f part (stop why)
+  pub lists_stop : {A : Type 0} (done : List ℕ) (f : A → List ℕ) (part : Part) (why : Fault NameFault) → Lists {A = A} rs bs done f part (stop why)
   lists_stop {A = A} done f part why opened s t x inside fits h = absurd (no_fault {A = A} why (x, t) h)
 
   known : {A : Type 0} (done : List ℕ) (f : A → List ℕ) (us : List Use) (new : List ℕ) (x y : A) (opened : List BlockParts) (s t : Passed) → Fits opened s rs bs → f x ≡ done ++ new → InOrder (IsSlot opened) us new
@@ -83,7 +84,7 @@ module _ (rs : List Block) (bs : List BlockParts) where
   pub lists_pure : {A : Type 0} (done : List ℕ) (f : A → List ℕ) (x : A) → f x ≡ done → Lists {A = A} rs bs done f nothing (pure x)
   lists_pure {A = A} done f x is opened s t y inside fits h = known {A = A} done f [] [] x y opened s t fits (is ∙ sym (append-nil done)) tt h
 
-  pub lists_given : {A : Type 0} (f : A → List ℕ) (us : List Use) (why : Fault) (o : Option A)
+  pub lists_given : {A : Type 0} (f : A → List ℕ) (us : List Use) (why : Fault NameFault) (o : Option A)
       → ((opened : List BlockParts) → AreRound opened rs bs → (x : A) → o ≡ Some x → InOrder (IsSlot opened) us (f x)) → Lists {A = A} rs bs [] f (λ k. (us, k)) (given why o)
   lists_given {A = A} f us why None are opened s t y inside fits h = absurd (no_fault {A = A} why (y, t) h)
   lists_given {A = A} f us why (Some x) are opened s t y inside fits h = known {A = A} [] f us (f x) x y opened s t fits refl (are opened fits.round x refl) h
@@ -91,7 +92,7 @@ module _ (rs : List Block) (bs : List BlockParts) where
   -- ---- one after another
 
   after : {A B : Type 0} (done : List ℕ) (f : A → List ℕ) (g : B → List ℕ) (a b : Part) (v : Visit A) (go : A → Visit B) → Lists {A = A} rs bs [] f a v → ((x : A) → Lists {A = B} rs bs (done ++ f x) g b (go x))
-      → (opened : List BlockParts) (s t : Passed) (y : B) → Inside bs → Fits opened s rs bs → (r : Result (A × Passed) Fault) → v s ≡ r → following r go ≡ Ok (y, t)
+      → (opened : List BlockParts) (s t : Passed) (y : B) → Inside bs → Fits opened s rs bs → (r : Result (A × Passed) (Fault NameFault)) → v s ≡ r → following r go ≡ Ok (y, t)
       → (new : List ℕ) × (g y ≡ done ++ new) × Listed opened new (both a b (length opened)).0 (both a b (length opened)).1 t.slots
   after {A} {B} done f g a b v go first next opened s t y inside fits (Err why) d h = absurd (no_fault {A = B} why (y, t) h)
   after {A} {B} done f g a b v go first next opened s t y inside fits (Ok p) d h =
@@ -111,7 +112,7 @@ module _ (rs : List Block) (bs : List BlockParts) where
   lists_bind done f g a b v go first next opened s t y inside fits h = after done f g a b v go first next opened s t y inside fits (v s) refl h
 
   made : {A B : Type 0} (done : List ℕ) (f : A → List ℕ) (g : B → List ℕ) (a : Part) (v : Visit A) (make : A → B) → Lists {A = A} rs bs [] f a v → ((x : A) → g (make x) ≡ done ++ f x)
-      → (opened : List BlockParts) (s t : Passed) (y : B) → Inside bs → Fits opened s rs bs → (r : Result (A × Passed) Fault) → v s ≡ r → following r (λ x. pure (make x)) ≡ Ok (y, t)
+      → (opened : List BlockParts) (s t : Passed) (y : B) → Inside bs → Fits opened s rs bs → (r : Result (A × Passed) (Fault NameFault)) → v s ≡ r → following r (λ x. pure (make x)) ≡ Ok (y, t)
       → (new : List ℕ) × (g y ≡ done ++ new) × Listed opened new (a (length opened)).0 (a (length opened)).1 t.slots
   made {A} {B} done f g a v make first is opened s t y inside fits (Err why) d h = absurd (no_fault {A = B} why (y, t) h)
   made {A} {B} done f g a v make first is opened s t y inside fits (Ok p) d h =
@@ -128,7 +129,7 @@ module _ (rs : List Block) (bs : List BlockParts) where
   lists_map done f g a v make first is opened s t y inside fits h = made done f g a v make first is opened s t y inside fits (v s) refl h
 
   made_after : {A B : Type 0} (done : List ℕ) (f : A → List ℕ) (g : B → List ℕ) (a : Part) (v : Visit A) (make : A → B) → Lists {A = A} rs bs done f a v → ((x : A) → g (make x) ≡ f x)
-      → (opened : List BlockParts) (s t : Passed) (y : B) → Inside bs → Fits opened s rs bs → (r : Result (A × Passed) Fault) → v s ≡ r → following r (λ x. pure (make x)) ≡ Ok (y, t)
+      → (opened : List BlockParts) (s t : Passed) (y : B) → Inside bs → Fits opened s rs bs → (r : Result (A × Passed) (Fault NameFault)) → v s ≡ r → following r (λ x. pure (make x)) ≡ Ok (y, t)
       → (new : List ℕ) × (g y ≡ done ++ new) × Listed opened new (a (length opened)).0 (a (length opened)).1 t.slots
   made_after {A} {B} done f g a v make first is opened s t y inside fits (Err why) d h = absurd (no_fault {A = B} why (y, t) h)
   made_after {A} {B} done f g a v make first is opened s t y inside fits (Ok p) d h =

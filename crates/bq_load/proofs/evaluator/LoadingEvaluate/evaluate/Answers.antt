@@ -2,6 +2,7 @@ use Rattle.std.proofs.Common.{◌≡◌, ◌∙◌, List, None, Some, Ok, Err, a
 use Rattle.std.specs.Prelude.{length, slice_get}
 use Rattle.std.proofs.lemmas.Option.{slice_get_past, slice_get_read}
 use Rattle.bq_value.specs.Datum.{Datum}
+use Rattle.bq_base.specs.declared.fault.FaultKind.{FaultKind}
 use Rattle.bq_base.specs.declared.fault.Fault.{Fault}
 use Rattle.bq_load_order.specs.Shown.{told}
 use Rattle.bq_load.specs.Views.{module_view, failed_view, module_views, not_evaluated}
@@ -14,7 +15,7 @@ pub returns-in_default : goal.returns-in_default
 returns-in_default g c =
     let x = loading_of c.args.self.now in
     let none : slice_get x.modules c.args.m ≡ None = slice_get_past x.modules c.args.m c.in_default.ensures.lookup.3 in
-    c.not_evaluated.ensures ∙ ap (λ (f : Fault). Err (not_evaluated f)) c.at.ensures ∙ sym (means_no_module x c.args.m (module_views c.args.imports.now) none)
+    c.not_evaluated.ensures ∙ ap (λ (f : Fault FaultKind). Err (not_evaluated f)) c.at.ensures ∙ sym (means_no_module x c.args.m (module_views c.args.imports.now) none)
 
 pub returns-in-Err : goal.returns-in-Err
 returns-in-Err g c =
@@ -23,7 +24,7 @@ returns-in-Err g c =
     let read = c.in-Some.ensures.lookup in
     let there : slice_get x.modules c.args.m ≡ Some s = slice_get_read x.modules (length x.modules) c.args.m s refl read.3.0 read.1 in
     c.not_evaluated-in-Err.ensures
-    ∙ (ap (λ (f : Fault). Err (not_evaluated f)) c.in_ok-share_fault-in-Err.ensures
+    ∙ (ap (λ (f : Fault FaultKind). Err (not_evaluated f)) c.in_ok-share_fault-in-Err.ensures
     ∙ sym (means_fault x c.args.m (module_views c.args.imports.now) s c.in-Err.fault there c.in-Err.is))
 
 pub returns-in-Err-Bad : goal.returns-in-Err-Bad
