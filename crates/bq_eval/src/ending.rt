@@ -64,7 +64,11 @@ pub(crate) fn module_of(
 }
 
 /// Returns the fault of a file that stopped.
-fn fault_of(alloc: Global, kind: EvalFault, machine: &Machine) -> Result<Fault<EvalFault>, AllocError>
+fn fault_of(
+    alloc: Global,
+    kind: EvalFault,
+    machine: &Machine,
+) -> Result<Fault<EvalFault>, AllocError>
     ensures { IfOk result (λ fault. fault ≡ fault_of (stop_at kind machine.now)) }
 {
     Ok(Fault {
