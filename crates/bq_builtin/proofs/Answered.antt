@@ -13,8 +13,8 @@ use Rattle.std.proofs.lemmas.Fmt.{decimal_nonempty, digits_decimal, digits_value
 use Rattle.std.proofs.lemmas.Str.Parse.{digit_at}
 use Rattle.std.proofs.lemmas.List.{length-map}
 use Rattle.std.proofs.lemmas.Bool.Decides.{nat_tests}
-use Rattle.bq_base.specs.declared.fault.FaultKind.{FaultKind}
-use Rattle.bq_base.specs.declared.fault.FaultKind.TheVariants.{BadValue, Args}
+use Rattle.bq_base.specs.declared.fault.EvalFault.{EvalFault}
+use Rattle.bq_base.specs.declared.fault.EvalFault.TheVariants.{BadValue, Args}
 use Rattle.bq_builtin_numbers.specs.Integer.{fitted}
 use Rattle.bq_builtin_numbers.proofs.Fits.{fitted_some}
 use Rattle.bq_value.specs.Datum.{Datum, none, boolean, int, string, tuple, range, cell, function, built_in, rule_function, attribute, data_of, list_of}
@@ -37,7 +37,7 @@ use Rattle.bq_builtin.proofs.Cases.{without_names}
 
 -- ---- lengths
 
-the_ok : {A : Type 0} (a b : A) → ◌≡◌ {A = Result A FaultKind} (Ok a) (Ok b) → a ≡ b
+the_ok : {A : Type 0} (a b : A) → ◌≡◌ {A = Result A EvalFault} (Ok a) (Ok b) → a ≡ b
 the_ok a b h = cc
 
 keys_length : (ps : List (Datum × Datum)) → length (keys ps) ≡ length ps
@@ -170,7 +170,7 @@ down_at b (j ∷ is) zero i e =
     omega (arith, ints, here, rest, the_some j i e)
 down_at b (j ∷ is) (suc k) i e = down_at (cond (is_lt (int_cmp j b)) j b) is k i e
 
-the_int : (a b : ℤ) → ◌≡◌ {A = Result Datum FaultKind} (Ok (int a)) (Ok (int b)) → a ≡ b
+the_int : (a b : ℤ) → ◌≡◌ {A = Result Datum EvalFault} (Ok (int a)) (Ok (int b)) → a ≡ b
 the_int a b h = cc
 
 no_extreme : (e : ExtremeKind) (m : Datum) → extreme e [] ≡ Ok m → ⊥
@@ -234,7 +234,7 @@ first_digit n h = (digit_at (decimal n) 0 (own.to (decimal n) (digits_decimal ow
 reads : (text : List ℕ) (z : ℤ) → is_numeral (without_leading_sign text) ≡ true → signed_digits_value 10 text ≡ z → FitsSigned w64 z → read_integer text ≡ Ok z
 unfolding read_integer
 reads text z n v f =
-    ap (λ (b : Bool). cond {A = Result ℤ FaultKind} b (fitted (signed_digits_value 10 text)) (Err BadValue)) n ∙ (ap fitted v ∙ fitted_some z f)
+    ap (λ (b : Bool). cond {A = Result ℤ EvalFault} b (fitted (signed_digits_value 10 text)) (Err BadValue)) n ∙ (ap fitted v ∙ fitted_some z f)
 
 pub reads_back : (i : ℤ) → FitsSigned w64 i → read_integer (signed_decimal i) ≡ Ok i
 reads_back (pos n) f =

@@ -3,8 +3,8 @@ use Rattle.std.proofs.Common.{◌≡◌, refl, sym, ap, ℕ, zero, suc, ◌-◌,
 use Rattle.std.specs.Prelude.{◌+ℤ◌, ◌-ℤ◌, ◌≤ℤ◌, ◌<ℤ◌, unsigned_abs}
 use Rattle.std.specs.Int.{w64}
 use Rattle.std.proofs.lemmas.Int.{ints}
-use Rattle.bq_base.specs.declared.fault.FaultKind.{FaultKind}
-use Rattle.bq_base.specs.declared.fault.FaultKind.TheVariants.{Overflow}
+use Rattle.bq_base.specs.declared.fault.EvalFault.{EvalFault}
+use Rattle.bq_base.specs.declared.fault.EvalFault.TheVariants.{Overflow}
 use Rattle.bq_builtin_numbers.proofs.Fits.{fitted_some, fitted_none}
 use Rattle.bq_builtin_machine.specs.Answer.{and_then}
 use Rattle.bq_builtin.specs.Sequences.{numbers_fit}
@@ -26,8 +26,8 @@ last_is_too_great start n d f e l g = omega (arith, ints, e, l, below_end start 
 
 pub numbers_are_fit : (start : ℤ) (count d : ℕ) → FitsSigned w64 start → d ≡ unsigned_abs (pos 9223372036854775807 -ℤ start) → count - 1 ≤ d → Ok (tt {0}) ≡ numbers_fit start count
 numbers_are_fit start zero d f e l = refl
-numbers_are_fit start (suc n) d f e l = sym (ap (λ (r : Result ℤ FaultKind). and_then r (λ last. Ok (tt {0}))) (fitted_some (start +ℤ pos n) (last_fits start n d f e (omega (arith, l)))))
+numbers_are_fit start (suc n) d f e l = sym (ap (λ (r : Result ℤ EvalFault). and_then r (λ last. Ok (tt {0}))) (fitted_some (start +ℤ pos n) (last_fits start n d f e (omega (arith, l)))))
 
 pub numbers_are_not_fit : (start : ℤ) (count d : ℕ) → FitsSigned w64 start → d ≡ unsigned_abs (pos 9223372036854775807 -ℤ start) → d < count - 1 → Err Overflow ≡ numbers_fit start count
 numbers_are_not_fit start zero d f e l = absurd (omega (arith, l))
-numbers_are_not_fit start (suc n) d f e l = sym (ap (λ (r : Result ℤ FaultKind). and_then r (λ last. Ok (tt {0}))) (fitted_none (start +ℤ pos n) (last_is_too_great start n d f e (omega (arith, l)))))
+numbers_are_not_fit start (suc n) d f e l = sym (ap (λ (r : Result ℤ EvalFault). and_then r (λ last. Ok (tt {0}))) (fitted_none (start +ℤ pos n) (last_is_too_great start n d f e (omega (arith, l)))))

@@ -12,8 +12,8 @@ use Rattle.std.proofs.lemmas.Str.Parse.{tells_all_ascii_digits, numerals_by_valu
 use Rattle.std.specs.Int.{IsInRange}
 use Rattle.std.specs.Str.Parse.{digits_value}
 use Rattle.std.specs.Prelude.{ok_or}
-use Rattle.bq_base.specs.declared.fault.FaultKind.{FaultKind}
-use Rattle.bq_base.specs.declared.fault.FaultKind.TheVariants.{Overflow, BadValue}
+use Rattle.bq_base.specs.declared.fault.EvalFault.{EvalFault}
+use Rattle.bq_base.specs.declared.fault.EvalFault.TheVariants.{Overflow, BadValue}
 use Rattle.bq_builtin_numbers.specs.Integer.{fitted, Fitted}
 use Rattle.bq_builtin_numbers.proofs.Fits.{fitted_is}
 use Rattle.bq_builtin.specs.Integers.{is_numeral, read_integer}
@@ -61,4 +61,4 @@ pub read_of : (text : List ℕ) (o : Option ℤ) → is_numeral (without_leading
 unfolding read_integer
 read_of text o n h =
     fitted_is o (signed_digits_value 10 text) h
-    ∙ sym (ap (λ (b : Bool). cond {A = Result ℤ FaultKind} b (fitted (signed_digits_value 10 text)) (Err BadValue)) n)
+    ∙ sym (ap (λ (b : Bool). cond {A = Result ℤ EvalFault} b (fitted (signed_digits_value 10 text)) (Err BadValue)) n)

@@ -8,8 +8,8 @@ use Rattle.std.proofs.lemmas.List.{length-map}
 use Rattle.std.specs.List.{list_all, list_any, best_of}
 use Rattle.std.proofs.lemmas.Int.{ints}
 use Rattle.std.proofs.lemmas.Bool.Decides.{nat_tests}
-use Rattle.bq_base.specs.declared.fault.FaultKind.{FaultKind}
-use Rattle.bq_base.specs.declared.fault.FaultKind.TheVariants.{BadValue, TooLong}
+use Rattle.bq_base.specs.declared.fault.EvalFault.{EvalFault}
+use Rattle.bq_base.specs.declared.fault.EvalFault.TheVariants.{BadValue, TooLong}
 use Rattle.bq_builtin_numbers.specs.Length.{max_len}
 use Rattle.bq_builtin_numbers.specs.RangeItem.{range_has}
 use Rattle.bq_builtin_numbers.proofs.Items.{has_elements}
@@ -87,11 +87,11 @@ two_or_more s start stop step (suc (suc n)) e more = any_in_range_is s start sto
 pub integers_of_ints : (is : List ℤ) → integers_of (map int is) ≡ Ok is
 unfolding integer
 integers_of_ints [] = refl
-integers_of_ints (i ∷ is) = ap (λ (r : Result (List ℤ) FaultKind). and_then r (λ js. Ok (i ∷ js))) (integers_of_ints is)
+integers_of_ints (i ∷ is) = ap (λ (r : Result (List ℤ) EvalFault). and_then r (λ js. Ok (i ∷ js))) (integers_of_ints is)
 
 pub extreme_of_ints : (e : ExtremeKind) (i : ℤ) (is : List ℤ) → extreme e (map int (i ∷ is)) ≡ Ok (int (best_of (beats e int_cmp) i is))
 unfolding extreme
-extreme_of_ints e i is = ap (λ (r : Result (List ℤ) FaultKind). and_then r (λ js. Ok (int (best_of (beats e int_cmp) i js)))) (integers_of_ints is)
+extreme_of_ints e i is = ap (λ (r : Result (List ℤ) EvalFault). and_then r (λ js. Ok (int (best_of (beats e int_cmp) i js)))) (integers_of_ints is)
 
 by_lt : (a b : ℤ) → int_lt a b ≡ true → a <ℤ b
 by_lt a b h = grind (arith, ints)
@@ -136,7 +136,7 @@ first_chosen e start stop step n z here counted some h = ap (λ (i : ℤ). Ok (i
 in_order_ints : (is : List ℤ) → in_order (map int is) ≡ Ok (map int (ascending int_cmp is))
 unfolding in_order
 in_order_ints [] = refl
-in_order_ints (i ∷ is) = ap (λ (r : Result (List ℤ) FaultKind). and_then r (λ js. Ok (map int (ascending int_cmp (i ∷ js))))) (integers_of_ints is)
+in_order_ints (i ∷ is) = ap (λ (r : Result (List ℤ) EvalFault). and_then r (λ js. Ok (map int (ascending int_cmp (i ∷ js))))) (integers_of_ints is)
 
 module _ {A : Type 0} (cmp : A → A → Ordering) where
   length_by : (x y : A) (ys : List A) (b : Bool) → length (into_order cmp x ys) ≡ suc (length ys) → length (cond b (y ∷ into_order cmp x ys) (x ∷ y ∷ ys)) ≡ suc (suc (length ys))
@@ -153,10 +153,10 @@ module _ {A : Type 0} (cmp : A → A → Ordering) where
 
 no_room : (n : ℕ) → nat_lt max_len n ≡ true → room_for n ≡ Err TooLong
 unfolding room_for
-no_room n h = let over : nat_le n max_len ≡ false = grind (arith, nat_tests, h) in ap (λ (b : Bool). cond {A = Result (Unit {0}) FaultKind} b (Ok tt) (Err TooLong)) over
+no_room n h = let over : nat_le n max_len ≡ false = grind (arith, nat_tests, h) in ap (λ (b : Bool). cond {A = Result (Unit {0}) EvalFault} b (Ok tt) (Err TooLong)) over
 
 -- what is left to do with the elements
-abbrev pub arranged : Bool → Result (List Datum) FaultKind → Result (List Datum) FaultKind
+abbrev pub arranged : Bool → Result (List Datum) EvalFault → Result (List Datum) EvalFault
 arranged reverse r = and_then r (λ ys. and_then (room_for (length ys)) (λ _. Ok (reversed_if reverse ys)))
 
 as_many : (start stop step : ℤ) → length (map int (ascending int_cmp (range_integers start stop step))) ≡ range_count start stop step
@@ -166,7 +166,7 @@ long_range_by : (reverse : Bool) (start stop step : ℤ) → nat_lt max_len (ran
 long_range_by reverse start stop step h =
     let ys : List Datum = map int (ascending int_cmp (range_integers start stop step)) in
     ap (arranged reverse) (in_order_ints (range_integers start stop step))
-    ∙ ap (λ (r : Result (Unit {0}) FaultKind). and_then r (λ _. Ok (reversed_if reverse ys))) (ap room_for (as_many start stop step) ∙ no_room (range_count start stop step) h)
+    ∙ ap (λ (r : Result (Unit {0}) EvalFault). and_then r (λ _. Ok (reversed_if reverse ys))) (ap room_for (as_many start stop step) ∙ no_room (range_count start stop step) h)
 
 pub long_range_is_too_long : (s : StoreView) (v : Datum) (reverse : Bool) → is_long_range v ≡ true → and_then (elements_in s v) (λ xs. arranged reverse (in_order xs)) ≡ Err TooLong
 long_range_is_too_long s (range start stop step) reverse h = long_range_by reverse start stop step h

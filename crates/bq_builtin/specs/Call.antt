@@ -1,7 +1,7 @@
 -- The built-in functions (Starlark, "Built-in constants and functions"), and what a call gives.
 use Rattle.std.specs.Prelude.{List, Option, Some, None, Result}
-use Rattle.bq_base.specs.declared.fault.FaultKind.{FaultKind}
-use Rattle.bq_base.specs.declared.fault.FaultKind.TheVariants as fault
+use Rattle.bq_base.specs.declared.fault.EvalFault.{EvalFault}
+use Rattle.bq_base.specs.declared.fault.EvalFault.TheVariants as fault
 use Rattle.bq_resolve_predeclared.specs.declared.predeclared.Predeclared.{Predeclared}
 use Rattle.bq_resolve_predeclared.specs.declared.predeclared.Predeclared.TheVariants as p
 use Rattle.bq_value.specs.Datum.{Datum}
@@ -50,7 +50,7 @@ built_in p.Zip = Some (f.List l.Zip)
 built_in _ = None
 
 -- the value that a function gives of its arguments and of what lists and dicts hold
-abbrev pub value : ValueFunction → StoreView → Passed → Result Datum FaultKind
+abbrev pub value : ValueFunction → StoreView → Passed → Result Datum EvalFault
 value v.All s args = all s args
 value v.Any s args = any s args
 value v.Bool s args = bool s args
@@ -63,7 +63,7 @@ value v.Tuple s args = tuple s args
 value v.Type s args = type_of s args
 
 -- the values of the new list that a function gives
-abbrev pub list_values : ListFunction → StoreView → Passed → Result (List Datum) FaultKind
+abbrev pub list_values : ListFunction → StoreView → Passed → Result (List Datum) EvalFault
 list_values l.Enumerate s args = enumerate s args
 list_values l.List s args = list s args
 list_values l.Reversed s args = reversed s args

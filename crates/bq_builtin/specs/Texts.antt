@@ -1,7 +1,7 @@
 -- The functions `type`, `str`, `repr`, `print` and `fail` (Starlark, "type", "str", "repr", "print", "fail").
 use Rattle.std.specs.Prelude.{ℕ, List, [], ◌∷◌, codes, Option, Some, None, Result, Ok, Err}
-use Rattle.bq_base.specs.declared.fault.FaultKind.{FaultKind}
-use Rattle.bq_base.specs.declared.fault.FaultKind.TheVariants.{WrongType}
+use Rattle.bq_base.specs.declared.fault.EvalFault.{EvalFault}
+use Rattle.bq_base.specs.declared.fault.EvalFault.TheVariants.{WrongType}
 use Rattle.bq_value.specs.Datum.{Datum, none, boolean, int, string, tuple, range, cell, function, built_in, rule_function, attribute}
 use Rattle.bq_value.specs.Contents.{Contents, items, pairs, rule}
 use Rattle.bq_value.specs.Cells.{StoreView, content_at}
@@ -20,14 +20,14 @@ use Rattle.bq_builtin.specs.Arguments.{by_place, only_argument, only_named, text
 -- ---- `type(x)`
 
 -- a cell that the store doesn't know, which no program has, is of no type (F40)
-abbrev pub content_type : Option Contents → Result (List ℕ) FaultKind
+abbrev pub content_type : Option Contents → Result (List ℕ) EvalFault
 content_type (Some (items xs)) = Ok (codes "list")
 content_type (Some (pairs ps)) = Ok (codes "dict")
 content_type (Some (rule c)) = Ok (codes "rule")
 content_type None = Err WrongType
 
 -- the text that `type` gives
-unfoldable pub type_name : StoreView → Datum → Result (List ℕ) FaultKind
+unfoldable pub type_name : StoreView → Datum → Result (List ℕ) EvalFault
 type_name s none = Ok (codes "NoneType")
 type_name s (boolean b) = Ok (codes "bool")
 type_name s (int n) = Ok (codes "int")
@@ -41,7 +41,7 @@ type_name s (rule_function f) = Ok (codes "builtin_function_or_method")
 type_name s (attribute a) = Ok (codes "Attribute")
 
 -- `type(x)`
-unfoldable pub type_of : StoreView → Passed → Result Datum FaultKind
+unfoldable pub type_of : StoreView → Passed → Result Datum EvalFault
 type_of s p = and_then (only_argument p) (λ v. and_then (type_name s v) (λ name. Ok (string name)))
 
 -- ---- `str(x)`, `repr(x)`
@@ -75,12 +75,12 @@ abbrev pub space : List ℕ
 space = codes " "
 
 -- a string; left out, a space
-abbrev pub separator_of : Option Datum → Result (List ℕ) FaultKind
+abbrev pub separator_of : Option Datum → Result (List ℕ) EvalFault
 separator_of None = Ok space
 separator_of (Some v) = text v
 
 -- `sep`, which is passed by name alone
-unfoldable pub separator_in : List (List ℕ × Datum) → Result (List ℕ) FaultKind
+unfoldable pub separator_in : List (List ℕ × Datum) → Result (List ℕ) EvalFault
 separator_in named = and_then (only_named (codes "sep") named) separator_of
 
 -- `print(.., sep)`: a line of the arguments' texts

@@ -1,7 +1,7 @@
 -- The functions `all`, `any` and `bool` (Starlark, "all", "any", "bool").
 use Rattle.std.specs.Prelude.{Bool, true, false, not, List, [], ◌∷◌, Option, Some, None, Result, Ok, if◌then◌else◌}
 use Rattle.std.specs.List.{list_all, list_any}
-use Rattle.bq_base.specs.declared.fault.FaultKind.{FaultKind}
+use Rattle.bq_base.specs.declared.fault.EvalFault.{EvalFault}
 use Rattle.bq_value.specs.Datum.{Datum, boolean}
 use Rattle.bq_value.specs.Cells.{StoreView}
 use Rattle.bq_value_compare.specs.Truth.{truth_of}
@@ -29,11 +29,11 @@ one_counts s wanted [] = false
 one_counts s wanted (x ∷ xs) = if counts s wanted x then true else one_counts s wanted xs
 
 -- `all(x)`: whether each element counts as true
-unfoldable pub all : StoreView → Passed → Result Datum FaultKind
+unfoldable pub all : StoreView → Passed → Result Datum EvalFault
 all s p = and_then (only_argument p) (λ x. and_then (elements_in s x) (λ xs. Ok (boolean (all_true s xs))))
 
 -- `any(x)`: whether some element counts as true
-unfoldable pub any : StoreView → Passed → Result Datum FaultKind
+unfoldable pub any : StoreView → Passed → Result Datum EvalFault
 any s p = and_then (only_argument p) (λ x. and_then (elements_in s x) (λ xs. Ok (boolean (any_true s xs))))
 
 -- the truth of a value, false where there is none
@@ -42,5 +42,5 @@ truth_if_any s None = false
 truth_if_any s (Some v) = truth_of s v
 
 -- `bool(x)`: whether x counts as true; without an argument, `False`
-unfoldable pub bool : StoreView → Passed → Result Datum FaultKind
+unfoldable pub bool : StoreView → Passed → Result Datum EvalFault
 bool s p = and_then (only_argument_if_any p) (λ o. Ok (boolean (truth_if_any s o)))

@@ -6,7 +6,7 @@ ghost use Rattle.bq_value.specs.declared.error.EvalErr.TheVariants.{Bad};
 ghost use Rattle.bq_builtin_collections.specs.Arguments.{one_argument, optional_argument, one_or_two, one_to_three, integer};
 ghost use Rattle.bq_builtin.specs.Arguments.{by_place, only_argument, only_argument_if_any, only_named, passed_once, one_and_named, flag, text};
 
-use bq_base::{Bytes, FaultKind};
+use bq_base::{Bytes, EvalFault};
 use bq_builtin_machine::Args;
 use bq_value::{EvalErr, Node, Value};
 
@@ -17,7 +17,7 @@ pub(crate) fn by_place(args: &Args) -> Result<&[Value], EvalErr>
 {
     match args.named.as_slice() {
         [] => Ok(&args.positional),
-        _ => Err(EvalErr::Bad(FaultKind::Args)),
+        _ => Err(EvalErr::Bad(EvalFault::Args)),
     }
 }
 
@@ -27,7 +27,7 @@ fn one_argument(values: &[Value]) -> Result<&Value, EvalErr>
 {
     match values {
         [value] => Ok(value),
-        _ => Err(EvalErr::Bad(FaultKind::Args)),
+        _ => Err(EvalErr::Bad(EvalFault::Args)),
     }
 }
 
@@ -38,7 +38,7 @@ fn optional_argument(values: &[Value]) -> Result<Option<&Value>, EvalErr>
     match values {
         [] => Ok(None),
         [value] => Ok(Some(value)),
-        _ => Err(EvalErr::Bad(FaultKind::Args)),
+        _ => Err(EvalErr::Bad(EvalFault::Args)),
     }
 }
 
@@ -49,7 +49,7 @@ fn one_or_two(values: &[Value]) -> Result<(&Value, Option<&Value>), EvalErr>
     match values {
         [first] => Ok((first, None)),
         [first, second] => Ok((first, Some(second))),
-        _ => Err(EvalErr::Bad(FaultKind::Args)),
+        _ => Err(EvalErr::Bad(EvalFault::Args)),
     }
 }
 
@@ -64,7 +64,7 @@ pub(crate) fn one_to_three(
         [first] => Ok((first, None, None)),
         [first, second] => Ok((first, Some(second), None)),
         [first, second, third] => Ok((first, Some(second), Some(third))),
-        _ => Err(EvalErr::Bad(FaultKind::Args)),
+        _ => Err(EvalErr::Bad(EvalFault::Args)),
     }
 }
 
@@ -98,9 +98,9 @@ pub(crate) fn only_named<'a>(
             if name == argument.0.as_slice() {
                 return Ok(Some(&argument.1));
             }
-            Err(EvalErr::Bad(FaultKind::Args))
+            Err(EvalErr::Bad(EvalFault::Args))
         }
-        _ => Err(EvalErr::Bad(FaultKind::Args)),
+        _ => Err(EvalErr::Bad(EvalFault::Args)),
     }
 }
 
@@ -115,7 +115,7 @@ fn passed_once<'a>(
         None => Ok((first, named)),
         Some(second) => match named {
             None => Ok((first, Some(second))),
-            Some(_) => Err(EvalErr::Bad(FaultKind::Args)),
+            Some(_) => Err(EvalErr::Bad(EvalFault::Args)),
         },
     }
 }
@@ -140,7 +140,7 @@ pub(crate) fn integer(value: &Value) -> Result<i64, EvalErr>
 {
     match &value.node {
         Node::Int(n) => Ok(*n),
-        _ => Err(EvalErr::Bad(FaultKind::WrongType)),
+        _ => Err(EvalErr::Bad(EvalFault::WrongType)),
     }
 }
 
@@ -153,7 +153,7 @@ pub(crate) fn flag(value: Option<&Value>) -> Result<bool, EvalErr>
         None => Ok(false),
         Some(value) => match &value.node {
             Node::Bool(b) => Ok(*b),
-            _ => Err(EvalErr::Bad(FaultKind::WrongType)),
+            _ => Err(EvalErr::Bad(EvalFault::WrongType)),
         },
     }
 }
@@ -165,6 +165,6 @@ pub(crate) fn text(value: &Value) -> Result<&Bytes, EvalErr>
 {
     match &value.node {
         Node::Text(text) => Ok(text),
-        _ => Err(EvalErr::Bad(FaultKind::WrongType)),
+        _ => Err(EvalErr::Bad(EvalFault::WrongType)),
     }
 }

@@ -12,7 +12,7 @@ use crate::sequences::{enumerate, list, reversed, tuple};
 use crate::texts::{fail, print, repr, str, type_of};
 use crate::truths::{all, any, bool};
 use crate::zip::zip;
-use bq_base::FaultKind;
+use bq_base::EvalFault;
 use bq_builtin_collections::dict::new_dict;
 use bq_builtin_machine::{Args, Machine};
 use bq_resolve_predeclared::Predeclared;
@@ -154,7 +154,7 @@ fn given_by(
         BuiltInFunction::Repr => repr(alloc, machine, &args),
         BuiltInFunction::Print => print(alloc, machine, &args),
         BuiltInFunction::Fail => fail(alloc, machine, &args),
-        BuiltInFunction::Select => Err(EvalErr::Bad(FaultKind::Select)),
+        BuiltInFunction::Select => Err(EvalErr::Bad(EvalFault::Select)),
     }
 }
 
@@ -170,6 +170,6 @@ pub fn call_function(
 {
     match built_in(function) {
         Some(function) => given_by(alloc, machine, function, args),
-        None => Err(EvalErr::Bad(FaultKind::WrongType)),
+        None => Err(EvalErr::Bad(EvalFault::WrongType)),
     }
 }

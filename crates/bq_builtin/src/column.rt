@@ -5,7 +5,7 @@ ghost use Rattle.bq_base.specs.Gives.{Gives};
 ghost use Rattle.bq_value.specs.declared.error.EvalErr.TheVariants.{Bad};
 ghost use Rattle.bq_builtin_machine.specs.Iteration.{IsNext, elements_in};
 
-use bq_base::FaultKind;
+use bq_base::EvalFault;
 use bq_builtin_machine::{Elements, next_key, next_value};
 use bq_value::{Body, Dict, EvalErr, Node, Store, Value};
 use std::alloc::AllocError;
@@ -51,14 +51,14 @@ impl<'a> Column<'a> {
             Node::Tuple(items) => Left::Values(items, 0),
             Node::Range(range) => Left::Integers(Elements::of_range(*range)),
             Node::Cell(cell) => match store.content(*cell) {
-                None => return Err(EvalErr::Bad(FaultKind::WrongType)),
+                None => return Err(EvalErr::Bad(EvalFault::WrongType)),
                 Some(content) => match content.body() {
                     Body::List(values) => Left::Values(values, 0),
                     Body::Dict(dict) => Left::Keys(dict, 0),
-                    Body::Rule(_) => return Err(EvalErr::Bad(FaultKind::WrongType)),
+                    Body::Rule(_) => return Err(EvalErr::Bad(EvalFault::WrongType)),
                 },
             },
-            _ => return Err(EvalErr::Bad(FaultKind::WrongType)),
+            _ => return Err(EvalErr::Bad(EvalFault::WrongType)),
         };
         Ok(Column { left })
     }

@@ -7,7 +7,7 @@ ghost use Rattle.bq_value.specs.declared.error.EvalErr.TheVariants.{Bad};
 ghost use Rattle.bq_builtin_machine.specs.Iteration.{elements_in};
 ghost use Rattle.bq_builtin.specs.Elements.{room_for, listed, listed_if_any};
 
-use bq_base::FaultKind;
+use bq_base::EvalFault;
 use bq_builtin_machine::{Elements, Machine};
 use bq_builtin_numbers::MAX_LEN;
 use bq_value::{EvalErr, Value};
@@ -38,12 +38,12 @@ pub(crate) fn values_of(alloc: Global, mut elements: Elements) -> Result<Vec<Val
 
 /// Checks that a list or tuple may have `count` elements (F54).
 #[tactic(auto, using(std::proofs::lemmas::Bool::Decides::nat_tests), unfolding(crate::specs::Elements::room_for))]
-pub(crate) fn room_for(count: usize) -> Result<(), FaultKind>
+pub(crate) fn room_for(count: usize) -> Result<(), EvalFault>
     ensures says { result ≡ room_for count }
     ensures few { OnOk result (count ≤ max_len) }
 {
     if count > MAX_LEN {
-        return Err(FaultKind::TooLong);
+        return Err(EvalFault::TooLong);
     }
     Ok(())
 }

@@ -9,7 +9,7 @@ ghost use Rattle.bq_value.specs.declared.error.EvalErr.TheVariants.{Bad};
 ghost use Rattle.bq_builtin.specs.Integers.{is_numeral, read_integer, integer_from, int, content_length, length_in, len, step_or_one, range_by, range_from, range};
 
 use crate::arguments::{by_place, integer, one_to_three, only_argument};
-use bq_base::FaultKind;
+use bq_base::EvalFault;
 use bq_builtin_machine::{Args, Machine};
 use bq_value::{Body, Content, EvalErr, Node, Range, Store, Value};
 use std::str;
@@ -55,17 +55,17 @@ fn parsed(text: &[u8]) -> Option<i64>
 
 /// Returns the integer that a text is.
 #[tactic(auto, unfolding(crate::specs::Integers::read_integer))]
-fn read_integer(text: &[u8]) -> Result<i64, FaultKind>
+fn read_integer(text: &[u8]) -> Result<i64, EvalFault>
     ensures { result ≡ read_integer text.now }
 {
     if !is_numeral(without_sign(text)) {
-        return Err(FaultKind::BadValue);
+        return Err(EvalFault::BadValue);
     }
-    parsed(text).ok_or(FaultKind::Overflow)
+    parsed(text).ok_or(EvalFault::Overflow)
 }
 
 #[tactic(auto, unfolding(crate::specs::Integers::integer_from))]
-fn integer_from(value: &Value) -> Result<i64, FaultKind>
+fn integer_from(value: &Value) -> Result<i64, EvalFault>
     ensures { result ≡ integer_from value.now }
 {
     match &value.node {
@@ -73,7 +73,7 @@ fn integer_from(value: &Value) -> Result<i64, FaultKind>
         Node::Bool(false) => Ok(0),
         Node::Bool(true) => Ok(1),
         Node::Text(text) => read_integer(text.as_slice()),
-        _ => Err(FaultKind::WrongType),
+        _ => Err(EvalFault::WrongType),
     }
 }
 
@@ -86,19 +86,19 @@ pub(crate) fn int(args: &Args) -> Result<Value, EvalErr>
     Ok(Value::int(integer_from(value)?))
 }
 
-fn content_length(content: &Content) -> Result<usize, FaultKind>
+fn content_length(content: &Content) -> Result<usize, EvalFault>
     ensures { result ≡ content_length (Some content.now) }
 {
     match content.body() {
         Body::List(values) => Ok(values.len()),
         Body::Dict(pairs) => Ok(pairs.len()),
-        Body::Rule(_) => Err(FaultKind::WrongType),
+        Body::Rule(_) => Err(EvalFault::WrongType),
     }
 }
 
 /// Returns how many bytes or elements there are (F40).
 #[tactic(auto, using(bq_value_datum::specs::Datum::list_of_data_of), unfolding(crate::specs::Integers::length_in))]
-fn length_in(store: &Store, value: &Value) -> Result<u64, FaultKind>
+fn length_in(store: &Store, value: &Value) -> Result<u64, EvalFault>
     ensures { result ≡ length_in store.now value.now }
 {
     match &value.node {
@@ -107,18 +107,18 @@ fn length_in(store: &Store, value: &Value) -> Result<u64, FaultKind>
         Node::Range(range) => Ok(range.count()),
         Node::Cell(cell) => match store.content(*cell) {
             Some(content) => Ok(content_length(content)? as u64),
-            None => Err(FaultKind::WrongType),
+            None => Err(EvalFault::WrongType),
         },
-        _ => Err(FaultKind::WrongType),
+        _ => Err(EvalFault::WrongType),
     }
 }
 
 /// Returns a count as an integer, if it fits 64 bits (F41).
-fn from_count(count: u64) -> Result<i64, FaultKind>
+fn from_count(count: u64) -> Result<i64, EvalFault>
     ensures { result ≡ fitted (pos count) }
 {
     if MAX < count {
-        return Err(FaultKind::Overflow);
+        return Err(EvalFault::Overflow);
     }
     Ok(count as i64)
 }
@@ -148,7 +148,7 @@ fn range_by(start: i64, stop: i64, step: i64) -> Result<Value, EvalErr>
     ensures { Gives (λ v. v) Bad result (range_by start stop step) }
 {
     if step == 0 {
-        return Err(EvalErr::Bad(FaultKind::BadValue));
+        return Err(EvalErr::Bad(EvalFault::BadValue));
     }
     Ok(Value::range(Range { start, stop, step }))
 }

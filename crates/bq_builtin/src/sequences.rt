@@ -8,7 +8,7 @@ ghost use Rattle.bq_builtin.specs.Sequences.{tuple, list, reversed, start_or_zer
 
 use crate::arguments::{integer, one_and_named, only_argument, only_argument_if_any};
 use crate::elements::{elements_in, listed, listed_if_any, room_for, values_of};
-use bq_base::FaultKind;
+use bq_base::EvalFault;
 use bq_builtin_machine::{Args, Machine};
 use bq_value::{EvalErr, Value};
 use std::alloc::{AllocError, Global};
@@ -51,7 +51,7 @@ fn start_or_zero(value: Option<&Value>) -> Result<i64, EvalErr>
 }
 
 /// Checks that the last of `count` numbers from `start` on fits 64 bits (F41).
-fn numbers_fit(start: i64, count: usize) -> Result<(), FaultKind>
+fn numbers_fit(start: i64, count: usize) -> Result<(), EvalFault>
     ensures says { result ≡ numbers_fit start count }
     ensures below { OnOk result ((start +ℤ pos count) ≤ℤ pos (2 ^ 63)) }
 {
@@ -59,7 +59,7 @@ fn numbers_fit(start: i64, count: usize) -> Result<(), FaultKind>
         return Ok(());
     }
     if count as u64 - 1 > i64::MAX.abs_diff(start) {
-        return Err(FaultKind::Overflow);
+        return Err(EvalFault::Overflow);
     }
     Ok(())
 }

@@ -9,7 +9,7 @@ ghost use Rattle.bq_value_text.specs.Shown.{text_shown};
 ghost use Rattle.bq_builtin.specs.Texts.{content_type, type_name, type_of, str, repr, others_shown, values_shown, joined_texts, space, separator_of, separator_in, print, fail};
 
 use crate::arguments::{by_place, only_argument, only_named, text};
-use bq_base::{Bytes, FaultKind};
+use bq_base::{Bytes, EvalFault};
 use bq_builtin_machine::{Args, Machine};
 use bq_value::{Body, Content, EvalErr, Node, Store, Value};
 use bq_value_text::{Page, write_text};
@@ -38,7 +38,7 @@ fn type_name(store: &Store, value: &Value) -> Result<&'static [u8], EvalErr>
         Node::Range(_) => Ok(b"range"),
         Node::Cell(cell) => match store.content(*cell) {
             Some(content) => Ok(content_type(content)),
-            None => Err(EvalErr::Bad(FaultKind::WrongType)),
+            None => Err(EvalErr::Bad(EvalFault::WrongType)),
         },
         Node::Function(_) => Ok(b"function"),
         Node::BuiltIn(_) => Ok(b"builtin_function_or_method"),

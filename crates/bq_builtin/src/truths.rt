@@ -11,7 +11,7 @@ ghost use Rattle.bq_builtin_machine.specs.Answer.{and_then};
 ghost use Rattle.bq_builtin.specs.Truths.{all_true, any_true, counts, one_counts, all, any, bool, truth_if_any};
 
 use crate::arguments::{only_argument, only_argument_if_any};
-use bq_base::FaultKind;
+use bq_base::EvalFault;
 use bq_builtin_machine::{Args, Machine};
 use bq_builtin_numbers::range_has;
 use bq_value::{Body, Content, Dict, EvalErr, Node, Range, Store, Value};
@@ -42,7 +42,7 @@ fn all_in(store: &Store, value: &Value) -> Result<bool, EvalErr>
         Node::Tuple(items) => Ok(!one_counts(store, false, items)),
         Node::Range(range) => Ok(all_in_range(*range)),
         Node::Cell(cell) => Ok(!one_counts_in(store, false, store.content(*cell))?),
-        _ => Err(EvalErr::Bad(FaultKind::WrongType)),
+        _ => Err(EvalErr::Bad(EvalFault::WrongType)),
     }
 }
 
@@ -55,7 +55,7 @@ fn any_in(store: &Store, value: &Value) -> Result<bool, EvalErr>
         Node::Tuple(items) => Ok(one_counts(store, true, items)),
         Node::Range(range) => Ok(any_in_range(*range)),
         Node::Cell(cell) => one_counts_in(store, true, store.content(*cell)),
-        _ => Err(EvalErr::Bad(FaultKind::WrongType)),
+        _ => Err(EvalErr::Bad(EvalFault::WrongType)),
     }
 }
 
@@ -64,11 +64,11 @@ fn one_counts_in(store: &Store, wanted: bool, content: Option<&Content>) -> Resu
     ensures { Gives (λ b. b) Bad result (and_then (content_elements (option_copied content.entry)) (λ xs. Ok (one_counts store.now wanted xs))) }
 {
     match content {
-        None => Err(EvalErr::Bad(FaultKind::WrongType)),
+        None => Err(EvalErr::Bad(EvalFault::WrongType)),
         Some(content) => match content.body() {
             Body::List(values) => Ok(one_counts(store, wanted, values)),
             Body::Dict(dict) => Ok(one_key_counts(store, wanted, dict)),
-            Body::Rule(_) => Err(EvalErr::Bad(FaultKind::WrongType)),
+            Body::Rule(_) => Err(EvalErr::Bad(EvalFault::WrongType)),
         },
     }
 }

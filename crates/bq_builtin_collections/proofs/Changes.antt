@@ -1,7 +1,7 @@
 -- A content that is changed as a definition says, in a machine in which it may be changed.
 use Rattle.std.proofs.Common.{◌≡◌, ◌∙◌, ap, ℕ, Some, Result, Ok, Err}
 use Rattle.bq_base.specs.Gives.{Gives}
-use Rattle.bq_base.specs.declared.fault.FaultKind.{FaultKind}
+use Rattle.bq_base.specs.declared.fault.EvalFault.{EvalFault}
 use Rattle.bq_value.specs.declared.error.EvalErr.{EvalErr}
 use Rattle.bq_value.specs.declared.error.EvalErr.TheVariants.{Bad}
 use Rattle.bq_value.specs.Datum.{Datum}
@@ -12,7 +12,7 @@ use Rattle.bq_builtin_machine.specs.Action.{Action, done, following, given, pure
 use Rattle.bq_builtin_machine.specs.Cells.{Change, changing, can_change, content, or_wrong, put_content, with_content}
 
 -- what is left to do with the content
-abbrev with_changed : ℕ → Result (Datum × Contents) FaultKind → Action State Datum
+abbrev with_changed : ℕ → Result (Datum × Contents) EvalFault → Action State Datum
 with_changed number r = given r >>= λ p. put_content number p.1 >> pure p.0
 
 allowed : (home number : ℕ) (f : Change Datum) (s : State) (c : Contents) → can_change home number s ≡ done (tt {0}) s → content_at s.store home number ≡ Some c → changing home number f s ≡ with_changed number (f c) s

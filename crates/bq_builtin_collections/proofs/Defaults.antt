@@ -1,6 +1,6 @@
 -- What a dict has after `setdefault` and `pop`.
 use Rattle.std.proofs.Common.{◌≡◌, ◌∙◌, sym, refl, ap, ℕ, ◌+◌, Bool, true, false, cond, [], ◌∷◌, length, Option, Some, None, Result, Ok, Err}
-use Rattle.bq_base.specs.declared.fault.FaultKind.{FaultKind}
+use Rattle.bq_base.specs.declared.fault.EvalFault.{EvalFault}
 use Rattle.bq_builtin_numbers.specs.Length.{within}
 use Rattle.bq_value.specs.Datum.{Datum}
 use Rattle.bq_value.specs.Same.{same}
@@ -12,12 +12,12 @@ use Rattle.bq_builtin_machine.specs.Answer.{and_then}
 use Rattle.bq_builtin_collections.specs.Laws.{Dict}
 use Rattle.bq_builtin_collections.proofs.Cases.{taken_out_by, with_default_by}
 
-answer_is : (v w : Datum) (ps qs : Dict) → ◌≡◌ {A = Result (Datum × Dict) FaultKind} (Ok (v, ps)) (Ok (w, qs)) → (v ≡ w) × (ps ≡ qs)
+answer_is : (v w : Datum) (ps qs : Dict) → ◌≡◌ {A = Result (Datum × Dict) EvalFault} (Ok (v, ps)) (Ok (w, qs)) → (v ≡ w) × (ps ≡ qs)
 answer_is v w ps qs e =
     let is : ◌≡◌ {A = Datum × Dict} (v, ps) (w, qs) = cc in
     (ap (λ r. r.0) is, ap (λ r. r.1) is)
 
-put_default : (k d v : Datum) (ps qs : Dict) (r : Result ℕ FaultKind) → and_then {B = Datum × Dict} r (λ n. Ok (d, put k d ps)) ≡ Ok (v, qs) → found k qs ≡ Some v
+put_default : (k d v : Datum) (ps qs : Dict) (r : Result ℕ EvalFault) → and_then {B = Datum × Dict} r (λ n. Ok (d, put k d ps)) ≡ Ok (v, qs) → found k qs ≡ Some v
 put_default k d v ps qs (Ok n) e =
     let is = answer_is d v (put k d ps) qs e in
     ap (found k) (sym is.1) ∙ found_put k d ps ∙ ap (λ x. Some x) is.0

@@ -1,7 +1,7 @@
 -- What a dict holds after `update` by another one.
 use Rattle.std.proofs.Common.{◌≡◌, ◌∙◌, sym, refl, ap, ℕ, zero, suc, ◌==◌, Bool, true, false, cond, List, [], ◌∷◌, ◌++◌, set, slice_get, Some, Result, Ok, Err}
-use Rattle.bq_base.specs.declared.fault.FaultKind.{FaultKind}
-use Rattle.bq_base.specs.declared.fault.FaultKind.TheVariants.{Frozen, Iterating}
+use Rattle.bq_base.specs.declared.fault.EvalFault.{EvalFault}
+use Rattle.bq_base.specs.declared.fault.EvalFault.TheVariants.{Frozen, Iterating}
 use Rattle.bq_value.specs.Datum.{Datum, none, string, cell}
 use Rattle.bq_value.specs.Contents.{Contents, pairs}
 use Rattle.bq_value.specs.Cells.{content_at, cell_of, module_at}
@@ -29,11 +29,11 @@ own_there home number s c d own at =
     let there : slice_get s.store.cells number ≡ Some c = ap (λ b. cond b (slice_get s.store.cells number) (cell_of number (module_at home s.store.loaded))) (sym own) ∙ at in
     ap (λ b. cond b (slice_get (set s.store.cells number d) number) (cell_of number (module_at home s.store.loaded))) own ∙ set_there s.store.cells number c d there
 
-abbrev answer : {A : Type 0} → A → Contents → Result (A × Contents) FaultKind
+abbrev answer : {A : Type 0} → A → Contents → Result (A × Contents) EvalFault
 answer a c = Ok (a, c)
 
 -- what is left to do with the content
-abbrev after : {A : Type 0} → ℕ → Result (A × Contents) FaultKind → Action State A
+abbrev after : {A : Type 0} → ℕ → Result (A × Contents) EvalFault → Action State A
 after number r = given r >>= λ p. put_content number p.1 >> pure p.0
 
 -- how a change ends that wasn't refused
@@ -45,7 +45,7 @@ pub record Changed {A : Type 0} (home number : ℕ) (f : Change A) (c : Contents
 run_done : {A : Type 0} (a b : A) (s t : State) → done a s ≡ done b t → (a ≡ b) × (s ≡ t)
 run_done a b s t e = (cc, cc)
 
-changed_by : {A : Type 0} (home number : ℕ) (f : Change A) (s t : State) (c : Contents) (a : A) (r : Result (A × Contents) FaultKind) → f c ≡ r → (home == s.store.own) ≡ true → content_at s.store home number ≡ Some c → after number r s ≡ done a t → Changed home number f c a t
+changed_by : {A : Type 0} (home number : ℕ) (f : Change A) (s t : State) (c : Contents) (a : A) (r : Result (A × Contents) EvalFault) → f c ≡ r → (home == s.store.own) ≡ true → content_at s.store home number ≡ Some c → after number r s ≡ done a t → Changed home number f c a t
 changed_by home number f s t c a (Ok p) is own at e =
     let ends = run_done p.0 a (with_content s number p.1) t e in
     record {
@@ -85,7 +85,7 @@ given_dict other place args qs ks s bound at =
     ap (λ r. following (given r s) (λ (b : BoundView). read_optional (first_value b.values) (nothing_read b.keywords))) bound
     ∙ ap (λ o. read_by (pairs_of_content o) (cell other place) (nothing_read ks) s) at
 
-united_by : (ps qs : Pairs) (b : Bool) (a : Unit {0}) (c : Contents) (why : FaultKind) → and_then (cond b (Ok ps) (Err why)) (λ rs. answer (tt {0}) (pairs rs)) ≡ answer a c → c ≡ pairs ps
+united_by : (ps qs : Pairs) (b : Bool) (a : Unit {0}) (c : Contents) (why : EvalFault) → and_then (cond b (Ok ps) (Err why)) (λ rs. answer (tt {0}) (pairs rs)) ≡ answer a c → c ≡ pairs ps
 united_by ps qs true a c why e =
     let is : ◌≡◌ {A = Unit {0} × Contents} (tt, pairs ps) (a, c) = cc in
     sym (ap (λ r. r.1) is)

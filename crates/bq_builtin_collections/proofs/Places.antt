@@ -1,7 +1,7 @@
 -- What is put into a list is taken out by its place.
 use Rattle.std.proofs.Common.{◌≡◌, ◌≤◌, ◌∙◌, sym, refl, ap, arith, ℕ, zero, suc, ◌+◌, ◌-◌, ℤ, pos, negsuc, List, [], ◌∷◌, ◌++◌, length, insert, remove, slice_get, Option, Some, Result, Ok, Err}
 use Rattle.std.proofs.lemmas.Bool.Decides.{nat_tests}
-use Rattle.bq_base.specs.declared.fault.FaultKind.{FaultKind}
+use Rattle.bq_base.specs.declared.fault.EvalFault.{EvalFault}
 use Rattle.bq_builtin_numbers.specs.Length.{within}
 use Rattle.bq_builtin_numbers.specs.Place.{clamped, indexed}
 use Rattle.bq_value.specs.Datum.{Datum, none}
@@ -25,7 +25,7 @@ at_end : (xs : List Datum) (v : Datum) → xs ++ v ∷ [] ≡ insert xs (length 
 at_end [] v = refl
 at_end (x ∷ xs) v = ap (λ ys. x ∷ ys) (at_end xs v)
 
-abbrev answer : Datum → List Datum → Result (Datum × List Datum) FaultKind
+abbrev answer : Datum → List Datum → Result (Datum × List Datum) EvalFault
 answer v xs = Ok (v, xs)
 
 taken_from : (xs ys : List Datum) (at : ℕ) (v : Datum) → at ≤ length xs → insert xs at v ≡ ys → taken at ys ≡ Ok (v, xs)
@@ -38,7 +38,7 @@ within_list : (len : ℕ) (i : ℤ) → clamped len i ≤ len
 within_list len (pos k) = omega arith
 within_list len (negsuc k) = omega arith
 
-changed : (r : Result ℕ FaultKind) (xs ys : List Datum) (a : Datum) → and_then r (λ n. answer none xs) ≡ answer a ys → xs ≡ ys
+changed : (r : Result ℕ EvalFault) (xs ys : List Datum) (a : Datum) → and_then r (λ n. answer none xs) ≡ answer a ys → xs ≡ ys
 changed (Ok n) xs ys a e =
     let is : ◌≡◌ {A = Datum × List Datum} (none, xs) (a, ys) = cc in
     ap (λ r. r.1) is

@@ -1,7 +1,7 @@
 -- The methods of dicts (Starlark, "Built-in methods": "dict·get" and so on), as equations on the list of their pairs.
 use Rattle.std.specs.Prelude.{ℕ, ◌+◌, List, [], ◌∷◌, map, length, Option, Some, None, Result, Ok, Err}
-use Rattle.bq_base.specs.declared.fault.FaultKind.{FaultKind}
-use Rattle.bq_base.specs.declared.fault.FaultKind.TheVariants.{WrongType, NoKey}
+use Rattle.bq_base.specs.declared.fault.EvalFault.{EvalFault}
+use Rattle.bq_base.specs.declared.fault.EvalFault.TheVariants.{WrongType, NoKey}
 use Rattle.bq_builtin_numbers.specs.Length.{within}
 use Rattle.bq_value.specs.Datum.{Datum, none, tuple, end, datum, or_none}
 use Rattle.bq_value.specs.Contents.{items, pairs, rule}
@@ -22,7 +22,7 @@ use Rattle.bq_builtin_collections.specs.PairsGiven.{Pairs, pairs_given, all_pair
 
 -- a change of a dict: an answer, and the dict then
 abbrev pub DictChange : Type 0
-DictChange = Pairs → Result (Datum × Pairs) FaultKind
+DictChange = Pairs → Result (Datum × Pairs) EvalFault
 
 -- a change of a dict, of a cell that has to hold one
 unfoldable pub on_pairs : DictChange → Change Datum
@@ -48,7 +48,7 @@ unfoldable pub emptied : DictChange
 emptied ps = Ok (none, [])
 
 -- what is the answer where a key isn't there: nothing, which is F44, or a value
-abbrev pub or_no_key : Option Datum → Pairs → Result (Datum × Pairs) FaultKind
+abbrev pub or_no_key : Option Datum → Pairs → Result (Datum × Pairs) EvalFault
 or_no_key (Some d) ps = Ok (d, ps)
 or_no_key None ps = Err NoKey
 

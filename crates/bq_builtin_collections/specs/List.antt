@@ -1,7 +1,7 @@
 -- The methods of lists (Starlark, "Built-in methods": "list·append" and so on), as equations on the list of their values.
 use Rattle.std.specs.Prelude.{ℕ, ◌+◌, ℤ, pos, List, [], ◌∷◌, ◌++◌, length, slice_get, insert, remove, Option, Some, None, Result, Ok, Err}
-use Rattle.bq_base.specs.declared.fault.FaultKind.{FaultKind}
-use Rattle.bq_base.specs.declared.fault.FaultKind.TheVariants.{WrongType, Index, BadValue}
+use Rattle.bq_base.specs.declared.fault.EvalFault.{EvalFault}
+use Rattle.bq_base.specs.declared.fault.EvalFault.TheVariants.{WrongType, Index, BadValue}
 use Rattle.bq_builtin_numbers.specs.Length.{within}
 use Rattle.bq_builtin_numbers.specs.Place.{clamped, indexed}
 use Rattle.bq_value.specs.Datum.{Datum, none, int}
@@ -19,7 +19,7 @@ use Rattle.bq_builtin_collections.specs.Arguments.{one_to_three, optional_intege
 
 -- a change of a list: an answer, and the list then
 abbrev pub ListChange : Type 0
-ListChange = List Datum → Result (Datum × List Datum) FaultKind
+ListChange = List Datum → Result (Datum × List Datum) EvalFault
 
 -- a change of a list, of a cell that has to hold one
 unfoldable pub on_items : ListChange → Change Datum
@@ -95,7 +95,7 @@ unfoldable pub find : ℕ → ℕ → Datum → Option ℤ → Option ℤ → Ac
 find home number v start end = list_in home number >>= λ xs. walk (λ store n. found_between store n xs v start end)
 
 -- the place that was found, as an integer (F57 where none was; F54 past the longest list, which none is)
-unfoldable pub place_value : Option ℕ → Result Datum FaultKind
+unfoldable pub place_value : Option ℕ → Result Datum EvalFault
 place_value o = and_then (elim o [ Some at ↦ within at | None ↦ Err BadValue ]) (λ n. Ok (int (pos n)))
 
 -- `index(v, start, end)`: the place of the first element that is equal to `v`

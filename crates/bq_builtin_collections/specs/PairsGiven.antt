@@ -2,8 +2,8 @@
 -- elements, and named arguments.
 use Rattle.std.specs.Prelude.{Bool, true, false, cond, List, [], ◌∷◌, ◌++◌, Option, Some, None, Result, Ok, Err, refl}
 use Rattle.std.specs.Coded.{Coded, code_by, coded×, coded_bool}
-use Rattle.bq_base.specs.declared.fault.FaultKind.{FaultKind}
-use Rattle.bq_base.specs.declared.fault.FaultKind.TheVariants.{WrongType, BadValue}
+use Rattle.bq_base.specs.declared.fault.EvalFault.{EvalFault}
+use Rattle.bq_base.specs.declared.fault.EvalFault.TheVariants.{WrongType, BadValue}
 use Rattle.bq_value.specs.Datum.{Datum, tuple, cell, list_of}
 use Rattle.bq_value.specs.Contents.{Contents, items, pairs}
 use Rattle.bq_value.specs.Pairs.{coded_pairs}
@@ -32,7 +32,7 @@ pub record GivenView : Type 0 where
 -- ---- what is read
 
 -- the elements of what is given as a pair, which is a list or a tuple (F40)
-abbrev pub parts_of : StoreView → Datum → Result (List Datum) FaultKind
+abbrev pub parts_of : StoreView → Datum → Result (List Datum) EvalFault
 parts_of s (tuple xs) = Ok (list_of xs)
 parts_of s (cell home number) = elim (content_at s home number) [ Some (items xs) ↦ Ok xs | _ ↦ Err WrongType ]
 parts_of s _ = Err WrongType
@@ -43,16 +43,16 @@ two (k ∷ v ∷ []) = Some (k, v)
 two _ = None
 
 -- the two parts of an element, if it has two
-unfoldable pub pair_in : StoreView → Datum → Result (Option (Datum × Datum)) FaultKind
+unfoldable pub pair_in : StoreView → Datum → Result (Option (Datum × Datum)) EvalFault
 pair_in s v = and_then (parts_of s v) (λ xs. Ok (two xs))
 
 -- reads one element as a pair
-unfoldable pub take_element : StoreView → Datum → GivenView → Result GivenView FaultKind
+unfoldable pub take_element : StoreView → Datum → GivenView → Result GivenView EvalFault
 take_element s v g =
     and_then (pair_in s v) (λ o. Ok (elim o [ Some p ↦ record g { unkeyed = g.unkeyed ++ p ∷ [] } | None ↦ record g { all_have_two = false } ]))
 
 -- reads elements as pairs, in turn
-abbrev pub take_elements : StoreView → List Datum → GivenView → Result GivenView FaultKind
+abbrev pub take_elements : StoreView → List Datum → GivenView → Result GivenView EvalFault
 take_elements s [] g = Ok g
 take_elements s (v ∷ vs) g = and_then (take_element s v g) (take_elements s vs)
 

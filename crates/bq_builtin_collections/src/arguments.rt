@@ -5,7 +5,7 @@ ghost use Rattle.bq_base.specs.Gives.{Gives};
 ghost use Rattle.bq_value.specs.declared.error.EvalErr.TheVariants.{Bad};
 ghost use Rattle.bq_builtin_collections.specs.Arguments.{no_argument, one_argument, two_arguments, optional_argument, one_or_two, one_to_three, integer, optional_integer, index_or_last};
 
-use bq_base::FaultKind;
+use bq_base::EvalFault;
 use bq_value::{EvalErr, Node, Value};
 
 /// Checks that there is no argument.
@@ -15,7 +15,7 @@ pub(crate) fn no_argument(args: &[Value]) -> Result<(), EvalErr>
 {
     match args {
         [] => Ok(()),
-        _ => Err(EvalErr::Bad(FaultKind::Args)),
+        _ => Err(EvalErr::Bad(EvalFault::Args)),
     }
 }
 
@@ -26,7 +26,7 @@ pub(crate) fn one_argument(args: &[Value]) -> Result<&Value, EvalErr>
 {
     match args {
         [value] => Ok(value),
-        _ => Err(EvalErr::Bad(FaultKind::Args)),
+        _ => Err(EvalErr::Bad(EvalFault::Args)),
     }
 }
 
@@ -37,7 +37,7 @@ pub(crate) fn two_arguments(args: &[Value]) -> Result<(&Value, &Value), EvalErr>
 {
     match args {
         [first, second] => Ok((first, second)),
-        _ => Err(EvalErr::Bad(FaultKind::Args)),
+        _ => Err(EvalErr::Bad(EvalFault::Args)),
     }
 }
 
@@ -49,7 +49,7 @@ pub(crate) fn optional_argument(args: &[Value]) -> Result<Option<&Value>, EvalEr
     match args {
         [] => Ok(None),
         [value] => Ok(Some(value)),
-        _ => Err(EvalErr::Bad(FaultKind::Args)),
+        _ => Err(EvalErr::Bad(EvalFault::Args)),
     }
 }
 
@@ -61,7 +61,7 @@ pub(crate) fn one_or_two(args: &[Value]) -> Result<(&Value, Option<&Value>), Eva
     match args {
         [first] => Ok((first, None)),
         [first, second] => Ok((first, Some(second))),
-        _ => Err(EvalErr::Bad(FaultKind::Args)),
+        _ => Err(EvalErr::Bad(EvalFault::Args)),
     }
 }
 
@@ -72,7 +72,7 @@ pub(crate) fn integer(value: &Value) -> Result<i64, EvalErr>
 {
     match &value.node {
         Node::Int(n) => Ok(*n),
-        _ => Err(EvalErr::Bad(FaultKind::WrongType)),
+        _ => Err(EvalErr::Bad(EvalFault::WrongType)),
     }
 }
 
@@ -98,7 +98,7 @@ pub(crate) fn one_to_three(
         [first] => Ok((first, None, None)),
         [first, second] => Ok((first, Some(second), None)),
         [first, second, third] => Ok((first, Some(second), Some(third))),
-        _ => Err(EvalErr::Bad(FaultKind::Args)),
+        _ => Err(EvalErr::Bad(EvalFault::Args)),
     }
 }
 
@@ -112,7 +112,7 @@ pub(crate) fn optional_integer(value: Option<&Value>) -> Result<Option<i64>, Eva
         Some(value) => match &value.node {
             Node::NoneValue => Ok(None),
             Node::Int(n) => Ok(Some(*n)),
-            _ => Err(EvalErr::Bad(FaultKind::WrongType)),
+            _ => Err(EvalErr::Bad(EvalFault::WrongType)),
         },
     }
 }

@@ -8,7 +8,7 @@ ghost use Rattle.bq_builtin_collections.specs.Dict.{pairs_in, pair_tuple, clear,
 use crate::arguments::{no_argument, one_or_two};
 use crate::dict_edit::{DictEdit, change_dict, pair_tuple};
 use crate::pairs_given::PairsGiven;
-use bq_base::FaultKind;
+use bq_base::EvalFault;
 use bq_builtin_in_place::{put_pairs, unite};
 use bq_builtin_machine::{Args, Machine, keys_of};
 use bq_value::{Body, Cell, Dict, EvalErr, Key, Value};
@@ -22,8 +22,8 @@ fn pairs_in(machine: &Machine, dict: Cell) -> Result<&Dict, EvalErr>
     let content = machine.content(dict)?;
     match content.body() {
         Body::Dict(pairs) => Ok(pairs),
-        Body::List(_) => Err(EvalErr::Bad(FaultKind::WrongType)),
-        Body::Rule(_) => Err(EvalErr::Bad(FaultKind::WrongType)),
+        Body::List(_) => Err(EvalErr::Bad(EvalFault::WrongType)),
+        Body::Rule(_) => Err(EvalErr::Bad(EvalFault::WrongType)),
     }
 }
 

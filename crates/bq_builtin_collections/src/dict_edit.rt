@@ -7,7 +7,7 @@ ghost use Rattle.bq_builtin_machine.specs.Action.{Does};
 ghost use Rattle.bq_builtin_machine.specs.Cells.{changing};
 ghost use Rattle.bq_builtin_collections.specs.Dict.{on_pairs, pair_tuple, emptied, taken_out, first_out, with_default, edited};
 
-use bq_base::FaultKind;
+use bq_base::EvalFault;
 use bq_builtin_machine::Machine;
 use bq_builtin_numbers::joined_len;
 use bq_value::{Body, Cell, Content, Dict, EvalErr, Key, Value};
@@ -41,8 +41,8 @@ fn edit_content(alloc: Global, content: &mut Content, edit: DictEdit) -> Result<
 {
     match content.change()? {
         Body::Dict(pairs) => edit_pairs(alloc, pairs, edit),
-        Body::List(_) => Err(EvalErr::Bad(FaultKind::WrongType)),
-        Body::Rule(_) => Err(EvalErr::Bad(FaultKind::WrongType)),
+        Body::List(_) => Err(EvalErr::Bad(EvalFault::WrongType)),
+        Body::Rule(_) => Err(EvalErr::Bad(EvalFault::WrongType)),
     }
 }
 
@@ -73,7 +73,7 @@ fn take_out(pairs: &mut Dict, key: Key, default: Option<Value>) -> Result<Value,
         Some(value) => Ok(value),
         None => match default {
             Some(default) => Ok(default),
-            None => Err(EvalErr::Bad(FaultKind::NoKey)),
+            None => Err(EvalErr::Bad(EvalFault::NoKey)),
         },
     }
 }
@@ -83,7 +83,7 @@ fn first_out(alloc: Global, pairs: &mut Dict) -> Result<Value, EvalErr>
     ensures { Gives (λ v. (v, pairs.new)) Bad result (first_out pairs.old) }
 {
     if pairs.len() == 0 {
-        return Err(EvalErr::Bad(FaultKind::NoKey));
+        return Err(EvalErr::Bad(EvalFault::NoKey));
     }
     let (key, value) = pairs.pair(0);
     let pair = pair_tuple(alloc, key, value)?;

@@ -11,7 +11,7 @@ use crate::arguments::{
 };
 use crate::list_edit::{ListEdit, change_list};
 use crate::search::found_between;
-use bq_base::FaultKind;
+use bq_base::EvalFault;
 use bq_builtin_machine::Machine;
 use bq_builtin_numbers::MAX_LEN;
 use bq_value::{Body, Cell, EvalErr, Value};
@@ -77,8 +77,8 @@ fn list_in(machine: &Machine, list: Cell) -> Result<&[Value], EvalErr>
     let content = machine.content(list)?;
     match content.body() {
         Body::List(values) => Ok(values),
-        Body::Dict(_) => Err(EvalErr::Bad(FaultKind::WrongType)),
-        Body::Rule(_) => Err(EvalErr::Bad(FaultKind::WrongType)),
+        Body::Dict(_) => Err(EvalErr::Bad(EvalFault::WrongType)),
+        Body::Rule(_) => Err(EvalErr::Bad(EvalFault::WrongType)),
     }
 }
 
@@ -105,10 +105,10 @@ fn place_value(at: Option<usize>) -> Result<Value, EvalErr>
     ensures { Gives (λ v. v) Bad result (place_value at) }
 {
     match at {
-        None => Err(EvalErr::Bad(FaultKind::BadValue)),
+        None => Err(EvalErr::Bad(EvalFault::BadValue)),
         Some(at) => {
             if at > MAX_LEN {
-                return Err(EvalErr::Bad(FaultKind::TooLong));
+                return Err(EvalErr::Bad(EvalFault::TooLong));
             }
             Ok(Value::int(at as i64))
         }
@@ -137,6 +137,6 @@ pub fn remove(machine: &mut Machine, list: Cell, args: &[Value]) -> Result<Value
     machine.may_change(list)?;
     match find(machine, list, value, None, None)? {
         Some(at) => change_list(machine, list, ListEdit::Drop(at)),
-        None => Err(EvalErr::Bad(FaultKind::BadValue)),
+        None => Err(EvalErr::Bad(EvalFault::BadValue)),
     }
 }

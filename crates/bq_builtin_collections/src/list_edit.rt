@@ -7,7 +7,7 @@ ghost use Rattle.bq_builtin_machine.specs.Action.{Does};
 ghost use Rattle.bq_builtin_machine.specs.Cells.{changing};
 ghost use Rattle.bq_builtin_collections.specs.List.{on_items, appended, extended, inserted, popped, cleared, dropped, edited};
 
-use bq_base::FaultKind;
+use bq_base::EvalFault;
 use bq_builtin_machine::{Elements, Machine};
 use bq_builtin_numbers::{clamp, index, joined_len};
 use bq_value::{Body, Cell, Content, EvalErr, Value};
@@ -43,8 +43,8 @@ fn edit_content(content: &mut Content, edit: ListEdit) -> Result<Value, EvalErr>
 {
     match content.change()? {
         Body::List(values) => edit_values(values, edit),
-        Body::Dict(_) => Err(EvalErr::Bad(FaultKind::WrongType)),
-        Body::Rule(_) => Err(EvalErr::Bad(FaultKind::WrongType)),
+        Body::Dict(_) => Err(EvalErr::Bad(EvalFault::WrongType)),
+        Body::Rule(_) => Err(EvalErr::Bad(EvalFault::WrongType)),
     }
 }
 
@@ -119,7 +119,7 @@ fn drop_at(values: &mut Vec<Value>, at: usize) -> Result<Value, EvalErr>
     ensures { Gives (λ v. (v, values.new.items)) Bad result (dropped at values.old.items) }
 {
     if at >= values.len() {
-        return Err(EvalErr::Bad(FaultKind::Index));
+        return Err(EvalErr::Bad(EvalFault::Index));
     }
     let _taken = values.remove(at);
     Ok(Value::none())

@@ -9,7 +9,7 @@ ghost use Rattle.bq_value.specs.declared.error.EvalErr.TheVariants.{Bad};
 ghost use Rattle.bq_builtin_machine.specs.Action.{Does};
 ghost use Rattle.bq_builtin_collections.specs.PairsGiven.{two, pair_in, take_element, take_elements, dict_of, read, first_value, pairs_given, make_key, make_keys, all_pairs};
 
-use bq_base::FaultKind;
+use bq_base::EvalFault;
 use bq_builtin_machine::{Args, Bound, Elements, Machine, Signature, SingleParameter, bind};
 use bq_value::{Body, Dict, EvalErr, Key, Node, Store, Value};
 use std::alloc::{AllocError, Global};
@@ -125,7 +125,7 @@ impl PairsGiven {
         let mut pairs = keyed;
         make_keys(machine, unkeyed, &mut pairs)?;
         if !all_have_two {
-            return Err(EvalErr::Bad(FaultKind::BadValue));
+            return Err(EvalErr::Bad(EvalFault::BadValue));
         }
         push_pairs(&mut pairs, &keywords)?;
         Ok(pairs)
@@ -166,14 +166,14 @@ fn pair_in(store: &Store, element: &Value) -> Result<Option<(Value, Value)>, Eva
     match &element.node {
         Node::Tuple(items) => Ok(two(items)?),
         Node::Cell(cell) => match store.content(*cell) {
-            None => Err(EvalErr::Bad(FaultKind::WrongType)),
+            None => Err(EvalErr::Bad(EvalFault::WrongType)),
             Some(content) => match content.body() {
                 Body::List(values) => Ok(two(values)?),
-                Body::Dict(_) => Err(EvalErr::Bad(FaultKind::WrongType)),
-                Body::Rule(_) => Err(EvalErr::Bad(FaultKind::WrongType)),
+                Body::Dict(_) => Err(EvalErr::Bad(EvalFault::WrongType)),
+                Body::Rule(_) => Err(EvalErr::Bad(EvalFault::WrongType)),
             },
         },
-        _ => Err(EvalErr::Bad(FaultKind::WrongType)),
+        _ => Err(EvalErr::Bad(EvalFault::WrongType)),
     }
 }
 

@@ -4,7 +4,7 @@ ghost use Rattle.std.specs.Prelude.{◌≡◌, ◌+◌, ◌<◌, ◌^◌, length
 ghost use Rattle.bq_builtin_machine.specs.Machine.{looked_equal};
 ghost use Rattle.bq_builtin_collections.specs.Search.{first_equal, found_between};
 
-use bq_base::FaultKind;
+use bq_base::EvalFault;
 use bq_builtin_numbers::span;
 use bq_value::{Store, Value};
 
@@ -18,7 +18,7 @@ pub(crate) fn found_between(
     value: &Value,
     start: Option<i64>,
     end: Option<i64>,
-) -> Result<(Option<usize>, u64), FaultKind>
+) -> Result<(Option<usize>, u64), EvalFault>
     ensures { result ≡ found_between store.now steps values.now value.now start end }
 {
     let (from, to) = span(values.len(), start, end);
@@ -35,7 +35,7 @@ fn first_equal(
     at: usize,
     value: &Value,
     values: &[Value],
-) -> Result<(Option<usize>, u64), FaultKind>
+) -> Result<(Option<usize>, u64), EvalFault>
     requires { at + length values.now < 2 ^ 64 }
     ensures { result ≡ first_equal store.now steps at value.now values.now }
 {
@@ -52,7 +52,7 @@ fn first_equal(
 
 // PROOF: a call that names the 64 levels is a step of its own.
 #[tactic(auto, unfolding(bq_builtin_machine::specs::Machine::looked_equal))]
-fn looked_equal(store: &Store, steps: u64, a: &Value, b: &Value) -> Result<(bool, u64), FaultKind>
+fn looked_equal(store: &Store, steps: u64, a: &Value, b: &Value) -> Result<(bool, u64), EvalFault>
     ensures { result ≡ looked_equal store.now steps a.now b.now }
 {
     bq_value_compare::equal(store, steps, a, b)

@@ -1,6 +1,6 @@
 -- One field of a format after another.
 use Rattle.std.proofs.Common.{◌≡◌, ℕ, List, [], ◌∷◌, Option, Some, Ok, Err, refl, sym, ap, ◌∙◌}
-use Rattle.bq_base.specs.declared.fault.FaultKind.{FaultKind}
+use Rattle.bq_base.specs.declared.fault.EvalFault.{EvalFault}
 use Rattle.bq_value.specs.Datum.{Datum}
 use Rattle.bq_value.specs.Cells.{StoreView}
 use Rattle.bq_value_compare.specs.Looked.{Looked}
@@ -36,7 +36,7 @@ module _ (s : StoreView) (all : List Datum) (named : List (List ℕ × Datum)) w
       ∙ (ap (λ (r : Looked DraftView). and_then r (λ e k. made s all named e k (next_after next name) (numbering_after m name) (pieces after))) shows
       ∙ (made_from e g k (next_after next name) (numbering_after m name) after rest w ∙ rw (l, o) refl)))
 
-  pub made_bad : (d : DraftView) (n : ℕ) (next : List Datum) (m : Numbering) (text name after : List ℕ) (v : Option Datum) (kind : FaultKind) → field_of text ≡ Some (name, after) → v ≡ argument all named next name → field_shown s d n v ≡ Err kind
+  pub made_bad : (d : DraftView) (n : ℕ) (next : List Datum) (m : Numbering) (text name after : List ℕ) (v : Option Datum) (kind : EvalFault) → field_of text ≡ Some (name, after) → v ≡ argument all named next name → field_shown s d n v ≡ Err kind
       → (total : Looked DraftView) → total ≡ made s all named d n next m (pieces text) → total ≡ Err kind
   made_bad d n next m text name after v kind f a shown total h =
       let shows : field_shown s d n (argument all named next name) ≡ Err kind = ap (field_shown s d n) (sym a) ∙ shown in

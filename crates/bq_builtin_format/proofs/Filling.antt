@@ -2,7 +2,7 @@
 use Rattle.std.proofs.Common.{◌≡◌, ◌+◌, ◌≤◌, ◌<◌, ℕ, zero, suc, List, [], ◌∷◌, Option, Some, None, Ok, Err, ◌-◌, min, length, take, drop, refl, ap, ◌∙◌, arith, length-drop}
 use Rattle.std.proofs.lemmas.List.{take_rest}
 use Rattle.std.specs.Prelude.{codes}
-use Rattle.bq_base.specs.declared.fault.FaultKind.{FaultKind}
+use Rattle.bq_base.specs.declared.fault.EvalFault.{EvalFault}
 use Rattle.bq_value.specs.Datum.{Datum}
 use Rattle.bq_value.specs.Cells.{StoreView}
 use Rattle.bq_value_compare.specs.Looked.{Looked}
@@ -60,7 +60,7 @@ fill_more s d e k m values (b ∷ bs) before after p c =
     let less : length after < length (b ∷ bs) = shorter (b ∷ bs) before after p in
     rw (p, c) (enough (length bs) (length (drop 1 after)) s e m (values_after after values) (drop 1 after) (omega (arith, length-drop 1 after, less)) (omega arith))
 
-pub fill_bad : (s : StoreView) (d : DraftView) (k : ℕ) (kind : FaultKind) (values : List Datum) (text before after : List ℕ) → partition (codes "%") text ≡ Some (before, after) → converted s (and_write d before) k after values ≡ Err kind
+pub fill_bad : (s : StoreView) (d : DraftView) (k : ℕ) (kind : EvalFault) (values : List Datum) (text before after : List ℕ) → partition (codes "%") text ≡ Some (before, after) → converted s (and_write d before) k after values ≡ Err kind
     → filled (length text) s d k values text ≡ Err kind
 unfolding filled
 fill_bad s d k kind values [] before after p c = absurd (cc nowhere)

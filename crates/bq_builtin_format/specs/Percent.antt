@@ -3,8 +3,8 @@
 -- What is malformed is noted and the rest is still visited: F59 comes after F53 and F55, and F54 last.
 use Rattle.std.specs.Prelude.{ℕ, zero, suc, ◌==◌, ◌||◌, Bool, true, false, cond, List, [], ◌∷◌, length, drop, Option, Some, None, Result, Ok, Err, codes}
 use Rattle.std.specs.Fmt.{signed_decimal}
-use Rattle.bq_base.specs.declared.fault.FaultKind.{FaultKind}
-use Rattle.bq_base.specs.declared.fault.FaultKind.TheVariants.{Format}
+use Rattle.bq_base.specs.declared.fault.EvalFault.{EvalFault}
+use Rattle.bq_base.specs.declared.fault.EvalFault.TheVariants.{Format}
 use Rattle.bq_value.specs.Datum.{Datum, int, tuple, list_of}
 use Rattle.bq_value.specs.Cells.{StoreView}
 use Rattle.bq_value_compare.specs.Looked.{Looked}
@@ -84,7 +84,7 @@ abbrev pub blank : DraftView
 blank = record { page = Some []; malformed = false }
 
 -- the text of a draft, or F59 where its format is malformed, or F54 where it is too long
-abbrev pub finished_draft : DraftView → Result (List ℕ) FaultKind
+abbrev pub finished_draft : DraftView → Result (List ℕ) EvalFault
 finished_draft d = elim d.malformed [ true ↦ Err Format | false ↦ finished d.page ]
 
 -- the text of a draft, beside the steps left

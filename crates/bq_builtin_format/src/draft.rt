@@ -6,7 +6,7 @@ ghost use Rattle.bq_value.specs.declared.error.EvalErr.TheVariants.{Bad};
 ghost use Rattle.bq_value_compare.specs.Looked.{Looked};
 ghost use Rattle.bq_builtin_format.specs.Percent.{blank, and_write, spoiled, finished_draft, decimal, shown};
 
-use bq_base::{Bytes, FaultKind};
+use bq_base::{Bytes, EvalFault};
 use bq_value::{EvalErr, Node, Store, Value};
 use bq_value_text::{Page, write_repr, write_text};
 use itoa::Buffer;
@@ -92,7 +92,7 @@ impl Draft {
     {
         let Draft { page, is_malformed } = self;
         if is_malformed {
-            return Err(EvalErr::Bad(FaultKind::Format));
+            return Err(EvalErr::Bad(EvalFault::Format));
         }
         page.finish(alloc)
     }

@@ -1,6 +1,6 @@
 -- What changes a list or dict in place (Starlark, "Augmented assignments", "Assignments").
 use Rattle.std.specs.Prelude.{ℕ, ℤ, List, length, set, Ok, Err}
-use Rattle.bq_base.specs.declared.fault.FaultKind.TheVariants.{WrongType}
+use Rattle.bq_base.specs.declared.fault.EvalFault.TheVariants.{WrongType}
 use Rattle.bq_parse_grammar.specs.declared.tree.Operator.{Operator}
 use Rattle.bq_parse_grammar.specs.declared.tree.Operator.TheVariants as op
 use Rattle.bq_value.specs.Datum.{Datum, cell}

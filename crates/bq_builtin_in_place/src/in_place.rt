@@ -10,7 +10,7 @@ ghost use Rattle.bq_builtin_operators.specs.Sequence.{limited, joined};
 ghost use Rattle.bq_builtin_operators.specs.Union.{put_all};
 ghost use Rattle.bq_builtin_in_place.specs.InPlace.{list_extended, dict_united, element_set, pair_put, set_item, set_index};
 
-use bq_base::FaultKind;
+use bq_base::EvalFault;
 use bq_builtin_machine::{Elements, Machine};
 use bq_builtin_numbers::{MAX_LEN, index, joined_len};
 use bq_builtin_operators::int_of;
@@ -32,8 +32,8 @@ fn list_extended(content: &mut Content, more: Elements) -> Result<(), EvalErr>
 {
     match content.change()? {
         Body::List(values) => push_all(values, more),
-        Body::Dict(_) => Err(EvalErr::Bad(FaultKind::WrongType)),
-        Body::Rule(_) => Err(EvalErr::Bad(FaultKind::WrongType)),
+        Body::Dict(_) => Err(EvalErr::Bad(EvalFault::WrongType)),
+        Body::Rule(_) => Err(EvalErr::Bad(EvalFault::WrongType)),
     }
 }
 
@@ -70,9 +70,9 @@ fn dict_united(content: &mut Content, more: &[(Key, Value)]) -> Result<(), EvalE
     ensures { Gives (λ _. (tt, content.new)) Bad result (dict_united more.now content.old) }
 {
     match content.change()? {
-        Body::List(_) => Err(EvalErr::Bad(FaultKind::WrongType)),
+        Body::List(_) => Err(EvalErr::Bad(EvalFault::WrongType)),
         Body::Dict(dict) => put_pairs(dict, more),
-        Body::Rule(_) => Err(EvalErr::Bad(FaultKind::WrongType)),
+        Body::Rule(_) => Err(EvalErr::Bad(EvalFault::WrongType)),
     }
 }
 
@@ -105,7 +105,7 @@ fn check_len(dict: &Dict) -> Result<(), EvalErr>
     ensures { Gives (λ _. dict.now) Bad result (limited dict.now) }
 {
     if dict.len() > MAX_LEN {
-        return Err(EvalErr::Bad(FaultKind::TooLong));
+        return Err(EvalErr::Bad(EvalFault::TooLong));
     }
     Ok(())
 }
@@ -122,7 +122,7 @@ pub fn set_index(
 {
     match &container.node {
         Node::Cell(cell) => set_item(machine, *cell, at, value),
-        _ => Err(EvalErr::Bad(FaultKind::WrongType)),
+        _ => Err(EvalErr::Bad(EvalFault::WrongType)),
     }
 }
 
@@ -140,7 +140,7 @@ fn set_item(machine: &mut Machine, cell: Cell, at: &Value, value: Value) -> Resu
             let key = machine.key(at)?;
             set_value(machine, cell, key, value)
         }
-        Body::Rule(_) => Err(EvalErr::Bad(FaultKind::WrongType)),
+        Body::Rule(_) => Err(EvalErr::Bad(EvalFault::WrongType)),
     }
 }
 
@@ -162,8 +162,8 @@ fn element_set(content: &mut Content, at: i64, value: Value) -> Result<(), EvalE
             values[place] = value;
             Ok(())
         }
-        Body::Dict(_) => Err(EvalErr::Bad(FaultKind::WrongType)),
-        Body::Rule(_) => Err(EvalErr::Bad(FaultKind::WrongType)),
+        Body::Dict(_) => Err(EvalErr::Bad(EvalFault::WrongType)),
+        Body::Rule(_) => Err(EvalErr::Bad(EvalFault::WrongType)),
     }
 }
 
@@ -181,11 +181,11 @@ fn pair_put(content: &mut Content, key: Key, value: Value) -> Result<(), EvalErr
     ensures { Gives (λ _. (tt, content.new)) Bad result (pair_put key value content.old) }
 {
     match content.change()? {
-        Body::List(_) => Err(EvalErr::Bad(FaultKind::WrongType)),
+        Body::List(_) => Err(EvalErr::Bad(EvalFault::WrongType)),
         Body::Dict(dict) => {
             put_pair(dict, key, value)?;
             check_len(dict)
         }
-        Body::Rule(_) => Err(EvalErr::Bad(FaultKind::WrongType)),
+        Body::Rule(_) => Err(EvalErr::Bad(EvalFault::WrongType)),
     }
 }

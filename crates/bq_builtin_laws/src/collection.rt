@@ -1,8 +1,8 @@
 //! What holds of lists and dicts that are changed. The functions do nothing: their contracts are the laws.
 
 ghost use Rattle.std.specs.Prelude.{◌≡◌, ◌∷◌, [], ℕ, ℤ, List, map, Option, None, Some, Ok, Err};
-ghost use Rattle.bq_base.specs.declared.fault.FaultKind.{FaultKind};
-ghost use Rattle.bq_base.specs.declared.fault.FaultKind.TheVariants.{WrongType};
+ghost use Rattle.bq_base.specs.declared.fault.EvalFault.{EvalFault};
+ghost use Rattle.bq_base.specs.declared.fault.EvalFault.TheVariants.{WrongType};
 ghost use Rattle.bq_parse_grammar.specs.declared.tree.Operator.TheVariants as op;
 ghost use Rattle.bq_value_rule_class.specs.Class.{Class};
 ghost use Rattle.bq_value.specs.Datum.{Datum, cell};
@@ -23,16 +23,16 @@ ghost use Rattle.bq_builtin_laws.specs.Collections.Orders.{appending, clearing, 
 /// A wrong number of arguments (F52) comes before all that is wrong with the list or dict, or with the arguments.
 #[tactic(auto, using(crate::proofs::Collections::Lists::no_append, crate::proofs::Collections::Lists::no_extend, crate::proofs::Collections::Lists::no_insert, crate::proofs::Collections::Lists::no_remove, crate::proofs::Collections::Lists::no_pop, crate::proofs::Collections::Lists::no_clear, crate::proofs::Collections::Dicts::no_pop, crate::proofs::Collections::Dicts::no_popitem, crate::proofs::Collections::Dicts::no_setdefault, crate::proofs::Collections::Dicts::no_clear))]
 pub fn wrong_numbers_of_arguments_come_first()
-    ensures append { (home number : ℕ) (args : List Datum) (why : FaultKind) (s : State) → one_argument args ≡ Err why → IsRefusedForFirst (list.append home number args s) (Some why ∷ []) }
-    ensures extend { (home number : ℕ) (args : List Datum) (why : FaultKind) (s : State) → one_argument args ≡ Err why → IsRefusedForFirst (list.extend home number args s) (Some why ∷ []) }
-    ensures insert { (home number : ℕ) (args : List Datum) (why : FaultKind) (s : State) → two_arguments args ≡ Err why → IsRefusedForFirst (list.insert_at home number args s) (Some why ∷ []) }
-    ensures remove { (home number : ℕ) (args : List Datum) (why : FaultKind) (s : State) → one_argument args ≡ Err why → IsRefusedForFirst (list.remove_value home number args s) (Some why ∷ []) }
-    ensures pop { (home number : ℕ) (args : List Datum) (why : FaultKind) (s : State) → optional_argument args ≡ Err why → IsRefusedForFirst (list.pop home number args s) (Some why ∷ []) }
-    ensures clear { (home number : ℕ) (args : List Datum) (why : FaultKind) (s : State) → no_argument args ≡ Err why → IsRefusedForFirst (list.clear home number args s) (Some why ∷ []) }
-    ensures dict_pop { (home number : ℕ) (args : List Datum) (why : FaultKind) (s : State) → one_or_two args ≡ Err why → IsRefusedForFirst (dict.pop home number args s) (Some why ∷ []) }
-    ensures popitem { (home number : ℕ) (args : List Datum) (why : FaultKind) (s : State) → no_argument args ≡ Err why → IsRefusedForFirst (dict.popitem home number args s) (Some why ∷ []) }
-    ensures setdefault { (home number : ℕ) (args : List Datum) (why : FaultKind) (s : State) → one_or_two args ≡ Err why → IsRefusedForFirst (dict.setdefault home number args s) (Some why ∷ []) }
-    ensures dict_clear { (home number : ℕ) (args : List Datum) (why : FaultKind) (s : State) → no_argument args ≡ Err why → IsRefusedForFirst (dict.clear home number args s) (Some why ∷ []) }
+    ensures append { (home number : ℕ) (args : List Datum) (why : EvalFault) (s : State) → one_argument args ≡ Err why → IsRefusedForFirst (list.append home number args s) (Some why ∷ []) }
+    ensures extend { (home number : ℕ) (args : List Datum) (why : EvalFault) (s : State) → one_argument args ≡ Err why → IsRefusedForFirst (list.extend home number args s) (Some why ∷ []) }
+    ensures insert { (home number : ℕ) (args : List Datum) (why : EvalFault) (s : State) → two_arguments args ≡ Err why → IsRefusedForFirst (list.insert_at home number args s) (Some why ∷ []) }
+    ensures remove { (home number : ℕ) (args : List Datum) (why : EvalFault) (s : State) → one_argument args ≡ Err why → IsRefusedForFirst (list.remove_value home number args s) (Some why ∷ []) }
+    ensures pop { (home number : ℕ) (args : List Datum) (why : EvalFault) (s : State) → optional_argument args ≡ Err why → IsRefusedForFirst (list.pop home number args s) (Some why ∷ []) }
+    ensures clear { (home number : ℕ) (args : List Datum) (why : EvalFault) (s : State) → no_argument args ≡ Err why → IsRefusedForFirst (list.clear home number args s) (Some why ∷ []) }
+    ensures dict_pop { (home number : ℕ) (args : List Datum) (why : EvalFault) (s : State) → one_or_two args ≡ Err why → IsRefusedForFirst (dict.pop home number args s) (Some why ∷ []) }
+    ensures popitem { (home number : ℕ) (args : List Datum) (why : EvalFault) (s : State) → no_argument args ≡ Err why → IsRefusedForFirst (dict.popitem home number args s) (Some why ∷ []) }
+    ensures setdefault { (home number : ℕ) (args : List Datum) (why : EvalFault) (s : State) → one_or_two args ≡ Err why → IsRefusedForFirst (dict.setdefault home number args s) (Some why ∷ []) }
+    ensures dict_clear { (home number : ℕ) (args : List Datum) (why : EvalFault) (s : State) → no_argument args ≡ Err why → IsRefusedForFirst (dict.clear home number args s) (Some why ∷ []) }
 {}
 
 /// A method, or an assignment, refuses a list for the first of the reasons that are listed, and for nothing else.

@@ -1,7 +1,7 @@
 //! What holds of formats. The functions do nothing: their contracts are the laws.
 
 ghost use Rattle.std.specs.Prelude.{◌≡◌, ◌≤◌, ◌++◌, ◌∷◌, [], ℕ, List, length, Ok, Err};
-ghost use Rattle.bq_base.specs.declared.fault.FaultKind.TheVariants.{Format};
+ghost use Rattle.bq_base.specs.declared.fault.EvalFault.TheVariants.{Format};
 ghost use Rattle.bq_value.specs.Cells.{StoreView};
 ghost use Rattle.bq_value.specs.Datum.{Datum};
 ghost use Rattle.bq_value_text.specs.Page.{max_text};

@@ -2,7 +2,7 @@
 
 ghost use Rattle.std.specs.Prelude.{◌≡◌, ◌∷◌, ◌++◌, [], ℕ, ℤ, pos, negsuc, List, Option, Ok, Err, true, false, Any, All, slice_get};
 ghost use Rattle.std.specs.List.{AllByRecursion};
-ghost use Rattle.bq_base.specs.declared.fault.FaultKind.TheVariants.{BadValue};
+ghost use Rattle.bq_base.specs.declared.fault.EvalFault.TheVariants.{BadValue};
 ghost use Rattle.bq_builtin_string_methods.specs.Affixes.{texts_of};
 ghost use Rattle.bq_builtin_string_methods.specs.Argument.{bytes_in};
 ghost use Rattle.bq_builtin_string_methods.specs.Cuts.{partition, words_of};

@@ -3,8 +3,8 @@ use Rattle.std.proofs.Common.{◌≡◌, ◌∙◌, sym, ap, refl, ℕ, zero, su
 use Rattle.std.specs.Prelude.{◌+ℤ◌, nat_lt}
 use Rattle.std.proofs.lemmas.Bool.Decides.{nat_tests}
 use Rattle.std.specs.Cmp.{unsigned_Decides}
-use Rattle.bq_base.specs.declared.fault.FaultKind.{FaultKind}
-use Rattle.bq_base.specs.declared.fault.FaultKind.TheVariants.{StepLimit, Iterating, Frozen, Recursion, CallDepth}
+use Rattle.bq_base.specs.declared.fault.EvalFault.{EvalFault}
+use Rattle.bq_base.specs.declared.fault.EvalFault.TheVariants.{StepLimit, Iterating, Frozen, Recursion, CallDepth}
 use Rattle.bq_value.specs.Datum.{Datum, none, boolean, int, string, tuple, range, cell, function, built_in, rule_function, attribute}
 use Rattle.bq_value.specs.Range.{range_element, range_count}
 use Rattle.bq_builtin_machine.specs.State.{State, stop_at}
@@ -27,7 +27,7 @@ pub steps_fall : (count : ℕ) (s t : State) → step count s ≡ done tt t → 
 unfolding step
 steps_fall count s t h = stepped_by count s t (nat_lt s.steps count) refl h
 
-marked_by : (v : Datum) (s t : State) (xs : List Datum) (r : Result (List Datum) FaultKind) → following (given r s) (λ ys u. done ys (marked v u)) ≡ done xs t → marked v s ≡ t
+marked_by : (v : Datum) (s t : State) (xs : List Datum) (r : Result (List Datum) EvalFault) → following (given r s) (λ ys u. done ys (marked v u)) ≡ done xs t → marked v s ≡ t
 marked_by v s t xs (Ok ys) h = same_after ys xs (marked v s) t h
 marked_by v s t xs (Err kind) h = absurd (cc)
 

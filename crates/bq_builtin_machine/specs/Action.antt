@@ -2,7 +2,7 @@
 --
 -- The words are for any state, so that the evaluator writes its rules in them where a host keeps something beside the machine's state.
 use Rattle.std.specs.Prelude.{◌≡◌, Result, Ok, Err}
-use Rattle.bq_base.specs.declared.fault.FaultKind.{FaultKind}
+use Rattle.bq_base.specs.declared.fault.EvalFault.{EvalFault}
 use Rattle.bq_value.specs.declared.error.EvalErr.{EvalErr}
 use Rattle.bq_value.specs.declared.error.EvalErr.TheVariants.{Bad}
 use Rattle.bq_builtin_machine.specs.State.{State, Stop, stop_at}
@@ -36,16 +36,16 @@ abbrev pub pure : {S A : Type 0} → A → Action S A
 pure a = λ s. done a s
 
 -- a fault
-abbrev pub stop : {A : Type 0} → FaultKind → Action State A
+abbrev pub stop : {A : Type 0} → EvalFault → Action State A
 stop kind = λ s. stopped (stop_at kind s)
 
 -- an answer that needs no state, or its fault
-abbrev pub given : {A : Type 0} → Result A FaultKind → Action State A
+abbrev pub given : {A : Type 0} → Result A EvalFault → Action State A
 given (Ok a) = pure a
 given (Err kind) = stop kind
 
 -- an answer from the state, which stays as it is
-abbrev pub look : {A : Type 0} → (State → Result A FaultKind) → Action State A
+abbrev pub look : {A : Type 0} → (State → Result A EvalFault) → Action State A
 look f = λ s. given (f s) s
 
 -- a change of the state
@@ -65,7 +65,7 @@ on_machine action = λ p. beside p.1 (action p.0)
 -- call that stops leaves of the state what a `Stop` has.
 abbrev pub Ends : {S A B : Type 0} → (A → B) → Result A EvalErr → S → State → Run S B → Type 0
 Ends view (Ok x) after machine run = run ≡ done (view x) after
-Ends view (Err e) after machine run = (why : FaultKind) → e ≡ Bad why → run ≡ stopped (stop_at why machine)
+Ends view (Err e) after machine run = (why : EvalFault) → e ≡ Bad why → run ≡ stopped (stop_at why machine)
 
 abbrev pub Does : {A B : Type 0} → (A → B) → Result A EvalErr → State → Run State B → Type 0
 Does view result machine run = Ends view result machine machine run

@@ -2,8 +2,8 @@
 use Rattle.std.specs.Prelude.{ℕ, zero, suc, ◌+◌, nat_le, Bool, true, false, not, cond, ◌&&◌, ◌||◌, List, [], ◌∷◌, drop, length, set, slice_get, Option, Some, None, is_some, Result, Ok, Err, refl}
 use Rattle.std.specs.List.{position_from}
 use Rattle.std.specs.Coded.{Coded, code_by, coded×, coded_list, coded_option}
-use Rattle.bq_base.specs.declared.fault.FaultKind.{FaultKind}
-use Rattle.bq_base.specs.declared.fault.FaultKind.TheVariants.{Args}
+use Rattle.bq_base.specs.declared.fault.EvalFault.{EvalFault}
+use Rattle.bq_base.specs.declared.fault.EvalFault.TheVariants.{Args}
 use Rattle.bq_value.specs.Datum.{Datum, string}
 use Rattle.bq_value.specs.Codes.{coded_datum}
 use Rattle.bq_value.specs.Pairs.{coded_pairs, found, put}
@@ -19,7 +19,7 @@ pub record BoundView : Type 0 where
 
 -- the values of parameters, or the fault of the call
 abbrev pub Binding : Type 0
-Binding = Result BoundView FaultKind
+Binding = Result BoundView EvalFault
 
 -- The arguments of a number of parameters, of which the first `placed` take positional arguments, one each. The others
 -- have none yet.

@@ -1,7 +1,7 @@
 -- Which functions are active (Starlark, "Function and method calls": a function may not call itself).
 use Rattle.std.specs.Prelude.{ℕ, ◌-◌, Bool, cond, ◌&&◌, List, [], ◌∷◌, ◌++◌, length, take, nat_lt, ◌==◌}
 use Rattle.std.specs.List.{list_any}
-use Rattle.bq_base.specs.declared.fault.FaultKind.TheVariants.{Recursion, CallDepth}
+use Rattle.bq_base.specs.declared.fault.EvalFault.TheVariants.{Recursion, CallDepth}
 use Rattle.bq_builtin_machine.specs.State.{State}
 use Rattle.bq_builtin_machine.specs.Action.{Action, done, stop}
 

@@ -1,8 +1,8 @@
 -- Lists, dicts and rules as a machine has them (Starlark, "Freezing a value", "Lists", "Dictionaries").
 use Rattle.std.specs.Prelude.{ℕ, Bool, cond, ◌&&◌, List, [], ◌∷◌, ◌++◌, length, Option, Some, None, Result, Ok, Err, ◌==◌}
 use Rattle.std.specs.List.{list_any}
-use Rattle.bq_base.specs.declared.fault.FaultKind.{FaultKind}
-use Rattle.bq_base.specs.declared.fault.FaultKind.TheVariants.{WrongType, Frozen, Iterating}
+use Rattle.bq_base.specs.declared.fault.EvalFault.{EvalFault}
+use Rattle.bq_base.specs.declared.fault.EvalFault.TheVariants.{WrongType, Frozen, Iterating}
 use Rattle.bq_value.specs.Datum.{Datum, cell}
 use Rattle.bq_value.specs.Contents.{Contents, items, pairs}
 use Rattle.bq_value.specs.Cells.{StoreView, content_at, with_cells}
@@ -24,7 +24,7 @@ unfoldable pub new_content : Contents → Action State Datum
 new_content c s = done (cell s.store.own (length s.store.cells)) (with_store (with_cells (s.store.cells ++ c ∷ []) s.store) s)
 
 -- a value of the type that is needed, or the fault that it has another
-abbrev pub or_wrong : {A : Type 0} → Option A → Result A FaultKind
+abbrev pub or_wrong : {A : Type 0} → Option A → Result A EvalFault
 or_wrong (Some a) = Ok a
 or_wrong None = Err WrongType
 
@@ -50,7 +50,7 @@ put_content number c = change (λ s. with_content s number c)
 
 -- A change of a list or dict that may be changed: from what it holds to what it holds then and an answer, or a fault.
 abbrev pub Change : Type 0 → Type 0
-Change A = Contents → Result (A × Contents) FaultKind
+Change A = Contents → Result (A × Contents) EvalFault
 
 -- changes what a cell holds: it has to be one that may be changed, then of the right type
 unfoldable pub changing : {A : Type 0} → ℕ → ℕ → Change A → Action State A

@@ -1,7 +1,7 @@
 -- Walks over iterables (Starlark, "Iteration protocol"): a list, a tuple, a dict by its keys, a range.
 use Rattle.std.specs.Prelude.{◌≡◌, ℕ, zero, suc, ℤ, ◌+ℤ◌, List, [], ◌∷◌, ◌++◌, map, Option, Some, None, Result, Ok, Err}
-use Rattle.bq_base.specs.declared.fault.FaultKind.{FaultKind}
-use Rattle.bq_base.specs.declared.fault.FaultKind.TheVariants.{WrongType}
+use Rattle.bq_base.specs.declared.fault.EvalFault.{EvalFault}
+use Rattle.bq_base.specs.declared.fault.EvalFault.TheVariants.{WrongType}
 use Rattle.bq_value.specs.Datum.{Datum, int, tuple, range, cell, list_of}
 use Rattle.bq_value.specs.Range.{range_count}
 use Rattle.bq_value.specs.Contents.{Contents, items, pairs}
@@ -21,13 +21,13 @@ abbrev pub range_integers : ℤ → ℤ → ℤ → List ℤ
 range_integers start stop step = integers start step (range_count start stop step)
 
 -- what a walk over a cell goes through: the elements of a list, the keys of a dict
-abbrev pub content_elements : Option Contents → Result (List Datum) FaultKind
+abbrev pub content_elements : Option Contents → Result (List Datum) EvalFault
 content_elements (Some (items xs)) = Ok xs
 content_elements (Some (pairs ps)) = Ok (keys ps)
 content_elements _ = Err WrongType
 
 -- the elements of an iterable; other values have none (F40)
-abbrev pub elements_in : StoreView → Datum → Result (List Datum) FaultKind
+abbrev pub elements_in : StoreView → Datum → Result (List Datum) EvalFault
 elements_in s (tuple xs) = Ok (list_of xs)
 elements_in s (range start stop step) = Ok (map int (range_integers start stop step))
 elements_in s (cell home number) = content_elements (content_at s home number)

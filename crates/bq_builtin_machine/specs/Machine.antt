@@ -1,7 +1,7 @@
 -- Steps, prints and `fail`, and the walks over values as actions of a machine.
 use Rattle.std.specs.Prelude.{ℕ, ◌-◌, Bool, cond, List, [], ◌∷◌, ◌++◌, nat_lt, Ok, Err}
 use Rattle.std.specs.declared.cmp.Ordering.{Ordering}
-use Rattle.bq_base.specs.declared.fault.FaultKind.TheVariants.{StepLimit, Fail}
+use Rattle.bq_base.specs.declared.fault.EvalFault.TheVariants.{StepLimit, Fail}
 use Rattle.bq_value.specs.Datum.{Datum}
 use Rattle.bq_value.specs.Cells.{StoreView}
 use Rattle.bq_value_compare.specs.Looked.{Looked, max_levels}

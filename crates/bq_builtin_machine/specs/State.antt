@@ -1,7 +1,7 @@
 -- What the evaluation of a module changes as it goes, and what is left of it where it stops.
 use Rattle.std.specs.Prelude.{ℕ, List, [], refl}
 use Rattle.std.specs.Coded.{Coded, code_by, coded×, coded_ℕ, coded_list}
-use Rattle.bq_base.specs.declared.fault.FaultKind.{FaultKind}
+use Rattle.bq_base.specs.declared.fault.EvalFault.{EvalFault}
 use Rattle.bq_value.specs.Cells.{StoreView, coded_store}
 use Rattle.bq_value.specs.Cell.{Cell}
 
@@ -19,13 +19,13 @@ pub record State : Type 0 where
 
 -- Why an evaluation stops, in which line, with which message, and what it had printed by then.
 pub record Stop : Type 0 where
-  pub kind : FaultKind
+  pub kind : EvalFault
   pub line : ℕ
   pub message : List ℕ
   pub prints : List (List ℕ)
 
 -- an evaluation that stops there
-abbrev pub stop_at : FaultKind → State → Stop
+abbrev pub stop_at : EvalFault → State → Stop
 stop_at kind s = record { kind = kind; line = s.line; message = s.message; prints = s.prints }
 
 -- a module's evaluation begins

@@ -10,7 +10,7 @@ ghost use Rattle.bq_builtin_machine.specs.Binding.{placed_values, placed, has_va
 use crate::args::Args;
 use crate::iteration::Elements;
 use crate::parameters::{Signature, SingleParameter, parameter_called, places_by_name};
-use bq_base::{Bytes, FaultKind};
+use bq_base::{Bytes, EvalFault};
 use bq_value::{Dict, EvalErr, Key, Value};
 use bq_value_seed::Seed;
 use std::alloc::{AllocError, Global};
@@ -56,12 +56,12 @@ pub fn bind(
 {
     let Args { positional, named } = args;
     if is_too_many(signature, positional.len()) {
-        return Err(EvalErr::Bad(FaultKind::Args));
+        return Err(EvalErr::Bad(EvalFault::Args));
     }
     let mut bound = Bound::placed(alloc, seed, signature, positional)?;
     bound.take_all_named(alloc, signature, named)?;
     if !is_complete(signature.parameters, &bound.values) {
-        return Err(EvalErr::Bad(FaultKind::Args));
+        return Err(EvalErr::Bad(EvalFault::Args));
     }
     Ok(bound)
 }
@@ -207,7 +207,7 @@ impl Bound {
         match place {
             Some(i) => {
                 if i >= self.values.len() || self.values[i].is_some() {
-                    return Err(EvalErr::Bad(FaultKind::Args));
+                    return Err(EvalErr::Bad(EvalFault::Args));
                 }
                 self.values[i] = Some(value);
                 Ok(())
@@ -221,11 +221,11 @@ impl Bound {
         ensures { Gives (λ _. self.new) Bad result (take_keyword takes name value self.old) }
     {
         if !takes {
-            return Err(EvalErr::Bad(FaultKind::Args));
+            return Err(EvalErr::Bad(EvalFault::Args));
         }
         let before = self.keywords.insert(Key::new(Value::string(name)), value)?;
         if before.is_some() {
-            return Err(EvalErr::Bad(FaultKind::Args));
+            return Err(EvalErr::Bad(EvalFault::Args));
         }
         Ok(())
     }

@@ -5,7 +5,7 @@ ghost use Rattle.bq_builtin_machine.specs.Action.{Does};
 ghost use Rattle.bq_builtin_machine.specs.Calls.{enter, leave};
 
 use crate::machine::Machine;
-use bq_base::FaultKind;
+use bq_base::EvalFault;
 use bq_value::EvalErr;
 
 /// The most functions that are active (F51).
@@ -19,11 +19,11 @@ impl Machine {
     {
         for function in &self.active {
             if function.0 == module && function.1 == place {
-                return Err(EvalErr::Bad(FaultKind::Recursion));
+                return Err(EvalErr::Bad(EvalFault::Recursion));
             }
         }
         if self.active.len() >= MAX_ACTIVE {
-            return Err(EvalErr::Bad(FaultKind::CallDepth));
+            return Err(EvalErr::Bad(EvalFault::CallDepth));
         }
         self.active.push((module, place))?;
         Ok(())

@@ -8,7 +8,7 @@ ghost use Rattle.bq_builtin_machine.specs.Cells.{new_content, new_list, new_dict
 ghost use Rattle.bq_builtin_machine.specs.Lending.{LendsContent};
 
 use crate::machine::Machine;
-use bq_base::FaultKind;
+use bq_base::EvalFault;
 use bq_value::{Cell, Content, Dict, EvalErr, Value};
 
 impl Machine {
@@ -43,7 +43,7 @@ impl Machine {
     {
         match self.store.content(cell) {
             Some(content) => Ok(content),
-            None => Err(EvalErr::Bad(FaultKind::WrongType)),
+            None => Err(EvalErr::Bad(EvalFault::WrongType)),
         }
     }
 
@@ -54,10 +54,10 @@ impl Machine {
         ensures own { OnOk result (cell.module ≡ self.now.store.own) }
     {
         if cell.module != self.store.module() {
-            return Err(EvalErr::Bad(FaultKind::Frozen));
+            return Err(EvalErr::Bad(EvalFault::Frozen));
         }
         if is_walked(&self.walks, cell) {
-            return Err(EvalErr::Bad(FaultKind::Iterating));
+            return Err(EvalErr::Bad(EvalFault::Iterating));
         }
         Ok(())
     }
@@ -70,7 +70,7 @@ impl Machine {
         ensures within { OnOk result (cell.number < length self.now.store.cells) }
     {
         match self.store.content(cell) {
-            None => Err(EvalErr::Bad(FaultKind::WrongType)),
+            None => Err(EvalErr::Bad(EvalFault::WrongType)),
             Some(_) => self.may_change(cell),
         }
     }

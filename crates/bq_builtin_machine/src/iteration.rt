@@ -10,7 +10,7 @@ ghost use Rattle.bq_builtin_machine.specs.Iteration.{range_integers, content_ele
 
 use crate::machine::Machine;
 use crate::range_walk::RangeWalk;
-use bq_base::FaultKind;
+use bq_base::EvalFault;
 use bq_value::{Body, Content, Dict, EvalErr, Node, Range, Value, copies};
 use std::alloc::{AllocError, Global};
 use std::marker::Model;
@@ -101,9 +101,9 @@ impl Machine {
             Node::Range(range) => Ok(Elements::of_range(*range)),
             Node::Cell(cell) => match self.store.content(*cell) {
                 Some(content) => Ok(Elements::of(content_elements(alloc, content)?)),
-                None => Err(EvalErr::Bad(FaultKind::WrongType)),
+                None => Err(EvalErr::Bad(EvalFault::WrongType)),
             },
-            _ => Err(EvalErr::Bad(FaultKind::WrongType)),
+            _ => Err(EvalErr::Bad(EvalFault::WrongType)),
         }
     }
 }
@@ -126,6 +126,6 @@ pub(crate) fn content_elements(alloc: Global, content: &Content) -> Result<Vec<V
     match content.body() {
         Body::List(items) => Ok(copies(alloc, items)?),
         Body::Dict(dict) => Ok(keys_of(alloc, dict)?),
-        Body::Rule(_) => Err(EvalErr::Bad(FaultKind::WrongType)),
+        Body::Rule(_) => Err(EvalErr::Bad(EvalFault::WrongType)),
     }
 }

@@ -1,7 +1,7 @@
 //! Laws of the definitions: each is the contract of a function that does nothing.
 
 ghost use Rattle.std.specs.Prelude.{◌≡◌, ◌+◌, ◌<◌, ℕ, ℤ, List, Some, Ok, length, slice_get};
-ghost use Rattle.bq_base.specs.declared.fault.FaultKind.TheVariants.{Iterating, Recursion};
+ghost use Rattle.bq_base.specs.declared.fault.EvalFault.TheVariants.{Iterating, Recursion};
 ghost use Rattle.bq_value.specs.Datum.{Datum, cell};
 ghost use Rattle.bq_value.specs.Range.{range_element, range_count};
 ghost use Rattle.bq_builtin_machine.specs.State.{State, stop_at};

@@ -5,7 +5,7 @@ ghost use Rattle.bq_builtin_machine.specs.State.{started};
 ghost use Rattle.bq_builtin_machine.specs.Action.{Does};
 ghost use Rattle.bq_builtin_machine.specs.Machine.{with_steps, step, print, fail};
 
-use bq_base::{Bytes, FaultKind};
+use bq_base::{Bytes, EvalFault};
 use bq_value::{Cell, EvalErr, Store, Value};
 use std::alloc::Global;
 use std::marker::Model;
@@ -107,7 +107,7 @@ impl Machine {
         ensures { Does (λ _. tt) result self.new (step count self.old) }
     {
         if self.steps < count {
-            return Err(EvalErr::Bad(FaultKind::StepLimit));
+            return Err(EvalErr::Bad(EvalFault::StepLimit));
         }
         self.steps -= count;
         Ok(())
@@ -128,7 +128,7 @@ impl Machine {
         ensures { Does (λ v. v) result self.new (fail message self.old) }
     {
         self.message = message;
-        Err(EvalErr::Bad(FaultKind::Fail))
+        Err(EvalErr::Bad(EvalFault::Fail))
     }
 
     /// Returns the message of `fail`, which is empty until it is called.

@@ -12,7 +12,7 @@ ghost use Rattle.bq_builtin_machine.specs.WalkOf.{shared_left};
 use crate::iteration::content_elements;
 use crate::machine::Machine;
 use crate::range_walk::RangeWalk;
-use bq_base::FaultKind;
+use bq_base::EvalFault;
 use bq_value::{Body, Cell, Content, Dict, EvalErr, Node, Value};
 use std::alloc::{AllocError, Global};
 use std::marker::Model;
@@ -97,7 +97,7 @@ fn over_content(alloc: Global, content: &Content) -> Result<Walk, EvalErr>
     ensures { Gives (λ xs. xs) Bad result (content_elements (Some content.now)) }
 {
     if let Body::Rule(_) = content.body() {
-        return Err(EvalErr::Bad(FaultKind::WrongType));
+        return Err(EvalErr::Bad(EvalFault::WrongType));
     }
     match content.shared()? {
         Some(body) => Ok(Walk {
@@ -152,7 +152,7 @@ impl Machine {
         self.store.share(alloc, at)?;
         match self.store.content(at) {
             Some(content) => over_content(alloc, content),
-            None => Err(EvalErr::Bad(FaultKind::WrongType)),
+            None => Err(EvalErr::Bad(EvalFault::WrongType)),
         }
     }
 
@@ -162,7 +162,7 @@ impl Machine {
         ensures { Does (λ xs. xs) result self.new (elements (cell at.module at.number) self.old) }
     {
         match self.store.content(at) {
-            None => return Err(EvalErr::Bad(FaultKind::WrongType)),
+            None => return Err(EvalErr::Bad(EvalFault::WrongType)),
             Some(content) => {
                 if content.is_small() {
                     return Ok(over_few(content_elements(alloc, content)?));
@@ -185,7 +185,7 @@ impl Machine {
                 over: Over::Range(RangeWalk::over(*range)),
             }),
             Node::Cell(cell) => self.walk_cell(alloc, *cell),
-            _ => Err(EvalErr::Bad(FaultKind::WrongType)),
+            _ => Err(EvalErr::Bad(EvalFault::WrongType)),
         }
     }
 

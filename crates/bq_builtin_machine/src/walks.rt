@@ -5,7 +5,7 @@ ghost use Rattle.bq_builtin_machine.specs.Action.{Does};
 ghost use Rattle.bq_builtin_machine.specs.Machine.{looked_equal, looked_order, equal, order, text, repr, key};
 
 use crate::machine::Machine;
-use bq_base::{Bytes, FaultKind};
+use bq_base::{Bytes, EvalFault};
 use bq_value::{EvalErr, Key, Store, Value};
 use std::alloc::Global;
 use std::cmp::Ordering;
@@ -64,7 +64,7 @@ impl Machine {
 
 // PROOF: a call that names the 64 levels is a step of its own.
 #[tactic(auto, unfolding(crate::specs::Machine::looked_equal))]
-fn looked_equal(store: &Store, steps: u64, a: &Value, b: &Value) -> Result<(bool, u64), FaultKind>
+fn looked_equal(store: &Store, steps: u64, a: &Value, b: &Value) -> Result<(bool, u64), EvalFault>
     ensures { result ≡ looked_equal store.now steps a.now b.now }
 {
     bq_value_compare::equal(store, steps, a, b)
@@ -76,7 +76,7 @@ fn looked_order(
     steps: u64,
     a: &Value,
     b: &Value,
-) -> Result<(Ordering, u64), FaultKind>
+) -> Result<(Ordering, u64), EvalFault>
     ensures { result ≡ looked_order store.now steps a.now b.now }
 {
     bq_value_compare::order(store, steps, a, b)

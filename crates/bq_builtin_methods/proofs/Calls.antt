@@ -1,6 +1,6 @@
 -- Calls that are refused.
 use Rattle.std.proofs.Common.{◌≡◌, ◌∙◌, refl, ap, ℕ, false, List, ◌∷◌, Some, None, Err}
-use Rattle.bq_base.specs.declared.fault.FaultKind.TheVariants.{Args, NoMethod}
+use Rattle.bq_base.specs.declared.fault.EvalFault.TheVariants.{Args, NoMethod}
 use Rattle.bq_value_rule_class.specs.Class.{Class}
 use Rattle.bq_value.specs.Datum.{Datum, none, boolean, int, string, tuple, range, cell, function, built_in, rule_function, attribute}
 use Rattle.bq_value.specs.Contents.{Contents, items, pairs, rule}

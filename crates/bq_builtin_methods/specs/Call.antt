@@ -1,6 +1,6 @@
 -- Calls of methods (Starlark, "Built-in methods"). A name that the receiver's type lacks is F58.
 use Rattle.std.specs.Prelude.{ℕ, List, Option, Some, None}
-use Rattle.bq_base.specs.declared.fault.FaultKind.TheVariants.{NoMethod}
+use Rattle.bq_base.specs.declared.fault.EvalFault.TheVariants.{NoMethod}
 use Rattle.bq_value.specs.Datum.{Datum, string, cell}
 use Rattle.bq_value.specs.Contents.{Contents, items, pairs, rule}
 use Rattle.bq_builtin_machine.specs.State.{State}

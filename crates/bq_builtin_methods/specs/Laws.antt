@@ -3,8 +3,8 @@ use Rattle.std.specs.Prelude.{◌≡◌, ℕ, Bool, true, false, List, ◌∷◌
 use Rattle.std.specs.List.{IsDistinct}
 use Rattle.std.specs.Map.{lookup, keys_of}
 use Rattle.std.specs.Str.{bytes_eq}
-use Rattle.bq_base.specs.declared.fault.FaultKind.{FaultKind}
-use Rattle.bq_base.specs.declared.fault.FaultKind.TheVariants.{Args, NoMethod}
+use Rattle.bq_base.specs.declared.fault.EvalFault.{EvalFault}
+use Rattle.bq_base.specs.declared.fault.EvalFault.TheVariants.{Args, NoMethod}
 use Rattle.bq_value.specs.Datum.{Datum, string, cell}
 use Rattle.bq_value.specs.Cells.{HoldsList, HoldsDict}
 use Rattle.bq_builtin_machine.specs.State.{State, stop_at}
@@ -24,7 +24,7 @@ has_methods (cell home number) = true
 has_methods _ = false
 
 -- an action that is refused in this state
-abbrev pub Refused : FaultKind → State → Run State Datum → Type 0
+abbrev pub Refused : EvalFault → State → Run State Datum → Type 0
 Refused kind s run = run ≡ stopped (stop_at kind s)
 
 -- this holds of every list, in every state

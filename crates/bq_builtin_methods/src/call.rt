@@ -6,7 +6,7 @@ ghost use Rattle.bq_builtin_methods.specs.Call.{call_of_string, call_of_list, ca
 use crate::dict_method::{dict_call, dict_method};
 use crate::list_method::{list_call, list_method};
 use crate::table::placed;
-use bq_base::FaultKind;
+use bq_base::EvalFault;
 use bq_builtin_machine::{Args, Machine};
 use bq_builtin_string_methods::string_method;
 use bq_value::{Body, Cell, EvalErr, Node, Value};
@@ -26,7 +26,7 @@ pub fn call_method(
     match &receiver.node {
         Node::Text(text) => call_of_string(alloc, machine, name, text.as_slice(), &args),
         Node::Cell(cell) => call_of_cell(alloc, machine, name, *cell, args),
-        _ => Err(EvalErr::Bad(FaultKind::NoMethod)),
+        _ => Err(EvalErr::Bad(EvalFault::NoMethod)),
     }
 }
 
@@ -42,7 +42,7 @@ fn call_of_string(
 {
     match string_method(name) {
         Some(method) => bq_builtin_string_methods::call(alloc, machine, method, receiver, args),
-        None => Err(EvalErr::Bad(FaultKind::NoMethod)),
+        None => Err(EvalErr::Bad(EvalFault::NoMethod)),
     }
 }
 
@@ -59,7 +59,7 @@ fn call_of_cell(
     match machine.content(receiver)?.body() {
         Body::List(_) => call_of_list(alloc, machine, name, receiver, &args),
         Body::Dict(_) => call_of_dict(alloc, machine, name, receiver, args),
-        Body::Rule(_) => Err(EvalErr::Bad(FaultKind::NoMethod)),
+        Body::Rule(_) => Err(EvalErr::Bad(EvalFault::NoMethod)),
     }
 }
 
@@ -78,7 +78,7 @@ fn call_of_list(
             let values = placed(args)?;
             list_call(alloc, machine, method, receiver, values)
         }
-        None => Err(EvalErr::Bad(FaultKind::NoMethod)),
+        None => Err(EvalErr::Bad(EvalFault::NoMethod)),
     }
 }
 
@@ -94,6 +94,6 @@ fn call_of_dict(
 {
     match dict_method(name) {
         Some(method) => dict_call(alloc, machine, method, receiver, args),
-        None => Err(EvalErr::Bad(FaultKind::NoMethod)),
+        None => Err(EvalErr::Bad(EvalFault::NoMethod)),
     }
 }

@@ -7,7 +7,7 @@ ghost use Rattle.bq_base.specs.Gives.{Gives};
 ghost use Rattle.bq_value.specs.declared.error.EvalErr.TheVariants.{Bad};
 ghost use Rattle.bq_builtin_methods.specs.Placed.{placed};
 
-use bq_base::FaultKind;
+use bq_base::EvalFault;
 use bq_builtin_machine::Args;
 use bq_value::{EvalErr, Value};
 
@@ -31,6 +31,6 @@ pub(crate) fn placed(args: &Args) -> Result<&[Value], EvalErr>
 {
     match args.named.as_slice() {
         [] => Ok(&args.positional),
-        _ => Err(EvalErr::Bad(FaultKind::Args)),
+        _ => Err(EvalErr::Bad(EvalFault::Args)),
     }
 }

@@ -8,7 +8,7 @@ use Rattle.std.proofs.lemmas.Option.{get_or_from_slice_get}
 use Rattle.std.proofs.Math.Seq.{take-append_seam, drop-append_seam, take-length, take-suc}
 use Rattle.bq_value.specs.Range.{range_count}
 use Rattle.bq_value.proofs.Elements.{elements_counted}
-use Rattle.bq_base.specs.declared.fault.FaultKind.TheVariants.{Index}
+use Rattle.bq_base.specs.declared.fault.EvalFault.TheVariants.{Index}
 use Rattle.bq_builtin_numbers.specs.Place.{clamped, indexed}
 use Rattle.bq_builtin_numbers.specs.Slice.{slice_start, slice_stop, taken, taken_by, slice_of}
 use Rattle.bq_builtin_numbers.proofs.Bounds.{lt_false}

@@ -4,7 +4,7 @@ use Rattle.std.proofs.lemmas.Int.{to_z_pos}
 use Rattle.std.proofs.lemmas.Bool.{cases_Bool, ltb-true, lt-ltb}
 use Rattle.std.specs.Prelude.{pos, negsuc, FitsSigned, ok_or}
 use Rattle.std.specs.Int.{w64}
-use Rattle.bq_base.specs.declared.fault.FaultKind.TheVariants.{Overflow}
+use Rattle.bq_base.specs.declared.fault.EvalFault.TheVariants.{Overflow}
 use Rattle.bq_builtin_numbers.specs.Integer.{fits, fitted, Fitted}
 
 within : (z : ℤ) → fits z ≡ true → FitsSigned w64 z

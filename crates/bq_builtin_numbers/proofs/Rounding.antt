@@ -6,7 +6,7 @@ use Rattle.std.proofs.lemmas.Nat.{mod_below}
 use Rattle.std.specs.Prelude.{pos, negsuc, neg_ℤ, ◌<ℤ◌, ◌≤ℤ◌, ◌+ℤ◌, ◌-ℤ◌, FitsSigned, SomeIff}
 use Rattle.std.specs.Int.{w64, CanDivide, int_div_euclid, int_rem_euclid}
 use Rattle.std.specs.Int.RustNames.{int_div, int_rem}
-use Rattle.bq_base.specs.declared.fault.FaultKind.TheVariants.{DivZero}
+use Rattle.bq_base.specs.declared.fault.EvalFault.TheVariants.{DivZero}
 use Rattle.bq_builtin_numbers.specs.Integer.{fitted, Fitted}
 use Rattle.bq_builtin_numbers.specs.Division.{floor_quotient, divided, remainder}
 use Rattle.bq_builtin_numbers.proofs.Fits.{fitted_some}

@@ -5,7 +5,7 @@ use Rattle.std.proofs.lemmas.Nat.{one_shl, pow_below}
 use Rattle.std.specs.Prelude.{negsuc, neg_ℤ, ◌*ℤ◌}
 use Rattle.std.specs.Int.{int_shr}
 use lib.Signed.{mag}
-use Rattle.bq_base.specs.declared.fault.FaultKind.TheVariants.{Overflow}
+use Rattle.bq_base.specs.declared.fault.EvalFault.TheVariants.{Overflow}
 use Rattle.bq_builtin_numbers.specs.Integer.{fitted}
 use Rattle.bq_builtin_numbers.specs.Shift.{scaled, halved}
 use Rattle.bq_builtin_numbers.proofs.Fits.{fitted_none}

@@ -1,7 +1,7 @@
 -- Division of integers of 64 bits that rounds down (Starlark, "Arithmetic").
 use Rattle.std.specs.Prelude.{◌≡◌, ◌<◌, zero, suc, ◌-◌, ◌/◌, ◌%◌, ℤ, pos, negsuc, neg_ℤ, Result, Ok, Err}
-use Rattle.bq_base.specs.declared.fault.FaultKind.{FaultKind}
-use Rattle.bq_base.specs.declared.fault.FaultKind.TheVariants.{DivZero}
+use Rattle.bq_base.specs.declared.fault.EvalFault.{EvalFault}
+use Rattle.bq_base.specs.declared.fault.EvalFault.TheVariants.{DivZero}
 use Rattle.bq_builtin_numbers.specs.Integer.{fitted}
 
 -- the quotient, rounded down; `negsuc n` is -n - 1
@@ -28,13 +28,13 @@ IsRestOf (negsuc b) (pos r) = r ≡ 0
 IsRestOf (negsuc b) (negsuc r) = r < b
 
 -- `x // y`
-unfoldable pub divided : ℤ → ℤ → Result ℤ FaultKind
+unfoldable pub divided : ℤ → ℤ → Result ℤ EvalFault
 divided x (pos zero) = Err DivZero
 divided x (pos (suc b)) = fitted (floor_quotient x (pos (suc b)))
 divided x (negsuc b) = fitted (floor_quotient x (negsuc b))
 
 -- `x % y`, which always fits
-unfoldable pub remainder : ℤ → ℤ → Result ℤ FaultKind
+unfoldable pub remainder : ℤ → ℤ → Result ℤ EvalFault
 remainder x (pos zero) = Err DivZero
 remainder x (pos (suc b)) = Ok (floor_rest x (pos (suc b)))
 remainder x (negsuc b) = Ok (floor_rest x (negsuc b))

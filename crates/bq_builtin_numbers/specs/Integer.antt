@@ -1,8 +1,8 @@
 -- Arithmetic of integers of 64 bits (Starlark, "Arithmetic").
 use Rattle.std.specs.Prelude.{ℕ, ◌^◌, nat_lt, Bool, cond, ℤ, pos, negsuc, Option, Result, Ok, Err, SomeIff, FitsSigned, bit_and, bit_or, bit_xor}
 use Rattle.std.specs.Int.{w64, cast_signed, cast_unsigned}
-use Rattle.bq_base.specs.declared.fault.FaultKind.{FaultKind}
-use Rattle.bq_base.specs.declared.fault.FaultKind.TheVariants.{Overflow}
+use Rattle.bq_base.specs.declared.fault.EvalFault.{EvalFault}
+use Rattle.bq_base.specs.declared.fault.EvalFault.TheVariants.{Overflow}
 
 -- from -2^63 to below 2^63
 abbrev pub fits : ℤ → Bool
@@ -10,7 +10,7 @@ fits (pos n) = nat_lt n (2 ^ 63)
 fits (negsuc n) = nat_lt n (2 ^ 63)
 
 -- the answer, or F41
-unfoldable pub fitted : ℤ → Result ℤ FaultKind
+unfoldable pub fitted : ℤ → Result ℤ EvalFault
 fitted z = cond (fits z) (Ok z) (Err Overflow)
 
 -- what a checked operation answers

@@ -1,12 +1,12 @@
 -- The items of ranges (Starlark, "range"): by index, and which integers there are.
 use Rattle.std.specs.Prelude.{◌≡◌, ℕ, ◌<◌, ◌%◌, Bool, cond, false, ◌&&◌, ℤ, pos, ◌-ℤ◌, int_lt, int_le, unsigned_abs, ◌==◌, Result, Ok, Err}
 use Rattle.std.specs.Ordering.{int_eq}
-use Rattle.bq_base.specs.declared.fault.FaultKind.{FaultKind}
+use Rattle.bq_base.specs.declared.fault.EvalFault.{EvalFault}
 use Rattle.bq_value.specs.Range.{range_count, range_element}
 use Rattle.bq_builtin_numbers.specs.Place.{indexed}
 
 -- the element at an index, or F43
-abbrev pub range_item : ℤ → ℤ → ℤ → ℤ → Result ℤ FaultKind
+abbrev pub range_item : ℤ → ℤ → ℤ → ℤ → Result ℤ EvalFault
 range_item start stop step index = elim (indexed (range_count start stop step) index) [ Ok number ↦ Ok (range_element start step number) | Err e ↦ Err e ]
 
 -- from the start on, and before the end

@@ -4,14 +4,14 @@ ghost use Rattle.std.specs.Prelude.{◌≡◌};
 ghost use Rattle.bq_builtin_numbers.specs.Division.{divided, remainder};
 
 use crate::integer::fit;
-use bq_base::FaultKind;
+use bq_base::EvalFault;
 
 /// Returns `x // y`, rounded down; F42 if `y` is 0.
-pub fn floor_divide(x: i64, y: i64) -> Result<i64, FaultKind>
+pub fn floor_divide(x: i64, y: i64) -> Result<i64, EvalFault>
     ensures { result ≡ divided x y }
 {
     if y == 0 {
-        return Err(FaultKind::DivZero);
+        return Err(EvalFault::DivZero);
     }
     if y > 0 {
         return Ok(x.div_euclid(y));
@@ -23,11 +23,11 @@ pub fn floor_divide(x: i64, y: i64) -> Result<i64, FaultKind>
 }
 
 /// Returns `x % y`, which has the sign of `y`; F42 if `y` is 0.
-pub fn modulo(x: i64, y: i64) -> Result<i64, FaultKind>
+pub fn modulo(x: i64, y: i64) -> Result<i64, EvalFault>
     ensures { result ≡ remainder x y }
 {
     if y == 0 {
-        return Err(FaultKind::DivZero);
+        return Err(EvalFault::DivZero);
     }
     if y > 0 {
         return Ok(x.rem_euclid(y));

@@ -3,51 +3,51 @@
 ghost use Rattle.std.specs.Prelude.{◌≡◌, ◌+ℤ◌, ◌-ℤ◌, ◌*ℤ◌, neg_ℤ, pos, Option, ℤ};
 ghost use Rattle.bq_builtin_numbers.specs.Integer.{Fitted, fitted, both, either, one_of};
 
-use bq_base::FaultKind;
+use bq_base::EvalFault;
 
 /// The greatest integer.
 const MAX: u64 = 9_223_372_036_854_775_807;
 
 /// Returns the answer if there is one, and else F41.
-pub(crate) fn fit(answer: Option<i64>) -> Result<i64, FaultKind>
+pub(crate) fn fit(answer: Option<i64>) -> Result<i64, EvalFault>
     ensures { (z : ℤ) → Fitted answer z → result ≡ fitted z }
 {
-    answer.ok_or(FaultKind::Overflow)
+    answer.ok_or(EvalFault::Overflow)
 }
 
 /// Returns a count as an integer; F41 if it doesn't fit.
-pub(crate) fn from_count(count: u64) -> Result<i64, FaultKind>
+pub(crate) fn from_count(count: u64) -> Result<i64, EvalFault>
     ensures { result ≡ fitted (pos count) }
 {
     if MAX < count {
-        return Err(FaultKind::Overflow);
+        return Err(EvalFault::Overflow);
     }
     Ok(count as i64)
 }
 
 /// Returns `x + y`.
-pub fn add(x: i64, y: i64) -> Result<i64, FaultKind>
+pub fn add(x: i64, y: i64) -> Result<i64, EvalFault>
     ensures { result ≡ fitted (x +ℤ y) }
 {
     fit(x.checked_add(y))
 }
 
 /// Returns `x - y`.
-pub fn subtract(x: i64, y: i64) -> Result<i64, FaultKind>
+pub fn subtract(x: i64, y: i64) -> Result<i64, EvalFault>
     ensures { result ≡ fitted (x -ℤ y) }
 {
     fit(x.checked_sub(y))
 }
 
 /// Returns `x * y`.
-pub fn multiply(x: i64, y: i64) -> Result<i64, FaultKind>
+pub fn multiply(x: i64, y: i64) -> Result<i64, EvalFault>
     ensures { result ≡ fitted (x *ℤ y) }
 {
     fit(x.checked_mul(y))
 }
 
 /// Returns `-x`.
-pub fn negate(x: i64) -> Result<i64, FaultKind>
+pub fn negate(x: i64) -> Result<i64, EvalFault>
     ensures { result ≡ fitted (neg_ℤ x) }
 {
     fit(x.checked_neg())

@@ -3,7 +3,7 @@
 
 ghost use Rattle.std.specs.Prelude.{◌≡◌, ◌≢◌, ◌<◌, ◌≤◌, ◌+◌, ℕ, ℤ, pos, negsuc, neg_ℤ, ◌+ℤ◌, ◌*ℤ◌, ◌≤ℤ◌, ◌<ℤ◌, ◌↔◌, true, List, ◌∷◌, ◌++◌, reverse, None, Some, Ok, Err, Option, length};
 ghost use Rattle.bq_builtin_numbers.specs.RangeItem.{range_has, IsElement};
-ghost use Rattle.bq_base.specs.declared.fault.FaultKind.TheVariants.{Index};
+ghost use Rattle.bq_base.specs.declared.fault.EvalFault.TheVariants.{Index};
 ghost use Rattle.bq_builtin_numbers.specs.Place.{clamped, indexed};
 ghost use Rattle.bq_builtin_numbers.specs.Slice.{slice_start, slice_count, slice_place, slice_of, AreElements};
 ghost use Rattle.bq_builtin_numbers.specs.Division.{floor_quotient, floor_rest, IsRestOf};

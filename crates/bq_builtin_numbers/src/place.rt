@@ -3,7 +3,7 @@
 ghost use Rattle.std.specs.Prelude.{◌≡◌, ◌≤◌, ◌<◌, IfOk};
 ghost use Rattle.bq_builtin_numbers.specs.Place.{clamped, bound, indexed};
 
-use bq_base::FaultKind;
+use bq_base::EvalFault;
 
 /// Returns the place that `index` means in a list of `len` elements, or its end: a negative one counts from the end,
 /// and one past an end means that end.
@@ -39,7 +39,7 @@ pub fn span(len: usize, start: Option<i64>, end: Option<i64>) -> (usize, usize)
 }
 
 /// Returns the place of an index; F43 if the list has no element there.
-pub fn index(len: usize, index: i64) -> Result<usize, FaultKind>
+pub fn index(len: usize, index: i64) -> Result<usize, EvalFault>
     ensures place { result ≡ indexed len index }
     ensures within { IfOk result (λ at. at < len) }
 {
@@ -48,11 +48,11 @@ pub fn index(len: usize, index: i64) -> Result<usize, FaultKind>
         if at < len {
             return Ok(at);
         }
-        return Err(FaultKind::Index);
+        return Err(EvalFault::Index);
     }
     let back = index.unsigned_abs() as usize;
     if back <= len {
         return Ok(len - back);
     }
-    Err(FaultKind::Index)
+    Err(EvalFault::Index)
 }

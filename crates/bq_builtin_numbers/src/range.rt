@@ -7,7 +7,7 @@ ghost use Rattle.bq_builtin_numbers.specs.RangeItem.{range_item, is_between, ran
 
 use crate::integer::from_count;
 use crate::place::index;
-use bq_base::FaultKind;
+use bq_base::EvalFault;
 use bq_value::Range;
 
 /// Returns the element of a number, counted from 0.
@@ -21,14 +21,14 @@ pub fn element(range: Range, number: u64) -> i64
 }
 
 /// Returns the number of elements as an integer; F41 if it doesn't fit.
-pub fn range_len(range: Range) -> Result<i64, FaultKind>
+pub fn range_len(range: Range) -> Result<i64, EvalFault>
     ensures { result ≡ fitted (pos (range_count range.start range.stop range.step)) }
 {
     from_count(range.count())
 }
 
 /// Returns the element at an index; F43 if there is none.
-pub fn range_item(range: Range, at: i64) -> Result<i64, FaultKind>
+pub fn range_item(range: Range, at: i64) -> Result<i64, EvalFault>
     ensures { result ≡ range_item range.start range.stop range.step at }
 {
     let number = index(range.count() as usize, at)?;

@@ -4,10 +4,10 @@ ghost use Rattle.std.specs.Prelude.{◌≡◌, ◌<◌, IfOk};
 ghost use Rattle.bq_builtin_numbers.specs.Shift.{shift_count, scaled, halved, shifted_left, shifted_right};
 
 use crate::integer::multiply;
-use bq_base::FaultKind;
+use bq_base::EvalFault;
 
 /// Returns `x << count`; F57 if the count isn't from 0 to 63, F41 if the result doesn't fit.
-pub fn shift_left(x: i64, count: i64) -> Result<i64, FaultKind>
+pub fn shift_left(x: i64, count: i64) -> Result<i64, EvalFault>
     ensures { result ≡ shifted_left x count }
 {
     let count = shift_count(count)?;
@@ -15,7 +15,7 @@ pub fn shift_left(x: i64, count: i64) -> Result<i64, FaultKind>
 }
 
 /// Returns `x >> count`, rounded down; F57 if the count isn't from 0 to 63.
-pub fn shift_right(x: i64, count: i64) -> Result<i64, FaultKind>
+pub fn shift_right(x: i64, count: i64) -> Result<i64, EvalFault>
     ensures { result ≡ shifted_right x count }
 {
     let count = shift_count(count)?;
@@ -23,21 +23,21 @@ pub fn shift_right(x: i64, count: i64) -> Result<i64, FaultKind>
 }
 
 /// Returns by how many bits to shift, or F57.
-fn shift_count(count: i64) -> Result<u32, FaultKind>
+fn shift_count(count: i64) -> Result<u32, EvalFault>
     ensures count { result ≡ shift_count count }
     ensures within { IfOk result (λ n. n < 64) }
 {
     if count < 0 {
-        return Err(FaultKind::BadValue);
+        return Err(EvalFault::BadValue);
     }
     if count < 64 {
         return Ok(count as u32);
     }
-    Err(FaultKind::BadValue)
+    Err(EvalFault::BadValue)
 }
 
 /// Returns `x` times 2^`count`.
-fn scaled(x: i64, count: u32) -> Result<i64, FaultKind>
+fn scaled(x: i64, count: u32) -> Result<i64, EvalFault>
     requires { count < 64 }
     ensures { result ≡ scaled x count }
 {
@@ -48,7 +48,7 @@ fn scaled(x: i64, count: u32) -> Result<i64, FaultKind>
 }
 
 /// Returns `x` times 2^63, a power that isn't an integer of 64 bits itself.
-fn scaled_most(x: i64) -> Result<i64, FaultKind>
+fn scaled_most(x: i64) -> Result<i64, EvalFault>
     ensures { result ≡ scaled x 63 }
 {
     if x == 0 {
@@ -57,7 +57,7 @@ fn scaled_most(x: i64) -> Result<i64, FaultKind>
     if x == -1 {
         return Ok(i64::MIN);
     }
-    Err(FaultKind::Overflow)
+    Err(EvalFault::Overflow)
 }
 
 /// Returns `x` divided by 2^`count`, rounded down.

@@ -6,7 +6,7 @@ use Rattle.std.proofs.lemmas.Option.{slice_get-get_or, slice_get_read}
 use Rattle.std.proofs.lemmas.List.{append-nil}
 use Rattle.std.proofs.Math.Dec.{eqb-suc-zero}
 use Rattle.std.proofs.Math.Nat.{mul-suc, add-mul, one-mul}
-use Rattle.bq_base.specs.declared.fault.FaultKind.TheVariants.{TooLong}
+use Rattle.bq_base.specs.declared.fault.EvalFault.TheVariants.{TooLong}
 use Rattle.bq_value.specs.Range.{range_count, range_element}
 use Rattle.bq_builtin_numbers.specs.Length.{max_len, within, times_of}
 use Rattle.bq_builtin_numbers.specs.Slice.{slice_start, slice_stop, element_at, taken, taken_by}

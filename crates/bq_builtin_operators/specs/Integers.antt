@@ -1,7 +1,7 @@
 -- Operators between integers, and before one (Starlark, "Arithmetic", "Unary operators").
 use Rattle.std.specs.Prelude.{ℤ, pos, ◌+ℤ◌, ◌-ℤ◌, ◌*ℤ◌, neg_ℤ, not, Result, Ok, Err}
-use Rattle.bq_base.specs.declared.fault.FaultKind.{FaultKind}
-use Rattle.bq_base.specs.declared.fault.FaultKind.TheVariants.{WrongType}
+use Rattle.bq_base.specs.declared.fault.EvalFault.{EvalFault}
+use Rattle.bq_base.specs.declared.fault.EvalFault.TheVariants.{WrongType}
 use Rattle.bq_parse_grammar.specs.declared.tree.Operator.{Operator}
 use Rattle.bq_parse_grammar.specs.declared.tree.Operator.TheVariants as op
 use Rattle.bq_parse_grammar.specs.declared.tree.UnaryOperator.{UnaryOperator}
@@ -16,7 +16,7 @@ use Rattle.bq_builtin_operators.specs.Operand.{int_of}
 use Rattle.bq_builtin_machine.specs.Answer.{and_then, as_int}
 
 -- `x op y` of two integers. The language has no `/`, and `and` and `or` are not evaluated as operators between values
-unfoldable pub arithmetic : Operator → ℤ → ℤ → Result ℤ FaultKind
+unfoldable pub arithmetic : Operator → ℤ → ℤ → Result ℤ EvalFault
 arithmetic op.Multiply x y = fitted (x *ℤ y)
 arithmetic op.FloorDivide x y = divided x y
 arithmetic op.Modulo x y = remainder x y
@@ -32,11 +32,11 @@ arithmetic op.And x y = Err WrongType
 arithmetic op.Or x y = Err WrongType
 
 -- where both operands are integers
-unfoldable pub integers : Operator → Datum → Datum → Result Datum FaultKind
+unfoldable pub integers : Operator → Datum → Datum → Result Datum EvalFault
 integers operator a b = and_then (int_of a) (λ x. and_then (int_of b) (λ y. as_int (arithmetic operator x y)))
 
 -- `op v`
-unfoldable pub signed : UnaryOperator → StoreView → Datum → Result Datum FaultKind
+unfoldable pub signed : UnaryOperator → StoreView → Datum → Result Datum EvalFault
 signed sign.Plus s v = as_int (int_of v)
 signed sign.Minus s v = as_int (and_then (int_of v) (λ n. fitted (neg_ℤ n)))
 signed sign.Invert s v = as_int (and_then (int_of v) (λ n. Ok (neg_ℤ n -ℤ pos 1)))

@@ -5,7 +5,7 @@ use Rattle.bq_parse_grammar.specs.declared.tree.Operator.{Operator}
 use Rattle.bq_parse_grammar.specs.declared.tree.Operator.TheVariants as op
 use Rattle.bq_parse_grammar.specs.declared.tree.UnaryOperator.{UnaryOperator}
 use Rattle.bq_parse_grammar.specs.declared.tree.Comparison.{Comparison}
-use Rattle.bq_base.specs.declared.fault.FaultKind.{FaultKind}
+use Rattle.bq_base.specs.declared.fault.EvalFault.{EvalFault}
 use Rattle.bq_value.specs.Datum.{Datum, boolean, string, tuple, list_of}
 use Rattle.bq_value.specs.Cells.{StoreView}
 use Rattle.bq_builtin_machine.specs.State.{State}
@@ -43,7 +43,7 @@ unfoldable pub index : Datum → Datum → Action State Datum
 index container at = walk (λ s n. item_of s n container at)
 
 -- `a[start:stop:step]`, of a list
-unfoldable pub list_slice : StoreView → Datum → Datum → Datum → Datum → Result (List Datum) FaultKind
+unfoldable pub list_slice : StoreView → Datum → Datum → Datum → Datum → Result (List Datum) EvalFault
 list_slice s a start stop step = and_then (list_in s a) (λ xs. sliced xs start stop step)
 
 -- `a[start:stop:step]`, each `None` where it is left out

@@ -1,7 +1,7 @@
 -- `*` (Starlark, "Arithmetic", "String repetition").
 use Rattle.std.specs.Prelude.{ℤ, List, Result}
-use Rattle.bq_base.specs.declared.fault.FaultKind.{FaultKind}
-use Rattle.bq_base.specs.declared.fault.FaultKind.TheVariants.{WrongType}
+use Rattle.bq_base.specs.declared.fault.EvalFault.{EvalFault}
+use Rattle.bq_base.specs.declared.fault.EvalFault.TheVariants.{WrongType}
 use Rattle.bq_parse_grammar.specs.declared.tree.Operator.TheVariants as op
 use Rattle.bq_value.specs.Datum.{Datum, int, string, tuple, cell, list_of}
 use Rattle.bq_value.specs.Cells.{StoreView}
@@ -14,7 +14,7 @@ use Rattle.bq_builtin_operators.specs.Sequence.{repeated}
 use Rattle.bq_builtin_operators.specs.Sum.{listed}
 
 -- the values of a new list
-unfoldable pub list_product : StoreView → Datum → ℤ → Result (List Datum) FaultKind
+unfoldable pub list_product : StoreView → Datum → ℤ → Result (List Datum) EvalFault
 list_product s a times = and_then (list_in s a) (λ xs. repeated xs times)
 
 -- a string, a tuple or a list `n` times

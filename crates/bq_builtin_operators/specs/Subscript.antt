@@ -1,7 +1,7 @@
 -- The item at an index or a key (Starlark, "Index expressions"), and the steps that are left.
 use Rattle.std.specs.Prelude.{ℕ, ℤ, List, [], ◌∷◌, length, slice_get, Option, Some, None, Result, Ok, Err}
-use Rattle.bq_base.specs.declared.fault.FaultKind.{FaultKind}
-use Rattle.bq_base.specs.declared.fault.FaultKind.TheVariants.{WrongType, Index, NoKey}
+use Rattle.bq_base.specs.declared.fault.EvalFault.{EvalFault}
+use Rattle.bq_base.specs.declared.fault.EvalFault.TheVariants.{WrongType, Index, NoKey}
 use Rattle.bq_value.specs.Datum.{Datum, string, tuple, range, cell, list_of}
 use Rattle.bq_value.specs.Contents.{Contents, items, pairs}
 use Rattle.bq_value.specs.Pairs.{found}
@@ -14,24 +14,24 @@ use Rattle.bq_builtin_operators.specs.Operand.{int_of}
 use Rattle.bq_builtin_machine.specs.Answer.{and_then, as_int}
 
 -- what was found, or this fault
-abbrev pub or_fault : {A : Type 0} → FaultKind → Option A → Result A FaultKind
+abbrev pub or_fault : {A : Type 0} → EvalFault → Option A → Result A EvalFault
 or_fault kind (Some a) = Ok a
 or_fault kind None = Err kind
 
 -- the element at an index, which may count from the end
-unfoldable pub item_in : {A : Type 0} → List A → Datum → Result A FaultKind
+unfoldable pub item_in : {A : Type 0} → List A → Datum → Result A EvalFault
 item_in xs index = and_then (int_of index) (λ i. and_then (indexed (length xs) i) (λ k. or_fault Index (slice_get xs k)))
 
 -- a string of one byte
-unfoldable pub byte_in : List ℕ → Datum → Result Datum FaultKind
+unfoldable pub byte_in : List ℕ → Datum → Result Datum EvalFault
 byte_in text index = and_then (item_in text index) (λ b. Ok (string (b ∷ [])))
 
 -- the integer at an index of a range
-unfoldable pub integer_in : ℤ → ℤ → ℤ → Datum → Result Datum FaultKind
+unfoldable pub integer_in : ℤ → ℤ → ℤ → Datum → Result Datum EvalFault
 integer_in start stop step index = as_int (and_then (int_of index) (λ i. range_item start stop step i))
 
 -- no steps are taken
-abbrev pub at_no_cost : ℕ → Result Datum FaultKind → Looked Datum
+abbrev pub at_no_cost : ℕ → Result Datum EvalFault → Looked Datum
 at_no_cost n r = and_then r (λ v. Ok (v, n))
 
 -- the value at a key; a value that makes no key is F45, a key that is not there F44

@@ -1,6 +1,6 @@
 -- `|` (Starlark, "Arithmetic", "Dictionaries").
 use Rattle.std.specs.Prelude.{List, [], ◌∷◌, Option, Some, None, Result}
-use Rattle.bq_base.specs.declared.fault.FaultKind.{FaultKind}
+use Rattle.bq_base.specs.declared.fault.EvalFault.{EvalFault}
 use Rattle.bq_parse_grammar.specs.declared.tree.Operator.TheVariants as op
 use Rattle.bq_value.specs.Datum.{Datum, cell}
 use Rattle.bq_value.specs.Contents.{pairs}
@@ -20,11 +20,11 @@ put_all ps [] = ps
 put_all ps (q ∷ qs) = put_all (put q.0 q.1 ps) qs
 
 -- a new dict, into which the pairs of both are put in turn
-unfoldable pub united : List (Datum × Datum) → List (Datum × Datum) → Result (List (Datum × Datum)) FaultKind
+unfoldable pub united : List (Datum × Datum) → List (Datum × Datum) → Result (List (Datum × Datum)) EvalFault
 united ps qs = limited (put_all (put_all [] ps) qs)
 
 -- the pairs of a new dict
-unfoldable pub dict_union : StoreView → Datum → Datum → Result (List (Datum × Datum)) FaultKind
+unfoldable pub dict_union : StoreView → Datum → Datum → Result (List (Datum × Datum)) EvalFault
 dict_union s a b = and_then (dict_in s a) (λ ps. and_then (dict_in s b) (λ qs. united ps qs))
 
 -- `a | b`

@@ -4,7 +4,7 @@ ghost use Rattle.std.specs.Prelude.{◌≡◌};
 ghost use Rattle.bq_builtin_operators.specs.Integers.{arithmetic, integers, signed};
 
 use crate::operand::int_of;
-use bq_base::FaultKind;
+use bq_base::EvalFault;
 use bq_builtin_numbers::{
     add, bit_and, bit_not, bit_or, bit_xor, floor_divide, modulo, multiply, negate, shift_left,
     shift_right, subtract,
@@ -16,7 +16,7 @@ use bq_value_compare::truth;
 /// Returns `x op y` of two integers.
 #[inline(always)]
 #[tactic(auto, unfolding(crate::specs::Integers::arithmetic))]
-pub(crate) fn arithmetic(operator: Operator, x: i64, y: i64) -> Result<i64, FaultKind>
+pub(crate) fn arithmetic(operator: Operator, x: i64, y: i64) -> Result<i64, EvalFault>
     ensures { result ≡ arithmetic operator x y }
 {
     match operator {
@@ -30,13 +30,13 @@ pub(crate) fn arithmetic(operator: Operator, x: i64, y: i64) -> Result<i64, Faul
         Operator::BitAnd => Ok(bit_and(x, y)),
         Operator::BitXor => Ok(bit_xor(x, y)),
         Operator::BitOr => Ok(bit_or(x, y)),
-        Operator::Divide | Operator::And | Operator::Or => Err(FaultKind::WrongType),
+        Operator::Divide | Operator::And | Operator::Or => Err(EvalFault::WrongType),
     }
 }
 
 /// Returns `a op b` of two integers: F40 if one isn't an integer, then F41, F42 and F57.
 #[tactic(auto, unfolding(crate::specs::Integers::integers))]
-pub(crate) fn integers(operator: Operator, a: &Value, b: &Value) -> Result<Value, FaultKind>
+pub(crate) fn integers(operator: Operator, a: &Value, b: &Value) -> Result<Value, EvalFault>
     ensures { result ≡ integers operator a.now b.now }
 {
     let x = int_of(a)?;
@@ -50,7 +50,7 @@ pub(crate) fn signed(
     store: &Store,
     operator: UnaryOperator,
     value: &Value,
-) -> Result<Value, FaultKind>
+) -> Result<Value, EvalFault>
     ensures { result ≡ signed operator store.now value.now }
 {
     match operator {

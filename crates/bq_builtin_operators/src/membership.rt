@@ -6,7 +6,7 @@ ghost use Rattle.bq_value.specs.declared.error.EvalErr.TheVariants.{Bad};
 ghost use Rattle.bq_builtin_operators.specs.Membership.{in_string, in_range, in_list, in_dict, in_content, contained};
 
 use crate::walks::equal;
-use bq_base::FaultKind;
+use bq_base::EvalFault;
 use bq_builtin_numbers::range_has;
 use bq_builtin_string_parts::find;
 use bq_value::{Body, Content, Dict, EvalErr, Node, Range, Store, Value};
@@ -28,10 +28,10 @@ pub(crate) fn contained(
         Node::Tuple(values) => Ok(in_list(store, steps, value, values)?),
         Node::Range(range) => Ok(in_range(steps, value, *range)?),
         Node::Cell(cell) => match store.content(*cell) {
-            None => Err(EvalErr::Bad(FaultKind::WrongType)),
+            None => Err(EvalErr::Bad(EvalFault::WrongType)),
             Some(content) => in_content(store, steps, value, content),
         },
-        _ => Err(EvalErr::Bad(FaultKind::WrongType)),
+        _ => Err(EvalErr::Bad(EvalFault::WrongType)),
     }
 }
 
@@ -47,29 +47,29 @@ fn in_content(
     match content.body() {
         Body::List(values) => Ok(in_list(store, steps, value, values)?),
         Body::Dict(dict) => in_dict(steps, value, dict),
-        Body::Rule(_) => Err(EvalErr::Bad(FaultKind::WrongType)),
+        Body::Rule(_) => Err(EvalErr::Bad(EvalFault::WrongType)),
     }
 }
 
 /// Looks for a substring.
 #[tactic(auto, unfolding(crate::specs::Membership::in_string))]
-fn in_string(steps: u64, value: &Value, text: &[u8]) -> Result<(bool, u64), FaultKind>
+fn in_string(steps: u64, value: &Value, text: &[u8]) -> Result<(bool, u64), EvalFault>
     ensures { result ≡ in_string steps value.now text.now }
 {
     match &value.node {
         Node::Text(sub) => Ok((find(text, sub.as_slice()).is_some(), steps)),
-        _ => Err(FaultKind::WrongType),
+        _ => Err(EvalFault::WrongType),
     }
 }
 
 /// Looks for an element of a range.
 #[tactic(auto, unfolding(crate::specs::Membership::in_range))]
-fn in_range(steps: u64, value: &Value, range: Range) -> Result<(bool, u64), FaultKind>
+fn in_range(steps: u64, value: &Value, range: Range) -> Result<(bool, u64), EvalFault>
     ensures { result ≡ in_range steps value.now range.start range.stop range.step }
 {
     match &value.node {
         Node::Int(n) => Ok((range_has(range, *n), steps)),
-        _ => Err(FaultKind::WrongType),
+        _ => Err(EvalFault::WrongType),
     }
 }
 
@@ -80,7 +80,7 @@ fn in_list(
     steps: u64,
     value: &Value,
     values: &[Value],
-) -> Result<(bool, u64), FaultKind>
+) -> Result<(bool, u64), EvalFault>
     ensures { result ≡ in_list store.now steps value.now values.now }
 {
     let mut left = steps;

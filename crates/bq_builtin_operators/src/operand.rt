@@ -5,16 +5,16 @@ ghost use Rattle.bq_base.specs.Gives.{Gives};
 ghost use Rattle.bq_value.specs.declared.error.EvalErr.TheVariants.{Bad};
 ghost use Rattle.bq_builtin_operators.specs.Operand.{int_of, list_in, dict_in};
 
-use bq_base::FaultKind;
+use bq_base::EvalFault;
 use bq_value::{Body, Dict, EvalErr, Node, Store, Value};
 
 /// Returns an integer.
-pub fn int_of(value: &Value) -> Result<i64, FaultKind>
+pub fn int_of(value: &Value) -> Result<i64, EvalFault>
     ensures { result ≡ int_of value.now }
 {
     match &value.node {
         Node::Int(n) => Ok(*n),
-        _ => Err(FaultKind::WrongType),
+        _ => Err(EvalFault::WrongType),
     }
 }
 
@@ -24,14 +24,14 @@ pub fn list_in<'s>(store: &'s Store, value: &Value) -> Result<&'s [Value], EvalE
 {
     match &value.node {
         Node::Cell(cell) => match store.content(*cell) {
-            None => Err(EvalErr::Bad(FaultKind::WrongType)),
+            None => Err(EvalErr::Bad(EvalFault::WrongType)),
             Some(content) => match content.body() {
                 Body::List(values) => Ok(values.as_slice()),
-                Body::Dict(_) => Err(EvalErr::Bad(FaultKind::WrongType)),
-                Body::Rule(_) => Err(EvalErr::Bad(FaultKind::WrongType)),
+                Body::Dict(_) => Err(EvalErr::Bad(EvalFault::WrongType)),
+                Body::Rule(_) => Err(EvalErr::Bad(EvalFault::WrongType)),
             },
         },
-        _ => Err(EvalErr::Bad(FaultKind::WrongType)),
+        _ => Err(EvalErr::Bad(EvalFault::WrongType)),
     }
 }
 
@@ -41,13 +41,13 @@ pub fn dict_in<'s>(store: &'s Store, value: &Value) -> Result<&'s Dict, EvalErr>
 {
     match &value.node {
         Node::Cell(cell) => match store.content(*cell) {
-            None => Err(EvalErr::Bad(FaultKind::WrongType)),
+            None => Err(EvalErr::Bad(EvalFault::WrongType)),
             Some(content) => match content.body() {
-                Body::List(_) => Err(EvalErr::Bad(FaultKind::WrongType)),
+                Body::List(_) => Err(EvalErr::Bad(EvalFault::WrongType)),
                 Body::Dict(dict) => Ok(dict),
-                Body::Rule(_) => Err(EvalErr::Bad(FaultKind::WrongType)),
+                Body::Rule(_) => Err(EvalErr::Bad(EvalFault::WrongType)),
             },
         },
-        _ => Err(EvalErr::Bad(FaultKind::WrongType)),
+        _ => Err(EvalErr::Bad(EvalFault::WrongType)),
     }
 }

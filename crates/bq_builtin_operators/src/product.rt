@@ -9,7 +9,7 @@ ghost use Rattle.bq_builtin_operators.specs.Product.{list_product, times, int_pr
 use crate::integers::arithmetic;
 use crate::operand::{int_of, list_in};
 use crate::sequence::{repeat_bytes, repeat_values};
-use bq_base::FaultKind;
+use bq_base::EvalFault;
 use bq_builtin_machine::Machine;
 use bq_parse_grammar::Operator;
 use bq_value::{Content, EvalErr, Node, Store, Value};
@@ -57,7 +57,7 @@ fn times(alloc: Global, machine: &mut Machine, a: &Value, n: i64) -> Result<Valu
             let values = list_product(alloc, machine.store(), a, n)?;
             machine.new_content(Content::list(values))
         }
-        _ => Err(EvalErr::Bad(FaultKind::WrongType)),
+        _ => Err(EvalErr::Bad(EvalFault::WrongType)),
     }
 }
 

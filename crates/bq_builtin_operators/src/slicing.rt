@@ -6,7 +6,7 @@ ghost use Rattle.bq_value.specs.declared.error.EvalErr.TheVariants.{Bad};
 ghost use Rattle.bq_builtin_operators.specs.Slicing.{bound_of, bounds_of, sliced};
 
 use crate::sequence::{slice_bytes, slice_values};
-use bq_base::{Bytes, FaultKind};
+use bq_base::{Bytes, EvalFault};
 use bq_value::{EvalErr, Node, Value};
 use std::alloc::Global;
 
@@ -47,7 +47,7 @@ fn bounds_of(
     start: &Value,
     stop: &Value,
     step: &Value,
-) -> Result<(Option<i64>, Option<i64>, i64), FaultKind>
+) -> Result<(Option<i64>, Option<i64>, i64), EvalFault>
     ensures bounds { result ≡ bounds_of start.now stop.now step.now }
     ensures step { IfOk result (λ bounds. bounds.2 ≢ pos 0) }
 {
@@ -55,18 +55,18 @@ fn bounds_of(
     let stop = bound_of(stop)?;
     let step = bound_of(step)?.unwrap_or(1);
     if step == 0 {
-        return Err(FaultKind::BadValue);
+        return Err(EvalFault::BadValue);
     }
     Ok((start, stop, step))
 }
 
 /// Returns a bound, if it isn't left out.
-fn bound_of(value: &Value) -> Result<Option<i64>, FaultKind>
+fn bound_of(value: &Value) -> Result<Option<i64>, EvalFault>
     ensures { result ≡ bound_of value.now }
 {
     match &value.node {
         Node::NoneValue => Ok(None),
         Node::Int(n) => Ok(Some(*n)),
-        _ => Err(FaultKind::WrongType),
+        _ => Err(EvalFault::WrongType),
     }
 }

@@ -6,7 +6,7 @@ ghost use Rattle.bq_value.specs.declared.error.EvalErr.TheVariants.{Bad};
 ghost use Rattle.bq_builtin_operators.specs.Subscript.{item_in, byte_in, integer_in, value_in, content_item, item_of};
 
 use crate::operand::int_of;
-use bq_base::{Bytes, FaultKind};
+use bq_base::{Bytes, EvalFault};
 use bq_builtin_numbers::{index, range_item};
 use bq_value::{Body, Content, Dict, EvalErr, Node, Range, Store, Value};
 use bq_value_compare::key_of;
@@ -28,10 +28,10 @@ pub(crate) fn item_of(
         Node::Tuple(values) => Ok((item_in(values, at)?, steps)),
         Node::Range(range) => Ok((integer_in(*range, at)?, steps)),
         Node::Cell(cell) => match store.content(*cell) {
-            None => Err(EvalErr::Bad(FaultKind::WrongType)),
+            None => Err(EvalErr::Bad(EvalFault::WrongType)),
             Some(content) => content_item(steps, content, at),
         },
-        _ => Err(EvalErr::Bad(FaultKind::WrongType)),
+        _ => Err(EvalErr::Bad(EvalFault::WrongType)),
     }
 }
 
@@ -42,7 +42,7 @@ fn content_item(steps: u64, content: &Content, at: &Value) -> Result<(Value, u64
     match content.body() {
         Body::List(values) => Ok((item_in(values, at)?, steps)),
         Body::Dict(dict) => value_in(steps, dict, at),
-        Body::Rule(_) => Err(EvalErr::Bad(FaultKind::WrongType)),
+        Body::Rule(_) => Err(EvalErr::Bad(EvalFault::WrongType)),
     }
 }
 
@@ -66,7 +66,7 @@ fn byte_in(alloc: Global, text: &[u8], at: &Value) -> Result<Value, EvalErr>
 
 /// Returns the element of a range at an index.
 #[tactic(auto, unfolding(crate::specs::Subscript::integer_in))]
-fn integer_in(range: Range, at: &Value) -> Result<Value, FaultKind>
+fn integer_in(range: Range, at: &Value) -> Result<Value, EvalFault>
     ensures { result ≡ integer_in range.start range.stop range.step at.now }
 {
     Ok(Value::int(range_item(range, int_of(at)?)?))
@@ -79,7 +79,7 @@ fn value_in(steps: u64, dict: &Dict, at: &Value) -> Result<(Value, u64), EvalErr
 {
     let (key, left) = key_of(steps, at)?;
     match dict.get(&key) {
-        None => Err(EvalErr::Bad(FaultKind::NoKey)),
+        None => Err(EvalErr::Bad(EvalFault::NoKey)),
         Some(value) => Ok((value.share()?, left)),
     }
 }

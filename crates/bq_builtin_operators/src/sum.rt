@@ -7,7 +7,7 @@ ghost use Rattle.bq_builtin_operators.specs.Sum.{sum};
 use crate::integers::integers;
 use crate::operand::list_in;
 use crate::sequence::join_values;
-use bq_base::{Bytes, FaultKind};
+use bq_base::{Bytes, EvalFault};
 use bq_builtin_machine::Machine;
 use bq_builtin_numbers::joined_len;
 use bq_parse_grammar::Operator;
@@ -33,11 +33,11 @@ pub(crate) fn sum(
                 joined.extend_from_slice(more.as_slice())?;
                 Ok(Value::string(Bytes::from_vec(alloc, joined)?))
             }
-            _ => Err(EvalErr::Bad(FaultKind::WrongType)),
+            _ => Err(EvalErr::Bad(EvalFault::WrongType)),
         },
         Node::Tuple(values) => match &b.node {
             Node::Tuple(more) => Ok(Value::tuple(alloc, join_values(alloc, values, more)?)?),
-            _ => Err(EvalErr::Bad(FaultKind::WrongType)),
+            _ => Err(EvalErr::Bad(EvalFault::WrongType)),
         },
         Node::Cell(_) => {
             let values = list_in(machine.store(), a)?;

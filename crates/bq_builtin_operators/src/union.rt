@@ -8,7 +8,7 @@ ghost use Rattle.bq_builtin_operators.specs.Union.{put_all, united, dict_union, 
 
 use crate::integers::integers;
 use crate::operand::dict_in;
-use bq_base::FaultKind;
+use bq_base::EvalFault;
 use bq_builtin_machine::Machine;
 use bq_builtin_numbers::MAX_LEN;
 use bq_parse_grammar::Operator;
@@ -54,7 +54,7 @@ fn united(alloc: Global, seed: Seed, dict: &Dict, more: &Dict) -> Result<Dict, E
     put_all(&mut all, dict)?;
     put_all(&mut all, more)?;
     if all.len() > MAX_LEN {
-        return Err(EvalErr::Bad(FaultKind::TooLong));
+        return Err(EvalErr::Bad(EvalFault::TooLong));
     }
     Ok(all)
 }

@@ -3,7 +3,7 @@
 ghost use Rattle.std.specs.Prelude.{◌≡◌};
 ghost use Rattle.bq_builtin_machine.specs.Machine.{looked_equal, looked_order};
 
-use bq_base::FaultKind;
+use bq_base::EvalFault;
 use bq_value::{Store, Value};
 use std::cmp::Ordering;
 
@@ -14,7 +14,7 @@ pub(crate) fn equal(
     steps: u64,
     a: &Value,
     b: &Value,
-) -> Result<(bool, u64), FaultKind>
+) -> Result<(bool, u64), EvalFault>
     ensures { result ≡ looked_equal store.now steps a.now b.now }
 {
     bq_value_compare::equal(store, steps, a, b)
@@ -27,7 +27,7 @@ pub(crate) fn order(
     steps: u64,
     a: &Value,
     b: &Value,
-) -> Result<(Ordering, u64), FaultKind>
+) -> Result<(Ordering, u64), EvalFault>
     ensures { result ≡ looked_order store.now steps a.now b.now }
 {
     bq_value_compare::order(store, steps, a, b)

@@ -2,15 +2,15 @@
 --
 -- An order is a list of checks. Each of them says what it finds wrong with the call, if anything, whatever the others find.
 use Rattle.std.specs.Prelude.{◌≡◌, Bool, cond, List, [], ◌∷◌, Option, Some, None, Result, Ok, Err}
-use Rattle.bq_base.specs.declared.fault.FaultKind.{FaultKind}
+use Rattle.bq_base.specs.declared.fault.EvalFault.{EvalFault}
 use Rattle.bq_builtin_machine.specs.Action.{Run, done, stopped}
 
 -- what one check finds wrong, if anything
 abbrev pub Check : Type 0
-Check = Option FaultKind
+Check = Option EvalFault
 
 -- this fault, where this is so
-abbrev pub when : Bool → FaultKind → Check
+abbrev pub when : Bool → EvalFault → Check
 when so kind = cond so (Some kind) None
 
 -- the first fault that checks find
@@ -25,12 +25,12 @@ fault_of (done a s) = None
 fault_of (stopped why) = Some why.kind
 
 -- why there is no answer, if there is none
-abbrev pub fault_in : {A : Type 0} → Result A FaultKind → Check
+abbrev pub fault_in : {A : Type 0} → Result A EvalFault → Check
 fault_in (Ok a) = None
 fault_in (Err kind) = Some kind
 
 -- what a check finds wrong with an answer, where there is one
-abbrev pub fault_then : {A : Type 0} → Result A FaultKind → (A → Check) → Check
+abbrev pub fault_then : {A : Type 0} → Result A EvalFault → (A → Check) → Check
 fault_then (Ok a) check = check a
 fault_then (Err kind) check = None
 
@@ -44,5 +44,5 @@ abbrev pub IsRefusedForFirst : {S A : Type 0} → Run S A → List Check → Typ
 IsRefusedForFirst run checks = fault_of run ≡ first_fault checks
 
 -- there is no answer for the first fault that these checks find, and there is one where they find none
-abbrev pub FailsForFirst : {A : Type 0} → Result A FaultKind → List Check → Type 0
+abbrev pub FailsForFirst : {A : Type 0} → Result A EvalFault → List Check → Type 0
 FailsForFirst result checks = fault_in result ≡ first_fault checks

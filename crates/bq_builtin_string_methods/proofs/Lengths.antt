@@ -3,8 +3,8 @@ use Rattle.std.proofs.Common.{◌≡◌, ◌∙◌, ℕ, zero, suc, ◌+◌, ◌
 use Rattle.std.proofs.lemmas.Bool.Decides.{nat_tests}
 use Rattle.std.proofs.lemmas.List.{drop_more, drop_all}
 use Rattle.std.specs.Prelude.{slice_get}
-use Rattle.bq_base.specs.declared.fault.FaultKind.{FaultKind}
-use Rattle.bq_base.specs.declared.fault.FaultKind.TheVariants.{TooLong}
+use Rattle.bq_base.specs.declared.fault.EvalFault.{EvalFault}
+use Rattle.bq_base.specs.declared.fault.EvalFault.TheVariants.{TooLong}
 use Rattle.bq_builtin_string_parts.specs.Search.{find}
 use Rattle.bq_builtin_string_parts.specs.Parts as parts
 use Rattle.bq_builtin_string_parts.specs.Parts.{around, cuts, interleave, joined_on, partition, replace_cuts}
@@ -81,10 +81,10 @@ pub known_by_length : (old new : List ℕ) (most : ℕ) (text : List ℕ) → un
 known_by_length old new most text = ap (λ (n : ℕ). and_then (fits n) (λ _. Ok (parts.replace old new most text))) (sym (made_len old new most text))
 
 -- what is replaced, from the arguments and whether the text would be too long
-pub replaced_is : (text old new : List ℕ) (most : ℕ) (vs : List Datum) (fit : Result (Unit {0}) FaultKind) → text_in (slice_get vs 0) ≡ Ok old → text_in (slice_get vs 1) ≡ Ok new → most_in (length text) (slice_get vs 2) ≡ Ok most
+pub replaced_is : (text old new : List ℕ) (most : ℕ) (vs : List Datum) (fit : Result (Unit {0}) EvalFault) → text_in (slice_get vs 0) ≡ Ok old → text_in (slice_get vs 1) ≡ Ok new → most_in (length text) (slice_get vs 2) ≡ Ok most
     → fit_replaced (length text) (times old most text) (length old) (length new) ≡ fit → replace text vs ≡ and_then fit (λ _. Ok (parts.replace old new most text))
 unfolding replace
-replaced_is text old new most vs fit o n m f = rw (o, n, m) (known_by_length old new most text ∙ ap (λ (r : Result (Unit {0}) FaultKind). and_then r (λ _. Ok (parts.replace old new most text))) f)
+replaced_is text old new most vs fit o n m f = rw (o, n, m) (known_by_length old new most text ∙ ap (λ (r : Result (Unit {0}) EvalFault). and_then r (λ _. Ok (parts.replace old new most text))) f)
 
 -- ---- what is joined
 
@@ -96,7 +96,7 @@ within_ok : (n m : ℕ) (so : Bool) → cond so (Ok n) (Err TooLong) ≡ Ok m �
 within_ok n m true e = cc
 within_ok n m false e = absurd (cc)
 
-within_bad : (n : ℕ) (kind : FaultKind) (so : Bool) → nat_le n max_len ≡ so → cond so (Ok n) (Err TooLong) ≡ Err kind → (max_len < n) × (kind ≡ TooLong)
+within_bad : (n : ℕ) (kind : EvalFault) (so : Bool) → nat_le n max_len ≡ so → cond so (Ok n) (Err TooLong) ≡ Err kind → (max_len < n) × (kind ≡ TooLong)
 within_bad n kind true is e = absurd (cc)
 within_bad n kind false is e = (grind (arith, nat_tests, is), cc)
 
@@ -110,22 +110,22 @@ joined_more sep all part i n k m len inside is size e w =
     let more : m ≡ n + length sep + k = within_ok (n + length sep + k) m (nat_le (n + length sep + k) max_len) (sym w) in
     omega (arith, e, here, more, size, joined_len_of sep part (drop (i + 1) all))
 
-pub joined_bad : (sep : List ℕ) (all : List (List ℕ)) (part : List ℕ) (i n k len : ℕ) (kind : FaultKind) → i < length all → part ≡ get_or all i part → k ≡ length part → len ≡ n + length (joined_on sep (drop i all)) → Err kind ≡ within (n + length sep + k) → Err kind ≡ fits len
+pub joined_bad : (sep : List ℕ) (all : List (List ℕ)) (part : List ℕ) (i n k len : ℕ) (kind : EvalFault) → i < length all → part ≡ get_or all i part → k ≡ length part → len ≡ n + length (joined_on sep (drop i all)) → Err kind ≡ within (n + length sep + k) → Err kind ≡ fits len
 joined_bad sep all part i n k len kind inside is size e w =
     let here : length (joined_on sep (drop i all)) ≡ length (joined_on sep (part ∷ drop (i + 1) all)) = ap (λ (l : List (List ℕ)). length (joined_on sep l)) (drop_more all i part inside ∙ ap (λ (q : List ℕ). q ∷ drop (i + 1) all) (sym is)) in
     let bad = within_bad (n + length sep + k) kind (nat_le (n + length sep + k) max_len) refl (sym w) in
     let over = bad.0 in
     let above : max_len < len = omega (arith, e, here, over, size, joined_len_of sep part (drop (i + 1) all)) in
-    ap (λ (q : FaultKind). Err q) (bad.1) ∙ sym (fits_not len above)
+    ap (λ (q : EvalFault). Err q) (bad.1) ∙ sym (fits_not len above)
 
 none_left : (sep : List ℕ) (all : List (List ℕ)) (i n len : ℕ) → length all ≤ i → len ≡ n + length (joined_on sep (drop i all)) → n + 0 ≡ len
 unfolding joined_on
 none_left sep all i n len past e = let none : length (joined_on sep (drop i all)) ≡ 0 = ap (λ (l : List (List ℕ)). length (joined_on sep l)) (drop_all i all past) in omega (arith, e, none)
 
-same_fit : (n : ℕ) (r : Result ℕ FaultKind) → r ≡ within n → and_then r (λ _. Ok (tt {0})) ≡ fits n
-same_fit n r e = ap (λ (v : Result ℕ FaultKind). and_then v (λ _. Ok (tt {0}))) e ∙ elim (nat_le n max_len) as (λ so. and_then (cond {A = Result ℕ FaultKind} so (Ok n) (Err TooLong)) (λ _. Ok (tt {0})) ≡ cond {A = Result (Unit {0}) FaultKind} so (Ok (tt {0})) (Err TooLong)) [ true ↦ refl | false ↦ refl ]
+same_fit : (n : ℕ) (r : Result ℕ EvalFault) → r ≡ within n → and_then r (λ _. Ok (tt {0})) ≡ fits n
+same_fit n r e = ap (λ (v : Result ℕ EvalFault). and_then v (λ _. Ok (tt {0}))) e ∙ elim (nat_le n max_len) as (λ so. and_then (cond {A = Result ℕ EvalFault} so (Ok n) (Err TooLong)) (λ _. Ok (tt {0})) ≡ cond {A = Result (Unit {0}) EvalFault} so (Ok (tt {0})) (Err TooLong)) [ true ↦ refl | false ↦ refl ]
 
-pub joined_fits : (sep : List ℕ) (all : List (List ℕ)) (i n len : ℕ) (r : Result ℕ FaultKind) → length all ≤ i → len ≡ n + length (joined_on sep (drop i all)) → r ≡ within (n + 0) → and_then r (λ _. Ok (tt {0})) ≡ fits len
+pub joined_fits : (sep : List ℕ) (all : List (List ℕ)) (i n len : ℕ) (r : Result ℕ EvalFault) → length all ≤ i → len ≡ n + length (joined_on sep (drop i all)) → r ≡ within (n + 0) → and_then r (λ _. Ok (tt {0})) ≡ fits len
 joined_fits sep all i n len r past e w = same_fit (n + 0) r w ∙ ap fits (none_left sep all i n len past e)
 
 first_len : (sep part : List ℕ) (others : List (List ℕ)) → length (parts.join sep (part ∷ others)) ≡ length part + length (joined_on sep others)
@@ -143,6 +143,6 @@ unfolding parts.join
 fits_none sep [] e = refl
 fits_none sep (part ∷ more) e = absurd (omega (arith, e))
 
-pub joined_is : (text : List ℕ) (strings : List (List ℕ)) (fit : Result (Unit {0}) FaultKind) → fits (length (parts.join text strings)) ≡ fit → join text strings ≡ and_then fit (λ _. Ok (parts.join text strings))
+pub joined_is : (text : List ℕ) (strings : List (List ℕ)) (fit : Result (Unit {0}) EvalFault) → fits (length (parts.join text strings)) ≡ fit → join text strings ≡ and_then fit (λ _. Ok (parts.join text strings))
 unfolding join
-joined_is text strings fit f = ap (λ (r : Result (Unit {0}) FaultKind). and_then r (λ _. Ok (parts.join text strings))) f
+joined_is text strings fit f = ap (λ (r : Result (Unit {0}) EvalFault). and_then r (λ _. Ok (parts.join text strings))) f

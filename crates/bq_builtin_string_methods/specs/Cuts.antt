@@ -1,8 +1,8 @@
 -- The methods that cut a string into parts (Starlark, "string·partition", "string·rpartition", "string·split", "string·rsplit",
 -- "string·splitlines", "string·elems").
 use Rattle.std.specs.Prelude.{ℕ, List, [], ◌∷◌, length, map, slice_get, bytes_eq, if◌then◌else◌, Option, Some, None, Result, Ok, Err}
-use Rattle.bq_base.specs.declared.fault.FaultKind.{FaultKind}
-use Rattle.bq_base.specs.declared.fault.FaultKind.TheVariants.{BadValue}
+use Rattle.bq_base.specs.declared.fault.EvalFault.{EvalFault}
+use Rattle.bq_base.specs.declared.fault.EvalFault.TheVariants.{BadValue}
 use Rattle.bq_value.specs.Datum.{Datum, string, tuple, data_of}
 use Rattle.bq_builtin_string_parts.specs.Parts as parts
 use Rattle.bq_builtin_string_classes.specs.Word as word
@@ -28,11 +28,11 @@ cut_once Left sep text = parts.partition sep text
 cut_once Right sep text = parts.rpartition sep text
 
 -- F57 for an empty separator
-abbrev pub when_some : {A : Type 0} → List ℕ → A → Result A FaultKind
+abbrev pub when_some : {A : Type 0} → List ℕ → A → Result A EvalFault
 when_some sep a = if bytes_eq sep [] then Err BadValue else Ok a
 
 -- `s.partition(sep)`, `s.rpartition(sep)`
-unfoldable pub partition : Side → List ℕ → List Datum → Result Datum FaultKind
+unfoldable pub partition : Side → List ℕ → List Datum → Result Datum EvalFault
 partition side text vs = and_then (text_in (slice_get vs 0)) (λ sep. when_some sep (three_parts side sep text (cut_once side sep text)))
 
 -- a text cut at a separator, at most so often, from one side
@@ -46,14 +46,14 @@ words_of Left most text = word.words most text
 words_of Right most text = word.rwords most text
 
 -- `split` and `rsplit`: at white space where no separator is given; an empty one is refused
-abbrev pub split_by : Side → List ℕ → ℕ → Option (List ℕ) → Result (List (List ℕ)) FaultKind
+abbrev pub split_by : Side → List ℕ → ℕ → Option (List ℕ) → Result (List (List ℕ)) EvalFault
 split_by side text most None = Ok (words_of side most text)
 split_by side text most (Some sep) = when_some sep (split_at side sep most text)
 
 -- `s.split(sep, maxsplit)`, `s.rsplit(sep, maxsplit)`
-unfoldable pub split : Side → List ℕ → List Datum → Result (List (List ℕ)) FaultKind
+unfoldable pub split : Side → List ℕ → List Datum → Result (List (List ℕ)) EvalFault
 split side text vs = and_then (separator_in (slice_get vs 0)) (λ sep. and_then (most_in (length text) (slice_get vs 1)) (λ most. split_by side text most sep))
 
 -- `s.splitlines(keepends)`
-unfoldable pub splitlines : List ℕ → List Datum → Result (List (List ℕ)) FaultKind
+unfoldable pub splitlines : List ℕ → List Datum → Result (List (List ℕ)) EvalFault
 splitlines text vs = and_then (truth_in (slice_get vs 0)) (λ keep. Ok (map (part keep) (lines text)))

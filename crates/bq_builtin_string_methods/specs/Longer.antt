@@ -1,7 +1,7 @@
 -- The methods that make longer strings (Starlark, "string·replace", "string·join"): F54 where one would be too long.
 use Rattle.std.specs.Prelude.{ℕ, ◌+◌, ◌-◌, ◌*◌, nat_le, min, List, [], length, slice_get, bytes_eq, if◌then◌else◌, Result, Ok, Err}
-use Rattle.bq_base.specs.declared.fault.FaultKind.{FaultKind}
-use Rattle.bq_base.specs.declared.fault.FaultKind.TheVariants.{TooLong}
+use Rattle.bq_base.specs.declared.fault.EvalFault.{EvalFault}
+use Rattle.bq_base.specs.declared.fault.EvalFault.TheVariants.{TooLong}
 use Rattle.bq_value.specs.Datum.{Datum}
 use Rattle.bq_builtin_string_parts.specs.Parts as parts
 use Rattle.bq_builtin_numbers.specs.Length.{max_len}
@@ -9,20 +9,20 @@ use Rattle.bq_builtin_string_methods.specs.Argument.{text_in, most_in}
 use Rattle.bq_builtin_machine.specs.Answer.{and_then}
 
 -- F54 where there would be more bytes
-abbrev pub fits : ℕ → Result (Unit {0}) FaultKind
+abbrev pub fits : ℕ → Result (Unit {0}) EvalFault
 fits len = if nat_le len max_len then Ok tt else Err TooLong
 
 -- a text that keeps the limit
-abbrev pub unless_too_long : List ℕ → Result (List ℕ) FaultKind
+abbrev pub unless_too_long : List ℕ → Result (List ℕ) EvalFault
 unless_too_long text = and_then (fits (length text)) (λ _. Ok text)
 
 -- `s.replace(old, new, count)`
-unfoldable pub replace : List ℕ → List Datum → Result (List ℕ) FaultKind
+unfoldable pub replace : List ℕ → List Datum → Result (List ℕ) EvalFault
 replace text vs =
     and_then (text_in (slice_get vs 0)) (λ old. and_then (text_in (slice_get vs 1)) (λ new. and_then (most_in (length text) (slice_get vs 2)) (λ most. unless_too_long (parts.replace old new most text))))
 
 -- `s.join(x)`, of the strings of x
-unfoldable pub join : List ℕ → List (List ℕ) → Result (List ℕ) FaultKind
+unfoldable pub join : List ℕ → List (List ℕ) → Result (List ℕ) EvalFault
 join text strings = unless_too_long (parts.join text strings)
 
 -- ---- lengths before there are texts
@@ -32,5 +32,5 @@ unfoldable pub times : List ℕ → ℕ → List ℕ → ℕ
 times old most text = if bytes_eq old [] then min most (length text + 1) else parts.cuts old most text
 
 -- F54 where a text is too long in which a part has been replaced so often
-abbrev pub fit_replaced : ℕ → ℕ → ℕ → ℕ → Result (Unit {0}) FaultKind
+abbrev pub fit_replaced : ℕ → ℕ → ℕ → ℕ → Result (Unit {0}) EvalFault
 fit_replaced len times old new = fits (len - times * old + times * new)

@@ -3,8 +3,8 @@
 use Rattle.std.specs.Prelude.{ℕ, nat_le, ◌&&◌, List, [], ◌∷◌, map, length, codes, slice_get, if◌then◌else◌, Option, Some, None, Result, Ok, Err}
 use Rattle.std.specs.Map.{lookup}
 use Rattle.std.specs.Str.{bytes_eq}
-use Rattle.bq_base.specs.declared.fault.FaultKind.{FaultKind}
-use Rattle.bq_base.specs.declared.fault.FaultKind.TheVariants.{Args}
+use Rattle.bq_base.specs.declared.fault.EvalFault.{EvalFault}
+use Rattle.bq_base.specs.declared.fault.EvalFault.TheVariants.{Args}
 use Rattle.bq_value.specs.Datum.{Datum, boolean, string}
 use Rattle.bq_value.specs.Contents.{items}
 use Rattle.bq_builtin_string_classes.specs.Case.{elems}
@@ -96,11 +96,11 @@ parts_counts p.Splitlines = (0, 1)
 parts_counts p.Elems = (0, 0)
 
 -- the number of positional arguments is within the counts, and none is passed by name (F52)
-abbrev pub placed : ℕ × ℕ → Passed → Result (Unit {0}) FaultKind
+abbrev pub placed : ℕ × ℕ → Passed → Result (Unit {0}) EvalFault
 placed counts args = if nat_le (length args.named) 0 && (nat_le (counts.0) (length args.positional) && nat_le (length args.positional) (counts.1)) then Ok tt else Err Args
 
 -- a method can be called so: `format` takes any arguments
-abbrev pub takes : StringMethod → Passed → Result (Unit {0}) FaultKind
+abbrev pub takes : StringMethod → Passed → Result (Unit {0}) EvalFault
 takes (m.Value method) args = placed (value_counts method) args
 takes (m.Parts method) args = placed (parts_counts method) args
 takes m.Join args = placed (1, 1) args
@@ -109,7 +109,7 @@ takes m.Format args = Ok tt
 -- ---- answers
 
 -- a value, which needs no more than the string and the arguments
-abbrev pub value : ValueMethod → List ℕ → List Datum → Result Datum FaultKind
+abbrev pub value : ValueMethod → List ℕ → List Datum → Result Datum EvalFault
 value (v.Search method) text vs = search method text vs
 value (v.End method) text vs = ends method text vs
 value (v.Test method) text vs = Ok (boolean (test method text))
@@ -119,7 +119,7 @@ value (v.Partition side) text vs = partition side text vs
 value v.Replace text vs = as_string (replace text vs)
 
 -- the strings of a new list
-abbrev pub parts : PartsMethod → List ℕ → List Datum → Result (List (List ℕ)) FaultKind
+abbrev pub parts : PartsMethod → List ℕ → List Datum → Result (List (List ℕ)) EvalFault
 parts (p.Split side) text vs = split side text vs
 parts p.Splitlines text vs = splitlines text vs
 parts p.Elems text vs = Ok (elems text)

@@ -3,7 +3,7 @@
 ghost use Rattle.std.specs.Prelude.{◌≡◌, ◌≤◌, length, option_copied, slice_get};
 ghost use Rattle.bq_builtin_string_methods.specs.Argument.{Says, text_in, place_in, bytes_in, separator_in, most_in, truth_in, part_of, region};
 
-use bq_base::{Bytes, FaultKind};
+use bq_base::{Bytes, EvalFault};
 use bq_builtin_numbers::span;
 use bq_builtin_string_parts::SPACES;
 use bq_value::{Node, Value};
@@ -16,20 +16,20 @@ pub fn argument(values: &[Value], index: usize) -> Option<&Value>
 }
 
 /// Returns a string.
-pub fn text_in(values: &[Value], index: usize) -> Result<&Bytes, FaultKind>
+pub fn text_in(values: &[Value], index: usize) -> Result<&Bytes, EvalFault>
     ensures { Says (λ text. text.now) result (text_in (slice_get values.now index)) }
 {
     match argument(values, index) {
-        None => Err(FaultKind::Args),
+        None => Err(EvalFault::Args),
         Some(value) => match &value.node {
             Node::Text(text) => Ok(text),
-            _ => Err(FaultKind::WrongType),
+            _ => Err(EvalFault::WrongType),
         },
     }
 }
 
 /// Returns an integer, or `None` if the argument is left out or `None`.
-fn place_in(values: &[Value], index: usize) -> Result<Option<i64>, FaultKind>
+fn place_in(values: &[Value], index: usize) -> Result<Option<i64>, EvalFault>
     ensures { result ≡ place_in (slice_get values.now index) }
 {
     match argument(values, index) {
@@ -37,13 +37,13 @@ fn place_in(values: &[Value], index: usize) -> Result<Option<i64>, FaultKind>
         Some(value) => match &value.node {
             Node::NoneValue => Ok(None),
             Node::Int(place) => Ok(Some(*place)),
-            _ => Err(FaultKind::WrongType),
+            _ => Err(EvalFault::WrongType),
         },
     }
 }
 
 /// Returns the bytes of a string; those that count as space if the argument is left out or `None`.
-pub fn bytes_in(values: &[Value], index: usize) -> Result<&[u8], FaultKind>
+pub fn bytes_in(values: &[Value], index: usize) -> Result<&[u8], EvalFault>
     ensures { Says (λ text. text.now) result (bytes_in (slice_get values.now index)) }
 {
     match argument(values, index) {
@@ -51,13 +51,13 @@ pub fn bytes_in(values: &[Value], index: usize) -> Result<&[u8], FaultKind>
         Some(value) => match &value.node {
             Node::NoneValue => Ok(SPACES),
             Node::Text(text) => Ok(text.as_slice()),
-            _ => Err(FaultKind::WrongType),
+            _ => Err(EvalFault::WrongType),
         },
     }
 }
 
 /// Returns a separator, or `None` if the argument is left out or `None`.
-pub fn separator_in(values: &[Value], index: usize) -> Result<Option<&Bytes>, FaultKind>
+pub fn separator_in(values: &[Value], index: usize) -> Result<Option<&Bytes>, EvalFault>
     ensures { Says option_copied result (separator_in (slice_get values.now index)) }
 {
     match argument(values, index) {
@@ -65,14 +65,14 @@ pub fn separator_in(values: &[Value], index: usize) -> Result<Option<&Bytes>, Fa
         Some(value) => match &value.node {
             Node::NoneValue => Ok(None),
             Node::Text(text) => Ok(Some(text)),
-            _ => Err(FaultKind::WrongType),
+            _ => Err(EvalFault::WrongType),
         },
     }
 }
 
 /// Returns how often something is done at most in a text: if the argument is left out or negative, once more than it
 /// has bytes.
-pub fn most_in(text: &[u8], values: &[Value], index: usize) -> Result<usize, FaultKind>
+pub fn most_in(text: &[u8], values: &[Value], index: usize) -> Result<usize, EvalFault>
     ensures { result ≡ most_in (length text.now) (slice_get values.now index) }
 {
     match argument(values, index) {
@@ -85,20 +85,20 @@ pub fn most_in(text: &[u8], values: &[Value], index: usize) -> Result<usize, Fau
                     Ok(*most as usize)
                 }
             }
-            _ => Err(FaultKind::WrongType),
+            _ => Err(EvalFault::WrongType),
         },
     }
 }
 
 /// Returns a truth value, which is false if the argument is left out.
-pub fn truth_in(values: &[Value], index: usize) -> Result<bool, FaultKind>
+pub fn truth_in(values: &[Value], index: usize) -> Result<bool, EvalFault>
     ensures { result ≡ truth_in (slice_get values.now index) }
 {
     match argument(values, index) {
         None => Ok(false),
         Some(value) => match &value.node {
             Node::Bool(so) => Ok(*so),
-            _ => Err(FaultKind::WrongType),
+            _ => Err(EvalFault::WrongType),
         },
     }
 }
@@ -121,7 +121,7 @@ pub fn region<'t>(
     values: &[Value],
     start: usize,
     end: usize,
-) -> Result<(usize, &'t [u8]), FaultKind>
+) -> Result<(usize, &'t [u8]), EvalFault>
     ensures { Says (λ r. (r.0, r.1.now)) result (region text.now (slice_get values.now start) (slice_get values.now end)) }
 {
     let first = place_in(values, start)?;

@@ -7,7 +7,7 @@ ghost use Rattle.bq_value.specs.declared.error.EvalErr.TheVariants.{Bad};
 ghost use Rattle.bq_builtin_string_methods.specs.Cuts.{three, three_parts, cut_once, partition, split_at, words_of, split_by, split, splitlines};
 
 use crate::argument::{most_in, separator_in, text_in, truth_in};
-use bq_base::{Bytes, FaultKind};
+use bq_base::{Bytes, EvalFault};
 use bq_builtin_string_classes::{lines, rwords, words};
 use bq_value::{EvalErr, Value};
 use std::alloc::{AllocError, Global};
@@ -47,7 +47,7 @@ pub fn partition(alloc: Global, side: Side, text: &[u8], values: &[Value]) -> Re
 {
     let separator = text_in(values, 0)?.as_slice();
     if separator.is_empty() {
-        return Err(EvalErr::Bad(FaultKind::BadValue));
+        return Err(EvalErr::Bad(EvalFault::BadValue));
     }
     Ok(three_parts(alloc, side, separator, text)?)
 }
@@ -111,7 +111,7 @@ pub fn split(
         None => Ok(words_of(alloc, side, most, text)?),
         Some(separator) => {
             if separator.is_empty() {
-                return Err(EvalErr::Bad(FaultKind::BadValue));
+                return Err(EvalErr::Bad(EvalFault::BadValue));
             }
             Ok(split_at(alloc, side, separator.as_slice(), most, text)?)
         }

@@ -9,7 +9,7 @@ ghost use Rattle.bq_builtin_string_parts.specs.Parts.{joined_on};
 ghost use Rattle.bq_builtin_string_methods.specs.Longer.{fits, replace, join, times, fit_replaced};
 
 use crate::argument::{most_in, text_in};
-use bq_base::{Bytes, FaultKind};
+use bq_base::{Bytes, EvalFault};
 use bq_builtin_numbers::joined_len;
 use bq_builtin_string_parts::cuts;
 use bq_value::{EvalErr, Value};
@@ -28,12 +28,12 @@ fn times(text: &[u8], old: &[u8], most: usize) -> usize
 
 /// Fails with F54 if a text is too long in which a part of length `old` has been replaced `times` times by one of
 /// length `new`.
-fn fit_replaced(len: usize, times: usize, old: usize, new: usize) -> Result<(), FaultKind>
+fn fit_replaced(len: usize, times: usize, old: usize, new: usize) -> Result<(), EvalFault>
     requires { times * old ≤ len }
     ensures { result ≡ fit_replaced len times old new }
 {
     match times.checked_mul(new) {
-        None => Err(FaultKind::TooLong),
+        None => Err(EvalFault::TooLong),
         Some(more) => {
             joined_len(len - times * old, more)?;
             Ok(())
@@ -58,14 +58,14 @@ pub fn replace(alloc: Global, text: &[u8], values: &[Value]) -> Result<Bytes, Ev
 
 /// Returns the length with another separator and part.
 #[tactic(auto, using(std::proofs::lemmas::Bool::Decides::nat_tests))]
-fn with_part(len: usize, separator: usize, part: usize) -> Result<usize, FaultKind>
+fn with_part(len: usize, separator: usize, part: usize) -> Result<usize, EvalFault>
     ensures { result ≡ within (len + separator + part) }
 {
     joined_len(joined_len(len, separator)?, part)
 }
 
 /// Fails with F54 if a first part would be too long with the others, each after a separator.
-fn fit_parts(separator: &[u8], first: usize, others: &[Bytes]) -> Result<(), FaultKind>
+fn fit_parts(separator: &[u8], first: usize, others: &[Bytes]) -> Result<(), EvalFault>
     ensures { result ≡ fits (first + length (joined_on separator.now others.now)) }
 {
     let mut len = first;
@@ -77,7 +77,7 @@ fn fit_parts(separator: &[u8], first: usize, others: &[Bytes]) -> Result<(), Fau
 }
 
 /// Fails with F54 if the strings would be too long, with the separator between each two.
-fn fit_joined(separator: &[u8], strings: &[Bytes]) -> Result<(), FaultKind>
+fn fit_joined(separator: &[u8], strings: &[Bytes]) -> Result<(), EvalFault>
     ensures { result ≡ fits (length (parts.join separator.now strings.now)) }
 {
     if strings.is_empty() {

@@ -19,7 +19,7 @@ use crate::cuts::{Side, partition, split, splitlines};
 use crate::longer::{join, replace};
 use crate::searches::{SearchMethod, search};
 use crate::strips::{StripMethod, strip};
-use bq_base::{Bytes, FaultKind};
+use bq_base::{Bytes, EvalFault};
 use bq_builtin_format::format;
 use bq_builtin_machine::{Args, Elements, Machine};
 use bq_builtin_string_classes::elems;
@@ -206,17 +206,17 @@ fn parts_counts(method: PartsMethod) -> (usize, usize)
 }
 
 /// Checks that the number of arguments is within `counts`, and that none is passed by name (F52).
-fn placed(counts: (usize, usize), args: &Args) -> Result<(), FaultKind>
+fn placed(counts: (usize, usize), args: &Args) -> Result<(), EvalFault>
     ensures { result ≡ placed counts args.now }
 {
     let len = args.positional.len();
     if args.named.is_empty() && counts.0 <= len && len <= counts.1 {
         return Ok(());
     }
-    Err(FaultKind::Args)
+    Err(EvalFault::Args)
 }
 
-fn takes(method: StringMethod, args: &Args) -> Result<(), FaultKind>
+fn takes(method: StringMethod, args: &Args) -> Result<(), EvalFault>
     ensures { result ≡ takes method args.now }
 {
     match method {
@@ -293,7 +293,7 @@ fn push_text(strings: &mut Vec<Bytes>, value: &Value) -> Result<(), EvalErr>
             strings.push(text.share()?)?;
             Ok(())
         }
-        _ => Err(EvalErr::Bad(FaultKind::WrongType)),
+        _ => Err(EvalErr::Bad(EvalFault::WrongType)),
     }
 }
 
@@ -319,7 +319,7 @@ fn joined(
     ensures { Does (λ v. v) result machine.new (joined text.now (option_copied value.entry) machine.old) }
 {
     let Some(value) = value else {
-        return Err(EvalErr::Bad(FaultKind::Args));
+        return Err(EvalErr::Bad(EvalFault::Args));
     };
     let elements = machine.elements(alloc, value)?;
     let strings = texts_of(alloc, elements)?;

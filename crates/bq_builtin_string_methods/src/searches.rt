@@ -5,7 +5,7 @@ ghost use Rattle.std.specs.Prelude.{◌≡◌, ◌+◌};
 ghost use Rattle.bq_builtin_string_methods.specs.Searches.{number, place_or_less, place_or_fault, said, search};
 
 use crate::argument::{region, text_in};
-use bq_base::FaultKind;
+use bq_base::EvalFault;
 use bq_builtin_string_parts::{count, find, rfind};
 use bq_value::Value;
 
@@ -20,28 +20,28 @@ pub enum SearchMethod {
 
 /// Returns a number as a value; F41 if it doesn't fit 64 bits, which no string is long enough for.
 #[tactic(auto, using(std::proofs::lemmas::Bool::Decides::nat_tests))]
-fn number(n: usize) -> Result<Value, FaultKind>
+fn number(n: usize) -> Result<Value, EvalFault>
     ensures { result ≡ number n }
 {
     if n >= 1 << 63 {
-        return Err(FaultKind::Overflow);
+        return Err(EvalFault::Overflow);
     }
     Ok(Value::int(n as i64))
 }
 
 /// Returns a sum as a value.
 #[tactic(auto, using(std::proofs::lemmas::Bool::Decides::nat_tests))]
-fn sum(from: usize, at: usize) -> Result<Value, FaultKind>
+fn sum(from: usize, at: usize) -> Result<Value, EvalFault>
     ensures { result ≡ number (from + at) }
 {
     match from.checked_add(at) {
         Some(place) => number(place),
-        None => Err(FaultKind::Overflow),
+        None => Err(EvalFault::Overflow),
     }
 }
 
 /// Returns the place in the string of what was found in a region that starts at `from`; -1 if nothing was found.
-fn place_or_less(from: usize, found: Option<usize>) -> Result<Value, FaultKind>
+fn place_or_less(from: usize, found: Option<usize>) -> Result<Value, EvalFault>
     ensures { result ≡ place_or_less from found }
 {
     match found {
@@ -51,17 +51,17 @@ fn place_or_less(from: usize, found: Option<usize>) -> Result<Value, FaultKind>
 }
 
 /// Returns the place in the string of what was found in a region that starts at `from`; F57 if nothing was found.
-fn place_or_fault(from: usize, found: Option<usize>) -> Result<Value, FaultKind>
+fn place_or_fault(from: usize, found: Option<usize>) -> Result<Value, EvalFault>
     ensures { result ≡ place_or_fault from found }
 {
     match found {
-        None => Err(FaultKind::BadValue),
+        None => Err(EvalFault::BadValue),
         Some(at) => sum(from, at),
     }
 }
 
 /// Returns the result of a search in `part`, a region that starts at `from`.
-fn said(method: SearchMethod, sub: &[u8], from: usize, part: &[u8]) -> Result<Value, FaultKind>
+fn said(method: SearchMethod, sub: &[u8], from: usize, part: &[u8]) -> Result<Value, EvalFault>
     ensures { result ≡ said method sub.now from part.now }
 {
     match method {
@@ -75,7 +75,7 @@ fn said(method: SearchMethod, sub: &[u8], from: usize, part: &[u8]) -> Result<Va
 
 /// Returns `s.method(sub, start, end)`.
 #[tactic(auto, unfolding(crate::specs::Searches::search))]
-pub fn search(method: SearchMethod, text: &[u8], values: &[Value]) -> Result<Value, FaultKind>
+pub fn search(method: SearchMethod, text: &[u8], values: &[Value]) -> Result<Value, EvalFault>
     ensures { result ≡ search method text.now values.now }
 {
     let sub = text_in(values, 0)?;

@@ -6,7 +6,7 @@ ghost use Rattle.bq_builtin_string_methods.specs.Argument.{Says};
 ghost use Rattle.bq_builtin_string_methods.specs.Strips.{end_in, without, strip};
 
 use crate::argument::{bytes_in, text_in};
-use bq_base::FaultKind;
+use bq_base::EvalFault;
 use bq_builtin_string_parts::{lstrip, remove_prefix, remove_suffix, rstrip, strip as strip_both};
 use bq_value::Value;
 
@@ -20,7 +20,7 @@ pub enum StripMethod {
 }
 
 /// Returns what is removed: bytes of a set, or a text.
-fn end_in(method: StripMethod, values: &[Value]) -> Result<&[u8], FaultKind>
+fn end_in(method: StripMethod, values: &[Value]) -> Result<&[u8], EvalFault>
     ensures { Says (λ end. end.now) result (end_in method values.now) }
 {
     match method {
@@ -50,7 +50,7 @@ pub fn strip<'t>(
     method: StripMethod,
     text: &'t [u8],
     values: &[Value],
-) -> Result<&'t [u8], FaultKind>
+) -> Result<&'t [u8], EvalFault>
     ensures { Says (λ part. part.now) result (strip method text.now values.now) }
 {
     let end = end_in(method, values)?;

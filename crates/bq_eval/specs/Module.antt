@@ -1,10 +1,11 @@
 -- What the evaluation of a file ends in (Starlark specification, "Module execution", "Freezing a value").
 use Rattle.std.specs.Prelude.{ℕ, ◌+◌, ◌==◌, cond, List, [], ◌∷◌, ◌++◌, fold, Option, Some, None}
-use Rattle.bq_base.specs.Fault.{fault_number}
+use Rattle.bq_base.specs.Fault.{eval_fault_number}
 use Rattle.bq_source.specs.StringLiteral.{quoted}
 use Rattle.bq_base.specs.declared.fault.Fault.{Fault}
-use Rattle.bq_base.specs.declared.fault.FaultKind.{FaultKind}
-use Rattle.bq_base.specs.declared.fault.FaultKind.TheVariants as f
+use Rattle.bq_base.specs.declared.fault.EvalFault.{EvalFault}
+use Rattle.bq_base.specs.declared.fault.EvalFault.TheVariants as f
+use Rattle.bq_base.specs.declared.fault.FaultKind.TheVariants.{Eval}
 use Rattle.bq_resolve_scope.specs.Names.{Name}
 use Rattle.bq_resolve_scope.specs.declared.file.ResolvedFile.{ResolvedFile}
 use Rattle.bq_value.specs.Cells.{StoreView, FrozenView, frozen, loading}
@@ -39,12 +40,12 @@ unfoldable pub frozen_values : ResolvedFile → List Datum → Frame → List Da
 frozen_values file imports globals = values_from 0 file.globals globals ++ imports
 
 -- `fail` has its message as its detail
-abbrev pub detail_of : FaultKind → List ℕ → List ℕ
-detail_of kind message = cond (fault_number kind == fault_number f.Fail) (quoted message) []
+abbrev pub detail_of : EvalFault → List ℕ → List ℕ
+detail_of kind message = cond (eval_fault_number kind == eval_fault_number f.Fail) (quoted message) []
 
 -- the fault that an evaluation stopped with, as a line of the report tells it
 abbrev pub fault_of : Stop → Fault
-fault_of why = record { kind = why.kind; line = why.line; detail = detail_of why.kind why.message }
+fault_of why = record { kind = Eval why.kind; line = why.line; detail = detail_of why.kind why.message }
 
 abbrev pub ended : {W : Type 0} → ResolvedFile → List Datum → Run (State × W) Frame → Ended
 ended file imports (done globals s) = evaluated (frozen s.0.store file.globals (frozen_values file imports globals)) s.0.prints

@@ -10,7 +10,7 @@ ghost use Rattle.bq_eval.specs.Outcomes.{ended_of};
 
 use crate::module::ResolvedModule;
 use crate::outcome::FileOutcome;
-use bq_base::{Bytes, Fault, FaultKind};
+use bq_base::{Bytes, EvalFault, Fault, FaultKind};
 use bq_builtin_machine::Machine;
 use bq_eval_frame::Frame;
 use bq_value::{Value, freeze};
@@ -64,11 +64,11 @@ pub(crate) fn module_of(
 }
 
 /// Returns the fault of a file that stopped.
-fn fault_of(alloc: Global, kind: FaultKind, machine: &Machine) -> Result<Fault, AllocError>
+fn fault_of(alloc: Global, kind: EvalFault, machine: &Machine) -> Result<Fault, AllocError>
     ensures { IfOk result (λ fault. fault ≡ fault_of (stop_at kind machine.now)) }
 {
     Ok(Fault {
-        kind,
+        kind: FaultKind::Eval(kind),
         line: machine.line(),
         detail: detail_of(alloc, kind, machine.message())?,
     })
@@ -85,7 +85,7 @@ fn prints_of(machine: Machine) -> Vec<Bytes>
 /// Returns the outcome of a file that stopped.
 pub(crate) fn failed(
     alloc: Global,
-    kind: FaultKind,
+    kind: EvalFault,
     machine: Machine,
 ) -> Result<FileOutcome, AllocError>
     ensures { IfOk result (λ o. ended_of o ≡ failed (fault_of (stop_at kind machine)) machine.prints) }
@@ -96,10 +96,10 @@ pub(crate) fn failed(
 }
 
 /// Returns the message of `fail` as `repr` shows it; the other faults of an evaluation have no detail.
-fn detail_of(alloc: Global, kind: FaultKind, message: &Bytes) -> Result<Bytes, AllocError>
+fn detail_of(alloc: Global, kind: EvalFault, message: &Bytes) -> Result<Bytes, AllocError>
     ensures { IfOk result (λ detail. detail ≡ detail_of kind message.now) }
 {
-    if kind.number() == FaultKind::Fail.number() {
+    if kind.number() == EvalFault::Fail.number() {
         return Bytes::from_vec(alloc, quoted(alloc, message.as_slice())?);
     }
     Ok(Bytes::empty())

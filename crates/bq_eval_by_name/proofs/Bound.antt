@@ -1,7 +1,7 @@
 -- Unpacking gives as many elements as there are targets, so where a file ends each of its globals is bound.
 use Rattle.std.proofs.Common.{◌≡◌, ℕ, Bool, true, false, cond, ◌==◌, List, length, Result, Ok, Err, refl, eqb-true}
-use Rattle.bq_base.specs.declared.fault.FaultKind.{FaultKind}
-use Rattle.bq_base.specs.declared.fault.FaultKind.TheVariants.{BadValue}
+use Rattle.bq_base.specs.declared.fault.EvalFault.{EvalFault}
+use Rattle.bq_base.specs.declared.fault.EvalFault.TheVariants.{BadValue}
 use Rattle.bq_resolve_scope.specs.Names.{Name}
 use Rattle.bq_value.specs.Datum.{Datum}
 use Rattle.bq_builtin_machine.specs.Action.{beside, given}
@@ -21,7 +21,7 @@ module _ {W : Type 0} (count : ℕ) (kept : W) (s : State) where
   elements_by true xs e = eqb-true (length xs) count e
   elements_by false xs e = tt
 
-  parts_by : (r : Result (List Datum) FaultKind) → Gives (λ vs. length vs ≡ count) (beside kept (given (just count r) s))
+  parts_by : (r : Result (List Datum) EvalFault) → Gives (λ vs. length vs ≡ count) (beside kept (given (just count r) s))
   parts_by (Ok xs) = elements_by (length xs == count) xs refl
   parts_by (Err why) = tt
 

@@ -1,14 +1,13 @@
 -- The expressions in a statement resolve to what means the same, and no slot is given back.
 use Rattle.std.proofs.Common.{◌≡◌, List, Result, Ok, Err, refl, arith}
 use Rattle.bq_base.specs.declared.fault.Fault.{Fault}
-use Rattle.bq_base.specs.declared.fault.FaultKind.TheVariants as f
 use Rattle.bq_parse_grammar.specs.declared.tree.Expr.{Expr}
 use Rattle.bq_resolve_scope.specs.Names.{max_layers, place_among}
 use Rattle.bq_resolve_scope.specs.Scope.{BlockParts, FileParts}
 use Rattle.bq_resolve_scope.specs.Statements as scope
 use Rattle.bq_resolve_scope.specs.Visit.{Passed}
 use Rattle.bq_eval_meaning_spec.specs.Frame.{Frame, Surroundings, empty}
-use Rattle.bq_eval_meaning_spec.specs.Primitives.{Primitives, stop}
+use Rattle.bq_eval_meaning_spec.specs.Primitives.{Primitives, stuck}
 use Rattle.bq_eval_language_spec.specs.Expressions.{expr_to}
 use Rattle.bq_eval_language_spec.specs.Slots.{by_slots}
 use Rattle.bq_eval_language_spec.specs.Trees.{Eval, Calls}
@@ -28,7 +27,7 @@ module _ {S : Type 0} (m : Primitives S) (file : FileParts) (blocks : List Block
   slots_grow x =
       let surroundings : Surroundings = record { globals = empty; loaded = empty } in
       let round : Round = record { globals = λ n. through empty (place_among n file.globals); loaded = λ n. through empty (place_among n file.loaded); universe = file.universe } in
-      let call : Calls S = λ v p. stop m f.LeftOut in
+      let call : Calls S = λ v p. stuck m in
       walks_weaker blocks (λ z. Stands (expr_to max_layers m by_names call round) (expr_to max_layers m by_slots call surroundings) blocks x z) (λ _. Unit {0}) (scope.expr file blocks x) (λ z _. tt)
       (expr_walks m file round surroundings call call (record { globals = λ n. refl; loaded = λ n. refl; universe = refl }) (λ v p s. refl) max_layers max_layers max_layers (omega arith) (omega arith) blocks nested x)
 

@@ -1,7 +1,7 @@
 -- What a call means (Starlark specification, "Function and method calls"): arguments are bound to parameters (F52), the function becomes
 -- active (F50, F51), and its body runs in a block of its own, which holds the names of its parameters and all that its body binds.
 use Rattle.std.specs.Prelude.{ℕ, zero, suc, Bool, true, false, List, [], ◌∷◌, Option, Some, None, slice_get}
-use Rattle.bq_base.specs.declared.fault.FaultKind.TheVariants as f
+use Rattle.bq_base.specs.declared.fault.EvalFault.TheVariants as f
 use Rattle.bq_parse_grammar.specs.declared.tree.Identifier.{Identifier}
 use Rattle.bq_resolve_scope.specs.declared.file.Formal.{Formal}
 use Rattle.bq_resolve_scope.specs.declared.file.Formal.TheVariants as formal

@@ -1,7 +1,6 @@
 -- What an expression means (Starlark specification, "Expressions"): each node takes its steps first, and its operands are evaluated
 -- from left to right. All operators of a chain take their steps before its first operand is evaluated.
 use Rattle.std.specs.Prelude.{ℕ, zero, suc, List, [], ◌∷◌, ◌++◌, length, reverse, Option, Some, None, if◌then◌else◌}
-use Rattle.bq_base.specs.declared.fault.FaultKind.TheVariants as f
 use Rattle.bq_parse_grammar.specs.declared.tree.Argument.TheOpen.{Expr-F, Suffix-F, Argument-F}
 use Rattle.bq_parse_grammar.specs.declared.tree.Argument.{Argument, out-Argument}
 use Rattle.bq_parse_grammar.specs.declared.tree.Choice.{Choice, out-Choice}
@@ -21,7 +20,7 @@ use Rattle.bq_value.specs.Contents.{Contents, items, pairs}
 use Rattle.bq_value.specs.Datum.{Datum, none, int, string, tuple, data_of}
 use Rattle.bq_builtin_machine.specs.Action.{Action, ◌>>=◌, pure}
 use Rattle.bq_builtin_machine.specs.Args.{Passed, nothing_passed}
-use Rattle.bq_eval_meaning_spec.specs.Primitives.{Primitives, stop}
+use Rattle.bq_eval_meaning_spec.specs.Primitives.{Primitives, stuck}
 use Rattle.bq_eval_language_spec.specs.Comprehensions.{element, pair_element, comprehension}
 use Rattle.bq_eval_language_spec.specs.Environment.{NameValue, variable, predeclared, NamespaceCall, Scoping}
 use Rattle.bq_eval_language_spec.specs.Targets.{bound}
@@ -30,15 +29,15 @@ use Rattle.bq_eval_language_spec.specs.Trees.{Eval, Calls, ArgumentLayer}
 module _ {S : Type 0} (m : Primitives S) where
   -- ---- names
 
-  -- a name that is known nowhere is F20, and one that is not bound yet F49: its block's, whatever else has the name
+  -- a name that is not bound yet is F49: its block's, whatever else has the name. In a file that is resolved each name is known
   abbrev pub value_by : Option NameValue → Action S Datum
-  value_by None = stop m f.UnknownName
+  value_by None = stuck m
   value_by (Some (variable v)) = bound m v
   value_by (Some (predeclared p)) = pure (m.predeclared p)
 
-  -- what a namespace has by this name, or F20
+  -- what a namespace has by this name; in a file that is resolved it has one
   abbrev pub member_by : Option Predeclared → Action S Datum
-  member_by None = stop m f.UnknownName
+  member_by None = stuck m
   member_by (Some p) = pure (m.predeclared p)
 
   -- the use of a name takes a step; a variable without a value yet is a fault
@@ -173,11 +172,11 @@ module _ {S V : Type 0} (m : Primitives S) (eval : Eval S V) where
     unfoldable pub call_of : List Argument → V → Datum → Action S Datum
     call_of xs env v = arguments xs env nothing_passed >>= λ p. call v p
 
-    -- what stands behind an operand, by its form; the grammar leaves `.name` without a call out
+    -- what follows an operand, by its form; the grammar leaves out `.name` without a call
     abbrev pub suffix_by : SuffixLayer → V → Datum → Action S Datum
     suffix_by (Suffix-F.Call xs) env v = call_of xs env v
     suffix_by (Suffix-F.Method n xs) env v = method n.name xs env v
-    suffix_by (Suffix-F.Attribute n) env v = stop m f.LeftOut
+    suffix_by (Suffix-F.Attribute n) env v = stuck m
     suffix_by (Suffix-F.Suffix::Index i) env v = index i env v
     suffix_by (Suffix-F.Slice i j k) env v = slice i j k env v
 
@@ -225,8 +224,8 @@ module _ {S R V : Type 0} (m : Primitives S) (scoping : Scoping R V) (eval : Eva
   expr_by (Expr-F.Binary x os) env = binary m eval x os env
   expr_by (Expr-F.Compare x o y) env = compare m eval x o y env
   expr_by (Expr-F.Conditional cs x) env = conditional m eval cs x env
-  -- the language leaves `lambda` out
-  expr_by Expr-F.Lambda env = stop m f.LeftOut
+  -- the grammar leaves out `lambda`
+  expr_by Expr-F.Lambda env = stuck m
 
   -- an expression, where `eval` is what those in it mean
   unfoldable pub expr : Expr → V → Action S Datum
@@ -234,7 +233,7 @@ module _ {S R V : Type 0} (m : Primitives S) (scoping : Scoping R V) (eval : Eva
 
 -- of expressions that are at most this many layers deep; no tree that is parsed has a deeper one
 unfoldable pub expr_to : {S R V : Type 0} → ℕ → Primitives S → Scoping R V → Calls S → R → Eval S V
-expr_to zero m scoping call round e env = stop m f.Nesting
+expr_to zero m scoping call round e env = stuck m
 expr_to (suc depth) m scoping call round e env = expr m scoping (expr_to depth m scoping call round) call round e env
 
 -- what an expression means, where names mean what `scoping` says and calls `call`, with this around it

@@ -1,7 +1,6 @@
 -- What a statement does (Starlark specification, "Statements"). In a function the environment holds its names, outside functions those
 -- of the file.
 use Rattle.std.specs.Prelude.{ℕ, zero, suc, List, [], ◌∷◌, Option, Some, None, if◌then◌else◌}
-use Rattle.bq_base.specs.declared.fault.FaultKind.TheVariants as f
 use Rattle.bq_parse_grammar.specs.declared.tree.Branch.{Branch, out-Branch}
 use Rattle.bq_parse_grammar.specs.declared.tree.Expr.{Expr}
 use Rattle.bq_parse_grammar.specs.declared.tree.SmallKind.{SmallKind}
@@ -13,7 +12,7 @@ use Rattle.bq_parse_grammar.specs.declared.tree.TargetExpr.{TargetExpr}
 use Rattle.bq_resolve_scope.specs.Names.{max_layers}
 use Rattle.bq_value.specs.Datum.{Datum, none}
 use Rattle.bq_builtin_machine.specs.Action.{Action, ◌>>=◌, pure}
-use Rattle.bq_eval_meaning_spec.specs.Primitives.{Primitives, stop, change}
+use Rattle.bq_eval_meaning_spec.specs.Primitives.{Primitives, stuck, change}
 use Rattle.bq_eval_language_spec.specs.Environment.{Scoping}
 use Rattle.bq_eval_language_spec.specs.Targets.{bind_variables, assign, augment}
 use Rattle.bq_eval_language_spec.specs.Trees.{Eval, StmtLayer}
@@ -114,8 +113,8 @@ module _ {S R V : Type 0} (m : Primitives S) (scoping : Scoping R V) (eval : Eva
     stmt_by (Stmt-F.Simple xs) env = line xs env
     stmt_by (Stmt-F.If bs otherwise) env = m.step 1 >>= λ _. branches bs otherwise env
     stmt_by (Stmt-F.For t x body) env = m.step 1 >>= λ _. for_loop t x body env
-    -- the language leaves a `def` in a function out
-    stmt_by (Stmt-F.Def n ps body) env = stop m f.LeftOut
+    -- the grammar leaves out a `def` in a function
+    stmt_by (Stmt-F.Def n ps body) env = stuck m
 
     -- a statement
     unfoldable pub stmt : Stmt → Exec S V
@@ -123,7 +122,7 @@ module _ {S R V : Type 0} (m : Primitives S) (scoping : Scoping R V) (eval : Eva
 
 -- of statements that are at most this many layers deep; no tree that is parsed has a deeper one
 unfoldable pub run_to : {S R V : Type 0} → ℕ → Primitives S → Scoping R V → Eval S V → Stmt → Exec S V
-run_to zero m scoping eval x env = stop m f.Nesting
+run_to zero m scoping eval x env = stuck m
 run_to (suc depth) m scoping eval x env = stmt m scoping eval (run_to depth m scoping eval) x env
 
 -- what a statement means, where names mean what `scoping` says and expressions `eval`

@@ -1,7 +1,7 @@
 -- What is assigned to (Starlark specification, "Assignments"): the operands and indices of a target are evaluated first, from left to
 -- right, and then its parts are bound from left to right.
 use Rattle.std.specs.Prelude.{ℕ, zero, suc, List, [], ◌∷◌, ◌++◌, length, Option, Some, None}
-use Rattle.bq_base.specs.declared.fault.FaultKind.TheVariants as f
+use Rattle.bq_base.specs.declared.fault.EvalFault.TheVariants.{Unbound}
 use Rattle.bq_parse_grammar.specs.declared.tree.Argument.TheOpen.{TargetExpr-F}
 use Rattle.bq_parse_grammar.specs.declared.tree.Expr.{Expr}
 use Rattle.bq_parse_grammar.specs.declared.tree.Identifier.{Identifier}
@@ -10,7 +10,7 @@ use Rattle.bq_parse_grammar.specs.declared.tree.TargetExpr.{TargetExpr, out-Targ
 use Rattle.bq_resolve_scope.specs.Names.{TargetLayer, max_layers}
 use Rattle.bq_value.specs.Datum.{Datum}
 use Rattle.bq_builtin_machine.specs.Action.{Action, ◌>>=◌, pure}
-use Rattle.bq_eval_meaning_spec.specs.Primitives.{Primitives, stop}
+use Rattle.bq_eval_meaning_spec.specs.Primitives.{Primitives, stop, stuck}
 use Rattle.bq_eval_language_spec.specs.Environment.{Scoping}
 use Rattle.bq_eval_language_spec.specs.Trees.{Eval}
 
@@ -25,7 +25,7 @@ Binds S V = Datum → V → Places → Action S (V × Places)
 module _ {S : Type 0} (m : Primitives S) where
   -- the value of a variable, or F49
   unfoldable pub bound : Option Datum → Action S Datum
-  bound None = stop m f.Unbound
+  bound None = stop m Unbound
   bound (Some v) = pure v
 
 module _ {S V : Type 0} (m : Primitives S) where
@@ -33,7 +33,7 @@ module _ {S V : Type 0} (m : Primitives S) where
 
   -- `x[i] = v`, where `x` and `i` were evaluated before; the variables of a `for` have no such part
   unfoldable pub bind_place : Binds S V
-  bind_place v env [] = stop m f.Syntax
+  bind_place v env [] = stuck m
   bind_place v env (p ∷ ps) = m.set_index p.0 p.1 v >>= λ _. pure (env, ps)
 
   -- each of these gets one of the elements
@@ -59,7 +59,7 @@ module _ {S V : Type 0} (m : Primitives S) where
 
     -- of targets that are at most this many layers deep; no tree that is parsed has a deeper one
     unfoldable pub bind_to : ℕ → TargetExpr → Binds S V
-    bind_to zero t v env ps = stop m f.Nesting
+    bind_to zero t v env ps = stuck m
     bind_to (suc depth) t v env ps = bind_target (bind_to depth) t v env ps
 
     -- a `for` binds its variables
@@ -91,7 +91,7 @@ module _ {S V : Type 0} (m : Primitives S) where
 
     -- of targets that are at most this many layers deep
     unfoldable pub places_to : ℕ → TargetExpr → V → Places → Action S Places
-    places_to zero t env ps = stop m f.Nesting
+    places_to zero t env ps = stuck m
     places_to (suc depth) t env ps = places_of (places_to depth) t env ps
 
   -- ---- assignments
@@ -115,7 +115,7 @@ module _ {S V : Type 0} (m : Primitives S) where
     abbrev pub augment_by : TargetLayer → Operator → Expr → V → Action S V
     augment_by (TargetExpr-F.TargetExpr::Name n) op x env = augment_name n op x env
     augment_by (TargetExpr-F.TargetExpr::Index y i) op x env = augment_index eval y i op x env
-    augment_by _ op x env = stop m f.Syntax
+    augment_by _ op x env = stuck m
 
     -- `t op= x`
     unfoldable pub augment : TargetExpr → Operator → Expr → V → Action S V

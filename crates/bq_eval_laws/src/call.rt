@@ -1,8 +1,8 @@
 //! What holds of calls. The functions do nothing: their contracts are the laws.
 
 ghost use Rattle.std.specs.Prelude.{◌≡◌, ℕ, Err};
-ghost use Rattle.bq_base.specs.declared.fault.FaultKind.{FaultKind};
-ghost use Rattle.bq_base.specs.declared.fault.FaultKind.TheVariants.{Args};
+ghost use Rattle.bq_base.specs.declared.fault.EvalFault.{EvalFault};
+ghost use Rattle.bq_base.specs.declared.fault.EvalFault.TheVariants.{Args};
 ghost use Rattle.bq_builtin_machine.specs.Action.{done, stopped};
 ghost use Rattle.bq_builtin_machine.specs.Args.{Passed};
 ghost use Rattle.bq_builtin_machine.specs.Binding.{bind};
@@ -21,7 +21,7 @@ ghost use Rattle.bq_eval_laws.specs.Calls.Orders.{entering};
 /// parameter has none.
 pub fn misfits_are_refused()
     ensures refused { (s : SignatureView) (p : Passed) → IsMisfit s p → bind s p ≡ Err Args }
-    ensures only { (s : SignatureView) (p : Passed) (why : FaultKind) → bind s p ≡ Err why → IsMisfit s p }
+    ensures only { (s : SignatureView) (p : Passed) (why : EvalFault) → bind s p ≡ Err why → IsMisfit s p }
 {}
 
 /// The check that a function isn't active (F50) comes before the check that fewer than 100 are (F51).

@@ -1,7 +1,7 @@
 -- A relation that respects the rules holds of calls.
 use Rattle.std.proofs.Common.{ℕ, zero, suc, List, [], ◌∷◌, Bool, true, false, Option, Some, None, Result, Ok, Err, slice_get}
-use Rattle.bq_base.specs.declared.fault.FaultKind.{FaultKind}
-use Rattle.bq_base.specs.declared.fault.FaultKind.TheVariants as f
+use Rattle.bq_base.specs.declared.fault.EvalFault.{EvalFault}
+use Rattle.bq_base.specs.declared.fault.EvalFault.TheVariants as f
 use Rattle.bq_parse_grammar.specs.declared.tree.Expr.{Expr}
 use Rattle.bq_parse_grammar.specs.declared.tree.Identifier.{Identifier}
 use Rattle.bq_resolve_scope.specs.declared.file.Function.{Function}
@@ -29,7 +29,7 @@ module _ {S Round V : Type 0} (m : Primitives S) (scoping : Scoping Round V) (K 
   abbrev pub Itself : (A : Type 0) → Action S A → Type 0
   Itself A a = K A a a
 
-  given_rule : (A : Type 0) (r : Result A FaultKind) → Itself A (given_by m r)
+  given_rule : (A : Type 0) (r : Result A EvalFault) → Itself A (given_by m r)
   given_rule A (Ok x) = R.of_value A x
   given_rule A (Err kind) = R.of_stop A kind
 

@@ -1,7 +1,6 @@
 -- A relation that respects the rules holds of expressions.
 use Rattle.std.proofs.Common.{◌≡◌, ◌∙◌, sym, ap, subst, refl, ℕ, zero, suc, List, [], ◌∷◌, ◌++◌, length, reverse, Option, Some, None, ◌≤◌, not-suc-le-zero, le_of_suc-le-suc}
 use Rattle.std.specs.List.{AllByRecursion}
-use Rattle.bq_base.specs.declared.fault.FaultKind.TheVariants as f
 use Rattle.bq_parse_grammar.specs.declared.tree.Comparison.{Comparison}
 use Rattle.bq_parse_grammar.specs.declared.tree.Operator.{Operator}
 use Rattle.bq_parse_grammar.specs.declared.tree.UnaryOperator.{UnaryOperator}
@@ -21,7 +20,7 @@ use Rattle.bq_value.specs.Contents.{Contents, items, pairs}
 use Rattle.bq_value.specs.Datum.{Datum, none, int, string, tuple, data_of}
 use Rattle.bq_builtin_machine.specs.Action.{Action}
 use Rattle.bq_builtin_machine.specs.Args.{Passed, nothing_passed}
-use Rattle.bq_eval_meaning_spec.specs.Primitives.{Primitives}
+use Rattle.bq_eval_meaning_spec.specs.Primitives.{Primitives, stuck_fault}
 use Rattle.bq_eval_language_spec.specs.Expressions.{value_by, member_by, use_of, literal, unary_each, values, list_display, tuple_display, pair, pairs_each, dict_display, unary, operation_by, operation, operations, binary, compare, choice, chosen, conditional, index, part, slice, argument_by, argument, arguments, method, call_of, suffix_by, suffix, suffixes, operand, call_member, primary_by, primary, expr_by, expr, expr_to}
 use Rattle.bq_eval_language_spec.specs.Comprehensions.{element, pair_element}
 use Rattle.bq_eval_language_spec.specs.Environment.{NameValue, variable, predeclared, NamespaceCall, Scoping}
@@ -38,12 +37,12 @@ module _ {S Round V : Type 0} (m : Primitives S) (scoping : Scoping Round V) (K 
   -- ---- names
 
   value_rule : (o : Option NameValue) → K Datum (value_by m o) (value_by m o)
-  value_rule None = R.of_stop Datum f.UnknownName
+  value_rule None = R.of_stop Datum stuck_fault
   value_rule (Some (variable v)) = bound_rule m scoping K R v
   value_rule (Some (predeclared p)) = R.of_value Datum (m.predeclared p)
 
   member_rule : (o : Option Predeclared) → K Datum (member_by m o) (member_by m o)
-  member_rule None = R.of_stop Datum f.UnknownName
+  member_rule None = R.of_stop Datum stuck_fault
   member_rule (Some p) = R.of_value Datum (m.predeclared p)
 
   use_rule : (round : Round) (n : Identifier) (env : V) → K Datum (use_of m scoping round n env) (use_of m scoping round n env)
@@ -181,7 +180,7 @@ module _ {S Round V : Type 0} (m : Primitives S) (scoping : Scoping Round V) (K 
       suffix_by_rule : (o : SuffixLayer) → SuffixLayerParts P o → (env : V) (v : Datum) → K Datum (suffix_by m eval call o env v) (suffix_by m other call o env v)
       suffix_by_rule (Suffix-F.Call xs) h env v = call_rule xs h env v
       suffix_by_rule (Suffix-F.Method n xs) h env v = method_rule n.name xs h env v
-      suffix_by_rule (Suffix-F.Attribute name) h env v = R.of_stop Datum f.LeftOut
+      suffix_by_rule (Suffix-F.Attribute name) h env v = R.of_stop Datum stuck_fault
       suffix_by_rule (Suffix-F.Suffix::Index i) h env v = index_rule i h env v
       suffix_by_rule (Suffix-F.Slice i j k) h env v = slice_rule i j k h.0 h.1 h.2 env v
 
@@ -231,7 +230,7 @@ module _ {S Round V : Type 0} (m : Primitives S) (scoping : Scoping Round V) (K 
         expr_by_rule (Expr-F.Binary x os) h env = binary_rule x os h.0 h.1 env
         expr_by_rule (Expr-F.Compare x o y) h env = compare_rule x o y h.0 h.1 env
         expr_by_rule (Expr-F.Conditional cs x) h env = conditional_rule cs h.0 x h.1 env
-        expr_by_rule Expr-F.Lambda h env = R.of_stop Datum f.LeftOut
+        expr_by_rule Expr-F.Lambda h env = R.of_stop Datum stuck_fault
 
         pub expr_rule : (e : Expr) → ExprParts P (out-Expr e) → (env : V) → K Datum (expr m scoping eval call round e env) (expr m scoping other call round e env)
         unfolding expr
@@ -263,7 +262,7 @@ module _ {S Round V : Type 0} (m : Primitives S) (scoping : Scoping Round V) (K 
 
     pub eval_rule : (n : ℕ) (e : Expr) (env : V) → K Datum (expr_to n m scoping call round e env) (expr_to n m scoping call round e env)
     unfolding expr_to
-    eval_rule zero e env = R.of_stop Datum f.Nesting
+    eval_rule zero e env = R.of_stop Datum stuck_fault
     eval_rule (suc n) e env =
         expr_rule Holds (expr_to n m scoping call round) (expr_to n m scoping call round) (λ x _. eval_rule n x) call calls round (λ x ss inside _. member (scoping.member round inside x ss)) e
         (anything.expr (out-Expr e)) env

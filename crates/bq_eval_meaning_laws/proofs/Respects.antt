@@ -3,7 +3,7 @@
 -- file, if they hold of the beginning of a statement on any line too (`OfLines`).
 use Rattle.std.proofs.Common.{ℕ, List}
 use Rattle.std.specs.Prelude.{if◌then◌else◌}
-use Rattle.bq_base.specs.declared.fault.FaultKind.{FaultKind}
+use Rattle.bq_base.specs.declared.fault.EvalFault.{EvalFault}
 use Rattle.bq_parse_grammar.specs.declared.tree.Comparison.{Comparison}
 use Rattle.bq_parse_grammar.specs.declared.tree.Operator.{Operator}
 use Rattle.bq_parse_grammar.specs.declared.tree.UnaryOperator.{UnaryOperator}
@@ -24,7 +24,7 @@ choosing m v a b = λ s. (if m.truth v s then a else b) s
 
 pub record Respects {S : Type 0} (m : Primitives S) (K : Relation S) : Type 1 where
   pub of_value : (A : Type 0) (x : A) → K A (pure x) (pure x)
-  pub of_stop : (A : Type 0) (kind : FaultKind) → K A (stop m kind) (stop m kind)
+  pub of_stop : (A : Type 0) (kind : EvalFault) → K A (stop m kind) (stop m kind)
   pub of_both : (A B : Type 0) (a b : Action S A) (f g : A → Action S B) → K A a b → ((x : A) → K B (f x) (g x)) → K B (a >>= f) (b >>= g)
   pub of_choice : (A : Type 0) (v : Datum) (a b c d : Action S A) → K A a b → K A c d → K A (choosing m v a c) (choosing m v b d)
   pub of_step : (n : ℕ) → K (Unit {0}) (m.step n) (m.step n)

@@ -1,7 +1,6 @@
 -- A relation that respects the rules holds of statements.
 use Rattle.std.proofs.Common.{ℕ, zero, suc, List, [], ◌∷◌, Option, Some, None, ◌≤◌, not-suc-le-zero, le_of_suc-le-suc}
 use Rattle.std.specs.List.{AllByRecursion}
-use Rattle.bq_base.specs.declared.fault.FaultKind.TheVariants as f
 use Rattle.bq_parse_grammar.specs.declared.tree.Expr.{Expr}
 use Rattle.bq_parse_grammar.specs.declared.tree.Branch.{Branch, out-Branch}
 use Rattle.bq_parse_grammar.specs.declared.tree.SmallKind.{SmallKind}
@@ -11,7 +10,7 @@ use Rattle.bq_parse_grammar.specs.declared.tree.TargetExpr.{TargetExpr}
 use Rattle.bq_parse_grammar.specs.declared.tree.SmallStmt.{SmallStmt}
 use Rattle.bq_parse_grammar.specs.declared.tree.SmallKind.TheVariants as small
 use Rattle.bq_value.specs.Datum.{Datum, none}
-use Rattle.bq_eval_meaning_spec.specs.Primitives.{Primitives}
+use Rattle.bq_eval_meaning_spec.specs.Primitives.{Primitives, stuck_fault}
 use Rattle.bq_eval_language_spec.specs.Statements.{Flow, next, leave, again, answer, Exec, go_on, turn_on, steps_of, expr_stmt, assign_stmt, return_stmt, small_by, small_stmt, line, block, branches, turn, turns, for_loop, stmt_by, stmt, run_to}
 use Rattle.bq_eval_language_spec.specs.Trees.{Eval, StmtLayer}
 use Rattle.bq_eval_language_spec.specs.Environment.{Scoping}
@@ -112,7 +111,7 @@ module _ {S Round V : Type 0} (m : Primitives S) (scoping : Scoping Round V) (K 
       stmt_by_rule (Stmt-F.Simple xs) h env = line_rule xs env
       stmt_by_rule (Stmt-F.If bs otherwise) h env = R.of_both _ _ _ _ _ _ (R.of_step 1) (λ _. branches_rule bs otherwise h.0 h.1 env)
       stmt_by_rule (Stmt-F.For t x body) h env = R.of_both _ _ _ _ _ _ (R.of_step 1) (λ _. for_rule t x body h env)
-      stmt_by_rule (Stmt-F.Def n ps body) h env = R.of_stop (Flow × V) f.LeftOut
+      stmt_by_rule (Stmt-F.Def n ps body) h env = R.of_stop (Flow × V) stuck_fault
 
       stmt_rule : (x : Stmt) → StmtParts P (out-Stmt x) → Ends (stmt m scoping eval run x) (stmt m scoping eval other x)
       unfolding stmt
@@ -127,5 +126,5 @@ module _ {S Round V : Type 0} (m : Primitives S) (scoping : Scoping Round V) (K 
 
     pub run_rule : (n : ℕ) (x : Stmt) → Ends (run_to n m scoping eval x) (run_to n m scoping eval x)
     unfolding run_to
-    run_rule zero x env = R.of_stop (Flow × V) f.Nesting
+    run_rule zero x env = R.of_stop (Flow × V) stuck_fault
     run_rule (suc n) x env = stmt_rule Holds (run_to n m scoping eval) (run_to n m scoping eval) (λ y _. run_rule n y) x (anything.stmt (out-Stmt x)) env

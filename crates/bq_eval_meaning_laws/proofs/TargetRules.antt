@@ -1,7 +1,7 @@
 -- A relation that respects the rules holds of what targets do.
 use Rattle.std.proofs.Common.{ℕ, zero, suc, List, [], ◌∷◌, ◌++◌, length, Option, Some, None, ◌≤◌, not-suc-le-zero, le_of_suc-le-suc}
 use Rattle.std.specs.List.{AllByRecursion}
-use Rattle.bq_base.specs.declared.fault.FaultKind.TheVariants as f
+use Rattle.bq_base.specs.declared.fault.EvalFault.TheVariants as f
 use Rattle.bq_parse_grammar.specs.declared.tree.Operator.{Operator}
 use Rattle.bq_parse_grammar.specs.declared.tree.Expr.{Expr}
 use Rattle.bq_parse_grammar.specs.declared.tree.Argument.TheOpen.{TargetExpr-F}
@@ -10,7 +10,7 @@ use Rattle.bq_parse_grammar.specs.declared.tree.Identifier.{Identifier}
 use Rattle.bq_resolve_scope.specs.Names.{max_layers, TargetLayer}
 use Rattle.bq_value.specs.Datum.{Datum}
 use Rattle.bq_builtin_machine.specs.Action.{Action}
-use Rattle.bq_eval_meaning_spec.specs.Primitives.{Primitives}
+use Rattle.bq_eval_meaning_spec.specs.Primitives.{Primitives, stuck_fault}
 use Rattle.bq_eval_language_spec.specs.Targets.{Places, Binds, bound, bind_place, bind_each, unpack, bind_by, bind_target, bind_to, bind_variables, place, places_each, places_by, places_of, places_to, assign, augment_name, augment_index, augment_by, augment}
 use Rattle.bq_eval_language_spec.specs.Trees.{Eval}
 use Rattle.bq_eval_language_spec.specs.Environment.{Scoping}
@@ -28,7 +28,7 @@ module _ {S Round V : Type 0} (m : Primitives S) (scoping : Scoping Round V) (K 
 
   bind_place_rule : (v : Datum) (env : V) (ps : Places) → K (V × Places) (bind_place m v env ps) (bind_place m v env ps)
   unfolding bind_place
-  bind_place_rule v env [] = R.of_stop (V × Places) f.Syntax
+  bind_place_rule v env [] = R.of_stop (V × Places) stuck_fault
   bind_place_rule v env (p ∷ ps) = R.of_both _ _ _ _ _ _ (R.of_set_index p.0 p.1 v) (λ _. R.of_value (V × Places) (env, ps))
 
   module _ (P : TargetExpr → Type 0) (inner other : TargetExpr → Binds S V)
@@ -62,7 +62,7 @@ module _ {S Round V : Type 0} (m : Primitives S) (scoping : Scoping Round V) (K 
 
   pub bind_rule : (n : ℕ) (t : TargetExpr) (v : Datum) (env : V) (ps : Places) → K (V × Places) (bind_to m scoping n t v env ps) (bind_to m scoping n t v env ps)
   unfolding bind_to
-  bind_rule zero t v env ps = R.of_stop (V × Places) f.Nesting
+  bind_rule zero t v env ps = R.of_stop (V × Places) stuck_fault
   bind_rule (suc n) t v env ps = bind_target_rule Holds (bind_to m scoping n) (bind_to m scoping n) (λ u _. bind_rule n u) t v env ps (target (out-TargetExpr t))
 
   pub variables_rule : (t : TargetExpr) (v : Datum) (env : V) → K V (bind_variables m scoping t v env) (bind_variables m scoping t v env)
@@ -102,7 +102,7 @@ module _ {S Round V : Type 0} (m : Primitives S) (scoping : Scoping Round V) (K 
 
     places_rule : (n : ℕ) (t : TargetExpr) (env : V) (ps : Places) → K Places (places_to m eval n t env ps) (places_to m eval n t env ps)
     unfolding places_to
-    places_rule zero t env ps = R.of_stop Places f.Nesting
+    places_rule zero t env ps = R.of_stop Places stuck_fault
     places_rule (suc n) t env ps = places_of_rule Holds (places_to m eval n) (places_to m eval n) (λ u _. places_rule n u) t env ps (target (out-TargetExpr t))
 
     -- ---- assignments
@@ -131,8 +131,8 @@ module _ {S Round V : Type 0} (m : Primitives S) (scoping : Scoping Round V) (K 
     augment_by_rule : (t : TargetLayer) (o : Operator) (x : Expr) (env : V) → K V (augment_by m scoping eval t o x env) (augment_by m scoping eval t o x env)
     augment_by_rule (TargetExpr-F.TargetExpr::Name n) o x env = augment_name_rule n o x env
     augment_by_rule (TargetExpr-F.TargetExpr::Index y i) o x env = augment_index_rule y i o x env
-    augment_by_rule (TargetExpr-F.TargetExpr::Tuple ts) o x env = R.of_stop V f.Syntax
-    augment_by_rule (TargetExpr-F.TargetExpr::List ts) o x env = R.of_stop V f.Syntax
+    augment_by_rule (TargetExpr-F.TargetExpr::Tuple ts) o x env = R.of_stop V stuck_fault
+    augment_by_rule (TargetExpr-F.TargetExpr::List ts) o x env = R.of_stop V stuck_fault
 
     pub augment_rule : (t : TargetExpr) (o : Operator) (x : Expr) (env : V) → K V (augment m scoping eval t o x env) (augment m scoping eval t o x env)
     unfolding augment

@@ -1,7 +1,7 @@
 -- The laws of steps: each node of a program takes its steps before anything in it is evaluated. Where too few are left, F53, nothing in it
 -- is. What `step` refuses, whatever number it is asked for, says how many they are.
 use Rattle.std.specs.Prelude.{◌≡◌, ℕ, List, [], ◌∷◌, length, Option, Some, None}
-use Rattle.bq_base.specs.declared.fault.FaultKind.TheVariants as f
+use Rattle.bq_base.specs.declared.fault.EvalFault.TheVariants as f
 use Rattle.bq_parse_grammar.specs.declared.tree.Argument.TheOpen.{Expr-F}
 use Rattle.bq_parse_grammar.specs.declared.tree.Expr.{Expr, out-Expr}
 use Rattle.bq_parse_grammar.specs.declared.tree.Identifier.{Identifier}
@@ -17,7 +17,7 @@ use Rattle.bq_value.specs.Contents.{Contents}
 use Rattle.bq_value.specs.Datum.{Datum, int, string}
 use Rattle.bq_builtin_machine.specs.Action.{Run, done, stopped}
 use Rattle.bq_builtin_machine.specs.State.{Stop, stop_at}
-use Rattle.bq_eval_meaning_spec.specs.Primitives.{Primitives}
+use Rattle.bq_eval_meaning_spec.specs.Primitives.{Primitives, stuck}
 use Rattle.bq_eval_language_spec.specs.Comprehensions as comprehensions
 use Rattle.bq_eval_language_spec.specs.Comprehensions.{Turn}
 use Rattle.bq_eval_language_spec.specs.Environment.{NameValue, variable, predeclared, Scoping}
@@ -64,12 +64,12 @@ literal_value (Expr-F.String t) = Some (string t)
 literal_value _ = None
 
 module _ {S : Type 0} (m : Primitives S) where
-  -- what the use of a name gives: the value of a variable, F49 where it has none yet, what all files have by the name, or F20
+  -- what the use of a name gives: the value of a variable, F49 where it has none yet, or what all files have by the name
   abbrev pub used : Option NameValue → S → Run S Datum
   used (Some (variable (Some v))) s = done v s
   used (Some (variable None)) s = stopped (stop_at f.Unbound (m.machine s))
   used (Some (predeclared p)) s = done (m.predeclared p) s
-  used None s = stopped (stop_at f.UnknownName (m.machine s))
+  used None s = stuck m s
 
 module _ {S R V : Type 0} (m : Primitives S) (scoping : Scoping R V) where
   -- an expression

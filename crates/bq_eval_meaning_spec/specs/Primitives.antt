@@ -1,7 +1,8 @@
 -- What the rules of the language ask for: steps, operators, lists and dicts, walks, built-in functions. The rules hold for any meaning
 -- of these, and any state `S`.
 use Rattle.std.specs.Prelude.{ℕ, List, Bool, Result, Ok, Err}
-use Rattle.bq_base.specs.declared.fault.FaultKind.{FaultKind}
+use Rattle.bq_base.specs.declared.fault.EvalFault.{EvalFault}
+use Rattle.bq_base.specs.declared.fault.EvalFault.TheVariants.{BadValue}
 use Rattle.bq_parse_grammar.specs.declared.tree.Comparison.{Comparison}
 use Rattle.bq_parse_grammar.specs.declared.tree.Operator.{Operator}
 use Rattle.bq_parse_grammar.specs.declared.tree.UnaryOperator.{UnaryOperator}
@@ -68,13 +69,21 @@ pub record Primitives (S : Type 0) : Type 0 where
   pub enter : ℕ → ℕ → Action S (Unit {0})
   pub leave : S → S
 
+-- The rules have a meaning for each tree. One that no file resolves to stops with this fault, F57, which the rules give nowhere else.
+abbrev pub stuck_fault : EvalFault
+stuck_fault = BadValue
+
 module _ {S : Type 0} (m : Primitives S) where
   -- the run stops with a fault, on the line that it is on
-  abbrev pub stop : {A : Type 0} → FaultKind → Action S A
+  abbrev pub stop : {A : Type 0} → EvalFault → Action S A
   stop kind = λ s. stopped (stop_at kind (m.machine s))
 
+  -- the run has come to what no file that is resolved has
+  abbrev pub stuck : {A : Type 0} → Action S A
+  stuck = stop stuck_fault
+
   -- a result as what an evaluation does
-  abbrev pub given_by : {A : Type 0} → Result A FaultKind → Action S A
+  abbrev pub given_by : {A : Type 0} → Result A EvalFault → Action S A
   given_by (Ok x) = λ s. done x s
   given_by (Err kind) = stop kind
 

@@ -1,7 +1,7 @@
 -- The arguments of a call, one after another (Starlark, "Function and method calls").
 use Rattle.std.specs.Prelude.{ℕ, ◌+◌, nat_le, cond, List, [], ◌∷◌, ◌++◌, length, Result, Ok, Err}
-use Rattle.bq_base.specs.declared.fault.FaultKind.{FaultKind}
-use Rattle.bq_base.specs.declared.fault.FaultKind.TheVariants.{WrongType, TooLong}
+use Rattle.bq_base.specs.declared.fault.EvalFault.{EvalFault}
+use Rattle.bq_base.specs.declared.fault.EvalFault.TheVariants.{WrongType, TooLong}
 use Rattle.bq_value.specs.Datum.{Datum, string}
 use Rattle.bq_builtin_machine.specs.State.{State}
 use Rattle.bq_builtin_machine.specs.Action.{Action, ◌>>=◌, given, look}
@@ -12,7 +12,7 @@ use Rattle.bq_builtin_machine.specs.Answer.{and_then}
 use Rattle.bq_builtin_numbers.specs.Length.{max_len}
 
 -- there are so few that one call may pass them, else F54
-abbrev pub if_few : Passed → Result Passed FaultKind
+abbrev pub if_few : Passed → Result Passed EvalFault
 if_few p = cond (nat_le (length p.positional + length p.named) max_len) (Ok p) (Err TooLong)
 
 -- more arguments by place
@@ -24,12 +24,12 @@ abbrev pub with_named : Passed → List ℕ → Datum → Passed
 with_named p name v = record p { named = p.named ++ (name, v) ∷ [] }
 
 -- a key of `**` is a name, or F40
-abbrev pub name_of : Datum → Result (List ℕ) FaultKind
+abbrev pub name_of : Datum → Result (List ℕ) EvalFault
 name_of (string name) = Ok name
 name_of _ = Err WrongType
 
 -- the pairs of a dict, each as a named argument
-unfoldable pub with_pairs : Passed → List (Datum × Datum) → Result Passed FaultKind
+unfoldable pub with_pairs : Passed → List (Datum × Datum) → Result Passed EvalFault
 with_pairs p [] = Ok p
 with_pairs p (x ∷ xs) = and_then (name_of x.0) (λ name. with_pairs (with_named p name x.1) xs)
 

@@ -5,7 +5,7 @@ ghost use Rattle.bq_base.specs.Gives.{Gives};
 ghost use Rattle.bq_value.specs.declared.error.EvalErr.TheVariants.{Bad};
 ghost use Rattle.bq_eval_operations.specs.Making.{with_element, with_pair, with_new_pair};
 
-use bq_base::FaultKind;
+use bq_base::EvalFault;
 use bq_builtin_numbers::MAX_LEN;
 use bq_value::{Body, Content, EvalErr, Key, Value};
 
@@ -17,12 +17,12 @@ pub(crate) fn with_element(content: &mut Content, value: Value) -> Result<(), Ev
     match content.change()? {
         Body::List(values) => {
             if values.len() >= MAX_LEN {
-                return Err(EvalErr::Bad(FaultKind::TooLong));
+                return Err(EvalErr::Bad(EvalFault::TooLong));
             }
             values.push(value)?;
             Ok(())
         }
-        _ => Err(EvalErr::Bad(FaultKind::WrongType)),
+        _ => Err(EvalErr::Bad(EvalFault::WrongType)),
     }
 }
 
@@ -35,11 +35,11 @@ pub(crate) fn with_pair(content: &mut Content, key: Key, value: Value) -> Result
         Body::Dict(dict) => {
             let _before = dict.insert(key, value)?;
             if dict.len() > MAX_LEN {
-                return Err(EvalErr::Bad(FaultKind::TooLong));
+                return Err(EvalErr::Bad(EvalFault::TooLong));
             }
             Ok(())
         }
-        _ => Err(EvalErr::Bad(FaultKind::WrongType)),
+        _ => Err(EvalErr::Bad(EvalFault::WrongType)),
     }
 }
 
@@ -51,10 +51,10 @@ pub(crate) fn with_new_pair(content: &mut Content, key: Key, value: Value) -> Re
     match content.body() {
         Body::Dict(dict) => {
             if dict.get(&key).is_some() {
-                return Err(EvalErr::Bad(FaultKind::DoubleKey));
+                return Err(EvalErr::Bad(EvalFault::DoubleKey));
             }
         }
-        _ => return Err(EvalErr::Bad(FaultKind::WrongType)),
+        _ => return Err(EvalErr::Bad(EvalFault::WrongType)),
     }
     with_pair(content, key, value)
 }

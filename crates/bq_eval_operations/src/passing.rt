@@ -2,21 +2,21 @@
 
 ghost use Rattle.std.specs.Prelude.{◌≡◌, ◌+◌, ◌++◌, length, cond, nat_le, Ok, Err, OnOk};
 ghost use Rattle.bq_base.specs.Gives.{Gives};
-ghost use Rattle.bq_base.specs.declared.fault.FaultKind.TheVariants.{TooLong};
+ghost use Rattle.bq_base.specs.declared.fault.EvalFault.TheVariants.{TooLong};
 ghost use Rattle.bq_value.specs.declared.error.EvalErr.TheVariants.{Bad};
 ghost use Rattle.bq_builtin_numbers.specs.Length.{max_len};
 ghost use Rattle.bq_builtin_operators.specs.Operand.{dict_in};
 ghost use Rattle.bq_builtin_machine.specs.Answer.{and_then};
 ghost use Rattle.bq_eval_operations.specs.Passing.{if_few, with_positional, with_named, with_pairs, name_of};
 
-use bq_base::FaultKind;
+use bq_base::EvalFault;
 use bq_builtin_machine::{Args, Elements};
 use bq_builtin_numbers::joined_len;
 use bq_value::{Body, Dict, EvalErr, Node, Store, Value};
 use std::alloc::AllocError;
 
 /// Fails with F54 if `more` further arguments are too many.
-pub(crate) fn check_count(args: &Args, more: usize) -> Result<(), FaultKind>
+pub(crate) fn check_count(args: &Args, more: usize) -> Result<(), EvalFault>
     ensures { result ≡ cond (nat_le (length args.now.positional + length args.now.named + more) max_len) (Ok tt) (Err TooLong) }
 {
     joined_len(args.positional.len() + args.named.len(), more)?;
@@ -69,7 +69,7 @@ fn push_pair(args: &mut Args, key: &Value, value: &Value) -> Result<(), EvalErr>
             args.named.push((name.share()?, value.share()?))?;
             Ok(())
         }
-        _ => Err(EvalErr::Bad(FaultKind::WrongType)),
+        _ => Err(EvalErr::Bad(EvalFault::WrongType)),
     }
 }
 
@@ -79,12 +79,12 @@ pub(crate) fn dict_in<'s>(store: &'s Store, value: &Value) -> Result<&'s Dict, E
 {
     match &value.node {
         Node::Cell(cell) => match store.content(*cell) {
-            None => Err(EvalErr::Bad(FaultKind::WrongType)),
+            None => Err(EvalErr::Bad(EvalFault::WrongType)),
             Some(content) => match content.body() {
                 Body::Dict(dict) => Ok(dict),
-                _ => Err(EvalErr::Bad(FaultKind::WrongType)),
+                _ => Err(EvalErr::Bad(EvalFault::WrongType)),
             },
         },
-        _ => Err(EvalErr::Bad(FaultKind::WrongType)),
+        _ => Err(EvalErr::Bad(EvalFault::WrongType)),
     }
 }

@@ -3,7 +3,7 @@
 ghost use Rattle.bq_builtin_machine.specs.Action.{Does};
 ghost use Rattle.bq_eval_operations.specs.Unpacking.{parts};
 
-use bq_base::FaultKind;
+use bq_base::EvalFault;
 use bq_builtin_machine::{Elements, Machine};
 use bq_value::{EvalErr, Value};
 use std::alloc::Global;
@@ -20,12 +20,12 @@ pub fn parts_of(
 {
     match machine.elements(alloc, value) {
         Err(EvalErr::Memory) => Err(EvalErr::Memory),
-        Err(EvalErr::Bad(_)) => Err(EvalErr::Bad(FaultKind::BadValue)),
+        Err(EvalErr::Bad(_)) => Err(EvalErr::Bad(EvalFault::BadValue)),
         Ok(elements) => {
             if elements.len() == count {
                 Ok(elements)
             } else {
-                Err(EvalErr::Bad(FaultKind::BadValue))
+                Err(EvalErr::Bad(EvalFault::BadValue))
             }
         }
     }

@@ -1,8 +1,8 @@
 //! What holds of calls of build functions. The functions do nothing: their contracts are the laws.
 
 ghost use Rattle.std.specs.Prelude.{◌≡◌, ℕ, List, Err, true, false};
-ghost use Rattle.bq_base.specs.declared.fault.FaultKind.{FaultKind};
-ghost use Rattle.bq_base.specs.declared.fault.FaultKind.TheVariants.{GlobEmpty};
+ghost use Rattle.bq_base.specs.declared.fault.EvalFault.{EvalFault};
+ghost use Rattle.bq_base.specs.declared.fault.EvalFault.TheVariants.{GlobEmpty};
 ghost use Rattle.bq_value_rule_class.specs.Class.{Class};
 ghost use Rattle.bq_value.specs.Cells.{StoreView};
 ghost use Rattle.bq_builtin_machine.specs.Args.{Passed};
@@ -40,7 +40,7 @@ pub fn declarations_are_refused_in_order()
 /// package, or no name is left of all. If it may be empty, no call is F76.
 pub fn globs_that_give_nothing_are_refused()
     ensures refused { (p : PlaceView) (r : GlobRequest) → r.allows_empty ≡ false → GivesNothing p r → found p r ≡ Err GlobEmpty }
-    ensures only { (p : PlaceView) (r : GlobRequest) (why : FaultKind) → found p r ≡ Err why → (why ≡ GlobEmpty) × (r.allows_empty ≡ false) × GivesNothing p r }
+    ensures only { (p : PlaceView) (r : GlobRequest) (why : EvalFault) → found p r ≡ Err why → (why ≡ GlobEmpty) × (r.allows_empty ≡ false) × GivesNothing p r }
 {}
 
 /// What `attr.NAME(default = v)` keeps is what the call of a rule in a file of that package keeps of `v`; and one is

@@ -1,7 +1,7 @@
 //! What holds of calls of rules. The functions do nothing: their contracts are the laws.
 
 ghost use Rattle.std.specs.Prelude.{◌≡◌, ℕ, List, None, Ok, Err};
-ghost use Rattle.bq_base.specs.declared.fault.FaultKind.TheVariants.{NoAttribute};
+ghost use Rattle.bq_base.specs.declared.fault.EvalFault.TheVariants.{NoAttribute};
 ghost use Rattle.bq_package_target.specs.Value.{attribute_type};
 ghost use Rattle.bq_package_target.specs.declared.target.Target.{Target};
 ghost use Rattle.bq_value.specs.Datum.{Datum};

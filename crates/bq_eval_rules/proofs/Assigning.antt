@@ -1,6 +1,5 @@
 -- Assignments, one part after another.
 use Rattle.std.proofs.Common.{◌≡◌, ◌∙◌, List, [], sym, ap}
-use Rattle.bq_base.specs.declared.fault.FaultKind.TheVariants as f
 use Rattle.bq_parse_grammar.specs.declared.tree.Argument.TheOpen.{TargetExpr-F}
 use Rattle.bq_parse_grammar.specs.declared.tree.Expr.{Expr}
 use Rattle.bq_parse_grammar.specs.declared.tree.Identifier.{Identifier}
@@ -11,7 +10,7 @@ use Rattle.bq_resolve_scope.specs.Names.{TargetLayer, max_layers}
 use Rattle.bq_value.specs.Datum.{Datum}
 use Rattle.bq_builtin_machine.specs.Action.{Action, done, following, pure}
 use Rattle.bq_eval_meaning_spec.specs.Frame.{Frame, fill}
-use Rattle.bq_eval_meaning_spec.specs.Primitives.{Primitives, stop}
+use Rattle.bq_eval_meaning_spec.specs.Primitives.{Primitives, stuck}
 use Rattle.bq_eval_language_spec.specs.Slots.{by_slots, slot_of}
 use Rattle.bq_eval_language_spec.specs.Targets.{assign, augment, augment_by, augment_index, augment_name, bind_by, bind_place, bind_target, bind_to, bind_variables, Binds, bound, Places, place, places_by, places_each, places_of, places_to, unpack}
 use Rattle.bq_eval_language_spec.specs.Trees.{Eval}
@@ -39,10 +38,10 @@ module _ {S : Type 0} (m : Primitives S) (eval : Eval S Frame) where
     pub item_augmented : (y i : Expr) → t ≡ target.Index y i → augment m by_slots eval t op x env s ≡ augment_index m eval y i op x env s
     item_augmented y i is = augment_in (TargetExpr-F.TargetExpr::Index y i) (ap out-TargetExpr is ∙ target.outs-Index y i)
 
-    pub no_tuple_augmented : (ts : List TargetExpr) → t ≡ target.Tuple ts → augment m by_slots eval t op x env s ≡ stop m f.Syntax s
+    pub no_tuple_augmented : (ts : List TargetExpr) → t ≡ target.Tuple ts → augment m by_slots eval t op x env s ≡ stuck m s
     no_tuple_augmented ts is = augment_in (TargetExpr-F.TargetExpr::Tuple ts) (ap out-TargetExpr is ∙ target.outs-Tuple ts)
 
-    pub no_list_augmented : (ts : List TargetExpr) → t ≡ target.List ts → augment m by_slots eval t op x env s ≡ stop m f.Syntax s
+    pub no_list_augmented : (ts : List TargetExpr) → t ≡ target.List ts → augment m by_slots eval t op x env s ≡ stuck m s
     no_list_augmented ts is = augment_in (TargetExpr-F.TargetExpr::List ts) (ap out-TargetExpr is ∙ target.outs-List ts)
 
   -- the places of a target, by its form

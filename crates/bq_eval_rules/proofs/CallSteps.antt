@@ -1,8 +1,8 @@
 -- One call, where a number of functions may still become active.
 use Rattle.std.proofs.Common.{◌≡◌, ◌∙◌, ℕ, zero, suc, ◌<◌, ◌≤◌, ◌-◌, List, length, get_or, slice_get, Option, Some, None, Result, Ok, Err, refl, ap, subst, arith}
 use Rattle.std.proofs.lemmas.Option.{slice_get_past, slice_get_read}
-use Rattle.bq_base.specs.declared.fault.FaultKind.{FaultKind}
-use Rattle.bq_base.specs.declared.fault.FaultKind.TheVariants.{CallDepth, WrongType}
+use Rattle.bq_base.specs.declared.fault.EvalFault.{EvalFault}
+use Rattle.bq_base.specs.declared.fault.EvalFault.TheVariants.{CallDepth, WrongType}
 use Rattle.bq_base.specs.Gives.{Gives}
 use Rattle.bq_value.specs.declared.error.EvalErr.{EvalErr}
 use Rattle.bq_value.specs.declared.error.EvalErr.TheVariants.{Bad, Memory}
@@ -26,12 +26,12 @@ unfolding calls inner_calls
 calls_step zero m units v p s = refl
 calls_step (suc left) m units v p s = refl
 
-abbrev kind_in : EvalErr → FaultKind
+abbrev kind_in : EvalErr → EvalFault
 kind_in (Bad kind) = kind
 kind_in Memory = CallDepth
 
 -- a body that may not run any more (F51)
-pub no_body : {S : Type 0} (left : ℕ) (m : Primitives S) (units : Units Surroundings) (u : TreeUnit Surroundings) (d : Function) (env : Frame) (s : S) → left ≡ 0 → (why : FaultKind) → Bad CallDepth ≡ Bad why
+pub no_body : {S : Type 0} (left : ℕ) (m : Primitives S) (units : Units Surroundings) (u : TreeUnit Surroundings) (d : Function) (env : Frame) (s : S) → left ≡ 0 → (why : EvalFault) → Bad CallDepth ≡ Bad why
     → run_body m by_slots (inner_calls left m by_slots units) u d env s ≡ stopped (stop_at why (m.machine s))
 unfolding inner_calls run_body
 no_body zero m units u d env s none why is = ap (λ k. stopped (stop_at k (m.machine s))) (ap kind_in is)
@@ -61,10 +61,10 @@ module _ {S : Type 0} (m : Primitives S) (units : Units Surroundings) (inner : O
   unfolding call_at
   in_unit found is = ap (λ x. known m x (λ u. known m (slice_get u.functions place) (λ d. call_function m by_slots inner home place u d ds p)) s) is
 
-  pub no_unit : units home ≡ None → (why : FaultKind) → Bad WrongType ≡ Bad why → call_at m by_slots units inner home place ds p s ≡ stopped (stop_at why (m.machine s))
+  pub no_unit : units home ≡ None → (why : EvalFault) → Bad WrongType ≡ Bad why → call_at m by_slots units inner home place ds p s ≡ stopped (stop_at why (m.machine s))
   no_unit is why bad = in_unit None is ∙ ap (λ k. stopped (stop_at k (m.machine s))) (ap kind_in bad)
 
-  pub no_function : (u : TreeUnit Surroundings) → units home ≡ Some u → length u.functions ≤ place → (why : FaultKind) → Bad WrongType ≡ Bad why → call_at m by_slots units inner home place ds p s ≡ stopped (stop_at why (m.machine s))
+  pub no_function : (u : TreeUnit Surroundings) → units home ≡ Some u → length u.functions ≤ place → (why : EvalFault) → Bad WrongType ≡ Bad why → call_at m by_slots units inner home place ds p s ≡ stopped (stop_at why (m.machine s))
   no_function u is past why bad =
       in_unit (Some u) is ∙ (ap (λ x. known m x (λ d. call_function m by_slots inner home place u d ds p) s) (slice_get_past u.functions place past)
       ∙ ap (λ k. stopped (stop_at k (m.machine s))) (ap kind_in bad))
@@ -75,6 +75,6 @@ module _ {S : Type 0} (m : Primitives S) (units : Units Surroundings) (inner : O
       in_unit (Some u) is ∙ ap (λ x. known m x (λ d. call_function m by_slots inner home place u d ds p) s) (slice_get_read u.functions (length u.functions) place d refl within at)
 
 -- an answer that needs no state is an action
-pub given_acts : {S A B : Type 0} (m : Primitives S) (view : A → B) (result : Result A EvalErr) (s : S) (said : Result B FaultKind) → Gives view Bad result said → Acts m view result s (given_by m said s)
+pub given_acts : {S A B : Type 0} (m : Primitives S) (view : A → B) (result : Result A EvalErr) (s : S) (said : Result B EvalFault) → Gives view Bad result said → Acts m view result s (given_by m said s)
 given_acts m view (Ok x) s said h = ap (λ r. given_by m r s) h
 given_acts m view (Err e) s said h = λ why is. ap (λ r. given_by m r s) (h why is)

@@ -1,6 +1,5 @@
 -- A statement runs by its form.
 use Rattle.std.proofs.Common.{◌≡◌, ◌∙◌, List, ap}
-use Rattle.bq_base.specs.declared.fault.FaultKind.TheVariants as f
 use Rattle.bq_parse_grammar.specs.declared.tree.Branch.{Branch}
 use Rattle.bq_parse_grammar.specs.declared.tree.Expr.{Expr}
 use Rattle.bq_parse_grammar.specs.declared.tree.Identifier.{Identifier}
@@ -12,7 +11,7 @@ use Rattle.bq_parse_grammar.specs.declared.tree.Stmt.TheVariants as forms
 use Rattle.bq_parse_grammar.specs.declared.tree.TargetExpr.{TargetExpr}
 use Rattle.bq_builtin_machine.specs.Action.{following}
 use Rattle.bq_eval_meaning_spec.specs.Frame.{Frame}
-use Rattle.bq_eval_meaning_spec.specs.Primitives.{Primitives, stop}
+use Rattle.bq_eval_meaning_spec.specs.Primitives.{Primitives, stuck}
 use Rattle.bq_eval_language_spec.specs.Statements.{Exec, branches, for_loop, line, stmt, stmt_by}
 use Rattle.bq_eval_language_spec.specs.Slots.{by_slots}
 use Rattle.bq_eval_language_spec.specs.Trees.{Eval, StmtLayer}
@@ -31,5 +30,5 @@ module _ {S : Type 0} (m : Primitives S) (eval : Eval S Frame) (run : Stmt → E
   pub loop_runs : (t : TargetExpr) (y : Expr) (xs : List Stmt) → x ≡ forms.For t y xs → stmt m by_slots eval run x env s ≡ following (m.step 1 s) (λ _. for_loop m by_slots eval run t y xs env)
   loop_runs t y xs is = run_in (Stmt-F.For t y xs) (ap out-Stmt is ∙ forms.outs-For t y xs)
 
-  pub no_def_runs : (n : Identifier) (ps : List Parameter) (xs : List Stmt) → x ≡ forms.Def n ps xs → stmt m by_slots eval run x env s ≡ stop m f.LeftOut s
+  pub no_def_runs : (n : Identifier) (ps : List Parameter) (xs : List Stmt) → x ≡ forms.Def n ps xs → stmt m by_slots eval run x env s ≡ stuck m s
   no_def_runs n ps xs is = run_in (Stmt-F.Def n ps xs) (ap out-Stmt is ∙ forms.outs-Def n ps xs)

@@ -12,8 +12,8 @@ use Rattle.bq_builtin_machine.specs.Args.{Passed}
 use Rattle.bq_builtin_machine.specs.Parameters.{ParameterView, SignatureView, is_called, places}
 use Rattle.bq_builtin_machine.specs.Binding.{BoundView, Binding, and_bind, bind, complete_from, fill, fill_by, has_value, if_complete, placed, placed_values, take_all_named, take_keyword, take_named, take_named_by}
 use Rattle.bq_builtin_machine.specs.State.{stop_at}
-use Rattle.bq_base.specs.declared.fault.FaultKind.{FaultKind}
-use Rattle.bq_base.specs.declared.fault.FaultKind.TheVariants as f
+use Rattle.bq_base.specs.declared.fault.EvalFault.{EvalFault}
+use Rattle.bq_base.specs.declared.fault.EvalFault.TheVariants as f
 use Rattle.bq_eval_meaning_spec.specs.Frame.{Frame, empty, fill as put}
 use Rattle.bq_eval_meaning_spec.specs.Primitives.{Primitives, given_by}
 use Rattle.bq_eval_frame.specs.Slots.{list_slots}
@@ -144,7 +144,7 @@ next_put before v =
 
 -- ---- parameters fill the frame with their values
 
-abbrev framed : Values → Result Frame FaultKind
+abbrev framed : Values → Result Frame EvalFault
 framed (Ok vs) = Ok (list_slots vs)
 framed (Err kind) = Err kind
 
@@ -280,5 +280,5 @@ module _ {S : Type 0} (m : Primitives S) (d : Function) (ds : List Datum) (s : S
   pub straight : (p : Passed) (vs : List (Option Datum)) → are_direct 0 d.parameters ≡ true → direct_values d.parameters ds p ≡ Ok vs → entry m by_slots d ds p s ≡ done (list_slots vs) s
   straight p vs direct is = directly p direct ∙ ap (λ r. given_by m (framed r) s) is
 
-  pub not_bound : (p : Passed) (kind : FaultKind) → are_direct 0 d.parameters ≡ true → direct_values d.parameters ds p ≡ Err kind → entry m by_slots d ds p s ≡ stopped (stop_at kind (m.machine s))
+  pub not_bound : (p : Passed) (kind : EvalFault) → are_direct 0 d.parameters ≡ true → direct_values d.parameters ds p ≡ Err kind → entry m by_slots d ds p s ≡ stopped (stop_at kind (m.machine s))
   not_bound p kind direct is = directly p direct ∙ ap (λ r. given_by m (framed r) s) is

@@ -1,6 +1,6 @@
 -- What a call of the evaluator did: its answer and the state after it are those of the definition's run, unless memory ran out.
 use Rattle.std.specs.Prelude.{◌≡◌, Result, Ok, Err}
-use Rattle.bq_base.specs.declared.fault.FaultKind.{FaultKind}
+use Rattle.bq_base.specs.declared.fault.EvalFault.{EvalFault}
 use Rattle.bq_value.specs.declared.error.EvalErr.{EvalErr}
 use Rattle.bq_value.specs.declared.error.EvalErr.TheVariants.{Bad}
 use Rattle.bq_builtin_machine.specs.Action.{Run, Ends, stopped}
@@ -13,4 +13,4 @@ Acts m view result s run = Ends view result s (m.machine s) run
 -- A call did the first part of a run: `left` is what is still to be done, unless the run stopped there, or memory ran out.
 abbrev pub Leaves : {S A B : Type 0} → Primitives S → (A → Run S B) → Result A EvalErr → S → Run S B → Type 0
 Leaves m left (Ok x) s run = run ≡ left x
-Leaves m left (Err e) s run = (why : FaultKind) → e ≡ Bad why → run ≡ stopped (stop_at why (m.machine s))
+Leaves m left (Err e) s run = (why : EvalFault) → e ≡ Bad why → run ≡ stopped (stop_at why (m.machine s))

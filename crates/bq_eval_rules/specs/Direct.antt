@@ -1,7 +1,7 @@
 -- Arguments that go straight into the frame: those of parameters that take one each, whose slots are the first, in their order.
 use Rattle.std.specs.Prelude.{ℕ, ◌+◌, ◌-◌, ◌==◌, nat_le, Bool, true, false, cond, List, [], ◌∷◌, ◌++◌, length, map, replicate, set, slice_get, Option, Some, None, Result, Ok, Err}
-use Rattle.bq_base.specs.declared.fault.FaultKind.{FaultKind}
-use Rattle.bq_base.specs.declared.fault.FaultKind.TheVariants.{Args}
+use Rattle.bq_base.specs.declared.fault.EvalFault.{EvalFault}
+use Rattle.bq_base.specs.declared.fault.EvalFault.TheVariants.{Args}
 use Rattle.bq_value.specs.Datum.{Datum}
 use Rattle.bq_resolve_scope.specs.declared.file.Formal.{Formal}
 use Rattle.bq_resolve_scope.specs.declared.file.Formal.TheVariants as formal
@@ -32,7 +32,7 @@ padded count xs = map Some xs ++ replicate (count - length xs) None
 
 -- values, or the fault of the call
 abbrev pub Values : Type 0
-Values = Result (List (Option Datum)) FaultKind
+Values = Result (List (Option Datum)) EvalFault
 
 -- the values once the parameter of that place has one: its argument, or else this default
 abbrev pub value_or : Option (Option Datum) → ℕ → Datum → List (Option Datum) → Values

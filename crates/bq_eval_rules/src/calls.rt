@@ -18,7 +18,7 @@ use crate::parameters::{bind_args, has_star_star, keywords_of};
 use crate::runtime::Runtime;
 use crate::statements::run_block;
 use crate::units::{TreeUnit, unit_at};
-use bq_base::FaultKind;
+use bq_base::EvalFault;
 use bq_builtin_machine::{Args, Bound};
 use bq_eval_frame::Frame;
 use bq_resolve_predeclared::{HostFunction, Predeclared};
@@ -88,7 +88,7 @@ pub fn run_body<R: Runtime>(
     ensures { Returns R.means R.seen (body_here R.means context.now (unit_of unit.now) function.now (slots_of frame.old)) runtime.old result runtime.new }
 {
     if context.left == 0 {
-        return Err(EvalErr::Bad(FaultKind::CallDepth));
+        return Err(EvalErr::Bad(EvalFault::CallDepth));
     }
     let inner = Context {
         alloc: context.alloc,
@@ -141,9 +141,9 @@ pub fn call_at<R: Runtime>(
     ensures { Returns R.means R.seen (call_place R.means context.now called.now.«module» called.now.place called.now.defaults.items args) runtime.old result runtime.new }
 {
     match unit_at(context.program, context.own, called.module) {
-        None => Err(EvalErr::Bad(FaultKind::WrongType)),
+        None => Err(EvalErr::Bad(EvalFault::WrongType)),
         Some(unit) => match unit.functions.get(called.place as usize) {
-            None => Err(EvalErr::Bad(FaultKind::WrongType)),
+            None => Err(EvalErr::Bad(EvalFault::WrongType)),
             Some(function) => { call_function(context, runtime, called, &unit, function, args) }
         },
     }
@@ -169,6 +169,6 @@ pub fn call<R: Runtime>(
         }
         Node::RuleFunction(function) => runtime.call_rule_function(context.alloc, *function, args),
         Node::Cell(cell) => runtime.call_cell(context.alloc, *cell, args),
-        _ => Err(EvalErr::Bad(FaultKind::WrongType)),
+        _ => Err(EvalErr::Bad(EvalFault::WrongType)),
     }
 }

@@ -10,7 +10,7 @@ ghost use Rattle.bq_eval_language_spec.specs.Calls.{singles};
 ghost use Rattle.bq_eval_rules.specs.Direct.{are_direct, direct_signature, direct_values, only, padded, value_or, with_defaults};
 
 use crate::targets::slot_of;
-use bq_base::{Bytes, FaultKind};
+use bq_base::{Bytes, EvalFault};
 use bq_builtin_machine::Args;
 use bq_resolve_scope::Formal;
 use bq_value::{EvalErr, Value};
@@ -98,10 +98,10 @@ fn take_all_named(
 {
     for (name, value) in named {
         let Some(i) = parameter_called(parameters, name.as_slice()) else {
-            return Err(EvalErr::Bad(FaultKind::Args));
+            return Err(EvalErr::Bad(EvalFault::Args));
         };
         if i >= values.len() || values[i].is_some() {
-            return Err(EvalErr::Bad(FaultKind::Args));
+            return Err(EvalErr::Bad(EvalFault::Args));
         }
         values[i] = Some(value);
     }
@@ -122,7 +122,7 @@ fn take_default(values: &mut Vec<Option<Value>>, i: usize, default: &Value) -> R
     ensures { Gives (λ _. values.new.items) Bad result (value_or (slice_get values.old.items i) i default.now values.old.items) }
 {
     if i >= values.len() {
-        return Err(EvalErr::Bad(FaultKind::Args));
+        return Err(EvalErr::Bad(EvalFault::Args));
     }
     if values[i].is_none() {
         values[i] = Some(default.share()?);
@@ -144,17 +144,17 @@ fn take_defaults(
         match parameter {
             Formal::Plain(_) => {
                 if !has_value(values, i) {
-                    return Err(EvalErr::Bad(FaultKind::Args));
+                    return Err(EvalErr::Bad(EvalFault::Args));
                 }
             }
             Formal::Default(_) => {
                 let [default, rest @ ..] = left else {
-                    return Err(EvalErr::Bad(FaultKind::Args));
+                    return Err(EvalErr::Bad(EvalFault::Args));
                 };
                 take_default(values, i, default)?;
                 left = rest;
             }
-            _ => return Err(EvalErr::Bad(FaultKind::Args)),
+            _ => return Err(EvalErr::Bad(EvalFault::Args)),
         }
     }
     Ok(())
@@ -173,7 +173,7 @@ pub fn direct_values(
 {
     let Args { positional, named } = args;
     if positional.len() > parameters.len() {
-        return Err(EvalErr::Bad(FaultKind::Args));
+        return Err(EvalErr::Bad(EvalFault::Args));
     }
     let mut values = placed(alloc, slots, parameters.len(), positional)?;
     take_all_named(&mut values, parameters, named)?;

@@ -12,7 +12,7 @@ use crate::context::Context;
 use crate::evaluator::Evaluator;
 use crate::operand::{literal, use_of};
 use crate::runtime::Runtime;
-use bq_base::FaultKind;
+use crate::stuck::stuck;
 use bq_builtin_machine::Args;
 use bq_eval_frame::Frame;
 use bq_parse_grammar::Expr;
@@ -36,7 +36,7 @@ pub fn expr_to<
     ensures { Returns R.means R.seen (nested R.means depth context.now code.now (slots_of frame.now)) runtime.old result runtime.new }
 {
     if depth == 0 {
-        return Err(EvalErr::Bad(FaultKind::Nesting));
+        return Err(stuck());
     }
     // PROOF: lends both again.
     Evaluator {
@@ -91,7 +91,7 @@ impl<
             Expr::Conditional(choices, otherwise) => {
                 self.conditional(runtime, choices.as_slice(), otherwise.get())
             }
-            Expr::Lambda => Err(EvalErr::Bad(FaultKind::LeftOut)),
+            Expr::Lambda => Err(stuck()),
         }
     }
 }

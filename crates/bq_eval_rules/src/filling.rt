@@ -8,7 +8,7 @@ ghost use Rattle.bq_eval_rules.specs.Fillings.{filling_of, FillsFrame};
 
 use crate::runtime::Runtime;
 use crate::targets::slot_of;
-use bq_base::FaultKind;
+use bq_base::EvalFault;
 use bq_builtin_machine::copies;
 use bq_eval_frame::Frame;
 use bq_parse_grammar::Identifier;
@@ -47,8 +47,8 @@ fn fill_plain<'a, R: Runtime>(
                 keywords: filling.keywords,
             })
         }
-        Some((None, _)) => Err(EvalErr::Bad(FaultKind::Args)),
-        None => Err(EvalErr::Bad(FaultKind::Args)),
+        Some((None, _)) => Err(EvalErr::Bad(EvalFault::Args)),
+        None => Err(EvalErr::Bad(EvalFault::Args)),
     }
 }
 
@@ -63,10 +63,10 @@ fn fill_default<'a, R: Runtime>(
 {
     let _ = runtime;
     let Some((argument, values)) = filling.values.split_first() else {
-        return Err(EvalErr::Bad(FaultKind::Args));
+        return Err(EvalErr::Bad(EvalFault::Args));
     };
     let Some((default, defaults)) = filling.defaults.split_first() else {
-        return Err(EvalErr::Bad(FaultKind::Args));
+        return Err(EvalErr::Bad(EvalFault::Args));
     };
     match argument {
         Some(value) => frame.fill(slot_of(name), value.share()?)?,

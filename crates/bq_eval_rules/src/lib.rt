@@ -13,7 +13,7 @@
 //!
 //! In reading order:
 //!
-//! - `runtime`: what the rules ask for;
+//! - `runtime`: what the rules ask for; `stuck`: what a tree means that no file resolves to;
 //! - `context`, `names`, `operand`: the values of names, which stand in frames (bq_eval_frame), and the environment of an
 //!   expression;
 //! - `evaluator`, `displays`, `operators`, `suffixes`, `comprehensions`, `expressions`: the rules of expressions;
@@ -43,6 +43,7 @@ mod reader;
 mod runtime;
 mod small;
 mod statements;
+mod stuck;
 mod suffixes;
 mod targets;
 mod units;

@@ -6,7 +6,7 @@ ghost use Rattle.bq_eval_rules.specs.Acts.{Acts};
 ghost use Rattle.bq_eval_rules.specs.Operands.{local_use};
 
 use crate::runtime::Runtime;
-use bq_base::FaultKind;
+use bq_base::EvalFault;
 use bq_eval_frame::Frame;
 use bq_value::{EvalErr, Value};
 
@@ -21,7 +21,7 @@ pub fn bound<'f, R: Runtime>(
     ensures { Acts R.means (λ v. v.now) result (R.seen runtime.now) (bound R.means (slots_of frame.now slot) (R.seen runtime.now)) }
 {
     match frame.get(slot) {
-        None => Err(EvalErr::Bad(FaultKind::Unbound)),
+        None => Err(EvalErr::Bad(EvalFault::Unbound)),
         Some(value) => Ok(value),
     }
 }

@@ -12,7 +12,8 @@ ghost use Rattle.bq_eval_rules.specs.Operands.{read_of};
 
 use crate::context::Context;
 use crate::runtime::Runtime;
-use bq_base::FaultKind;
+use crate::stuck::stuck;
+use bq_base::EvalFault;
 use bq_eval_frame::Frame;
 use bq_parse_grammar::{Identifier, Referent};
 use bq_value::{EvalErr, Value};
@@ -60,8 +61,7 @@ pub fn use_of<'f, R: Runtime>(
 {
     runtime.step(1)?;
     let value = match name.referent {
-        // of no tree that is evaluated
-        Referent::Unresolved(_) => return Err(EvalErr::Bad(FaultKind::UnknownName)),
+        Referent::Unresolved(_) => return Err(stuck()),
         Referent::Local(slot) => frame.get(slot),
         Referent::Global(k) => context.globals.get(k),
         Referent::Loaded(k) => context.loaded.get(k),
@@ -69,7 +69,7 @@ pub fn use_of<'f, R: Runtime>(
         Referent::Member(name) => return Ok(Operand::Own(runtime.predeclared(name)?)),
     };
     match value {
-        None => Err(EvalErr::Bad(FaultKind::Unbound)),
+        None => Err(EvalErr::Bad(EvalFault::Unbound)),
         Some(value) => Ok(Operand::Lent(value)),
     }
 }

@@ -15,8 +15,8 @@ use crate::expressions::expr_to;
 use crate::names::bound;
 use crate::places::IndexedOperands;
 use crate::runtime::Runtime;
+use crate::stuck::stuck;
 use crate::targets::{MAX_LAYERS, bind_to, slot_of};
-use bq_base::FaultKind;
 use bq_builtin_machine::Args;
 use bq_eval_frame::Frame;
 use bq_parse_grammar::{Expr, Identifier, Operator, TargetExpr};
@@ -172,7 +172,7 @@ impl<
         ensures { Produces R.means R.seen places.new.items (meaning.places_to R.means (evals_of R.means self.now) depth target.now (slots_of frame.now) places.old.items) runtime.old result runtime.new }
     {
         if depth == 0 {
-            return Err(EvalErr::Bad(FaultKind::Nesting));
+            return Err(stuck());
         }
         self.places_of(frame, runtime, places, depth - 1, target)
     }
@@ -305,8 +305,8 @@ impl<
             TargetExpr::Index(operand, index) => {
                 self.augment_index(frame, runtime, operand.get(), index.get(), op)
             }
-            TargetExpr::Tuple(_) => Err(EvalErr::Bad(FaultKind::Syntax)),
-            TargetExpr::List(_) => Err(EvalErr::Bad(FaultKind::Syntax)),
+            TargetExpr::Tuple(_) => Err(stuck()),
+            TargetExpr::List(_) => Err(stuck()),
         }
     }
 }

@@ -12,8 +12,8 @@ use crate::context::Context;
 use crate::flow::Flow;
 use crate::reader::Reader;
 use crate::runtime::Runtime;
+use crate::stuck::stuck;
 use crate::targets::{MAX_LAYERS, begin_turn};
-use bq_base::FaultKind;
 use bq_builtin_machine::{Args, Walk};
 use bq_eval_frame::Frame;
 use bq_parse_grammar::{Branch, Expr, Stmt, TargetExpr};
@@ -42,7 +42,7 @@ fn run_to<R: Runtime, C: Copy + Fn(&Context<'_>, &mut R, &Value, Args) -> Result
     ensures { Executes R.means R.seen (meaning.run_to depth R.means by_slots (evals R.means context.now) stmt.now) frame.old runtime.old result frame.new runtime.new }
 {
     if depth == 0 {
-        return Err(EvalErr::Bad(FaultKind::Nesting));
+        return Err(stuck());
     }
     // PROOF: lends the context again.
     Runner {
@@ -221,7 +221,7 @@ impl<
                 runtime.step(1)?;
                 self.for_loop(frame, runtime, target, iterable, body.as_slice())
             }
-            Stmt::Def(_, _, _) => Err(EvalErr::Bad(FaultKind::LeftOut)),
+            Stmt::Def(_, _, _) => Err(stuck()),
         }
     }
 }

@@ -10,7 +10,8 @@ ghost use Rattle.bq_eval_rules.specs.Evaluators.{EvaluatesInside, evals_in, call
 use crate::context::Context;
 use crate::evaluator::Evaluator;
 use crate::runtime::Runtime;
-use bq_base::{Bytes, FaultKind};
+use crate::stuck::stuck;
+use bq_base::Bytes;
 use bq_builtin_machine::Args;
 use bq_eval_frame::Frame;
 use bq_parse_grammar::{Argument, Expr, Referent, Suffix};
@@ -164,7 +165,7 @@ impl<
             Suffix::Method(name, arguments) => {
                 self.method(runtime, &name.name, arguments.as_slice(), value)
             }
-            Suffix::Attribute(_) => Err(EvalErr::Bad(FaultKind::LeftOut)),
+            Suffix::Attribute(_) => Err(stuck()),
             Suffix::Index(index) => self.index(runtime, index.get(), value),
             Suffix::Slice(start, stop, step) => { self.slice(runtime, start, stop, step, value) }
         }

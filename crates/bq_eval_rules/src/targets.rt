@@ -9,7 +9,7 @@ ghost use Rattle.bq_eval_rules.specs.Effects.{Produces, Rebinds, BindsParts};
 
 use crate::places::IndexedOperands;
 use crate::runtime::Runtime;
-use bq_base::FaultKind;
+use crate::stuck::stuck;
 use bq_builtin_machine::Elements;
 use bq_eval_frame::Frame;
 use bq_parse_grammar::{Identifier, Referent, TargetExpr};
@@ -45,7 +45,7 @@ fn bind_place<R: Runtime>(
     ensures { BindsParts R.means R.seen (meaning.bind_place R.means value) frame.now places.old runtime.old result frame.now places.new runtime.new }
 {
     match places.next() {
-        None => Err(EvalErr::Bad(FaultKind::Syntax)),
+        None => Err(stuck()),
         Some((operand, index)) => runtime.set_index(&operand, &index, value),
     }
 }
@@ -127,7 +127,7 @@ pub fn bind_to<R: Runtime>(
     ensures { BindsParts R.means R.seen (meaning.bind_to R.means by_slots depth target.now value) frame.old places.old runtime.old result frame.new places.new runtime.new }
 {
     if depth == 0 {
-        return Err(EvalErr::Bad(FaultKind::Nesting));
+        return Err(stuck());
     }
     bind_target(runtime, frame, places, depth - 1, target, value)
 }

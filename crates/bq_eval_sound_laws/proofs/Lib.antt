@@ -8,3 +8,13 @@ pub mod ParsedFiles
 -- trees in which nothing is are sound
 pub mod Soundness
 pub mod Sound
+-- what does not get stuck, and the rules of the language over sound trees
+pub mod Unstuck
+pub mod Arguments
+pub mod TargetRules
+pub mod ComprehensionRules
+pub mod ExpressionRules
+pub mod StatementRules
+pub mod CallRules
+pub mod ModuleRules
+pub mod Running

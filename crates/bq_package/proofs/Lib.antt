@@ -1,8 +1,6 @@
 -- what an answer in place of a pattern says
 pub mod Cases
 pub mod Patterns
--- each fault for which a call is refused is one that a host may refuse a call for
-pub mod Refusals
 -- what calls mean, one function at a time
 pub mod Meaning
 -- what is kept after a call that declares

@@ -1,22 +1,17 @@
 -- What calls mean, one function at a time, from what is read of their arguments.
-use Rattle.std.proofs.Common.{◌≡◌, ℕ, true, List, Result, Ok, Err, refl, subst}
+use Rattle.std.proofs.Common.{◌≡◌, ℕ, List, Result, Ok, Err, refl, subst}
 use Rattle.bq_base.specs.Gives.{Gives}
-use Rattle.bq_base.specs.declared.fault.FaultKind.{FaultKind}
-use Rattle.bq_base.specs.declared.fault.FaultKind.TheVariants as f
+use Rattle.bq_base.specs.declared.fault.EvalFault.{EvalFault}
+use Rattle.bq_base.specs.declared.fault.EvalFault.TheVariants as f
 use Rattle.bq_label.specs.Label.{LabelParts}
 use Rattle.bq_value_rule_class.specs.Class.{Class}
-use Rattle.bq_value.specs.Datum.{Datum, none, string}
+use Rattle.bq_value.specs.Datum.{Datum}
 use Rattle.bq_value.specs.declared.error.EvalErr.{EvalErr}
 use Rattle.bq_value.specs.declared.error.EvalErr.TheVariants.{Bad}
 use Rattle.bq_builtin_machine.specs.Args.{Passed}
-use Rattle.bq_builtin_machine.specs.Binding.{bind}
-use Rattle.bq_builtin_machine.specs.Cells.{new_list, new_content}
-use Rattle.bq_builtin_machine.specs.State.{State, Stop, stop_at}
-use Rattle.bq_builtin_machine.specs.Action.{Run, stopped, ◌>>=◌, given, on_machine, Does, HostDoes}
-use Rattle.bq_package_host.specs.Refusals.{is_refusal, Refuses}
+use Rattle.bq_builtin_machine.specs.State.{State, stop_at}
+use Rattle.bq_builtin_machine.specs.Action.{stopped, Does, HostDoes}
 use Rattle.bq_package_target.specs.declared.target.Target.{Target}
-use Rattle.bq_package_target.specs.declared.state.Declared.{Declared}
-use Rattle.bq_package_target.specs.declared.state.Declared.TheVariants.{Accepted, Refused}
 use Rattle.bq_package_target.specs.Calls.{declared, exported}
 use Rattle.bq_resolve_predeclared.specs.declared.host_function.HostFunction.{HostFunction}
 use Rattle.bq_resolve_predeclared.specs.declared.host_function.HostFunction.TheVariants as b
@@ -25,35 +20,33 @@ use Rattle.bq_package.specs.Glob.{globbed}
 use Rattle.bq_package.specs.Files.{files_named}
 use Rattle.bq_package.specs.Groups.{group_named}
 use Rattle.bq_package.specs.Rules.{declared_target, rule_target}
-use Rattle.bq_package.specs.Calls.{HeldPackage, outside, declaring, Declaring, place_in, new_strings, package_name, ignored, settled, declares, call_in, call_by, rule_by}
+use Rattle.bq_package.specs.Calls.{HeldPackage, outside, declaring, place_in, new_strings, package_name, ignored, call_in, call_by, rule_by}
 use Rattle.bq_package.specs.Keeping.{IsSettled}
-use Rattle.bq_package.proofs.Refusals.{IsRefusable, of_glob, of_files, of_group, of_rule, of_declaration, of_both, of_bind}
-use Rattle.bq_package.proofs.Cases.{any_parameters, no_parameters}
 
 abbrev Answer : Type 0
 Answer = Result Datum EvalErr
 
 -- no BUILD file is evaluated
-pub refused_outside : (s : State) (kept : HeldPackage) (function : HostFunction) (passed : Passed) (why : FaultKind) → place_in kept ≡ Err why → call_by s kept function passed ≡ stopped (stop_at why s)
-refused_outside s (outside own packages) function passed why h = let e : f.NotInPackage ≡ why = cc in subst (λ (w : FaultKind). call_by s (outside own packages) function passed ≡ stopped (stop_at w s)) e refl
+pub refused_outside : (s : State) (kept : HeldPackage) (function : HostFunction) (passed : Passed) (why : EvalFault) → place_in kept ≡ Err why → call_by s kept function passed ≡ stopped (stop_at why s)
+refused_outside s (outside own packages) function passed why h = let e : f.NotInPackage ≡ why = cc in subst (λ (w : EvalFault). call_by s (outside own packages) function passed ≡ stopped (stop_at w s)) e refl
 refused_outside s (declaring d) function passed why h = absurd (cc)
 
-pub glob_refused : (s : State) (kept : HeldPackage) (p : PlaceView) (passed : Passed) (why : FaultKind) → place_in kept ≡ Ok p → globbed p s.store passed ≡ Err why → call_by s kept b.Glob passed ≡ stopped (stop_at why s)
+pub glob_refused : (s : State) (kept : HeldPackage) (p : PlaceView) (passed : Passed) (why : EvalFault) → place_in kept ≡ Ok p → globbed p s.store passed ≡ Err why → call_by s kept b.Glob passed ≡ stopped (stop_at why s)
 unfolding call_in
 glob_refused s (outside own packages) p passed why inside h = absurd (cc)
 glob_refused s (declaring d) p passed why inside h = let e : d.place ≡ p = cc in rw (e, h) refl
 
-pub files_refused : (s : State) (kept : HeldPackage) (p : PlaceView) (passed : Passed) (why : FaultKind) → place_in kept ≡ Ok p → files_named p s.store passed ≡ Err why → call_by s kept b.ExportsFiles passed ≡ stopped (stop_at why s)
+pub files_refused : (s : State) (kept : HeldPackage) (p : PlaceView) (passed : Passed) (why : EvalFault) → place_in kept ≡ Ok p → files_named p s.store passed ≡ Err why → call_by s kept b.ExportsFiles passed ≡ stopped (stop_at why s)
 unfolding call_in
 files_refused s (outside own packages) p passed why inside h = absurd (cc)
 files_refused s (declaring d) p passed why inside h = let e : d.place ≡ p = cc in rw (e, h) refl
 
-pub group_refused : (s : State) (kept : HeldPackage) (p : PlaceView) (passed : Passed) (why : FaultKind) → place_in kept ≡ Ok p → group_named p s.store s.line passed ≡ Err why → call_by s kept b.PackageGroup passed ≡ stopped (stop_at why s)
+pub group_refused : (s : State) (kept : HeldPackage) (p : PlaceView) (passed : Passed) (why : EvalFault) → place_in kept ≡ Ok p → group_named p s.store s.line passed ≡ Err why → call_by s kept b.PackageGroup passed ≡ stopped (stop_at why s)
 unfolding call_in
 group_refused s (outside own packages) p passed why inside h = absurd (cc)
 group_refused s (declaring d) p passed why inside h = let e : d.place ≡ p = cc in rw (e, h) refl
 
-pub rule_refused : (s : State) (kept : HeldPackage) (p : PlaceView) (passed : Passed) (rule : ℕ) (why : FaultKind) → place_in kept ≡ Ok p → rule_target p s.store s.line rule passed ≡ Err why
+pub rule_refused : (s : State) (kept : HeldPackage) (p : PlaceView) (passed : Passed) (rule : ℕ) (why : EvalFault) → place_in kept ≡ Ok p → rule_target p s.store s.line rule passed ≡ Err why
     → call_by s kept (b.Rule rule) passed ≡ stopped (stop_at why s)
 unfolding call_in
 rule_refused s (outside own packages) p passed rule why inside h = absurd (cc)
@@ -117,11 +110,11 @@ rule_done s (declaring d) after p passed rule t result inside h settles =
     rw here (settles.says s d refl)
 
 -- a rule that a .bzl file declares
-pub rule_outside : (s : State) (kept : HeldPackage) (rule : List ℕ) (class : Class) (passed : Passed) (why : FaultKind) → place_in kept ≡ Err why → rule_by s kept rule class passed ≡ stopped (stop_at why s)
-rule_outside s (outside own packages) rule class passed why h = let e : f.NotInPackage ≡ why = cc in subst (λ (w : FaultKind). rule_by s (outside own packages) rule class passed ≡ stopped (stop_at w s)) e refl
+pub rule_outside : (s : State) (kept : HeldPackage) (rule : List ℕ) (class : Class) (passed : Passed) (why : EvalFault) → place_in kept ≡ Err why → rule_by s kept rule class passed ≡ stopped (stop_at why s)
+rule_outside s (outside own packages) rule class passed why h = let e : f.NotInPackage ≡ why = cc in subst (λ (w : EvalFault). rule_by s (outside own packages) rule class passed ≡ stopped (stop_at w s)) e refl
 rule_outside s (declaring d) rule class passed why h = absurd (cc)
 
-pub declared_refused : (s : State) (kept : HeldPackage) (p : PlaceView) (rule : List ℕ) (class : Class) (passed : Passed) (why : FaultKind) → place_in kept ≡ Ok p
+pub declared_refused : (s : State) (kept : HeldPackage) (p : PlaceView) (rule : List ℕ) (class : Class) (passed : Passed) (why : EvalFault) → place_in kept ≡ Ok p
     → declared_target p s.store s.line rule class passed ≡ Err why → rule_by s kept rule class passed ≡ stopped (stop_at why s)
 declared_refused s (outside own packages) p rule class passed why inside h = absurd (cc)
 declared_refused s (declaring d) p rule class passed why inside h = let e : d.place ≡ p = cc in rw (e, h) refl
@@ -133,67 +126,3 @@ declared_done s (declaring d) after p rule class passed t result inside h settle
     let e : p ≡ d.place = cc in
     let here : declared_target d.place s.store s.line rule class passed ≡ Ok t = subst (λ (q : PlaceView). declared_target q s.store s.line rule class passed ≡ Ok t) e h in
     rw here (settles.says s d refl)
-
--- ---- refusals
-
-abbrev halted : Stop → Run (State × HeldPackage) Datum
-halted why = stopped why
-
-stops : (s : State) (kind : FaultKind) (why : Stop) → halted (stop_at kind s) ≡ halted why → is_refusal kind ≡ true → is_refusal why.kind ≡ true
-stops s kind why h is = let e : stop_at kind s ≡ why = cc in subst (λ (w : Stop). is_refusal w.kind ≡ true) e is
-
-of_answer : (s : State) (d : Declaring) (r : Result Datum FaultKind) (why : Stop) → IsRefusable r → on_machine {W = HeldPackage} (given r) (s, declaring d) ≡ stopped why → is_refusal why.kind ≡ true
-of_answer s d (Ok v) why is h = absurd (cc)
-of_answer s d (Err kind) why is h = stops s kind why h is
-
-of_names : (s : State) (d : Declaring) (r : Result (List (List ℕ)) FaultKind) (why : Stop) → IsRefusable r → on_machine {W = HeldPackage} (given r >>= new_strings) (s, declaring d) ≡ stopped why
-    → is_refusal why.kind ≡ true
-unfolding new_strings new_list new_content
-of_names s d (Ok names) why is h = absurd (cc)
-of_names s d (Err kind) why is h = stops s kind why h is
-
-of_settled : (s : State) (d : Declaring) (after : Declared) (why : Stop) → settled s d after ≡ stopped why → is_refusal why.kind ≡ true
-of_settled s d (Accepted q) why h = absurd (cc)
-of_settled s d (Refused q) why h = stops s f.DoubleTarget why h refl
-
-of_declares : {A : Type 0} (s : State) (d : Declaring) (r : Result A FaultKind) (declare : A → Declared) (why : Stop) → IsRefusable r → declares s d r declare ≡ stopped why
-    → is_refusal why.kind ≡ true
-of_declares s d (Ok x) declare why is h = of_settled s d (declare x) why h
-of_declares s d (Err kind) declare why is h = stops s kind why h is
-
-pub of_name : (p : PlaceView) (passed : Passed) → IsRefusable (package_name p passed)
-unfolding package_name
-of_name p passed = of_both (bind no_parameters passed) (λ b. Ok (string p.own.package)) (of_bind no_parameters passed) (λ b. tt)
-
-pub of_ignored : (passed : Passed) → IsRefusable (ignored passed)
-unfolding ignored
-of_ignored passed = of_both (bind any_parameters passed) (λ b. Ok none) (of_bind any_parameters passed) (λ b. tt)
-
-of_call : (s : State) (d : Declaring) (function : HostFunction) (passed : Passed) (why : Stop) → call_in d s function passed ≡ stopped why → is_refusal why.kind ≡ true
-unfolding call_in
-of_call s d b.Glob passed why h = of_names s d (globbed d.place s.store passed) why (of_glob d.place s.store passed) h
-of_call s d b.PackageName passed why h = of_answer s d (package_name d.place passed) why (of_name d.place passed) h
-of_call s d b.Package passed why h = of_answer s d (ignored passed) why (of_ignored passed) h
-of_call s d b.Licenses passed why h = of_answer s d (ignored passed) why (of_ignored passed) h
-of_call s d b.ExportsFiles passed why h = of_declares s d (files_named d.place s.store passed) (λ ls. exported d.package ls s.line) why (of_files d.place s.store passed) h
-of_call s d b.PackageGroup passed why h = of_declares s d (group_named d.place s.store s.line passed) (declared d.package) why (of_group d.place s.store s.line passed) h
-of_call s d (b.Rule rule) passed why h = of_declares s d (rule_target d.place s.store s.line rule passed) (declared d.package) why (of_rule d.place s.store s.line rule passed) h
-
-of_kept : (s : State) (kept : HeldPackage) (function : HostFunction) (passed : Passed) (why : Stop) → call_by s kept function passed ≡ stopped why → is_refusal why.kind ≡ true
-of_kept s (outside own packages) function passed why h = stops s f.NotInPackage why h refl
-of_kept s (declaring d) function passed why h = of_call s d function passed why h
-
--- a call is refused for a fault of the table
-pub refuses : (result : Answer) (s m : State) (kept after : HeldPackage) (function : HostFunction) (passed : Passed) → HostDoes (λ v. v) result m after (call_by s kept function passed) → Refuses result
-refuses (Ok v) s m kept after function passed does = tt
-refuses (Err e) s m kept after function passed does = λ kind is. of_kept s kept function passed (stop_at kind m) (does kind is)
-
-of_rule_kept : (s : State) (kept : HeldPackage) (rule : List ℕ) (class : Class) (passed : Passed) (why : Stop) → rule_by s kept rule class passed ≡ stopped why → is_refusal why.kind ≡ true
-unfolding declared_target
-of_rule_kept s (outside own packages) rule class passed why h = stops s f.NotInPackage why h refl
-of_rule_kept s (declaring d) rule class passed why h =
-    of_declares s d (declared_target d.place s.store s.line rule class passed) (declared d.package) why (of_declaration d.place.own d.place.packages s.store class rule s.line passed) h
-
-pub rule_refuses : (result : Answer) (s m : State) (kept after : HeldPackage) (rule : List ℕ) (class : Class) (passed : Passed) → HostDoes (λ v. v) result m after (rule_by s kept rule class passed) → Refuses result
-rule_refuses (Ok v) s m kept after rule class passed does = tt
-rule_refuses (Err e) s m kept after rule class passed does = λ kind is. of_rule_kept s kept rule class passed (stop_at kind m) (does kind is)

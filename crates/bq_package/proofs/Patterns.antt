@@ -3,8 +3,8 @@ use Rattle.std.proofs.Common.{◌≡◌, ◌∙◌, ◌<◌, ◌+◌, ℕ, Bool,
 use Rattle.std.proofs.lemmas.List.{drop_more}
 use Rattle.bq_base.specs.Fault.{fault_at}
 use Rattle.bq_base.specs.declared.fault.Fault.{Fault}
-use Rattle.bq_base.specs.declared.fault.FaultKind.{FaultKind}
-use Rattle.bq_base.specs.declared.fault.FaultKind.TheVariants.{GlobPattern}
+use Rattle.bq_base.specs.declared.fault.EvalFault.{EvalFault}
+use Rattle.bq_base.specs.declared.fault.EvalFault.TheVariants.{GlobPattern}
 use Rattle.bq_label_glob_pattern.specs.Pattern.{is_pattern, pattern_of}
 use Rattle.bq_package_typed_value.specs.Steps.{and_then, in_turn}
 use Rattle.bq_package.specs.Glob.{pattern}
@@ -31,9 +31,9 @@ module _ (texts : List (List ℕ)) (i : ℕ) (t : List ℕ) (done : List (List �
   left : drop i texts ≡ t ∷ drop (i + 1) texts
   left = drop_more texts i t within ∙ ap (λ (z : List ℕ). z ∷ drop (i + 1) texts) (sym at)
 
-  turned : (r : Result (List ℕ) FaultKind) → pattern t ≡ r → in_turn pattern done (drop i texts) ≡ and_then r (λ y. in_turn pattern (done ++ y ∷ []) (drop (i + 1) texts))
+  turned : (r : Result (List ℕ) EvalFault) → pattern t ≡ r → in_turn pattern done (drop i texts) ≡ and_then r (λ y. in_turn pattern (done ++ y ∷ []) (drop (i + 1) texts))
   unfolding in_turn
-  turned r is = ap (in_turn pattern done) left ∙ ap (λ (z : Result (List ℕ) FaultKind). and_then z (λ y. in_turn pattern (done ++ y ∷ []) (drop (i + 1) texts))) is
+  turned r is = ap (in_turn pattern done) left ∙ ap (λ (z : Result (List ℕ) EvalFault). and_then z (λ y. in_turn pattern (done ++ y ∷ []) (drop (i + 1) texts))) is
 
   pub one_more : (p : List ℕ) (more : List (List ℕ)) → pattern_of t ≡ Ok p → more ≡ done ++ p ∷ [] → in_turn pattern done (drop i texts) ≡ in_turn pattern more (drop (i + 1) texts)
   one_more p more h grown = turned (Ok p) (pattern_ok t p h) ∙ ap (λ (z : List (List ℕ)). in_turn pattern z (drop (i + 1) texts)) (sym grown)

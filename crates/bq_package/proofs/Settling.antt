@@ -1,8 +1,8 @@
 -- What is kept after a call that declares.
 use Rattle.std.proofs.Common.{◌≡◌, ◌∙◌, ℕ, Bool, true, false, cond, List, ◌++◌, Result, Ok, Err, refl, sym, ap, subst}
 use Rattle.std.specs.List.{list_any}
-use Rattle.bq_base.specs.declared.fault.FaultKind.{FaultKind}
-use Rattle.bq_base.specs.declared.fault.FaultKind.TheVariants as f
+use Rattle.bq_base.specs.declared.fault.EvalFault.{EvalFault}
+use Rattle.bq_base.specs.declared.fault.EvalFault.TheVariants as f
 use Rattle.bq_label.specs.declared.packages.BuildFile.{BuildFile}
 use Rattle.bq_label.specs.Label.{PackageParts, LabelParts}
 use Rattle.bq_value.specs.Datum.{Datum, none}
@@ -10,7 +10,7 @@ use Rattle.bq_value.specs.declared.error.EvalErr.{EvalErr}
 use Rattle.bq_value.specs.declared.error.EvalErr.TheVariants.{Bad, Memory}
 use Rattle.bq_builtin_machine.specs.State.{State, stop_at}
 use Rattle.bq_builtin_machine.specs.Action.{done, stopped, HostDoes}
-use Rattle.bq_package_host.specs.Refusals.{KeepsIfRefused}
+use Rattle.bq_package_host.specs.Host.{KeepsIfRefused}
 use Rattle.bq_package_target.specs.declared.target.Target.{Target}
 use Rattle.bq_package_target.specs.declared.state.Declared.{Declared}
 use Rattle.bq_package_target.specs.declared.state.Declared.TheVariants.{Accepted, Refused}
@@ -50,7 +50,7 @@ settled_as : (s : State) (d : Declaring) (p : PlaceView) (q : PackageTargets) (o
 settled_as s d p q (Accepted r) result after e (is, kept) =
     let at : record { place = p; «package» = q } ≡ d = cc in
     rw (is, kept) (subst (λ (x : Declaring). settled s x (Accepted r) ≡ done none (s, declaring (record { place = p; «package» = r }))) at refl)
-settled_as s d p q (Refused r) result after e (is, kept) = rw is (λ why same. let k : f.DoubleTarget ≡ why = cc in ap (λ (w : FaultKind). stopped (stop_at w s)) k)
+settled_as s d p q (Refused r) result after e (is, kept) = rw is (λ why same. let k : f.DoubleTarget ≡ why = cc in ap (λ (w : EvalFault). stopped (stop_at w s)) k)
 
 kept_as : (p : PlaceView) (q : PackageTargets) (outcome : Declared) (result : Answer) (after : HeldPackage) → ((r : PackageTargets) → outcome ≡ Refused r → r ≡ q) → Settles result after p outcome
     → KeepsIfRefused result (declaring (record { place = p; «package» = q })) after
@@ -80,7 +80,7 @@ pub memory_settles : (before after : HeldPackage) (declare : PackageTargets → 
 memory_settles before after declare = record { says = λ s d e. λ why same. absurd (cc); keeps = λ why same. absurd (cc) }
 
 -- no BUILD file is evaluated
-pub none_settles : (own : PackageParts) (packages : List BuildFile) (why : FaultKind) (declare : PackageTargets → Declared) → IsSettled (Err (Bad why)) (outside own packages) (outside own packages) declare
+pub none_settles : (own : PackageParts) (packages : List BuildFile) (why : EvalFault) (declare : PackageTargets → Declared) → IsSettled (Err (Bad why)) (outside own packages) (outside own packages) declare
 none_settles own packages why declare = record { says = λ s d e. absurd (cc); keeps = λ kind same. refl }
 
 -- what nothing changes stays

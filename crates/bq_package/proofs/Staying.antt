@@ -1,7 +1,7 @@
 -- What is declared stays.
 use Rattle.std.proofs.Common.{◌≡◌, ◌∙◌, ℕ, Bool, true, false, cond, List, [], ◌++◌, Result, Ok, Err, refl, sym, ap, append-nil}
 use Rattle.std.specs.List.{list_any}
-use Rattle.bq_base.specs.declared.fault.FaultKind.{FaultKind}
+use Rattle.bq_base.specs.declared.fault.EvalFault.{EvalFault}
 use Rattle.bq_label.specs.Label.{LabelParts}
 use Rattle.bq_value_rule_class.specs.Class.{Class}
 use Rattle.bq_value.specs.Datum.{Datum}
@@ -41,7 +41,7 @@ same_package d v w s t after h =
     let q : (s, declaring d) ≡ (t, after) = cc in
     record { next = d; more = []; kept = sym (ap (λ (x : State × HeldPackage). x.1) q); place = refl; targets = sym (append-nil d.package.targets) }
 
-answer_stays : (s t : State) (d : Declaring) (r : Result Datum FaultKind) (w : Datum) (after : HeldPackage) → on_machine {W = HeldPackage} (given r) (s, declaring d) ≡ done w (t, after) → GoesOn d after
+answer_stays : (s t : State) (d : Declaring) (r : Result Datum EvalFault) (w : Datum) (after : HeldPackage) → on_machine {W = HeldPackage} (given r) (s, declaring d) ≡ done w (t, after) → GoesOn d after
 answer_stays s t d (Ok v) w after h = same_package d v w s t after h
 answer_stays s t d (Err kind) w after h = absurd (cc)
 
@@ -55,7 +55,7 @@ module _ (d : Declaring) (s t : State) (w : Datum) (after : HeldPackage) where
       record { next = record d { «package» = q }; more = m.0; kept = sym (ap (λ (x : State × HeldPackage). x.1) e); place = refl; targets = m.1 }
   adds declare each (Refused q) is h = absurd (cc)
 
-  declares_stays : {A : Type 0} (r : Result A FaultKind) (declare : A → PackageTargets → Declared)
+  declares_stays : {A : Type 0} (r : Result A EvalFault) (declare : A → PackageTargets → Declared)
       → ((x : A) (q : PackageTargets) → declare x d.package ≡ Accepted q → (more : List Target) × (q.targets ≡ d.package.targets ++ more))
       → declares s d r (λ x. declare x d.package) ≡ done w (t, after) → GoesOn d after
   declares_stays (Ok x) declare each h = adds (declare x) (each x) (declare x d.package) refl h
@@ -77,7 +77,7 @@ exported_adds : (line : ℕ) (ls : List LabelParts) (p q : PackageTargets) → e
 unfolding exported
 exported_adds line ls p q h = by_taken p (record p { targets = p.targets ++ files line p.targets ls }) q (files line p.targets ls) (list_any (is_taken p.targets) ls) refl h
 
-names_stay : (s t : State) (d : Declaring) (r : Result (List (List ℕ)) FaultKind) (w : Datum) (after : HeldPackage) → on_machine {W = HeldPackage} (given r >>= new_strings) (s, declaring d) ≡ done w (t, after)
+names_stay : (s t : State) (d : Declaring) (r : Result (List (List ℕ)) EvalFault) (w : Datum) (after : HeldPackage) → on_machine {W = HeldPackage} (given r >>= new_strings) (s, declaring d) ≡ done w (t, after)
     → GoesOn d after
 unfolding new_strings new_list new_content
 names_stay s t d (Err kind) w after h = absurd (cc)

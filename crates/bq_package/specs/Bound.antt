@@ -1,7 +1,7 @@
 -- The parameters of the build functions (Bazel, Build Encyclopedia, "Functions"), and what is read of the arguments that they take.
 use Rattle.std.specs.Prelude.{ℕ, false, List, [], ◌∷◌, Option, Some, None, Result, Ok, Err, codes}
-use Rattle.bq_base.specs.declared.fault.FaultKind.{FaultKind}
-use Rattle.bq_base.specs.declared.fault.FaultKind.TheVariants.{AttributeType}
+use Rattle.bq_base.specs.declared.fault.EvalFault.{EvalFault}
+use Rattle.bq_base.specs.declared.fault.EvalFault.TheVariants.{AttributeType}
 use Rattle.bq_value.specs.Datum.{Datum}
 use Rattle.bq_value.specs.Cells.{StoreView}
 use Rattle.bq_builtin_machine.specs.Parameters.{SignatureView}
@@ -36,11 +36,11 @@ group_parameters = record {
 }
 
 -- a string (F73)
-abbrev pub text_of : Option Datum → Result (List ℕ) FaultKind
+abbrev pub text_of : Option Datum → Result (List ℕ) EvalFault
 text_of None = Err AttributeType
 text_of (Some v) = text_in AttributeType v
 
 -- a list or a tuple of strings (F73); no strings if the argument is left out
-abbrev pub texts_of : StoreView → Option Datum → Result (List (List ℕ)) FaultKind
+abbrev pub texts_of : StoreView → Option Datum → Result (List (List ℕ)) EvalFault
 texts_of store None = Ok []
 texts_of store (Some v) = texts_in AttributeType store v

@@ -1,8 +1,8 @@
 -- What the calls of build functions and of rules mean (Bazel, Build Encyclopedia, "Functions"). While no BUILD file is evaluated each of
 -- them is F70, before any other fault. A rule that a .bzl file declares and a rule of the schema declare targets by one definition.
 use Rattle.std.specs.Prelude.{ℕ, List, [], map, Bool, true, false, Option, Some, None, Result, Ok, Err}
-use Rattle.bq_base.specs.declared.fault.FaultKind.{FaultKind}
-use Rattle.bq_base.specs.declared.fault.FaultKind.TheVariants.{NotInPackage, DoubleTarget}
+use Rattle.bq_base.specs.declared.fault.EvalFault.{EvalFault}
+use Rattle.bq_base.specs.declared.fault.EvalFault.TheVariants.{NotInPackage, DoubleTarget}
 use Rattle.bq_label.specs.declared.packages.BuildFile.{BuildFile}
 use Rattle.bq_label.specs.Label.{PackageParts}
 use Rattle.bq_value_rule_class.specs.Class.{Class}
@@ -59,7 +59,7 @@ package_in (outside own packages) = None
 package_in (declaring d) = Some d.package
 
 -- where the BUILD file is evaluated, or F70
-abbrev pub place_in : HeldPackage → Result PlaceView FaultKind
+abbrev pub place_in : HeldPackage → Result PlaceView EvalFault
 place_in (outside own packages) = Err NotInPackage
 place_in (declaring d) = Ok d.place
 
@@ -78,12 +78,12 @@ unfoldable pub new_strings : List (List ℕ) → Action State Datum
 new_strings texts = new_list (map string texts)
 
 -- what a call of `package_name` gives (F52)
-unfoldable pub package_name : PlaceView → Passed → Result Datum FaultKind
+unfoldable pub package_name : PlaceView → Passed → Result Datum EvalFault
 package_name p passed =
     and_then (bind (record { parameters = []; placed = 0; takes_rest = false; takes_keywords = false }) passed) (λ b. Ok (string p.own.package))
 
 -- what a call gives that takes any arguments and changes nothing (F52 where a keyword is there twice)
-unfoldable pub ignored : Passed → Result Datum FaultKind
+unfoldable pub ignored : Passed → Result Datum EvalFault
 ignored passed = and_then (bind (record { parameters = []; placed = 0; takes_rest = true; takes_keywords = true }) passed) (λ b. Ok none)
 
 -- a call that declares targets gives `None`; a call that is refused, F74, leaves all as it was
@@ -92,7 +92,7 @@ settled s d (Accepted after) = done none (s, declaring (record d { «package» =
 settled s d (Refused after) = stopped (stop_at DoubleTarget s)
 
 -- a call that declares what its arguments say, or their fault
-abbrev pub declares : {A : Type 0} → State → Declaring → Result A FaultKind → (A → Declared) → Run (State × HeldPackage) Datum
+abbrev pub declares : {A : Type 0} → State → Declaring → Result A EvalFault → (A → Declared) → Run (State × HeldPackage) Datum
 declares s d (Ok a) declare = settled s d (declare a)
 declares s d (Err why) declare = stopped (stop_at why s)
 
@@ -131,7 +131,7 @@ is_building (declaring d) = true
 
 -- the value of a default, with its labels read in the package of the file that is evaluated: F78, and F37 where one crosses into another
 -- package
-unfoldable pub default_value : HeldPackage → Written → Result AttributeValue FaultKind
+unfoldable pub default_value : HeldPackage → Written → Result AttributeValue EvalFault
 default_value held written = typed (own_of held) (packages_of held) written
 
 -- what the host makes of calls

@@ -2,8 +2,8 @@
 use Rattle.std.specs.Prelude.{ℕ, pos, Bool, true, false, ◌||◌, List, [], ◌∷◌, Option, Some, None, Result, Ok, Err, if◌then◌else◌}
 use Rattle.std.specs.List.{list_any}
 use Rattle.std.specs.Ordering.{int_eq}
-use Rattle.bq_base.specs.declared.fault.FaultKind.{FaultKind}
-use Rattle.bq_base.specs.declared.fault.FaultKind.TheVariants.{BadValue, GlobPattern, GlobEmpty}
+use Rattle.bq_base.specs.declared.fault.EvalFault.{EvalFault}
+use Rattle.bq_base.specs.declared.fault.EvalFault.TheVariants.{BadValue, GlobPattern, GlobEmpty}
 use Rattle.bq_value.specs.Datum.{Datum, boolean, int}
 use Rattle.bq_value.specs.Cells.{StoreView}
 use Rattle.bq_value_compare.specs.Truth.{truth_of}
@@ -19,11 +19,11 @@ use Rattle.bq_package_typed_value.specs.Parameters.{argument}
 use Rattle.bq_package.specs.Bound.{glob_parameters, texts_of}
 
 -- a pattern, if it is well formed
-abbrev pub pattern : List ℕ → Result (List ℕ) FaultKind
+abbrev pub pattern : List ℕ → Result (List ℕ) EvalFault
 pattern text = if is_pattern text then Ok text else Err GlobPattern
 
 -- texts as patterns (F77)
-unfoldable pub patterns : List (List ℕ) → Result (List (List ℕ)) FaultKind
+unfoldable pub patterns : List (List ℕ) → Result (List (List ℕ)) EvalFault
 patterns texts = in_turn pattern [] texts
 
 -- directories are never given, and asking for them is F57 (ours)
@@ -39,13 +39,13 @@ allows_empty store None = true
 allows_empty store (Some v) = truth_of store v
 
 -- what `glob` is asked for, if its patterns are well formed
-unfoldable pub request_by : Bool → Bool → List (List ℕ) → List (List ℕ) → Result GlobRequest FaultKind
+unfoldable pub request_by : Bool → Bool → List (List ℕ) → List (List ℕ) → Result GlobRequest EvalFault
 request_by excludes allows include exclude =
     if excludes then and_then (patterns include) (λ is. and_then (patterns exclude) (λ es. Ok (record { include = is; exclude = es; allows_empty = allows })))
     else Err BadValue
 
 -- what a call asks for, of the arguments of its parameters
-unfoldable pub request_of : StoreView → List (Option Datum) → Result GlobRequest FaultKind
+unfoldable pub request_of : StoreView → List (Option Datum) → Result GlobRequest EvalFault
 request_of store vs =
     and_then (texts_of store (argument vs 0)) (λ include.
     and_then (texts_of store (argument vs 1)) (λ exclude.
@@ -60,11 +60,11 @@ abbrev pub is_idle : PlaceView → List ℕ → Bool
 is_idle p pattern = is_nothing (names_of p (pattern ∷ []) [])
 
 -- F76 where nothing may not be given, and some pattern matches no file, or nothing is given
-unfoldable pub found : PlaceView → GlobRequest → Result (List (List ℕ)) FaultKind
+unfoldable pub found : PlaceView → GlobRequest → Result (List (List ℕ)) EvalFault
 found p r =
     if r.allows_empty then Ok (names_of p r.include r.exclude)
     else (if list_any (is_idle p) r.include || is_nothing (names_of p r.include r.exclude) then Err GlobEmpty else Ok (names_of p r.include r.exclude))
 
 -- the names that a call gives
-unfoldable pub globbed : PlaceView → StoreView → Passed → Result (List (List ℕ)) FaultKind
+unfoldable pub globbed : PlaceView → StoreView → Passed → Result (List (List ℕ)) EvalFault
 globbed p store passed = and_then (bind glob_parameters passed) (λ b. and_then (request_of store b.values) (found p))

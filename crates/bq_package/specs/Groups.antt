@@ -2,7 +2,7 @@
 -- groups (F78, F37), in the order in which the two are written. What `packages` has isn't read (ours: there are no checks of
 -- visibility).
 use Rattle.std.specs.Prelude.{ℕ, Bool, true, false, ◌||◌, List, [], ◌∷◌, Option, Result, Ok, codes, bytes_eq, if◌then◌else◌}
-use Rattle.bq_base.specs.declared.fault.FaultKind.{FaultKind}
+use Rattle.bq_base.specs.declared.fault.EvalFault.{EvalFault}
 use Rattle.bq_label.specs.Label.{LabelParts}
 use Rattle.bq_value.specs.Datum.{Datum}
 use Rattle.bq_value.specs.Cells.{StoreView}
@@ -34,18 +34,18 @@ abbrev pub group : ℕ → LabelParts → List LabelParts → Target
 group line l includes = record { label = l; kind = target.Group; attributes = record { name = codes "includes"; value = a.LabelList includes } ∷ []; line = line }
 
 -- the labels of a group and of those that it includes
-unfoldable pub group_labels : PlaceView → Bool → List ℕ → List (List ℕ) → Result (LabelParts × List LabelParts) FaultKind
+unfoldable pub group_labels : PlaceView → Bool → List ℕ → List (List ℕ) → Result (LabelParts × List LabelParts) EvalFault
 group_labels p first name includes =
     if first then and_then (label p.own p.packages k.Name name) (λ l. and_then (labels p.own p.packages k.Label includes) (λ ls. Ok (l, ls)))
     else and_then (labels p.own p.packages k.Label includes) (λ ls. and_then (label p.own p.packages k.Name name) (λ l. Ok (l, ls)))
 
 -- the group that the arguments of the parameters declare
-unfoldable pub group_of : PlaceView → StoreView → ℕ → Bool → List (Option Datum) → Result Target FaultKind
+unfoldable pub group_of : PlaceView → StoreView → ℕ → Bool → List (Option Datum) → Result Target EvalFault
 group_of p store line first values =
     and_then (text_of (argument values 0)) (λ name.
     and_then (texts_of store (argument values 2)) (λ includes.
     and_then (group_labels p first name includes) (λ r. Ok (group line r.0 r.1))))
 
 -- the group that a call declares
-unfoldable pub group_named : PlaceView → StoreView → ℕ → Passed → Result Target FaultKind
+unfoldable pub group_named : PlaceView → StoreView → ℕ → Passed → Result Target EvalFault
 group_named p store line passed = and_then (bind group_parameters passed) (λ b. group_of p store line (names_first passed) b.values)

@@ -1,14 +1,14 @@
 -- What a host keeps after a call that declares targets.
 use Rattle.std.specs.Prelude.{◌≡◌, true, List, Result, Ok, Err}
 use Rattle.std.specs.List.{list_all}
-use Rattle.bq_base.specs.declared.fault.FaultKind.TheVariants.{DoubleTarget}
+use Rattle.bq_base.specs.declared.fault.EvalFault.TheVariants.{DoubleTarget}
 use Rattle.bq_label.specs.Label.{LabelParts}
 use Rattle.bq_value.specs.Datum.{Datum, none}
 use Rattle.bq_value.specs.declared.error.EvalErr.{EvalErr}
 use Rattle.bq_value.specs.declared.error.EvalErr.TheVariants.{Bad}
 use Rattle.bq_builtin_machine.specs.State.{State}
 use Rattle.bq_builtin_machine.specs.Action.{HostDoes}
-use Rattle.bq_package_host.specs.Refusals.{KeepsIfRefused}
+use Rattle.bq_package_host.specs.Host.{KeepsIfRefused}
 use Rattle.bq_package_target.specs.declared.target.Target.{Target}
 use Rattle.bq_package_target.specs.declared.state.Declared.{Declared}
 use Rattle.bq_package_target.specs.declared.state.Declared.TheVariants.{Accepted, Refused}

@@ -1,7 +1,7 @@
 -- Words of the laws.
 use Rattle.std.specs.Prelude.{◌≡◌, ◌↔◌, ℕ, List, ◌++◌, true, Some, Ok, slice_get}
 use Rattle.std.specs.List.{AllZip}
-use Rattle.bq_base.specs.declared.fault.FaultKind.TheVariants.{NotInPackage}
+use Rattle.bq_base.specs.declared.fault.EvalFault.TheVariants.{NotInPackage}
 use Rattle.bq_label.specs.declared.packages.BuildFile.{BuildFile}
 use Rattle.bq_label.specs.Label.{PackageParts, LabelParts, ReadsAs}
 use Rattle.bq_resolve_predeclared.specs.declared.host_function.HostFunction.{HostFunction}

@@ -6,7 +6,7 @@ ghost use Rattle.bq_value.specs.declared.error.EvalErr.TheVariants.{Bad};
 ghost use Rattle.bq_package_typed_value.specs.Parameters.{argument};
 ghost use Rattle.bq_package.specs.Bound.{text_of, texts_of};
 
-use bq_base::{Bytes, FaultKind};
+use bq_base::{Bytes, EvalFault};
 use bq_package_typed_value::{argument, text_in, texts_in};
 use bq_value::{EvalErr, Store, Value};
 use sqlite_items::Items;
@@ -17,8 +17,8 @@ pub fn text_of(values: &[Option<Value>], index: usize) -> Result<Bytes, EvalErr>
     ensures { Gives (λ text. text) Bad result (text_of (argument values.now index)) }
 {
     match argument(values, index) {
-        None => Err(EvalErr::Bad(FaultKind::AttributeType)),
-        Some(value) => text_in(value, FaultKind::AttributeType),
+        None => Err(EvalErr::Bad(EvalFault::AttributeType)),
+        Some(value) => text_in(value, EvalFault::AttributeType),
     }
 }
 
@@ -33,6 +33,6 @@ pub fn texts_of(
 {
     match argument(values, index) {
         None => Ok(Items::new(alloc)),
-        Some(value) => texts_in(alloc, store, value, FaultKind::AttributeType),
+        Some(value) => texts_in(alloc, store, value, EvalFault::AttributeType),
     }
 }

@@ -11,7 +11,7 @@ ghost use Rattle.bq_package.specs.Glob.{patterns, excludes_directories, request_
 
 use crate::bound::texts_of;
 use crate::place::Place;
-use bq_base::{Bytes, FaultKind, SourceErr};
+use bq_base::{Bytes, EvalFault, SourceErr};
 use bq_builtin_machine::{Args, Bound, Signature, SingleParameter, bind};
 use bq_label_glob::{any_is_idle, glob};
 use bq_label_glob_pattern::{Pattern, read_pattern};
@@ -72,7 +72,7 @@ fn patterns(alloc: Global, texts: &[Bytes]) -> Result<Items<Pattern>, EvalErr>
         match read_pattern(text, patterns.as_slice().last()) {
             Ok(pattern) => patterns.push(pattern)?,
             Err(SourceErr::Memory) => return Err(EvalErr::Memory),
-            Err(SourceErr::Bad(_)) => return Err(EvalErr::Bad(FaultKind::GlobPattern)),
+            Err(SourceErr::Bad(_)) => return Err(EvalErr::Bad(EvalFault::GlobPattern)),
         }
     }
     Ok(patterns)
@@ -103,7 +103,7 @@ fn request_of(
     let include = texts_of(alloc, store, values, 0)?;
     let exclude = texts_of(alloc, store, values, 1)?;
     if !excludes_directories(argument(values, 2)) {
-        return Err(EvalErr::Bad(FaultKind::BadValue));
+        return Err(EvalErr::Bad(EvalFault::BadValue));
     }
     Ok(GlobRequest {
         include: patterns(alloc, include.as_slice())?,
@@ -140,7 +140,7 @@ impl<'a> Place<'a> {
         }
         let idle = any_is_idle(alloc, self.workspace, packages, own, include)?;
         if idle || is_nothing(&names) {
-            return Err(EvalErr::Bad(FaultKind::GlobEmpty));
+            return Err(EvalErr::Bad(EvalFault::GlobEmpty));
         }
         Ok(names)
     }

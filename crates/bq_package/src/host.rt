@@ -6,7 +6,7 @@ ghost use Rattle.bq_value.specs.declared.error.EvalErr.TheVariants.{Bad};
 ghost use Rattle.bq_label.specs.Label.{package_of};
 ghost use Rattle.bq_builtin_machine.specs.State.{State};
 ghost use Rattle.bq_builtin_machine.specs.Action.{Does, HostDoes};
-ghost use Rattle.bq_package_host.specs.Refusals.{KeepsIfRefused};
+ghost use Rattle.bq_package_host.specs.Host.{KeepsIfRefused};
 ghost use Rattle.bq_package_target.specs.Package.{no_targets};
 ghost use Rattle.bq_package_target.specs.Calls.{declared, exported};
 ghost use Rattle.bq_package.specs.Place.{place_of};
@@ -15,7 +15,7 @@ ghost use Rattle.bq_package.specs.Keeping.{answer, package_after, Settles, IsSet
 
 use crate::building::{BuildHost, Building};
 use crate::place::Place;
-use bq_base::{Bytes, FaultKind};
+use bq_base::{Bytes, EvalFault};
 use bq_builtin_machine::{Args, Machine, Signature, bind};
 use bq_label::{Label, PackageId, Packages, Workspace};
 use bq_package_host::Host;
@@ -132,7 +132,7 @@ impl<'a> BuildHost<'a> {
         ensures { Gives place_of Bad result (place_in (held_by self.now)) }
     {
         match &self.building {
-            None => Err(EvalErr::Bad(FaultKind::NotInPackage)),
+            None => Err(EvalErr::Bad(EvalFault::NotInPackage)),
             Some(building) => Ok(building.place),
         }
     }
@@ -160,7 +160,7 @@ impl<'a> BuildHost<'a> {
             }
             Declared::Refused(package) => {
                 self.building = Some(Building { place, package });
-                Err(EvalErr::Bad(FaultKind::DoubleTarget))
+                Err(EvalErr::Bad(EvalFault::DoubleTarget))
             }
         }
     }
@@ -172,7 +172,7 @@ impl<'a> BuildHost<'a> {
         ensures { IsSettled result (held_by self.old) (held_by self.new) (λ p. declared p target) }
     {
         let Some(building) = self.building.take() else {
-            return Err(EvalErr::Bad(FaultKind::NotInPackage));
+            return Err(EvalErr::Bad(EvalFault::NotInPackage));
         };
         let Building { place, package } = building;
         let declared = package.declare(alloc, target)?;
@@ -186,7 +186,7 @@ impl<'a> BuildHost<'a> {
         ensures { IsSettled result (held_by self.old) (held_by self.new) (λ p. exported p labels.now line) }
     {
         let Some(building) = self.building.take() else {
-            return Err(EvalErr::Bad(FaultKind::NotInPackage));
+            return Err(EvalErr::Bad(EvalFault::NotInPackage));
         };
         let Building { place, package } = building;
         let declared = package.export(alloc, labels, line)?;
@@ -306,12 +306,12 @@ impl<'a> Host for BuildHost<'a> {
         }
     }
 
-    #[tactic(auto, using(crate::proofs::Refusals::default_refuses), unfolding(crate::specs::Calls::default_value))]
+    #[tactic(auto, unfolding(crate::specs::Calls::default_value))]
     fn read_default(&self, alloc: Global, written: Written) -> Result<AttributeValue, EvalErr> {
         typed(alloc, self.scope(), written)
     }
 
-    #[tactic(auto, using(crate::proofs::Settling::keeps_same, crate::proofs::Meaning::refuses), unfolding(crate::specs::Calls::call_of))]
+    #[tactic(auto, using(crate::proofs::Settling::keeps_same), unfolding(crate::specs::Calls::call_of))]
     fn call(
         &mut self,
         alloc: Global,
@@ -330,7 +330,7 @@ impl<'a> Host for BuildHost<'a> {
         }
     }
 
-    #[tactic(auto, using(crate::proofs::Meaning::rule_refuses), unfolding(crate::specs::Calls::rule_call))]
+    #[tactic(auto, unfolding(crate::specs::Calls::rule_call))]
     fn call_rule(
         &mut self,
         alloc: Global,

@@ -7,7 +7,7 @@ ghost use Rattle.bq_package.specs.Place.{place_of};
 ghost use Rattle.bq_package.specs.Rules.{declared_target, rule_target};
 
 use crate::place::Place;
-use bq_base::{Bytes, FaultKind};
+use bq_base::{Bytes, EvalFault};
 use bq_builtin_machine::Args;
 use bq_package_attributes::{Callee, declaration};
 use bq_package_schema::rule_names;
@@ -52,10 +52,10 @@ impl<'a> Place<'a> {
         ensures { Gives (λ t. t) Bad result (rule_target (place_of self.now) store.now line rule args) }
     {
         let Some(kind) = rule_names(self.schema).get(rule) else {
-            return Err(EvalErr::Bad(FaultKind::NotInPackage));
+            return Err(EvalErr::Bad(EvalFault::NotInPackage));
         };
         let Some(class) = self.schema.class(rule) else {
-            return Err(EvalErr::Bad(FaultKind::NotInPackage));
+            return Err(EvalErr::Bad(EvalFault::NotInPackage));
         };
         self.declared_target(alloc, store, line, kind, class, args)
     }

@@ -1,7 +1,7 @@
 -- Parts of definitions, as words that proofs name.
 use Rattle.std.specs.Prelude.{Bool, Err, List, None, Ok, Option, Result, Some, false, if◌then◌else◌, not, ℕ, [], ◌∷◌}
-use Rattle.bq_base.specs.declared.fault.FaultKind.{FaultKind}
-use Rattle.bq_base.specs.declared.fault.FaultKind.TheVariants as f
+use Rattle.bq_base.specs.declared.fault.EvalFault.{EvalFault}
+use Rattle.bq_base.specs.declared.fault.EvalFault.TheVariants as f
 use Rattle.bq_label.specs.Label.{PackageParts}
 use Rattle.bq_label.specs.declared.packages.BuildFile.{BuildFile}
 use Rattle.bq_package_typed_value.specs.Steps.{and_then}
@@ -19,7 +19,7 @@ abbrev pub is_value : Option Datum → Bool
 is_value o = elim o [ None ↦ false | Some v ↦ not (is_none v) ]
 
 -- an attribute takes its value, by its type; `None` leaves it out
-abbrev pub with_attribute_by : PackageParts → List BuildFile → StoreView → Option AttributeType → List ℕ → Datum → Given → Result Given FaultKind
+abbrev pub with_attribute_by : PackageParts → List BuildFile → StoreView → Option AttributeType → List ℕ → Datum → Given → Result Given EvalFault
 with_attribute_by own packages store o name v g = elim o [
   | None ↦ Err f.NoAttribute
   | Some kind ↦ if is_none v then Ok g else and_then (value_as own packages store kind v) (λ value. Ok (with_value name value g))

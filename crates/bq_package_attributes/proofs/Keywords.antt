@@ -1,8 +1,8 @@
 -- Keyword arguments keep their order, and the first faulty one decides.
 use Rattle.std.proofs.Common.{◌≡◌, ◌∙◌, ℕ, Bool, true, false, cond, List, [], ◌∷◌, ◌++◌, Option, Some, None, Result, Ok, Err, refl, sym, ap, map, append_assoc, append-nil}
 use Rattle.std.specs.Prelude.{is_some}
-use Rattle.bq_base.specs.declared.fault.FaultKind.{FaultKind}
-use Rattle.bq_base.specs.declared.fault.FaultKind.TheVariants.{Args}
+use Rattle.bq_base.specs.declared.fault.EvalFault.{EvalFault}
+use Rattle.bq_base.specs.declared.fault.EvalFault.TheVariants.{Args}
 use Rattle.bq_label.specs.declared.packages.BuildFile.{BuildFile}
 use Rattle.bq_label.specs.Label.{PackageParts}
 use Rattle.bq_value_rule_class.specs.Class.{Class}
@@ -65,7 +65,7 @@ keywords_keep_their_order p b h = by (too_many keywords_alone p.positional) h
 -- ---- the first faulty one
 
 module _ (own : PackageParts) (packages : List BuildFile) (store : StoreView) (class : Class) where
-  first_by : (g : Given) (x : Datum × Datum) (xs : List (Datum × Datum)) (why : FaultKind) (r : Result Given FaultKind) → with_argument own packages store class g x ≡ r
+  first_by : (g : Given) (x : Datum × Datum) (xs : List (Datum × Datum)) (why : EvalFault) (r : Result Given EvalFault) → with_argument own packages store class g x ≡ r
       → ((more : Given) → with_arguments own packages store class more xs ≡ Err why → IsFirstFaulty own packages store class more xs why)
       → and_then r (λ more. with_arguments own packages store class more xs) ≡ Err why → IsFirstFaulty own packages store class g (x ∷ xs) why
   unfolding with_arguments
@@ -75,7 +75,7 @@ module _ (own : PackageParts) (packages : List BuildFile) (store : StoreView) (c
       let l = later more h in
       record { before = x ∷ l.before; argument = l.argument; after = l.after; given = l.given; cut = ap (λ z. x ∷ z) l.cut; read = rw is l.read; bad = l.bad }
 
-  first : (g : Given) (xs : List (Datum × Datum)) (why : FaultKind) → with_arguments own packages store class g xs ≡ Err why → IsFirstFaulty own packages store class g xs why
+  first : (g : Given) (xs : List (Datum × Datum)) (why : EvalFault) → with_arguments own packages store class g xs ≡ Err why → IsFirstFaulty own packages store class g xs why
   unfolding with_arguments
   first g [] why h = absurd (cc)
   first g (x ∷ xs) why h = first_by g x xs why (with_argument own packages store class g x) refl (λ more e. first more xs why e) h

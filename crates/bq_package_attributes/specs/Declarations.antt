@@ -3,8 +3,8 @@
 -- rules of a schema and for those that .bzl files declare: a rule is its kind and its class.
 use Rattle.std.specs.Prelude.{ℕ, List, [], ◌∷◌, ◌++◌, Bool, true, false, not, ◌||◌, Option, Some, None, Result, Ok, Err, if◌then◌else◌}
 use Rattle.std.specs.List.{list_all, flat_map}
-use Rattle.bq_base.specs.declared.fault.FaultKind.{FaultKind}
-use Rattle.bq_base.specs.declared.fault.FaultKind.TheVariants.{MissingAttribute}
+use Rattle.bq_base.specs.declared.fault.EvalFault.{EvalFault}
+use Rattle.bq_base.specs.declared.fault.EvalFault.TheVariants.{MissingAttribute}
 use Rattle.bq_label.specs.declared.packages.BuildFile.{BuildFile}
 use Rattle.bq_label.specs.Label.{PackageParts, LabelParts}
 use Rattle.bq_value_rule_class.specs.Class.{Class}
@@ -59,16 +59,16 @@ abbrev pub target_of : List ℕ → Class → ℕ → LabelParts → List GivenA
 target_of rule class line l attributes = record { label = l; kind = kind.Rule rule class; attributes = attributes; line = line }
 
 -- F72 where the name isn't given, or another attribute that has to be
-abbrev pub if_whole : Bool → List ℕ → Class → ℕ → Option LabelParts → List GivenAttribute → Result Target FaultKind
+abbrev pub if_whole : Bool → List ℕ → Class → ℕ → Option LabelParts → List GivenAttribute → Result Target EvalFault
 if_whole gives_others rule class line None attributes = Err MissingAttribute
 if_whole gives_others rule class line (Some l) attributes = if gives_others then Ok (target_of rule class line l attributes) else Err MissingAttribute
 
 -- the target of these keyword arguments: their faults, then F72; the defaults of what isn't given come after what is
-unfoldable pub target : PackageParts → List BuildFile → StoreView → Class → List ℕ → ℕ → List (Datum × Datum) → Result Target FaultKind
+unfoldable pub target : PackageParts → List BuildFile → StoreView → Class → List ℕ → ℕ → List (Datum × Datum) → Result Target EvalFault
 target own packages store class rule line keywords =
     and_then (with_arguments own packages store class nothing_given keywords)
     (λ g. if_whole (gives_mandatory class keywords) rule class line g.name (g.attributes ++ defaults keywords class))
 
 -- F52, then the faults of the arguments, then F72
-unfoldable pub declaration : PackageParts → List BuildFile → StoreView → Class → List ℕ → ℕ → Passed → Result Target FaultKind
+unfoldable pub declaration : PackageParts → List BuildFile → StoreView → Class → List ℕ → ℕ → Passed → Result Target EvalFault
 declaration own packages store class rule line passed = and_then (bind keywords_alone passed) (λ b. target own packages store class rule line b.keywords)

@@ -1,7 +1,7 @@
 -- Words of the laws.
 use Rattle.std.specs.Prelude.{◌≡◌, ℕ, Bool, true, false, List, ◌∷◌, ◌++◌, map, Some, Ok, Err, bytes_eq}
 use Rattle.std.specs.List.{list_any, Contains}
-use Rattle.bq_base.specs.declared.fault.FaultKind.{FaultKind}
+use Rattle.bq_base.specs.declared.fault.EvalFault.{EvalFault}
 use Rattle.bq_label.specs.declared.packages.BuildFile.{BuildFile}
 use Rattle.bq_label.specs.Label.{PackageParts}
 use Rattle.bq_value_rule_class.specs.declared.attribute.Attribute.{Attribute}
@@ -29,7 +29,7 @@ abbrev pub KeywordsKeepTheirOrder : Type 0
 KeywordsKeepTheirOrder = (p : Passed) (b : BoundView) → bind keywords_alone p ≡ Ok b → b.keywords ≡ map (λ a. (string a.0, a.1)) p.named
 
 -- the arguments before this one are read, and it is refused
-pub record IsFirstFaulty (own : PackageParts) (packages : List BuildFile) (store : StoreView) (class : Class) (g : Given) (arguments : List (Datum × Datum)) (why : FaultKind) : Type 0 where
+pub record IsFirstFaulty (own : PackageParts) (packages : List BuildFile) (store : StoreView) (class : Class) (g : Given) (arguments : List (Datum × Datum)) (why : EvalFault) : Type 0 where
   pub before : List (Datum × Datum)
   pub argument : Datum × Datum
   pub after : List (Datum × Datum)
@@ -41,7 +41,7 @@ pub record IsFirstFaulty (own : PackageParts) (packages : List BuildFile) (store
 -- arguments are refused for what the first faulty one of them is refused for
 abbrev pub TheFirstFaultyArgumentDecides : Type 0
 TheFirstFaultyArgumentDecides =
-    (own : PackageParts) (packages : List BuildFile) (store : StoreView) (class : Class) (g : Given) (arguments : List (Datum × Datum)) (why : FaultKind)
+    (own : PackageParts) (packages : List BuildFile) (store : StoreView) (class : Class) (g : Given) (arguments : List (Datum × Datum)) (why : EvalFault)
     → with_arguments own packages store class g arguments ≡ Err why → IsFirstFaulty own packages store class g arguments why
 
 -- the target has an attribute of this name

@@ -8,7 +8,7 @@ ghost use Rattle.bq_package_attributes.specs.Named.{pairs};
 ghost use Rattle.bq_package_attributes.specs.Arguments.{is_none, keyword, with_name, with_argument, with_arguments};
 
 use crate::named::{Held, Keywords};
-use bq_base::{Bytes, FaultKind};
+use bq_base::{Bytes, EvalFault};
 use bq_label::Label;
 use bq_package_target::{GivenAttribute, attribute_type};
 use bq_package_typed_value::{Scope, TextKind, label, text_in, value_as};
@@ -63,7 +63,7 @@ impl Given {
         if is_none(value) {
             return Ok(());
         }
-        let text = text_in(value, FaultKind::AttributeType)?;
+        let text = text_in(value, EvalFault::AttributeType)?;
         let label = label(alloc, scope, TextKind::Name, &text)?;
         self.name = Some(label);
         let name = Bytes::from_slice(alloc, b"name")?;
@@ -87,7 +87,7 @@ impl Given {
             return self.take_name(alloc, callee.scope, value);
         }
         let Some(kind) = attribute_type(callee.class, name.as_slice()) else {
-            return Err(EvalErr::Bad(FaultKind::NoAttribute));
+            return Err(EvalErr::Bad(EvalFault::NoAttribute));
         };
         if is_none(value) {
             return Ok(());

@@ -8,7 +8,7 @@ ghost use Rattle.bq_package_attributes.specs.Declarations.{gives, gives_mandator
 
 use crate::arguments::{Callee, Given, is_none};
 use crate::named::Keywords;
-use bq_base::{Bytes, FaultKind};
+use bq_base::{Bytes, EvalFault};
 use bq_builtin_machine::Args;
 use bq_package_target::{GivenAttribute, Target, TargetKind};
 use bq_value::EvalErr;
@@ -104,13 +104,13 @@ fn target(
 {
     given.take_arguments(alloc, callee, keywords)?;
     if !gives_mandatory(callee.class, keywords)? {
-        return Err(EvalErr::Bad(FaultKind::MissingAttribute));
+        return Err(EvalErr::Bad(EvalFault::MissingAttribute));
     }
     add_defaults(callee.class, keywords, &mut given.attributes)?;
     let class = callee.class.share()?;
     let kind = callee.kind.share()?;
     let Some(label) = given.name.take() else {
-        return Err(EvalErr::Bad(FaultKind::MissingAttribute));
+        return Err(EvalErr::Bad(EvalFault::MissingAttribute));
     };
     Ok(Target {
         label,

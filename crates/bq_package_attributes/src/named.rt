@@ -12,7 +12,7 @@ ghost use Rattle.bq_package_typed_value.specs.Steps.{and_then};
 ghost use Rattle.bq_package_attributes.specs.Declarations.{keywords_alone};
 ghost use Rattle.bq_package_attributes.specs.Named.{pairs, pairs_of, are_new};
 
-use bq_base::{Bytes, FaultKind};
+use bq_base::{Bytes, EvalFault};
 use bq_builtin_machine::{Args, Signature, bind};
 use bq_value::{Dict, EvalErr, Key, Value};
 use bq_value_seed::Seed;
@@ -99,10 +99,10 @@ impl Keywords {
         }
         let Args { positional, named } = args;
         if positional.len() > 0 {
-            return Err(EvalErr::Bad(FaultKind::Args));
+            return Err(EvalErr::Bad(EvalFault::Args));
         }
         if !are_new(&named) {
-            return Err(EvalErr::Bad(FaultKind::Args));
+            return Err(EvalErr::Bad(EvalFault::Args));
         }
         Ok(Keywords {
             held: Held::Few(named),

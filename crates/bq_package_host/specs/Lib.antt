@@ -1,4 +1,3 @@
-pub mod Refusals
 pub mod Host
 pub mod BuiltIns
 pub mod Laws

@@ -4,8 +4,7 @@ ghost use Rattle.std.specs.Prelude.{◌≡◌};
 ghost use Rattle.bq_base.specs.Gives.{Gives};
 ghost use Rattle.bq_value.specs.declared.error.EvalErr.TheVariants.{Bad};
 ghost use Rattle.bq_builtin_machine.specs.Action.{HostDoes};
-ghost use Rattle.bq_package_host.specs.Refusals.{Refuses, KeepsIfRefused};
-ghost use Rattle.bq_package_host.specs.Host.{HostCalls};
+ghost use Rattle.bq_package_host.specs.Host.{HostCalls, KeepsIfRefused};
 
 use bq_base::Bytes;
 use bq_builtin_machine::{Args, Machine};
@@ -31,8 +30,7 @@ pub trait Host {
 
     /// Returns the value of a default, with its labels read in the package of the module that is evaluated.
     fn read_default(&self, alloc: Global, written: Written) -> Result<AttributeValue, EvalErr>
-        ensures says { Gives (λ v. v) Bad result (means.read_default (seen self.now) written) }
-        ensures refuses { Refuses result };
+        ensures says { Gives (λ v. v) Bad result (means.read_default (seen self.now) written) };
 
     /// Calls a build function, or a rule of the schema.
     fn call(
@@ -43,8 +41,7 @@ pub trait Host {
         machine: &mut Machine,
     ) -> Result<Value, EvalErr>
         ensures says { HostDoes (λ v. v) result machine.new (seen self.new) (means.call function args (machine.old, seen self.old)) }
-        ensures keeps { KeepsIfRefused result (seen self.old) (seen self.new) }
-        ensures refuses { Refuses result };
+        ensures keeps { KeepsIfRefused result (seen self.old) (seen self.new) };
 
     /// Calls a rule that a .bzl file declares, by its kind and its attributes.
     fn call_rule(
@@ -56,6 +53,5 @@ pub trait Host {
         machine: &mut Machine,
     ) -> Result<Value, EvalErr>
         ensures says { HostDoes (λ v. v) result machine.new (seen self.new) (means.call_rule kind.now class.now args (machine.old, seen self.old)) }
-        ensures keeps { KeepsIfRefused result (seen self.old) (seen self.new) }
-        ensures refuses { Refuses result };
+        ensures keeps { KeepsIfRefused result (seen self.old) (seen self.new) };
 }

@@ -2,8 +2,8 @@
 use Rattle.std.proofs.Common.{◌≡◌, ◌∙◌, sym, ap, refl, ℕ, List, [], ◌∷◌, Result, Ok, Err}
 use Rattle.std.specs.Prelude.{◌++◌, map}
 use Rattle.std.proofs.lemmas.List.{map_push, append_assoc, append-nil}
-use Rattle.bq_base.specs.declared.fault.FaultKind.{FaultKind}
-use Rattle.bq_base.specs.declared.fault.FaultKind.TheVariants.{WrongType}
+use Rattle.bq_base.specs.declared.fault.EvalFault.{EvalFault}
+use Rattle.bq_base.specs.declared.fault.EvalFault.TheVariants.{WrongType}
 use Rattle.bq_value_rule_class.specs.Class.{Class}
 use Rattle.bq_value_rule_class.specs.declared.attribute.Attribute.{Attribute}
 use Rattle.bq_value.specs.Datum as datum
@@ -26,7 +26,7 @@ attribute_is : (v : Datum) (x : Attribute) → attribute_in v ≡ Ok x → v ≡
 attribute_is (datum.attribute a) x h = let e : a ≡ x = cc in ap datum.attribute e
 attribute_is _ x h = absurd (cc)
 
-by_parts : (p : Datum × Datum) (r : Result (List ℕ) FaultKind) (q : Result Attribute FaultKind) (e : List ℕ × Attribute) → text_in WrongType p.0 ≡ r → attribute_in p.1 ≡ q → and_then r (λ name. and_then q (λ x. Ok (name, x))) ≡ Ok e
+by_parts : (p : Datum × Datum) (r : Result (List ℕ) EvalFault) (q : Result Attribute EvalFault) (e : List ℕ × Attribute) → text_in WrongType p.0 ≡ r → attribute_in p.1 ≡ q → and_then r (λ name. and_then q (λ x. Ok (name, x))) ≡ Ok e
     → p ≡ pair e
 by_parts p (Err why) q e is_r is_q h = absurd (cc)
 by_parts p (Ok name) (Err why) e is_r is_q h = absurd (cc)
@@ -43,7 +43,7 @@ entry_is p e h = by_parts p (text_in WrongType p.0) (attribute_in p.1) e refl re
 abbrev ComeFrom : List (Datum × Datum) → Class → Class → Type 0
 ComeFrom ps done x = in_turn entry done ps ≡ Ok x → map pair done ++ ps ≡ map pair x
 
-next_are : (p : Datum × Datum) (ps : List (Datum × Datum)) (done x : Class) (r : Result (List ℕ × Attribute) FaultKind) → entry p ≡ r → ((e : List ℕ × Attribute) → ComeFrom ps (done ++ e ∷ []) x)
+next_are : (p : Datum × Datum) (ps : List (Datum × Datum)) (done x : Class) (r : Result (List ℕ × Attribute) EvalFault) → entry p ≡ r → ((e : List ℕ × Attribute) → ComeFrom ps (done ++ e ∷ []) x)
     → and_then r (λ e. in_turn entry (done ++ e ∷ []) ps) ≡ Ok x → map pair done ++ p ∷ ps ≡ map pair x
 next_are p ps done x (Err why) is later h = absurd (cc)
 next_are p ps done x (Ok e) is later h =

@@ -1,8 +1,8 @@
 -- What rules are refused for, in order.
 use Rattle.std.proofs.Common.{◌≡◌, refl, Bool, true, false, [], ◌∷◌, Result, Ok, Err}
 use Rattle.std.specs.Prelude.{◌||◌, not, if◌then◌else◌}
-use Rattle.bq_base.specs.declared.fault.FaultKind.{FaultKind}
-use Rattle.bq_base.specs.declared.fault.FaultKind.TheVariants.{BadValue}
+use Rattle.bq_base.specs.declared.fault.EvalFault.{EvalFault}
+use Rattle.bq_base.specs.declared.fault.EvalFault.TheVariants.{BadValue}
 use Rattle.bq_builtin_refusal_laws.specs.Refusals.{when, first_fault, fault_in, fault_then}
 use Rattle.bq_value_rule_class.specs.Class.{Class}
 use Rattle.bq_value.specs.Cells.{StoreView}
@@ -20,7 +20,7 @@ by_names true false x = refl
 by_names false true x = refl
 by_names false false x = refl
 
-by_kinds : (in_build : Bool) (implemented documented : Result (Unit {0}) FaultKind) (attributes : Result Class FaultKind)
+by_kinds : (in_build : Bool) (implemented documented : Result (Unit {0}) EvalFault) (attributes : Result Class EvalFault)
     → fault_in (and_then implemented (λ _. and_then attributes (λ x. and_then documented (λ _. if_declared in_build x))))
     ≡ first_fault (fault_in implemented ∷ fault_in attributes ∷ fault_in documented ∷ fault_then attributes (λ x. when (not (are_named x)) BadValue) ∷ when in_build BadValue ∷ [])
 by_kinds in_build (Err why) documented attributes = refl
@@ -42,7 +42,7 @@ refused_in_order in_build store args = by_binding in_build store (bind rule_para
 
 -- ---- while a BUILD file is evaluated
 
-none_declared : (implemented documented : Result (Unit {0}) FaultKind) (attributes : Result Class FaultKind) (y : Class)
+none_declared : (implemented documented : Result (Unit {0}) EvalFault) (attributes : Result Class EvalFault) (y : Class)
     → and_then implemented (λ _. and_then attributes (λ x. and_then documented (λ _. if_declared true x))) ≡ Ok y → ⊥
 none_declared (Err why) documented attributes y h = cc
 none_declared (Ok i) documented (Err why) y h = cc

@@ -1,7 +1,7 @@
 -- Calls of the functions that declare rules, and of rules (Bazel, "attr", "rule").
 use Rattle.std.specs.Prelude.{ℕ, Bool, List, Option, Some, None, Result, Ok, Err, if◌then◌else◌}
-use Rattle.bq_base.specs.declared.fault.FaultKind.{FaultKind}
-use Rattle.bq_base.specs.declared.fault.FaultKind.TheVariants.{WrongType, BadValue, NotInPackage}
+use Rattle.bq_base.specs.declared.fault.EvalFault.{EvalFault}
+use Rattle.bq_base.specs.declared.fault.EvalFault.TheVariants.{WrongType, BadValue, NotInPackage}
 use Rattle.bq_resolve_predeclared.specs.declared.rule_function.RuleFunction.{RuleFunction}
 use Rattle.bq_resolve_predeclared.specs.declared.rule_function.RuleFunction.TheVariants as f
 use Rattle.bq_value_rule_class.specs.Class.{Class}
@@ -50,7 +50,7 @@ call_rule_function host function args = λ s. on_machine (declare (host.read_def
 -- ---- rules
 
 -- the attributes of the rule that a cell holds (F40)
-abbrev pub class_in : Option Contents → Result Class FaultKind
+abbrev pub class_in : Option Contents → Result Class EvalFault
 class_in (Some (contents.rule x)) = Ok x
 class_in _ = Err WrongType
 

@@ -1,7 +1,7 @@
 -- The parameters of the functions that declare rules (Bazel, "attr", "rule"), and what is read of the arguments that they take.
 use Rattle.std.specs.Prelude.{false, [], ◌∷◌, Option, Some, None, Result, Ok, Err, codes}
-use Rattle.bq_base.specs.declared.fault.FaultKind.{FaultKind}
-use Rattle.bq_base.specs.declared.fault.FaultKind.TheVariants.{WrongType}
+use Rattle.bq_base.specs.declared.fault.EvalFault.{EvalFault}
+use Rattle.bq_base.specs.declared.fault.EvalFault.TheVariants.{WrongType}
 use Rattle.bq_value.specs.Datum.{Datum, none, string}
 use Rattle.bq_builtin_machine.specs.Parameters.{SignatureView}
 use Rattle.bq_package_typed_value.specs.Parameters.{required, optional}
@@ -27,7 +27,7 @@ rule_parameters = record {
 }
 
 -- `doc` is a string or `None` (F40)
-abbrev pub documented : Option Datum → Result (Unit {0}) FaultKind
+abbrev pub documented : Option Datum → Result (Unit {0}) EvalFault
 documented None = Ok tt
 documented (Some none) = Ok tt
 documented (Some (string text)) = Ok tt

@@ -1,6 +1,6 @@
 -- Words of the laws.
 use Rattle.std.specs.Prelude.{◌≡◌, ◌≢◌, Bool, true, not, List, [], ◌∷◌, Ok, map}
-use Rattle.bq_base.specs.declared.fault.FaultKind.TheVariants.{BadValue}
+use Rattle.bq_base.specs.declared.fault.EvalFault.TheVariants.{BadValue}
 use Rattle.bq_builtin_refusal_laws.specs.Refusals.{Check, when, fault_in, fault_then, FailsForFirst}
 use Rattle.bq_value_rule_class.specs.Class.{Class}
 use Rattle.bq_value.specs.Datum as datum

@@ -6,7 +6,7 @@ ghost use Rattle.bq_value.specs.declared.error.EvalErr.TheVariants.{Bad};
 ghost use Rattle.bq_package_rule_functions.specs.Attribute.{written_default, is_blank, kept, resolved_default, is_mandatory, attribute_of, attribute};
 
 use crate::keywords::{bind_attribute, documented};
-use bq_base::FaultKind;
+use bq_base::EvalFault;
 use bq_builtin_machine::Args;
 use bq_package_host::Host;
 use bq_package_typed_value::{Written, argument, written_as};
@@ -30,7 +30,7 @@ fn written_default(
     match &value.node {
         Node::NoneValue => Ok(None),
         _ => {
-            let written = written_as(alloc, store, kind, value, FaultKind::WrongType)?;
+            let written = written_as(alloc, store, kind, value, EvalFault::WrongType)?;
             Ok(Some(written))
         }
     }

@@ -9,7 +9,7 @@ ghost use Rattle.bq_package_rule_functions.specs.Call.{type_of, new_attribute, n
 
 use crate::attribute::attribute;
 use crate::rule::class;
-use bq_base::{Bytes, FaultKind};
+use bq_base::{Bytes, EvalFault};
 use bq_builtin_machine::{Args, Machine};
 use bq_package_host::Host;
 use bq_resolve_predeclared::RuleFunction;
@@ -95,11 +95,11 @@ fn class_in(store: &Store, cell: Cell) -> Result<RuleClass, EvalErr>
     ensures { Gives (λ c. c) Bad result (class_in (content_at store.now cell.module cell.number)) }
 {
     let Some(content) = store.content(cell) else {
-        return Err(EvalErr::Bad(FaultKind::WrongType));
+        return Err(EvalErr::Bad(EvalFault::WrongType));
     };
     match content.body() {
         Body::Rule(class) => Ok(class.share()?),
-        _ => Err(EvalErr::Bad(FaultKind::WrongType)),
+        _ => Err(EvalErr::Bad(EvalFault::WrongType)),
     }
 }
 
@@ -125,7 +125,7 @@ fn call_kind<H: Host>(
     ensures { HostDoes (λ v. v) result machine.new (H.seen host.new) (call_kind H.means kind class.now args (machine.old, H.seen host.old)) }
 {
     match kind {
-        None => Err(EvalErr::Bad(FaultKind::BadValue)),
+        None => Err(EvalErr::Bad(EvalFault::BadValue)),
         Some(kind) => host.call_rule(alloc, &kind, class, args, machine),
     }
 }
@@ -143,7 +143,7 @@ fn call_class<H: Host>(
     ensures { HostDoes (λ v. v) result machine.new (H.seen host.new) (call_class H.means cell.module cell.number class.now args (machine.old, H.seen host.old)) }
 {
     if !host.in_build() {
-        return Err(EvalErr::Bad(FaultKind::NotInPackage));
+        return Err(EvalErr::Bad(EvalFault::NotInPackage));
     }
     let kind = kind_of(machine.store(), cell)?;
     call_kind(alloc, host, kind, class, args, machine)

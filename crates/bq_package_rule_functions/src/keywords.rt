@@ -6,7 +6,7 @@ ghost use Rattle.bq_value.specs.declared.error.EvalErr.TheVariants.{Bad};
 ghost use Rattle.bq_builtin_machine.specs.Binding.{bind};
 ghost use Rattle.bq_package_rule_functions.specs.Keywords.{attribute_parameters, rule_parameters, documented};
 
-use bq_base::FaultKind;
+use bq_base::EvalFault;
 use bq_builtin_machine::{Args, Bound, Signature, SingleParameter, bind};
 use bq_value::{EvalErr, Node, Value};
 use bq_value_seed::Seed;
@@ -117,7 +117,7 @@ pub(crate) fn bind_rule(alloc: Global, args: Args) -> Result<Bound, EvalErr>
 }
 
 /// Fails with F40 if `doc` is neither a string nor `None`.
-pub(crate) fn documented(value: Option<&Value>) -> Result<(), FaultKind>
+pub(crate) fn documented(value: Option<&Value>) -> Result<(), EvalFault>
     ensures { result ≡ documented (option_copied value.entry) }
 {
     match value {
@@ -125,7 +125,7 @@ pub(crate) fn documented(value: Option<&Value>) -> Result<(), FaultKind>
         Some(value) => match &value.node {
             Node::NoneValue => Ok(()),
             Node::Text(_) => Ok(()),
-            _ => Err(FaultKind::WrongType),
+            _ => Err(EvalFault::WrongType),
         },
     }
 }

@@ -8,7 +8,7 @@ ghost use Rattle.bq_value.specs.Pairs.{HasNoKeyTwice};
 ghost use Rattle.bq_package_rule_functions.specs.Rule.{implemented, attribute_in, entry, entries, entries_in, attributes_in, may_be_named, are_named, class_of, class};
 
 use crate::keywords::{bind_rule, documented};
-use bq_base::{Bytes, FaultKind};
+use bq_base::{Bytes, EvalFault};
 use bq_builtin_machine::Args;
 use bq_package_typed_value::{argument, text_in};
 use bq_parse_grammar::is_identifier;
@@ -18,15 +18,15 @@ use bq_value_rule_class::{Attribute, Attributes, RuleClass, common_attribute};
 use std::alloc::Global;
 
 /// Fails with F40 if this isn't a function that a `def` made.
-fn implemented(value: Option<&Value>) -> Result<(), FaultKind>
+fn implemented(value: Option<&Value>) -> Result<(), EvalFault>
     ensures { result ≡ implemented (option_copied value.entry) }
 {
     let Some(value) = value else {
-        return Err(FaultKind::WrongType);
+        return Err(EvalFault::WrongType);
     };
     match &value.node {
         Node::Function(_) => Ok(()),
-        _ => Err(FaultKind::WrongType),
+        _ => Err(EvalFault::WrongType),
     }
 }
 
@@ -36,7 +36,7 @@ fn attribute_in(value: &Value) -> Result<Attribute, EvalErr>
 {
     match &value.node {
         Node::Attribute(attribute) => Ok(attribute.share()?),
-        _ => Err(EvalErr::Bad(FaultKind::WrongType)),
+        _ => Err(EvalErr::Bad(EvalFault::WrongType)),
     }
 }
 
@@ -44,7 +44,7 @@ fn attribute_in(value: &Value) -> Result<Attribute, EvalErr>
 fn entry(key: &Value, value: &Value) -> Result<(Bytes, Attribute), EvalErr>
     ensures { Gives (λ e. e) Bad result (entry (key.now, value.now)) }
 {
-    let name = text_in(key, FaultKind::WrongType)?;
+    let name = text_in(key, EvalFault::WrongType)?;
     Ok((name, attribute_in(value)?))
 }
 
@@ -61,7 +61,7 @@ fn entries(alloc: Global, dict: &Dict) -> Result<RuleClass, EvalErr>
         match attributes.with(alloc, name.as_slice(), attribute)? {
             Some(more) => attributes = more,
             // no key is twice
-            None => return Err(EvalErr::Bad(FaultKind::BadValue)),
+            None => return Err(EvalErr::Bad(EvalFault::BadValue)),
         }
     }
     Ok(RuleClass::of(alloc, attributes)?)
@@ -73,11 +73,11 @@ fn entries_in(alloc: Global, store: &Store, cell: Cell) -> Result<RuleClass, Eva
 {
     dicts_of_stores_have_distinct_keys(store, cell); // PROOF: so each attribute has a name of its own
     let Some(content) = store.content(cell) else {
-        return Err(EvalErr::Bad(FaultKind::WrongType));
+        return Err(EvalErr::Bad(EvalFault::WrongType));
     };
     match content.body() {
         Body::Dict(dict) => entries(alloc, dict),
-        _ => Err(EvalErr::Bad(FaultKind::WrongType)),
+        _ => Err(EvalErr::Bad(EvalFault::WrongType)),
     }
 }
 
@@ -90,7 +90,7 @@ fn attributes_in(alloc: Global, store: &Store, value: Option<&Value>) -> Result<
     };
     match &value.node {
         Node::Cell(cell) => entries_in(alloc, store, *cell),
-        _ => Err(EvalErr::Bad(FaultKind::WrongType)),
+        _ => Err(EvalErr::Bad(EvalFault::WrongType)),
     }
 }
 
@@ -132,7 +132,7 @@ fn class_of(
     let class = attributes_in(alloc, store, argument(values, 1))?;
     documented(argument(values, 2))?;
     if in_build || !are_named(&class) {
-        return Err(EvalErr::Bad(FaultKind::BadValue));
+        return Err(EvalErr::Bad(EvalFault::BadValue));
     }
     Ok(class)
 }

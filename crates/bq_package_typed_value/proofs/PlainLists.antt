@@ -2,8 +2,8 @@
 use Rattle.std.proofs.Common.{◌≡◌, ◌∙◌, Bool, true, false, List, [], ◌∷◌, map, Ok, refl, ap}
 use Rattle.std.proofs.lemmas.Bool.{false≢true}
 use Rattle.std.specs.List.{AllZip, list_all}
-use Rattle.bq_base.specs.declared.fault.FaultKind.{FaultKind}
-use Rattle.bq_base.specs.declared.fault.FaultKind.TheVariants as f
+use Rattle.bq_base.specs.declared.fault.EvalFault.{EvalFault}
+use Rattle.bq_base.specs.declared.fault.EvalFault.TheVariants as f
 use Rattle.bq_label.specs.declared.packages.BuildFile.{BuildFile}
 use Rattle.bq_label.specs.Label.{PackageParts, LabelParts, IsPackage, label_in}
 use Rattle.bq_label.proofs.Readings.{first_of_two, second_of_two}
@@ -20,10 +20,10 @@ use Rattle.bq_package_typed_value.proofs.PlainNames.{both_true, plain_labels}
 use Rattle.bq_package_typed_value.proofs.Turns.{answered_in_turn}
 
 -- a plain name is a string
-abbrev IsName : FaultKind → Datum → Type 0
+abbrev IsName : EvalFault → Datum → Type 0
 IsName why v = (text_in why v ≡ Ok (text v)) × (is_plain_name (text v) ≡ true)
 
-is_name : (why : FaultKind) (v : Datum) → is_plain v ≡ true → IsName why v
+is_name : (why : EvalFault) (v : Datum) → is_plain v ≡ true → IsName why v
 unfolding text_in
 is_name why none h = absurd (false≢true h)
 is_name why (boolean b) h = absurd (false≢true h)
@@ -37,7 +37,7 @@ is_name why (built_in b) h = absurd (false≢true h)
 is_name why (rule_function g) h = absurd (false≢true h)
 is_name why (attribute x) h = absurd (false≢true h)
 
-module _ (why : FaultKind) where
+module _ (why : EvalFault) where
   are_texts : (vs : List Datum) → list_all is_plain vs ≡ true → AllZip (λ v s. text_in why v ≡ Ok s) vs (map text vs)
   are_texts [] h = tt
   are_texts (v ∷ vs) h = ((is_name why v (first_of_two (is_plain v) _ h)).0, are_texts vs (second_of_two (is_plain v) _ h))

@@ -4,8 +4,8 @@ use Rattle.std.specs.Prelude.{◌==◌, not, All, Any}
 use Rattle.std.specs.List.{AllZip, list_any}
 use Rattle.std.proofs.lemmas.Bool.Decides.{nat_tests}
 use mathlib.Core.Bool.{false≢true}
-use Rattle.bq_base.specs.declared.fault.FaultKind.{FaultKind}
-use Rattle.bq_base.specs.declared.fault.FaultKind.TheVariants as f
+use Rattle.bq_base.specs.declared.fault.EvalFault.{EvalFault}
+use Rattle.bq_base.specs.declared.fault.EvalFault.TheVariants as f
 use Rattle.bq_label.specs.declared.packages.BuildFile.{BuildFile}
 use Rattle.bq_label.specs.Label.{PackageParts, LabelParts, package_of, label_in}
 use Rattle.bq_label.specs.Paths.{is_path}
@@ -25,7 +25,7 @@ use Rattle.bq_package_typed_value.proofs.Cases.{is_owned_by_other, label_found}
 -- ---- one text
 
 -- what a text that stands for nothing is refused for
-abbrev pub refusal : TextKind → FaultKind
+abbrev pub refusal : TextKind → EvalFault
 refusal k.Label = f.BadLabel
 refusal k.Name = f.BadName
 refusal k.Output = f.BadName
@@ -101,11 +101,11 @@ stands_by own kind s l (inr w) h = let no : ⊥ = cc (w.1, h) in absurd no
 pub stands : (own : PackageParts) (kind : TextKind) (s : List ℕ) (l : LabelParts) → read own kind s ≡ Ok l → StandsFor own kind s l
 stands own kind s l h = stands_by own kind s l (read_cases own kind s) h
 
-none_by : (own : PackageParts) (kind : TextKind) (s : List ℕ) (why : FaultKind) → Read own kind s → read own kind s ≡ Err why → (StandsForNone own kind s) × (why ≡ refusal kind)
+none_by : (own : PackageParts) (kind : TextKind) (s : List ℕ) (why : EvalFault) → Read own kind s → read own kind s ≡ Err why → (StandsForNone own kind s) × (why ≡ refusal kind)
 none_by own kind s why (inl w) h = let no : ⊥ = cc (w.2, h) in absurd no
 none_by own kind s why (inr w) h = (w.0, cc (w.1, h))
 
-pub stands_for_none : (own : PackageParts) (kind : TextKind) (s : List ℕ) (why : FaultKind) → read own kind s ≡ Err why → (StandsForNone own kind s) × (why ≡ refusal kind)
+pub stands_for_none : (own : PackageParts) (kind : TextKind) (s : List ℕ) (why : EvalFault) → read own kind s ≡ Err why → (StandsForNone own kind s) × (why ≡ refusal kind)
 stands_for_none own kind s why h = none_by own kind s why (read_cases own kind s) h
 
 -- a label is read from the text that stands for it

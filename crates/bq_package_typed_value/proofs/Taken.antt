@@ -3,8 +3,8 @@ use Rattle.std.proofs.Common.{◌≡◌, ◌∙◌, ◌⊎◌, inl, inr, ℕ, �
 use Rattle.std.specs.Prelude.{◌==◌}
 use Rattle.std.specs.List.{AllZip}
 use Rattle.std.proofs.lemmas.Bool.Decides.{nat_tests}
-use Rattle.bq_base.specs.declared.fault.FaultKind.{FaultKind}
-use Rattle.bq_base.specs.declared.fault.FaultKind.TheVariants as f
+use Rattle.bq_base.specs.declared.fault.EvalFault.{EvalFault}
+use Rattle.bq_base.specs.declared.fault.EvalFault.TheVariants as f
 use Rattle.bq_label.specs.declared.packages.BuildFile.{BuildFile}
 use Rattle.bq_label.specs.Label.{PackageParts}
 use Rattle.bq_value_rule_class.specs.declared.attribute_type.AttributeType.{AttributeType}
@@ -56,7 +56,7 @@ text_is v s h = by (text_cases v)
     by (inl x) = let same : x.0 ≡ s = cc (text_of v x.0 x.1, h) in x.1 ∙ ap string same
     by (inr e) = let no : ⊥ = cc (e, h) in absurd no
 
-text_refused : (v : Datum) (why : FaultKind) → text_in f.AttributeType v ≡ Err why → why ≡ f.AttributeType
+text_refused : (v : Datum) (why : EvalFault) → text_in f.AttributeType v ≡ Err why → why ≡ f.AttributeType
 text_refused v why h = by (text_cases v)
   where
     by : IsText v → why ≡ f.AttributeType
@@ -175,7 +175,7 @@ module _ (own : PackageParts) (packages : List BuildFile) (store : StoreView) wh
   -- the value is taken as the answer, or refused for it
   pub data Judged (type : AttributeType) (v : Datum) : Type 0 where
     taken : (x : AttributeValue) → IsTakenAs own packages store v x type → value_as own packages store type v ≡ Ok x → Judged type v
-    refused : (why : FaultKind) → IsRefusedFor own packages store v type why → value_as own packages store type v ≡ Err why → Judged type v
+    refused : (why : EvalFault) → IsRefusedFor own packages store v type why → value_as own packages store type v ≡ Err why → Judged type v
 
   one_label : (s : List ℕ) (v : Datum) → v ≡ string s → Labelled own packages k.Label s → Judged t.Label v
   unfolding value_as written_as typed
@@ -258,7 +258,7 @@ module _ (own : PackageParts) (packages : List BuildFile) (store : StoreView) wh
   takes type v x (taken y h is) e = let same : y ≡ x = cc (is, e) in subst (λ (z : AttributeValue). IsTakenAs own packages store v z type) same h
   takes type v x (refused why h is) e = let no : ⊥ = cc (is, e) in absurd no
 
-  refuses : (type : AttributeType) (v : Datum) (why : FaultKind) → Judged type v → value_as own packages store type v ≡ Err why → IsRefusedFor own packages store v type why
+  refuses : (type : AttributeType) (v : Datum) (why : EvalFault) → Judged type v → value_as own packages store type v ≡ Err why → IsRefusedFor own packages store v type why
   refuses type v why (taken y h is) e = let no : ⊥ = cc (is, e) in absurd no
   refuses type v why (refused other h is) e = let same : other ≡ why = cc (is, e) in subst (IsRefusedFor own packages store v type) same h
 
@@ -289,7 +289,7 @@ module _ (own : PackageParts) (packages : List BuildFile) (store : StoreView) wh
   has_type v x (w.outputs ss ls e h stays is) = (ss, e)
 
   -- where a value is of another type, nothing else is said of it
-  of_another : {type : AttributeType} (v : Datum) (why : FaultKind) → ¬ (IsOfType store v type) → IsRefusedFor own packages store v type why → why ≡ f.AttributeType
+  of_another : {type : AttributeType} (v : Datum) (why : EvalFault) → ¬ (IsOfType store v type) → IsRefusedFor own packages store v type why → why ≡ f.AttributeType
   of_another v why differs (w.another_type other) = refl
   of_another v why differs (w.no_label s e h) = absurd (differs (s, e))
   of_another v why differs (w.no_labels ss e h) = absurd (differs (ss, e))
@@ -304,7 +304,7 @@ module _ (own : PackageParts) (packages : List BuildFile) (store : StoreView) wh
   another type v differs (taken x h is) = absurd (differs (has_type v x h))
   another type v differs (refused why h is) = is ∙ ap Err (of_another v why differs h)
 
-  denies : {type : AttributeType} (v : Datum) (why : FaultKind) → IsRefusedFor own packages store v type why → value_as own packages store type v ≡ Err why
+  denies : {type : AttributeType} (v : Datum) (why : EvalFault) → IsRefusedFor own packages store v type why → value_as own packages store type v ≡ Err why
   unfolding value_as written_as typed
   denies {type} v why (w.another_type differs) = another type v differs (judged type v)
   denies v why (w.no_label s e h) = rw (text_of v s e, no_label_so own packages k.Label s h) refl

@@ -2,8 +2,8 @@
 -- F37 where it names a file of another package.
 use Rattle.std.specs.Prelude.{◌≡◌, ℕ, ◌-◌, ◌==◌, List, [], ◌∷◌, length, slice_get, Option, Some, None, Result, Ok, Err, if◌then◌else◌}
 use Rattle.std.specs.Option.{ForSome}
-use Rattle.bq_base.specs.declared.fault.FaultKind.{FaultKind}
-use Rattle.bq_base.specs.declared.fault.FaultKind.TheVariants.{BadLabel, BadName}
+use Rattle.bq_base.specs.declared.fault.EvalFault.{EvalFault}
+use Rattle.bq_base.specs.declared.fault.EvalFault.TheVariants.{BadLabel, BadName}
 use Rattle.bq_label.specs.declared.packages.BuildFile.{BuildFile}
 use Rattle.bq_label.specs.Label.{PackageParts, LabelParts, label_in}
 use Rattle.bq_label.specs.Paths.{is_path}
@@ -14,7 +14,7 @@ use Rattle.bq_package_typed_value.specs.Steps.{and_then, in_turn}
 use Rattle.bq_package_typed_value.specs.Scope.{inside, all_inside}
 
 -- a target of this package by its name
-abbrev pub named : PackageParts → List ℕ → Result LabelParts FaultKind
+abbrev pub named : PackageParts → List ℕ → Result LabelParts EvalFault
 named own name = if is_path name then Ok (label_in own name) else Err BadName
 
 -- a colon may precede the name of an output
@@ -23,7 +23,7 @@ without_colon [] = []
 without_colon (b ∷ bs) = if b == 58 then bs else b ∷ bs
 
 -- the label that a text stands for in a package
-unfoldable pub read : PackageParts → TextKind → List ℕ → Result LabelParts FaultKind
+unfoldable pub read : PackageParts → TextKind → List ℕ → Result LabelParts EvalFault
 read own k.Label text = elim (label_of own text) [ None ↦ Err BadLabel | Some l ↦ Ok l ]
 read own k.Name text = named own text
 read own k.Output text = named own (without_colon text)
@@ -33,13 +33,13 @@ abbrev pub IsReadLast : PackageParts → TextKind → List ℕ → List LabelPar
 IsReadLast own kind text labels = ForSome (slice_get labels (length labels - 1)) (λ l. read own kind text ≡ Ok l)
 
 -- the labels of texts
-unfoldable pub read_all : PackageParts → TextKind → List (List ℕ) → Result (List LabelParts) FaultKind
+unfoldable pub read_all : PackageParts → TextKind → List (List ℕ) → Result (List LabelParts) EvalFault
 read_all own kind texts = in_turn (read own kind) [] texts
 
 -- the same, and none crosses into another package
-unfoldable pub label : PackageParts → List BuildFile → TextKind → List ℕ → Result LabelParts FaultKind
+unfoldable pub label : PackageParts → List BuildFile → TextKind → List ℕ → Result LabelParts EvalFault
 label own packages kind text = and_then (read own kind text) (inside own packages)
 
 -- each text is read first, and then it is seen whether a label crosses into another package
-unfoldable pub labels : PackageParts → List BuildFile → TextKind → List (List ℕ) → Result (List LabelParts) FaultKind
+unfoldable pub labels : PackageParts → List BuildFile → TextKind → List (List ℕ) → Result (List LabelParts) EvalFault
 labels own packages kind texts = and_then (read_all own kind texts) (all_inside own packages)

@@ -1,6 +1,6 @@
 -- Words of the laws.
 use Rattle.std.specs.Prelude.{◌≡◌, ◌↔◌, List, Ok, Err}
-use Rattle.bq_base.specs.declared.fault.FaultKind.{FaultKind}
+use Rattle.bq_base.specs.declared.fault.EvalFault.{EvalFault}
 use Rattle.bq_label.specs.declared.packages.BuildFile.{BuildFile}
 use Rattle.bq_label.specs.Label.{PackageParts}
 use Rattle.bq_value_rule_class.specs.declared.attribute_type.AttributeType.{AttributeType}
@@ -19,5 +19,5 @@ EachTypeTakesItsValues =
 -- it refuses the others, each for what is wrong with it
 abbrev pub EachTypeRefusesOtherValues : Type 0
 EachTypeRefusesOtherValues =
-    (own : PackageParts) (packages : List BuildFile) (store : StoreView) (type : AttributeType) (v : Datum) (why : FaultKind)
+    (own : PackageParts) (packages : List BuildFile) (store : StoreView) (type : AttributeType) (v : Datum) (why : EvalFault)
     → (value_as own packages store type v ≡ Err why) ↔ IsRefusedFor own packages store v type why

@@ -1,8 +1,8 @@
 -- Labels that cross into another package (Bazel, "Labels": a label "must not cross a package boundary").
 use Rattle.std.specs.Prelude.{◌≡◌, ℕ, List, Bool, false, not, Option, None, Some, Result, Ok, Err, if◌then◌else◌}
 use Rattle.std.specs.List.{list_any}
-use Rattle.bq_base.specs.declared.fault.FaultKind.{FaultKind}
-use Rattle.bq_base.specs.declared.fault.FaultKind.TheVariants.{CrossesPackage}
+use Rattle.bq_base.specs.declared.fault.EvalFault.{EvalFault}
+use Rattle.bq_base.specs.declared.fault.EvalFault.TheVariants.{CrossesPackage}
 use Rattle.bq_label.specs.declared.packages.BuildFile.{BuildFile}
 use Rattle.bq_label.specs.Label.{PackageParts, LabelParts, label_in}
 use Rattle.bq_label.specs.Paths.{HasNoSlash}
@@ -22,9 +22,9 @@ abbrev pub ShortNamesCross : PackageParts → List BuildFile → Bool → Type 0
 ShortNamesCross own packages b = (n : List ℕ) → HasNoSlash n → crosses packages (label_in own n) ≡ b
 
 -- the label, or F37 where it is of this package and crosses into another
-unfoldable pub inside : PackageParts → List BuildFile → LabelParts → Result LabelParts FaultKind
+unfoldable pub inside : PackageParts → List BuildFile → LabelParts → Result LabelParts EvalFault
 inside own packages l = if own_label_crosses own packages l then Err CrossesPackage else Ok l
 
 -- the labels, or F37 where one of them is of this package and crosses into another
-unfoldable pub all_inside : PackageParts → List BuildFile → List LabelParts → Result (List LabelParts) FaultKind
+unfoldable pub all_inside : PackageParts → List BuildFile → List LabelParts → Result (List LabelParts) EvalFault
 all_inside own packages ls = if list_any (own_label_crosses own packages) ls then Err CrossesPackage else Ok ls

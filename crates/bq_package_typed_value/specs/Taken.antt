@@ -2,8 +2,8 @@
 -- computes just this: the laws `each_type_takes_its_values` and `each_type_refuses_other_values`.
 use Rattle.std.specs.Prelude.{◌≡◌, ◌≢◌, ◌⊎◌, ℕ, ℤ, pos, Bool, true, false, List, ◌∷◌, Some, map, All, Any}
 use Rattle.std.specs.List.{AllZip}
-use Rattle.bq_base.specs.declared.fault.FaultKind.{FaultKind}
-use Rattle.bq_base.specs.declared.fault.FaultKind.TheVariants as f
+use Rattle.bq_base.specs.declared.fault.EvalFault.{EvalFault}
+use Rattle.bq_base.specs.declared.fault.EvalFault.TheVariants as f
 use Rattle.bq_label.specs.declared.packages.BuildFile.{BuildFile}
 use Rattle.bq_label.specs.Label.{PackageParts, LabelParts, package_of, label_in, ReadsAs}
 use Rattle.bq_label.specs.Paths.{is_path}
@@ -79,7 +79,7 @@ IsOfType store v t.Output = (s : List ℕ) × (v ≡ string s)
 IsOfType store v t.OutputList = (ss : List (List ℕ)) × IsListOfTexts store v ss
 
 -- why a value isn't taken: F73; then F78 or F75, where a text stands for nothing; then F37
-pub data IsRefusedFor (own : PackageParts) (packages : List BuildFile) (store : StoreView) (v : Datum) : AttributeType → FaultKind → Type 0 where
+pub data IsRefusedFor (own : PackageParts) (packages : List BuildFile) (store : StoreView) (v : Datum) : AttributeType → EvalFault → Type 0 where
   another_type : {type : AttributeType} → ¬ (IsOfType store v type) → IsRefusedFor own packages store v type f.AttributeType
   no_label : (s : List ℕ) → v ≡ string s → StandsForNone own k.Label s → IsRefusedFor own packages store v t.Label f.BadLabel
   no_labels : (ss : List (List ℕ)) → IsListOfTexts store v ss → Any (StandsForNone own k.Label) ss → IsRefusedFor own packages store v t.LabelList f.BadLabel

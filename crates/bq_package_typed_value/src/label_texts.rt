@@ -12,7 +12,7 @@ ghost use Rattle.bq_package_typed_value.specs.LabelTexts.{named, without_colon, 
 
 use crate::plain_names::{are_plain_names, is_plain_name};
 use crate::scope::Scope;
-use bq_base::{Bytes, FaultKind, SourceErr};
+use bq_base::{Bytes, EvalFault, SourceErr};
 use bq_label::{Label, PackageId, is_path, read_shared_label};
 use bq_value::EvalErr;
 use sqlite_items::Items;
@@ -55,7 +55,7 @@ fn named(own: &PackageId, name: &Bytes) -> Result<Label, EvalErr>
     ensures { Gives (λ l. l) Bad result (named own.now name.now) }
 {
     if !is_path(name.as_slice()) {
-        return Err(EvalErr::Bad(FaultKind::BadName));
+        return Err(EvalErr::Bad(EvalFault::BadName));
     }
     Ok(own_label(own, name)?)
 }
@@ -79,7 +79,7 @@ fn read(alloc: Global, own: &PackageId, kind: TextKind, text: &Bytes) -> Result<
         TextKind::Label => match read_shared_label(alloc, text, own) {
             Ok(label) => Ok(label),
             Err(SourceErr::Memory) => Err(EvalErr::Memory),
-            Err(SourceErr::Bad(_)) => Err(EvalErr::Bad(FaultKind::BadLabel)),
+            Err(SourceErr::Bad(_)) => Err(EvalErr::Bad(EvalFault::BadLabel)),
         },
         TextKind::Name => named(own, text),
         TextKind::Output => named(own, &without_colon(alloc, text)?),
@@ -137,7 +137,7 @@ fn any_label(
 {
     let label = read(alloc, scope.own, kind, text)?;
     if scope.own_label_crosses(alloc, &label)? {
-        return Err(EvalErr::Bad(FaultKind::CrossesPackage));
+        return Err(EvalErr::Bad(EvalFault::CrossesPackage));
     }
     Ok(label)
 }
@@ -171,7 +171,7 @@ fn any_labels(
 {
     let labels = read_all(alloc, scope.own, kind, texts)?;
     if scope.any_own_label_crosses(alloc, labels.as_slice())? {
-        return Err(EvalErr::Bad(FaultKind::CrossesPackage));
+        return Err(EvalErr::Bad(EvalFault::CrossesPackage));
     }
     Ok(labels)
 }

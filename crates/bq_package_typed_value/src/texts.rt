@@ -5,14 +5,14 @@ ghost use Rattle.bq_base.specs.Gives.{Gives};
 ghost use Rattle.bq_value.specs.declared.error.EvalErr.TheVariants.{Bad};
 ghost use Rattle.bq_package_typed_value.specs.Texts.{text_in, elements_in, all_texts, texts_in};
 
-use bq_base::{Bytes, FaultKind};
+use bq_base::{Bytes, EvalFault};
 use bq_value::{Body, EvalErr, Node, Store, Value};
 use sqlite_items::Items;
 use std::alloc::Global;
 
 /// Returns a string; `why` is the fault of another value.
 #[tactic(auto, unfolding(crate::specs::Texts::text_in))]
-pub fn text_in(value: &Value, why: FaultKind) -> Result<Bytes, EvalErr>
+pub fn text_in(value: &Value, why: EvalFault) -> Result<Bytes, EvalErr>
     ensures { Gives (λ text. text) Bad result (text_in why value.now) }
 {
     match &value.node {
@@ -23,7 +23,7 @@ pub fn text_in(value: &Value, why: FaultKind) -> Result<Bytes, EvalErr>
 
 /// Returns the strings that all of the values are.
 #[tactic(auto, unfolding(crate::specs::Texts::all_texts, crate::specs::Steps::in_turn))]
-fn all_texts(alloc: Global, values: &[Value], why: FaultKind) -> Result<Items<Bytes>, EvalErr>
+fn all_texts(alloc: Global, values: &[Value], why: EvalFault) -> Result<Items<Bytes>, EvalErr>
     ensures { Gives (λ texts. texts) Bad result (all_texts why values.now) }
 {
     let mut texts = Vec::with_capacity(alloc, values.len())?;
@@ -38,7 +38,7 @@ fn all_texts(alloc: Global, values: &[Value], why: FaultKind) -> Result<Items<By
 pub(crate) fn elements_in<'a>(
     store: &'a Store,
     value: &'a Value,
-    why: FaultKind,
+    why: EvalFault,
 ) -> Result<&'a [Value], EvalErr>
     ensures { Gives (λ values. values.now) Bad result (elements_in why store.now value.now) }
 {
@@ -62,7 +62,7 @@ pub fn texts_in(
     alloc: Global,
     store: &Store,
     value: &Value,
-    why: FaultKind,
+    why: EvalFault,
 ) -> Result<Items<Bytes>, EvalErr>
     ensures { Gives (λ texts. texts) Bad result (texts_in why store.now value.now) }
 {

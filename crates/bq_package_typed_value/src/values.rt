@@ -12,7 +12,7 @@ use crate::plain_lists::{are_plain, plain_labels};
 use crate::scope::Scope;
 use crate::texts::elements_in;
 use crate::written::{Written, written_as};
-use bq_base::FaultKind;
+use bq_base::EvalFault;
 use bq_label::Label;
 use bq_value::{EvalErr, Store, Value};
 use bq_value_rule_class::{AttributeType, AttributeValue, SharedList};
@@ -56,7 +56,7 @@ fn any_value_as(
 ) -> Result<AttributeValue, EvalErr>
     ensures { Gives (λ v. v) Bad result (value_as scope.entry.own.now scope.entry.packages.now store.now kind value.now) }
 {
-    let written = written_as(alloc, store, kind, value, FaultKind::AttributeType)?;
+    let written = written_as(alloc, store, kind, value, EvalFault::AttributeType)?;
     typed(alloc, scope, written)
 }
 
@@ -72,7 +72,7 @@ fn labels_if_plain(
     if scope.short_names_cross() {
         return Ok(None);
     }
-    let Ok(values) = elements_in(store, value, FaultKind::AttributeType) else {
+    let Ok(values) = elements_in(store, value, EvalFault::AttributeType) else {
         return Ok(None);
     };
     if !are_plain(values) {

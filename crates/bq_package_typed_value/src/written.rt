@@ -6,7 +6,7 @@ ghost use Rattle.bq_value.specs.declared.error.EvalErr.TheVariants.{Bad};
 ghost use Rattle.bq_package_typed_value.specs.Written.{int_in, bool_in, written_as};
 
 use crate::texts::{text_in, texts_in};
-use bq_base::{Bytes, FaultKind};
+use bq_base::{Bytes, EvalFault};
 use bq_value::{EvalErr, Node, Store, Value};
 use bq_value_rule_class::{AttributeType, AttributeValue, SharedList};
 use sqlite_items::Items;
@@ -26,7 +26,7 @@ pub enum Written {
 }
 
 /// Returns an integer.
-fn int_in(value: &Value, why: FaultKind) -> Result<i64, FaultKind>
+fn int_in(value: &Value, why: EvalFault) -> Result<i64, EvalFault>
     ensures { result ≡ int_in why value.now }
 {
     match &value.node {
@@ -36,7 +36,7 @@ fn int_in(value: &Value, why: FaultKind) -> Result<i64, FaultKind>
 }
 
 /// Returns `True` or `False`, which may be written 1 and 0.
-fn bool_in(value: &Value, why: FaultKind) -> Result<bool, FaultKind>
+fn bool_in(value: &Value, why: EvalFault) -> Result<bool, EvalFault>
     ensures { result ≡ bool_in why value.now }
 {
     match &value.node {
@@ -54,7 +54,7 @@ pub fn written_as(
     store: &Store,
     kind: AttributeType,
     value: &Value,
-    why: FaultKind,
+    why: EvalFault,
 ) -> Result<Written, EvalErr>
     ensures { Gives (λ w. w) Bad result (written_as why store.now kind value.now) }
 {

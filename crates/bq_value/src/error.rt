@@ -3,22 +3,22 @@
 ghost use Rattle.std.specs.Prelude.{◌≡◌};
 ghost use Rattle.bq_value.specs.declared.error.EvalErr.TheVariants.{Bad, Memory};
 
-use bq_base::FaultKind;
+use bq_base::EvalFault;
 use std::alloc::{AllocError, AllocFailed};
 
 /// Neither case has a line or a detail: these are known where the fault leaves the evaluation.
 #[derive(Clone, Copy, Debug, PartialEq, Eq)]
 pub enum EvalErr {
     /// The program is faulty.
-    Bad(FaultKind),
+    Bad(EvalFault),
     /// Memory was refused, which says nothing about the program.
     Memory,
 }
 
-impl From<FaultKind> for EvalErr {
+impl From<EvalFault> for EvalErr {
     ghost from_gives = { λ kind e. e ≡ Bad kind };
 
-    fn from(kind: FaultKind) -> Self {
+    fn from(kind: EvalFault) -> Self {
         EvalErr::Bad(kind)
     }
 }

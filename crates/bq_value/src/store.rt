@@ -9,7 +9,7 @@ ghost use Rattle.bq_value.specs.Cells.{content_at, kind_of, with_cells, loading}
 use crate::error::EvalErr;
 use crate::frozen::Frozen;
 use crate::modules::Modules;
-use bq_base::{Bytes, FaultKind};
+use bq_base::{Bytes, EvalFault};
 use bq_value_content::{Content, Made};
 use bq_value_datum::Cell;
 use bq_value_seed::Seed;
@@ -118,7 +118,7 @@ impl Store {
         requires { cell.module ≡ self.old.own → cell.number < length self.old.cells }
         ensures* lends { sem 𝓛 (LendsCellIfOk self.entry cell.number result) }
         ensures own { cell.module ≡ self.old.own → IsOkAnd result (λ c. slice_get self.old.cells cell.number ≡ Some c.now) }
-        ensures frozen { cell.module ≢ self.old.own → IsErrOf result (EvalErr.Bad FaultKind.Frozen) }
+        ensures frozen { cell.module ≢ self.old.own → IsErrOf result (EvalErr.Bad EvalFault.Frozen) }
     {
         let content = self.made.change(cell)?;
         Ok(content)

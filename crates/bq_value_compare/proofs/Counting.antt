@@ -2,8 +2,8 @@
 use Rattle.std.proofs.Common.{◌≡◌, ◌∙◌, ◌+◌, ◌-◌, ◌<◌, ◌≤◌, ◌⊎◌, inl, inr, ◌==◌, ◌&&◌, ℕ, zero, suc, ℤ, Bool, true, false, cond, List, [], ◌∷◌, length, Option, Some, None, Result, Ok, Err, refl, ap, arith}
 use Rattle.std.proofs.lemmas.Bool.{cases_lt}
 use Rattle.std.specs.declared.cmp.Ordering.{Ordering}
-use Rattle.bq_base.specs.declared.fault.FaultKind.{FaultKind}
-use Rattle.bq_base.specs.declared.fault.FaultKind.TheVariants.{StepLimit, TooDeep, WrongType}
+use Rattle.bq_base.specs.declared.fault.EvalFault.{EvalFault}
+use Rattle.bq_base.specs.declared.fault.EvalFault.TheVariants.{StepLimit, TooDeep, WrongType}
 use Rattle.bq_value.specs.Datum.{Datum, none, boolean, int, string, tuple, range, cell, function, built_in, rule_function, attribute, list_of}
 use Rattle.bq_value.specs.Contents.{Contents, items, pairs, rule}
 use Rattle.bq_value.specs.Cells.{StoreView, content_at}
@@ -16,7 +16,7 @@ use Rattle.bq_value_compare.specs.Laws.{Takes, with_left}
 pub ok_takes : {A : Type 0} (a : A) → Takes (λ n. Ok (a, n))
 ok_takes a = record { steps = 0; outcome = Ok a; enough = λ more. ap (λ (k : ℕ). Ok (a, k)) (omega arith); short = λ n h. absurd (omega (arith, h)) }
 
-pub err_takes : {A : Type 0} (kind : FaultKind) → Takes {A = A} (λ n. Err kind)
+pub err_takes : {A : Type 0} (kind : EvalFault) → Takes {A = A} (λ n. Err kind)
 err_takes kind = record { steps = 0; outcome = Err kind; enough = λ more. refl; short = λ n h. absurd (omega (arith, h)) }
 
 short_stepped : {A : Type 0} (r : ℕ → Looked A) (steps : ℕ) → ((n : ℕ) → n < steps → r n ≡ Err StepLimit) → (n : ℕ) → n < suc steps → stepped n r ≡ Err StepLimit
@@ -34,7 +34,7 @@ stepped_takes r t = record {
     one_more : (a b : ℕ) → suc a + b ≡ suc (a + b)
     one_more a b = omega arith
 
-module _ {A B : Type 0} (r : ℕ → Looked A) (f : Looked A → Looked B) (err : (kind : FaultKind) → f (Err kind) ≡ Err kind) where
+module _ {A B : Type 0} (r : ℕ → Looked A) (f : Looked A → Looked B) (err : (kind : EvalFault) → f (Err kind) ≡ Err kind) where
   short_by : (a : A) (steps more : ℕ) → ((n : ℕ) → n < steps → r n ≡ Err StepLimit) → ((left : ℕ) → r (steps + left) ≡ Ok (a, left)) → ((n : ℕ) → n < more → f (Ok (a, n)) ≡ Err StepLimit)
       → (n : ℕ) → n < steps + more → (n < steps) ⊎ (steps ≤ n) → f (r n) ≡ Err StepLimit
   short_by a steps more short enough after n h (inl k) = ap f (short n k) ∙ err StepLimit
@@ -42,7 +42,7 @@ module _ {A B : Type 0} (r : ℕ → Looked A) (f : Looked A → Looked B) (err 
       let at : n ≡ steps + (n - steps) = omega (arith, k) in
       ap (λ (j : ℕ). f (r j)) at ∙ (ap f (enough (n - steps)) ∙ after (n - steps) (omega (arith, h, k)))
 
-  followed_by : (steps : ℕ) (outcome : Result A FaultKind) → ((more : ℕ) → r (steps + more) ≡ with_left outcome more) → ((n : ℕ) → n < steps → r n ≡ Err StepLimit)
+  followed_by : (steps : ℕ) (outcome : Result A EvalFault) → ((more : ℕ) → r (steps + more) ≡ with_left outcome more) → ((n : ℕ) → n < steps → r n ≡ Err StepLimit)
       → ((a : A) → Takes (λ n. f (Ok (a, n)))) → Takes (λ n. f (r n))
   followed_by steps (Err kind) enough short next = record {
     steps = steps;

@@ -1,7 +1,7 @@
 -- Values of a number of levels: a step for each of them, and at most 64.
 use Rattle.std.proofs.Common.{◌≡◌, ◌∙◌, ◌+◌, ℕ, zero, suc, Bool, true, Ok, Err, ap, arith}
 use Rattle.std.specs.declared.cmp.Ordering.TheVariants.{Equal}
-use Rattle.bq_base.specs.declared.fault.FaultKind.TheVariants.{TooDeep}
+use Rattle.bq_base.specs.declared.fault.EvalFault.TheVariants.{TooDeep}
 use Rattle.bq_value.specs.Datum.{none}
 use Rattle.bq_value.specs.Cells.{StoreView}
 use Rattle.bq_value_compare.specs.Looked.{Looked}

@@ -1,6 +1,6 @@
 -- The walk of a key takes a number of steps of its own.
 use Rattle.std.proofs.Common.{◌≡◌, ◌∙◌, ◌+◌, ℕ, zero, suc, List, [], ◌∷◌, Ok, Err, refl}
-use Rattle.bq_base.specs.declared.fault.FaultKind.TheVariants.{TooDeep, Unhashable}
+use Rattle.bq_base.specs.declared.fault.EvalFault.TheVariants.{TooDeep, Unhashable}
 use Rattle.bq_value.specs.Datum.{Datum, none, boolean, int, string, tuple, range, cell, function, built_in, rule_function, attribute, list_of}
 use Rattle.bq_value_compare.specs.Looked.{Looked, stepped}
 use Rattle.bq_value_compare.specs.KeyWalk.{Walked, walk_step, and_walk, all_walked, parts_walked, walked_at, keyed}

@@ -1,6 +1,6 @@
 -- A value that the walk goes through may be a key, and of a value that may be one it never says that it may not.
 use Rattle.std.proofs.Common.{◌≡◌, ◌≢◌, ℕ, zero, suc, Ok, Err, refl, sym, ap}
-use Rattle.bq_base.specs.declared.fault.FaultKind.TheVariants.{Unhashable}
+use Rattle.bq_base.specs.declared.fault.EvalFault.TheVariants.{Unhashable}
 use Rattle.bq_value.specs.Datum.{Datum, none, boolean, int, string, tuple, range, cell, function, built_in, rule_function, attribute, Data, end, datum, list_of}
 use Rattle.bq_value.specs.Key.{IsKey, AreKeys}
 use Rattle.bq_value_compare.specs.Looked.{Looked}

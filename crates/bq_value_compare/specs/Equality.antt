@@ -1,6 +1,6 @@
 -- When two values are equal (Starlark, "Comparisons"), and the steps that it takes to see it: one for each pair of values.
 use Rattle.std.specs.Prelude.{ℕ, zero, suc, Bool, true, false, cond, ◌&&◌, ℤ, List, [], ◌∷◌, length, Option, Some, None, Ok, Err, ◌==◌}
-use Rattle.bq_base.specs.declared.fault.FaultKind.TheVariants.{TooDeep}
+use Rattle.bq_base.specs.declared.fault.EvalFault.TheVariants.{TooDeep}
 use Rattle.bq_value.specs.Datum.{Datum, tuple, range, cell, function, list_of}
 use Rattle.bq_value.specs.Range.{ranges_same}
 use Rattle.bq_value.specs.Same.{same}

@@ -1,13 +1,13 @@
 -- Which values make keys (Starlark, "Hashing"), one step for each value visited.
 use Rattle.std.specs.Prelude.{ℕ, zero, suc, List, [], ◌∷◌, Result, Ok, Err}
-use Rattle.bq_base.specs.declared.fault.FaultKind.{FaultKind}
-use Rattle.bq_base.specs.declared.fault.FaultKind.TheVariants.{StepLimit, TooDeep, Unhashable}
+use Rattle.bq_base.specs.declared.fault.EvalFault.{EvalFault}
+use Rattle.bq_base.specs.declared.fault.EvalFault.TheVariants.{StepLimit, TooDeep, Unhashable}
 use Rattle.bq_value.specs.Datum.{Datum, none, boolean, int, string, tuple, list_of}
 use Rattle.bq_value_compare.specs.Looked.{Looked}
 
 -- the steps that are left, or the fault
 abbrev pub Walked : Type 0
-Walked = Result ℕ FaultKind
+Walked = Result ℕ EvalFault
 
 -- a step of a walk over a key
 abbrev pub walk_step : ℕ → (ℕ → Walked) → Walked

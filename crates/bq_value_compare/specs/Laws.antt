@@ -2,8 +2,8 @@
 use Rattle.std.specs.Prelude.{◌≡◌, ℕ, zero, suc, ◌+◌, ◌<◌, ℤ, Bool, true, false, List, [], ◌∷◌, Option, Some, None, Result, Ok, Err}
 use Rattle.std.specs.declared.cmp.Ordering.{Ordering}
 use Rattle.std.specs.declared.cmp.Ordering.TheVariants.{Less, Equal, Greater}
-use Rattle.bq_base.specs.declared.fault.FaultKind.{FaultKind}
-use Rattle.bq_base.specs.declared.fault.FaultKind.TheVariants.{StepLimit}
+use Rattle.bq_base.specs.declared.fault.EvalFault.{EvalFault}
+use Rattle.bq_base.specs.declared.fault.EvalFault.TheVariants.{StepLimit}
 use Rattle.bq_value.specs.Datum.{Datum, none, boolean, int, string, tuple, range, cell, function, built_in, rule_function, attribute, end, datum}
 use Rattle.bq_value.specs.Range.{range_count, range_element}
 use Rattle.bq_value.specs.Contents.{Contents, items, pairs, rule, KeysDiffer}
@@ -75,7 +75,7 @@ pub data Decided (s : StoreView) (levels : ℕ) : List Datum → List Datum → 
   later : {x y : Datum} {xs ys : List Datum} {o : Ordering} → Answers (λ n. equal_at levels s n x y) true → Decided s levels xs ys o → Decided s levels (x ∷ xs) (y ∷ ys) o
 
 -- an answer or a fault, with these steps left
-abbrev pub with_left : {A : Type 0} → Result A FaultKind → ℕ → Looked A
+abbrev pub with_left : {A : Type 0} → Result A EvalFault → ℕ → Looked A
 with_left (Ok a) n = Ok (a, n)
 with_left (Err kind) n = Err kind
 
@@ -83,7 +83,7 @@ with_left (Err kind) n = Err kind
 -- outcome, and the rest of the steps is left.
 pub record Takes {A : Type 0} (walk : ℕ → Looked A) : Type 0 where
   pub steps : ℕ
-  pub outcome : Result A FaultKind
+  pub outcome : Result A EvalFault
   pub enough : (more : ℕ) → walk (steps + more) ≡ with_left outcome more
   pub short : (n : ℕ) → n < steps → walk n ≡ Err StepLimit
 

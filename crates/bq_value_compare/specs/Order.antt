@@ -5,7 +5,7 @@ use Rattle.std.specs.declared.cmp.Ordering.{Ordering}
 use Rattle.std.specs.declared.cmp.Ordering.TheVariants.{Less, Equal, Greater}
 use Rattle.std.specs.Ordering.{int_cmp, nat_cmp, bool_cmp, is_lt}
 use Rattle.std.specs.Cmp.Lexicographic.{slice_cmp}
-use Rattle.bq_base.specs.declared.fault.FaultKind.TheVariants.{TooDeep, WrongType}
+use Rattle.bq_base.specs.declared.fault.EvalFault.TheVariants.{TooDeep, WrongType}
 use Rattle.bq_value.specs.Datum.{Datum, boolean, int, string, tuple, cell, list_of}
 use Rattle.bq_value.specs.Contents.{Contents, items}
 use Rattle.bq_value.specs.Cells.{StoreView, content_at}

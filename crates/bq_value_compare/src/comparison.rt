@@ -7,20 +7,20 @@ ghost use Rattle.bq_value_compare.specs.Order.{ordered_at, lists_ordered, conten
 
 use crate::MAX_LEVELS;
 use crate::equality::values_equal;
-use bq_base::{Bytes, FaultKind};
+use bq_base::{Bytes, EvalFault};
 use bq_value::{Body, Content, Node, Store, Value};
 use std::cmp::Ordering;
 
 /// Compares two values within `steps`. Returns their order and the steps that are left; `a <= b` is an order other than
 /// `Greater`.
-pub fn order(store: &Store, steps: u64, a: &Value, b: &Value) -> Result<(Ordering, u64), FaultKind>
+pub fn order(store: &Store, steps: u64, a: &Value, b: &Value) -> Result<(Ordering, u64), EvalFault>
     ensures { result ≡ ordered_at max_levels store.now steps a.now b.now }
 {
     values_ordered(store, MAX_LEVELS, steps, a, b)
 }
 
 /// Returns whether `a < b`, and how many of the steps are left.
-pub fn less(store: &Store, steps: u64, a: &Value, b: &Value) -> Result<(bool, u64), FaultKind>
+pub fn less(store: &Store, steps: u64, a: &Value, b: &Value) -> Result<(bool, u64), EvalFault>
     ensures { result ≡ less_of (ordered_at max_levels store.now steps a.now b.now) }
 {
     match order(store, steps, a, b) {
@@ -38,15 +38,15 @@ fn values_ordered(
     steps: u64,
     a: &Value,
     b: &Value,
-) -> Result<(Ordering, u64), FaultKind>
+) -> Result<(Ordering, u64), EvalFault>
     ensures { result ≡ ordered_at levels store.now steps a.now b.now }
 {
     if steps == 0 {
-        return Err(FaultKind::StepLimit);
+        return Err(EvalFault::StepLimit);
     }
     let steps = steps - 1;
     if levels == 0 {
-        return Err(FaultKind::TooDeep);
+        return Err(EvalFault::TooDeep);
     }
     let below = levels - 1;
     match &a.node {
@@ -55,40 +55,40 @@ fn values_ordered(
         Node::Text(x) => strings(steps, x, b),
         Node::Tuple(xs) => tuples(store, below, steps, xs, b),
         Node::Cell(x) => cells(store, below, steps, store.content(*x), b),
-        Node::NoneValue => Err(FaultKind::WrongType),
-        Node::Range(_) | Node::Function(_) | Node::BuiltIn(_) => Err(FaultKind::WrongType),
-        Node::SchemaRule(_, _) => Err(FaultKind::WrongType),
-        Node::RuleFunction(_) | Node::Attribute(_) => Err(FaultKind::WrongType),
+        Node::NoneValue => Err(EvalFault::WrongType),
+        Node::Range(_) | Node::Function(_) | Node::BuiltIn(_) => Err(EvalFault::WrongType),
+        Node::SchemaRule(_, _) => Err(EvalFault::WrongType),
+        Node::RuleFunction(_) | Node::Attribute(_) => Err(EvalFault::WrongType),
     }
 }
 
 #[tactic(auto, unfolding(crate::specs::Order::bool_ordered))]
-fn bools(steps: u64, a: bool, b: &Value) -> Result<(Ordering, u64), FaultKind>
+fn bools(steps: u64, a: bool, b: &Value) -> Result<(Ordering, u64), EvalFault>
     ensures { result ≡ bool_ordered steps a b.now }
 {
     match &b.node {
         Node::Bool(y) => Ok((a.cmp(y), steps)),
-        _ => Err(FaultKind::WrongType),
+        _ => Err(EvalFault::WrongType),
     }
 }
 
 #[tactic(auto, unfolding(crate::specs::Order::int_ordered))]
-fn ints(steps: u64, a: i64, b: &Value) -> Result<(Ordering, u64), FaultKind>
+fn ints(steps: u64, a: i64, b: &Value) -> Result<(Ordering, u64), EvalFault>
     ensures { result ≡ int_ordered steps a b.now }
 {
     match &b.node {
         Node::Int(y) => Ok((a.cmp(y), steps)),
-        _ => Err(FaultKind::WrongType),
+        _ => Err(EvalFault::WrongType),
     }
 }
 
 #[tactic(auto, unfolding(crate::specs::Order::string_ordered))]
-fn strings(steps: u64, a: &Bytes, b: &Value) -> Result<(Ordering, u64), FaultKind>
+fn strings(steps: u64, a: &Bytes, b: &Value) -> Result<(Ordering, u64), EvalFault>
     ensures { result ≡ string_ordered steps a.now b.now }
 {
     match &b.node {
         Node::Text(y) => Ok((a.cmp(y), steps)),
-        _ => Err(FaultKind::WrongType),
+        _ => Err(EvalFault::WrongType),
     }
 }
 
@@ -100,12 +100,12 @@ fn tuples(
     steps: u64,
     xs: &[Value],
     b: &Value,
-) -> Result<(Ordering, u64), FaultKind>
+) -> Result<(Ordering, u64), EvalFault>
     ensures { result ≡ tuple_ordered (equal_at levels store.now) (ordered_at levels store.now) steps xs.now b.now }
 {
     match &b.node {
         Node::Tuple(ys) => slices_ordered(store, levels, steps, xs, ys),
-        _ => Err(FaultKind::WrongType),
+        _ => Err(EvalFault::WrongType),
     }
 }
 
@@ -117,15 +117,15 @@ fn cells(
     steps: u64,
     a: Option<&Content>,
     b: &Value,
-) -> Result<(Ordering, u64), FaultKind>
+) -> Result<(Ordering, u64), EvalFault>
     ensures { result ≡ cell_ordered (equal_at levels store.now) (ordered_at levels store.now) store.now steps (option_copied a.entry) b.now }
 {
     match &b.node {
         Node::Cell(y) => match (a, store.content(*y)) {
             (Some(c), Some(d)) => cells_ordered(store, levels, steps, c, d),
-            _ => Err(FaultKind::WrongType),
+            _ => Err(EvalFault::WrongType),
         },
-        _ => Err(FaultKind::WrongType),
+        _ => Err(EvalFault::WrongType),
     }
 }
 
@@ -136,12 +136,12 @@ fn cells_ordered(
     steps: u64,
     a: &Content,
     b: &Content,
-) -> Result<(Ordering, u64), FaultKind>
+) -> Result<(Ordering, u64), EvalFault>
     ensures { result ≡ contents_ordered (equal_at levels store.now) (ordered_at levels store.now) steps a.now b.now }
 {
     match (a.body(), b.body()) {
         (Body::List(xs), Body::List(ys)) => slices_ordered(store, levels, steps, xs, ys),
-        _ => Err(FaultKind::WrongType),
+        _ => Err(EvalFault::WrongType),
     }
 }
 
@@ -152,7 +152,7 @@ fn slices_ordered(
     steps: u64,
     xs: &[Value],
     ys: &[Value],
-) -> Result<(Ordering, u64), FaultKind>
+) -> Result<(Ordering, u64), EvalFault>
     ensures { result ≡ lists_ordered (equal_at levels store.now) (ordered_at levels store.now) steps xs.now ys.now }
 {
     let mut left = steps;

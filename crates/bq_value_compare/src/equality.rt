@@ -5,11 +5,11 @@ ghost use Rattle.bq_value_compare.specs.Looked.{max_levels};
 ghost use Rattle.bq_value_compare.specs.Equality.{equal_at, range_equal, function_equal, tuple_equal, cell_equal, lists_equal, dicts_equal, contents_equal};
 
 use crate::MAX_LEVELS;
-use bq_base::FaultKind;
+use bq_base::EvalFault;
 use bq_value::{Body, Cell, Content, Dict, Function, Node, Range, Store, Value};
 
 /// Returns whether two values are equal, and how many of the steps are left.
-pub fn equal(store: &Store, steps: u64, a: &Value, b: &Value) -> Result<(bool, u64), FaultKind>
+pub fn equal(store: &Store, steps: u64, a: &Value, b: &Value) -> Result<(bool, u64), EvalFault>
     ensures { result ≡ equal_at max_levels store.now steps a.now b.now }
 {
     values_equal(store, MAX_LEVELS, steps, a, b)
@@ -24,15 +24,15 @@ pub(crate) fn values_equal(
     steps: u64,
     a: &Value,
     b: &Value,
-) -> Result<(bool, u64), FaultKind>
+) -> Result<(bool, u64), EvalFault>
     ensures { result ≡ equal_at levels store.now steps a.now b.now }
 {
     if steps == 0 {
-        return Err(FaultKind::StepLimit);
+        return Err(EvalFault::StepLimit);
     }
     let steps = steps - 1;
     if levels == 0 {
-        return Err(FaultKind::TooDeep);
+        return Err(EvalFault::TooDeep);
     }
     let below = levels - 1;
     match &a.node {
@@ -77,7 +77,7 @@ fn tuple_equal(
     steps: u64,
     xs: &[Value],
     b: &Value,
-) -> Result<(bool, u64), FaultKind>
+) -> Result<(bool, u64), EvalFault>
     ensures { result ≡ tuple_equal (equal_at levels store.now) steps xs.now b.now }
 {
     match &b.node {
@@ -100,7 +100,7 @@ fn cell_equal(
     steps: u64,
     x: Cell,
     b: &Value,
-) -> Result<(bool, u64), FaultKind>
+) -> Result<(bool, u64), EvalFault>
     ensures { result ≡ cell_equal (equal_at levels store.now) store.now steps x.module x.number b.now }
 {
     match &b.node {
@@ -125,7 +125,7 @@ fn contents_equal(
     one: bool,
     a: &Content,
     b: &Content,
-) -> Result<(bool, u64), FaultKind>
+) -> Result<(bool, u64), EvalFault>
     ensures { result ≡ contents_equal (equal_at levels store.now) steps one a.now b.now }
 {
     match (a.body(), b.body()) {
@@ -143,7 +143,7 @@ fn slices_equal(
     steps: u64,
     xs: &[Value],
     ys: &[Value],
-) -> Result<(bool, u64), FaultKind>
+) -> Result<(bool, u64), EvalFault>
     ensures { result ≡ lists_equal (equal_at levels store.now) steps xs.now ys.now }
 {
     if xs.len() != ys.len() {
@@ -167,7 +167,7 @@ fn entries_equal(
     steps: u64,
     ps: &Dict,
     qs: &Dict,
-) -> Result<(bool, u64), FaultKind>
+) -> Result<(bool, u64), EvalFault>
     ensures { result ≡ dicts_equal (equal_at levels store.now) steps ps.now qs.now }
 {
     if ps.len() != qs.len() {

@@ -7,7 +7,7 @@ ghost use Rattle.bq_value.specs.declared.error.EvalErr.TheVariants.{Bad};
 ghost use Rattle.bq_value_compare.specs.KeyWalk.{walked_at, all_walked, keyed};
 
 use crate::MAX_LEVELS;
-use bq_base::FaultKind;
+use bq_base::EvalFault;
 use bq_value::{EvalErr, Key, Node, Value};
 
 /// Returns the key that a value makes, and how many of the steps are left. Only `None`, bools, integers, strings and
@@ -23,15 +23,15 @@ pub fn key_of(steps: u64, value: &Value) -> Result<(Key, u64), EvalErr>
 /// Visits a value, of which `levels` levels may be looked at. Returns how many of the steps are left.
 #[cycle(walk)]
 #[tactic(auto, using(bq_value_datum::specs::Datum::list_of_data_of))]
-fn walk(levels: u32, steps: u64, value: &Value) -> Result<u64, FaultKind>
+fn walk(levels: u32, steps: u64, value: &Value) -> Result<u64, EvalFault>
     ensures { result ≡ walked_at levels steps value.now }
 {
     if steps == 0 {
-        return Err(FaultKind::StepLimit);
+        return Err(EvalFault::StepLimit);
     }
     let steps = steps - 1;
     if levels == 0 {
-        return Err(FaultKind::TooDeep);
+        return Err(EvalFault::TooDeep);
     }
     match &value.node {
         Node::NoneValue | Node::Bool(_) | Node::Int(_) | Node::Text(_) => Ok(steps),
@@ -42,12 +42,12 @@ fn walk(levels: u32, steps: u64, value: &Value) -> Result<u64, FaultKind>
         | Node::BuiltIn(_)
         | Node::SchemaRule(_, _)
         | Node::RuleFunction(_)
-        | Node::Attribute(_) => Err(FaultKind::Unhashable),
+        | Node::Attribute(_) => Err(EvalFault::Unhashable),
     }
 }
 
 #[cycle(walk)]
-fn walk_all(levels: u32, steps: u64, values: &[Value]) -> Result<u64, FaultKind>
+fn walk_all(levels: u32, steps: u64, values: &[Value]) -> Result<u64, EvalFault>
     ensures { result ≡ all_walked (walked_at levels) steps values.now }
 {
     let mut left = steps;

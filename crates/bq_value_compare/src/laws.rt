@@ -5,7 +5,7 @@ ghost use Rattle.std.specs.declared.cmp.Ordering.{Ordering};
 ghost use Rattle.std.specs.declared.cmp.Ordering.TheVariants.{Less, Equal};
 ghost use Rattle.std.specs.Ordering.{int_cmp, nat_cmp, bool_cmp, ordering_reverse};
 ghost use Rattle.std.specs.Cmp.Lexicographic.{slice_cmp};
-ghost use Rattle.bq_base.specs.declared.fault.FaultKind.TheVariants.{TooDeep, Unhashable};
+ghost use Rattle.bq_base.specs.declared.fault.EvalFault.TheVariants.{TooDeep, Unhashable};
 ghost use Rattle.bq_value_rule_class.specs.Class.{Class};
 ghost use Rattle.bq_value_rule_class.specs.Same.{same_attribute};
 ghost use Rattle.bq_value_rule_class.specs.declared.attribute.Attribute.{Attribute};

@@ -6,7 +6,7 @@ ghost use Rattle.bq_value_content.specs.Lending.{LendsCell, LendsCellIfOk};
 ghost use Rattle.bq_value_content.specs.Made.{with_made};
 
 use crate::content::Content;
-use bq_base::FaultKind;
+use bq_base::EvalFault;
 use bq_value_datum::Cell;
 use std::alloc::{AllocError, Global};
 use std::marker::Model;
@@ -89,14 +89,14 @@ impl Made {
     }
 
     /// Returns what `cell` holds, to be changed. Cells of other modules can't be changed (F47).
-    pub fn change(&mut self, cell: Cell) -> Result<&mut Content, FaultKind>
+    pub fn change(&mut self, cell: Cell) -> Result<&mut Content, EvalFault>
         requires { cell.module ≡ self.old.own → cell.number < length self.old.cells }
         ensures* lends { sem 𝓛 (LendsCellIfOk self.entry cell.number result) }
         ensures own { cell.module ≡ self.old.own → IsOkAnd result (λ c. slice_get self.old.cells cell.number ≡ Some c.now) }
-        ensures frozen { cell.module ≢ self.old.own → IsErrOf result FaultKind.Frozen }
+        ensures frozen { cell.module ≢ self.old.own → IsErrOf result EvalFault.Frozen }
     {
         if cell.module != self.own {
-            return Err(FaultKind::Frozen);
+            return Err(EvalFault::Frozen);
         }
         Ok(self.lend(cell.number))
     }

@@ -1,7 +1,7 @@
 -- Texts of values of a number of levels: a step for each of them, and at most 64.
 use Rattle.std.proofs.Common.{◌≡◌, ◌∙◌, ◌+◌, ℕ, zero, suc, [], Ok, Err, ap, arith}
 use Rattle.std.specs.Prelude.{codes}
-use Rattle.bq_base.specs.declared.fault.FaultKind.TheVariants.{TooDeep}
+use Rattle.bq_base.specs.declared.fault.EvalFault.TheVariants.{TooDeep}
 use Rattle.bq_value.specs.Datum.{none, end, datum, list_of}
 use Rattle.bq_value.specs.Cells.{StoreView}
 use Rattle.bq_value_compare.specs.Looked.{Looked}

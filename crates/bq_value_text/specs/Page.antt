@@ -1,7 +1,7 @@
 -- What is written of a text: its bytes, or none once they are more than a text may have.
 use Rattle.std.specs.Prelude.{ℕ, ◌+◌, nat_le, Bool, true, false, cond, List, ◌++◌, length, Option, Some, None, Result, Ok, Err}
-use Rattle.bq_base.specs.declared.fault.FaultKind.{FaultKind}
-use Rattle.bq_base.specs.declared.fault.FaultKind.TheVariants.{TooLong}
+use Rattle.bq_base.specs.declared.fault.EvalFault.{EvalFault}
+use Rattle.bq_base.specs.declared.fault.EvalFault.TheVariants.{TooLong}
 
 -- a text that is being written; none once it was too long
 abbrev pub PageView : Type 0
@@ -21,6 +21,6 @@ written None bytes = None
 written (Some text) bytes = cond (nat_le (length text + length bytes) max_text) (Some (text ++ bytes)) None
 
 -- the text, or F54
-abbrev pub finished : PageView → Result (List ℕ) FaultKind
+abbrev pub finished : PageView → Result (List ℕ) EvalFault
 finished (Some text) = Ok text
 finished None = Err TooLong

@@ -1,6 +1,6 @@
 -- The text of a value (Starlark, "str", "repr"), written after what is written already, one step for each value visited.
 use Rattle.std.specs.Prelude.{ℕ, zero, suc, cond, List, [], ◌∷◌, length, Option, Some, None, Ok, Err, ◌==◌, codes}
-use Rattle.bq_base.specs.declared.fault.FaultKind.TheVariants.{TooDeep, TooLong}
+use Rattle.bq_base.specs.declared.fault.EvalFault.TheVariants.{TooDeep, TooLong}
 use Rattle.bq_value.specs.Datum.{Datum, string, tuple, cell, list_of}
 use Rattle.bq_value.specs.Contents.{Contents, items, pairs, rule}
 use Rattle.bq_value.specs.Cells.{StoreView, content_at}

@@ -2,7 +2,7 @@
 
 ghost use Rattle.std.specs.Prelude.{◌≡◌, ◌↔◌, ◌+◌, ◌≤◌, ℕ, suc, ℤ, List, None, Ok, Err, length};
 ghost use Rattle.std.specs.Fmt.{signed_decimal};
-ghost use Rattle.bq_base.specs.declared.fault.FaultKind.TheVariants.{TooDeep};
+ghost use Rattle.bq_base.specs.declared.fault.EvalFault.TheVariants.{TooDeep};
 ghost use Rattle.bq_source.specs.StringLiteral.{quoted};
 ghost use Rattle.bq_value.specs.Datum.{Datum, int, string};
 ghost use Rattle.bq_value.specs.Cells.{StoreView};

@@ -5,7 +5,7 @@ ghost use Rattle.bq_base.specs.Gives.{Gives};
 ghost use Rattle.bq_value.specs.declared.error.EvalErr.TheVariants.{Bad};
 ghost use Rattle.bq_value_text.specs.Page.{written, finished};
 
-use bq_base::{Bytes, FaultKind};
+use bq_base::{Bytes, EvalFault};
 use bq_value::EvalErr;
 use std::alloc::{AllocError, Global};
 use std::marker::Model;
@@ -69,7 +69,7 @@ impl Page {
     {
         let Page { bytes, is_over } = self;
         if is_over {
-            return Err(EvalErr::Bad(FaultKind::TooLong));
+            return Err(EvalErr::Bad(EvalFault::TooLong));
         }
         Ok(Bytes::from_vec(alloc, bytes)?)
     }

@@ -8,7 +8,7 @@ ghost use Rattle.bq_value_text.specs.Shown.{shown_at, repr_shown, text_shown, st
 
 use crate::leaf::write_leaf;
 use crate::page::Page;
-use bq_base::{Bytes, FaultKind};
+use bq_base::{Bytes, EvalFault};
 use bq_value::{Body, Content, Dict, EvalErr, Node, Store, Value};
 use bq_value_compare::MAX_LEVELS;
 use std::alloc::Global;
@@ -64,7 +64,7 @@ pub fn write_text(store: &Store, steps: u64, value: &Value, page: &mut Page) -> 
         None => write_repr(store, steps, value, page),
         Some(bytes) => {
             if steps == 0 {
-                return Err(EvalErr::Bad(FaultKind::StepLimit));
+                return Err(EvalErr::Bad(EvalFault::StepLimit));
             }
             page.write(bytes.as_slice())?;
             Ok(steps - 1)
@@ -97,11 +97,11 @@ fn show(
     ensures { Gives (λ left. (page.new, left)) Bad result (shown_at levels store.now page.old steps value.now) }
 {
     if steps == 0 {
-        return Err(EvalErr::Bad(FaultKind::StepLimit));
+        return Err(EvalErr::Bad(EvalFault::StepLimit));
     }
     let steps = steps - 1;
     if levels == 0 {
-        return Err(EvalErr::Bad(FaultKind::TooDeep));
+        return Err(EvalErr::Bad(EvalFault::TooDeep));
     }
     let below = levels - 1;
     match &value.node {

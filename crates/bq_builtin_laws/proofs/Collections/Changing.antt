@@ -1,6 +1,6 @@
 -- A list or dict that is changed is refused for another module (F47), for a walk (F48), and then for what the change refuses.
 use Rattle.std.proofs.Common.{◌≡◌, refl, ℕ, inl, inr, [], ◌∷◌, Some, None, Result, Ok, Err, ◌==◌}
-use Rattle.bq_base.specs.declared.fault.FaultKind.{FaultKind}
+use Rattle.bq_base.specs.declared.fault.EvalFault.{EvalFault}
 use Rattle.bq_base.proofs.Choices.{by_bool}
 use Rattle.bq_value.specs.Cells.{content_at}
 use Rattle.bq_value.specs.Contents.{Contents}
@@ -11,10 +11,10 @@ use Rattle.bq_builtin_refusal_laws.specs.Refusals.{Check, fault_of, fault_in, fi
 use Rattle.bq_builtin_laws.specs.Collections.Orders.{frozen, walked}
 
 -- what is left to do with the content
-abbrev put_by : {A : Type 0} → ℕ → Result (A × Contents) FaultKind → Action State A
+abbrev put_by : {A : Type 0} → ℕ → Result (A × Contents) EvalFault → Action State A
 put_by number r = given r >>= λ p. put_content number p.1 >> pure p.0
 
-put_refused : {A : Type 0} (number : ℕ) (r : Result (A × Contents) FaultKind) (s : State) → fault_of (put_by number r s) ≡ first_fault (fault_in r ∷ [])
+put_refused : {A : Type 0} (number : ℕ) (r : Result (A × Contents) EvalFault) (s : State) → fault_of (put_by number r s) ≡ first_fault (fault_in r ∷ [])
 put_refused number (Ok p) s = refl
 put_refused number (Err kind) s = refl
 

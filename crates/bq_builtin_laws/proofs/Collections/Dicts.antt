@@ -1,6 +1,6 @@
 -- The methods of dicts, and assignments to a key, are refused in their orders.
 use Rattle.std.proofs.Common.{◌≡◌, ◌∙◌, ap, refl, sym, subst, ℕ, List, [], ◌∷◌, Option, Some, None, Result, Ok, Err}
-use Rattle.bq_base.specs.declared.fault.FaultKind.{FaultKind}
+use Rattle.bq_base.specs.declared.fault.EvalFault.{EvalFault}
 use Rattle.bq_value.specs.Contents.{pairs}
 use Rattle.bq_value.specs.Datum.{Datum, none, cell, or_none}
 use Rattle.bq_value_compare.specs.KeyWalk.{walked_at, keyed}
@@ -25,11 +25,11 @@ use Rattle.bq_builtin_collections.proofs.Cases.{as_pairs}
 
 -- ---- arguments
 
-given_refused : {A B : Type 0} (r : Result A FaultKind) (why : FaultKind) (next : A → Action State B) (s : State) → r ≡ Err why → fault_of ((given r >>= next) s) ≡ first_fault (Some why ∷ [])
+given_refused : {A B : Type 0} (r : Result A EvalFault) (why : EvalFault) (next : A → Action State B) (s : State) → r ≡ Err why → fault_of ((given r >>= next) s) ≡ first_fault (Some why ∷ [])
 given_refused (Ok a) why next s h = cc
 given_refused (Err kind) why next s h = let same : kind ≡ why = cc in ap Some same
 
-module _ (home number : ℕ) (args : List Datum) (why : FaultKind) (s : State) where
+module _ (home number : ℕ) (args : List Datum) (why : EvalFault) (s : State) where
   pub no_pop : one_or_two args ≡ Err why → IsRefusedForFirst (dict.pop home number args s) (Some why ∷ [])
   unfolding dict.pop
   no_pop h = given_refused (one_or_two args) why _ s h
@@ -51,7 +51,7 @@ module _ (home number : ℕ) (args : List Datum) (why : FaultKind) (s : State) w
 last : (a b c d : Check) → c ≡ d → first_fault (a ∷ b ∷ c ∷ []) ≡ first_fault (a ∷ b ∷ d ∷ [])
 last a b c d e = ap (λ x. first_fault (a ∷ b ∷ x ∷ [])) e
 
-pairs_refused : (r : Result (Datum × Pairs) FaultKind) → fault_in (as_pairs r) ≡ fault_in r
+pairs_refused : (r : Result (Datum × Pairs) EvalFault) → fault_in (as_pairs r) ≡ fault_in r
 pairs_refused (Ok p) = refl
 pairs_refused (Err kind) = refl
 
@@ -136,7 +136,7 @@ abbrev IsStill : {A : Type 0} → State → Run State A → Type 0
 IsStill s (done a t) = t ≡ s
 IsStill s (stopped why) = Unit {0}
 
-given_still : {A : Type 0} (r : Result A FaultKind) (s : State) → IsStill s (given r s)
+given_still : {A : Type 0} (r : Result A EvalFault) (s : State) → IsStill s (given r s)
 given_still (Ok a) s = refl
 given_still (Err kind) s = tt
 

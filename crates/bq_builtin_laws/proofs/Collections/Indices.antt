@@ -4,7 +4,7 @@ use Rattle.std.specs.Prelude.{min, nat_le, slice_get}
 use Rattle.std.proofs.Math.Nat.{min-le_left, min-le_right}
 use Rattle.std.proofs.lemmas.List.{get_or-take, get_or-drop, length-take}
 use Rattle.std.proofs.lemmas.Option.{slice_get_within, get_or_from_slice_get, slice_get-get_or}
-use Rattle.bq_base.specs.declared.fault.FaultKind.TheVariants.{TooLong}
+use Rattle.bq_base.specs.declared.fault.EvalFault.TheVariants.{TooLong}
 use Rattle.bq_value.specs.Datum.{Datum, int}
 use Rattle.bq_value_compare.specs.Looked.{Looked}
 use Rattle.bq_builtin_machine.specs.Action.{done, following, given}

@@ -1,13 +1,13 @@
 -- `popitem` takes the first of a dict's items, and `setdefault` leaves a value that is there.
 use Rattle.std.proofs.Common.{◌≡◌, ap, List, [], ◌∷◌, map, Option, Some, Result, Ok, Err}
-use Rattle.bq_base.specs.declared.fault.FaultKind.{FaultKind}
+use Rattle.bq_base.specs.declared.fault.EvalFault.{EvalFault}
 use Rattle.bq_value.specs.Datum.{Datum}
 use Rattle.bq_value.specs.Pairs.{found}
 use Rattle.bq_builtin_collections.specs.Dict.{first_out, pair_tuple, with_default}
 use Rattle.bq_builtin_collections.proofs.Cases.{with_default_by}
 
 -- the items of an answer and of the pairs that are left
-abbrev items_of : Result (Datum × List (Datum × Datum)) FaultKind → List Datum
+abbrev items_of : Result (Datum × List (Datum × Datum)) EvalFault → List Datum
 items_of (Ok r) = r.0 ∷ map pair_tuple r.1
 items_of (Err kind) = []
 

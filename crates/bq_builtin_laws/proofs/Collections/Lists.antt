@@ -1,7 +1,7 @@
 -- The methods of lists, and assignments to an index, are refused in their orders.
 use Rattle.std.proofs.Common.{◌≡◌, ◌∙◌, ap, refl, ℕ, ◌+◌, inl, inr, List, [], ◌∷◌, length, Some, None, Result, Ok, Err}
 use Rattle.std.specs.Prelude.{nat_le}
-use Rattle.bq_base.specs.declared.fault.FaultKind.{FaultKind}
+use Rattle.bq_base.specs.declared.fault.EvalFault.{EvalFault}
 use Rattle.bq_base.proofs.Choices.{by_bool}
 use Rattle.bq_value.specs.Contents.{items}
 use Rattle.bq_value.specs.Datum.{Datum, int, cell}
@@ -23,11 +23,11 @@ use Rattle.bq_builtin_collections.proofs.Cases.{as_items}
 
 -- ---- arguments
 
-given_refused : {A B : Type 0} (r : Result A FaultKind) (why : FaultKind) (next : A → Action State B) (s : State) → r ≡ Err why → fault_of ((given r >>= next) s) ≡ first_fault (Some why ∷ [])
+given_refused : {A B : Type 0} (r : Result A EvalFault) (why : EvalFault) (next : A → Action State B) (s : State) → r ≡ Err why → fault_of ((given r >>= next) s) ≡ first_fault (Some why ∷ [])
 given_refused (Ok a) why next s h = cc
 given_refused (Err kind) why next s h = let same : kind ≡ why = cc in ap Some same
 
-module _ (home number : ℕ) (args : List Datum) (why : FaultKind) (s : State) where
+module _ (home number : ℕ) (args : List Datum) (why : EvalFault) (s : State) where
   pub no_append : one_argument args ≡ Err why → IsRefusedForFirst (list.append home number args s) (Some why ∷ [])
   unfolding list.append
   no_append h = given_refused (one_argument args) why _ s h
@@ -64,12 +64,12 @@ room n f = elim (by_bool (nat_le n max_len)) [
   | inr t ↦ rw t refl
 ]
 
-items_refused : (r : Result (Datum × List Datum) FaultKind) → fault_in (as_items r) ≡ fault_in r
+items_refused : (r : Result (Datum × List Datum) EvalFault) → fault_in (as_items r) ≡ fault_in r
 items_refused (Ok p) = refl
 items_refused (Err kind) = refl
 
 module _ (home number : ℕ) (xs : List Datum) (s : State) (known : IsList s home number xs) where
-  changed : (f : List Datum → Result (Datum × List Datum) FaultKind) → fault_of (changing home number (on_items f) s) ≡ first_fault (frozen s home ∷ walked s home number ∷ fault_in (f xs) ∷ [])
+  changed : (f : List Datum → Result (Datum × List Datum) EvalFault) → fault_of (changing home number (on_items f) s) ≡ first_fault (frozen s home ∷ walked s home number ∷ fault_in (f xs) ∷ [])
   unfolding on_items
   changed f = changing_refused home number (on_items f) s (items xs) known ∙ last (frozen s home) (walked s home number) (fault_in (as_items (f xs))) (fault_in (f xs)) (items_refused (f xs))
 
@@ -90,7 +90,7 @@ module _ (home number : ℕ) (xs : List Datum) (s : State) (known : IsList s hom
   unfolding list.extend one_argument elements extended
   extend_refused x = by_elements (elements_in s.store x)
     where
-      by_elements : (r : Result (List Datum) FaultKind) → fault_of (following (given r s) (λ ys. changing home number (on_items (extended ys)))) ≡ first_fault (fault_in r ∷ frozen s home ∷ walked s home number ∷ fault_then r (λ ys. too_long (length xs + length ys)) ∷ [])
+      by_elements : (r : Result (List Datum) EvalFault) → fault_of (following (given r s) (λ ys. changing home number (on_items (extended ys)))) ≡ first_fault (fault_in r ∷ frozen s home ∷ walked s home number ∷ fault_then r (λ ys. too_long (length xs + length ys)) ∷ [])
       by_elements (Ok ys) = changed (extended ys) ∙ last (frozen s home) (walked s home number) (fault_in (extended ys xs)) (too_long (length xs + length ys)) (room (length xs + length ys) _)
       by_elements (Err kind) = refl
 

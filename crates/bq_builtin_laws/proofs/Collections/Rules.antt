@@ -1,6 +1,6 @@
 -- A rule is refused for its type, before it is asked whether it may be changed.
 use Rattle.std.proofs.Common.{◌≡◌, ◌∙◌, ap, ℕ, Some, Option}
-use Rattle.bq_base.specs.declared.fault.FaultKind.TheVariants.{WrongType}
+use Rattle.bq_base.specs.declared.fault.EvalFault.TheVariants.{WrongType}
 use Rattle.bq_parse_grammar.specs.declared.tree.Operator.TheVariants as op
 use Rattle.bq_value_rule_class.specs.Class.{Class}
 use Rattle.bq_value.specs.Contents.{Contents, rule}

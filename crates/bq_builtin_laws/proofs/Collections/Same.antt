@@ -1,8 +1,8 @@
 -- `+=` keeps a list the same list.
 use Rattle.std.proofs.Common.{◌≡◌, ◌∙◌, sym, ap, refl, ℕ, Bool, true, false, cond, List, [], ◌++◌, length, Some, Result, Ok, Err}
 use Rattle.std.specs.Prelude.{nat_le}
-use Rattle.bq_base.specs.declared.fault.FaultKind.{FaultKind}
-use Rattle.bq_base.specs.declared.fault.FaultKind.TheVariants.{TooLong}
+use Rattle.bq_base.specs.declared.fault.EvalFault.{EvalFault}
+use Rattle.bq_base.specs.declared.fault.EvalFault.TheVariants.{TooLong}
 use Rattle.bq_parse_grammar.specs.declared.tree.Operator.TheVariants as op
 use Rattle.bq_value.specs.Cells.{content_at}
 use Rattle.bq_value.specs.Contents.{Contents, items}
@@ -20,7 +20,7 @@ use Rattle.bq_builtin_operators.proofs.Cases.{list_of_content}
 use Rattle.bq_builtin_collections.proofs.Ends.{changed}
 use Rattle.bq_builtin_laws.specs.Collections.Laws.{IsList, StaysTheSameList}
 
-abbrev content_of : Result (Unit {0} × Contents) FaultKind → Contents
+abbrev content_of : Result (Unit {0} × Contents) EvalFault → Contents
 content_of (Ok r) = r.1
 content_of (Err kind) = items []
 

@@ -1,7 +1,7 @@
 -- A format takes as many values as it has conversions for them.
 use Rattle.std.proofs.Common.{◌≡◌, ◌∙◌, sym, ap, refl, ℕ, zero, suc, inl, inr, true, false, cond, List, [], ◌∷◌, ◌++◌, drop, length, Option, Some, None, Ok, Err, codes}
 use Rattle.std.specs.Prelude.{◌==◌}
-use Rattle.bq_base.specs.declared.fault.FaultKind.TheVariants.{Format}
+use Rattle.bq_base.specs.declared.fault.EvalFault.TheVariants.{Format}
 use Rattle.bq_base.proofs.Choices.{by_bool}
 use Rattle.bq_builtin_string_parts.specs.Parts.{partition}
 use Rattle.bq_value_text.specs.Shown.{text_shown, repr_shown}

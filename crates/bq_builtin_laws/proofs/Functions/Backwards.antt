@@ -1,8 +1,8 @@
 -- Lists that are sorted backwards.
 use Rattle.std.proofs.Common.{◌≡◌, Bool, true, false, cond, List, [], ◌∷◌, length, Result, Ok, Err, codes}
 use Rattle.std.specs.Prelude.{reverse, nat_le}
-use Rattle.bq_base.specs.declared.fault.FaultKind.{FaultKind}
-use Rattle.bq_base.specs.declared.fault.FaultKind.TheVariants.{TooLong}
+use Rattle.bq_base.specs.declared.fault.EvalFault.{EvalFault}
+use Rattle.bq_base.specs.declared.fault.EvalFault.TheVariants.{TooLong}
 use Rattle.bq_builtin_numbers.specs.Length.{max_len}
 use Rattle.bq_value.specs.Cells.{StoreView}
 use Rattle.bq_value.specs.Datum.{Datum, boolean}
@@ -15,7 +15,7 @@ use Rattle.bq_builtin.specs.Elements.{room_for}
 use Rattle.bq_builtin_laws.specs.Functions.Words.{by_place}
 
 abbrev Listing : Type 0
-Listing = Result (List Datum) FaultKind
+Listing = Result (List Datum) EvalFault
 
 abbrev room : Bool → List Datum → Listing
 room b ys = and_then (cond b (Ok tt) (Err TooLong)) (λ (u : Unit {0}). Ok ys)

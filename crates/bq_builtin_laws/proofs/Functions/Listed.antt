@@ -1,8 +1,8 @@
 -- Lists and tuples of elements.
 use Rattle.std.proofs.Common.{◌≡◌, ◌∙◌, sym, ap, Bool, true, false, cond, List, [], ◌∷◌, length, Result, Ok, Err}
 use Rattle.std.specs.Prelude.{nat_le}
-use Rattle.bq_base.specs.declared.fault.FaultKind.{FaultKind}
-use Rattle.bq_base.specs.declared.fault.FaultKind.TheVariants.{TooLong}
+use Rattle.bq_base.specs.declared.fault.EvalFault.{EvalFault}
+use Rattle.bq_base.specs.declared.fault.EvalFault.TheVariants.{TooLong}
 use Rattle.bq_builtin_numbers.specs.Length.{max_len}
 use Rattle.bq_value.specs.Cells.{StoreView}
 use Rattle.bq_value.specs.Datum as datum
@@ -17,7 +17,7 @@ use Rattle.bq_builtin.specs.Sequences.{list, tuple}
 use Rattle.bq_builtin_laws.specs.Functions.Words.{by_place}
 
 abbrev Listing : Type 0
-Listing = Result (List Datum) FaultKind
+Listing = Result (List Datum) EvalFault
 
 abbrev room : List Datum → Listing
 room xs = and_then (cond (nat_le (length xs) max_len) (Ok tt) (Err TooLong)) (λ (u : Unit {0}). Ok xs)

@@ -5,8 +5,8 @@ use Rattle.std.specs.Ordering.{int_eq}
 use Rattle.std.proofs.lemmas.Option.{slice_get-map}
 use Rattle.std.proofs.lemmas.Bool.Decides.{Decides-int_eq}
 use Rattle.std.specs.Option.{option_map}
-use Rattle.bq_base.specs.declared.fault.FaultKind.{FaultKind}
-use Rattle.bq_base.specs.declared.fault.FaultKind.TheVariants.{BadValue}
+use Rattle.bq_base.specs.declared.fault.EvalFault.{EvalFault}
+use Rattle.bq_base.specs.declared.fault.EvalFault.TheVariants.{BadValue}
 use Rattle.bq_value.specs.Cells.{StoreView}
 use Rattle.bq_value.specs.Datum as datum
 use Rattle.bq_value.specs.Datum.{Datum, int}
@@ -45,7 +45,7 @@ ranged_by start stop step v false e h = (λ zero_step. differs zero_step, let is
     differs : step ≡ pos 0 → ⊥
     differs zero_step = let there : int_eq step (pos 0) ≡ true = (Decides-int_eq step (pos 0)).1 zero_step in cc
 
-abbrev values : List Datum → Result (List Datum) FaultKind
+abbrev values : List Datum → Result (List Datum) EvalFault
 values xs = Ok xs
 
 -- what is counted are the elements of what is given

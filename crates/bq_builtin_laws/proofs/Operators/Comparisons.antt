@@ -4,7 +4,7 @@ use Rattle.std.specs.Prelude.{not}
 use Rattle.std.specs.declared.cmp.Ordering.{Ordering}
 use Rattle.std.specs.declared.cmp.Ordering.TheVariants.{Less, Equal, Greater}
 use Rattle.std.specs.Ordering.{is_lt, is_le, is_gt, is_ge}
-use Rattle.bq_base.specs.declared.fault.FaultKind.{FaultKind}
+use Rattle.bq_base.specs.declared.fault.EvalFault.{EvalFault}
 use Rattle.bq_value_compare.specs.Looked.{Looked}
 use Rattle.bq_builtin_machine.specs.Machine.{looked_order}
 use Rattle.bq_builtin_operators.specs.Comparing.{negated, by_order, compared}
@@ -13,13 +13,13 @@ use Rattle.bq_builtin_laws.specs.Operators.Comparisons.{OppositesDiffer}
 abbrev answer : Bool → ℕ → Looked Bool
 answer so left = Ok (so, left)
 
-abbrev refusal : FaultKind → Looked Bool
+abbrev refusal : EvalFault → Looked Bool
 refusal why = Err why
 
-no_answer : (so : Bool) (left : ℕ) (why : FaultKind) → answer so left ≡ refusal why → ⊥
+no_answer : (so : Bool) (left : ℕ) (why : EvalFault) → answer so left ≡ refusal why → ⊥
 no_answer so left why e = cc
 
-no_refusal : (so : Bool) (left : ℕ) (why : FaultKind) → refusal why ≡ answer so left → ⊥
+no_refusal : (so : Bool) (left : ℕ) (why : EvalFault) → refusal why ≡ answer so left → ⊥
 no_refusal so left why e = cc
 
 -- one test of an order is the other one turned
@@ -28,7 +28,7 @@ turned : (test other : Ordering → Bool) → ((o : Ordering) → other o ≡ no
 turned test other same (Ok (o, k)) so left e = ap (λ (b : Bool). answer b k) (same o) ∙ ap negated e
 turned test other same (Err kind) so left e = absurd (no_refusal so left kind e)
 
-still_refused : (test other : Ordering → Bool) (r : Looked Ordering) (why : FaultKind) → by_order test r ≡ Err why → by_order other r ≡ Err why
+still_refused : (test other : Ordering → Bool) (r : Looked Ordering) (why : EvalFault) → by_order test r ≡ Err why → by_order other r ≡ Err why
 still_refused test other (Ok (o, k)) why e = absurd (no_answer (test o) k why e)
 still_refused test other (Err kind) why e = e
 

@@ -3,8 +3,8 @@ use Rattle.std.proofs.Common.{◌≡◌, ◌∙◌, refl, sym, ap, ℕ, Bool, tr
 use Rattle.std.specs.Prelude.{is_some}
 use Rattle.std.specs.List.{AllByRecursion}
 use Rattle.std.proofs.lemmas.Bool.{false≢true}
-use Rattle.bq_base.specs.declared.fault.FaultKind.{FaultKind}
-use Rattle.bq_base.specs.declared.fault.FaultKind.TheVariants.{NoKey}
+use Rattle.bq_base.specs.declared.fault.EvalFault.{EvalFault}
+use Rattle.bq_base.specs.declared.fault.EvalFault.TheVariants.{NoKey}
 use Rattle.bq_value.specs.Cells.{StoreView}
 use Rattle.bq_value.specs.Contents.{Contents}
 use Rattle.bq_value.specs.Datum.{Datum, cell}
@@ -20,13 +20,13 @@ use Rattle.bq_builtin_operators.proofs.Cases.{among_keys, value_by}
 abbrev answer : Bool → ℕ → Looked Bool
 answer so left = Ok (so, left)
 
-abbrev refusal : FaultKind → Looked Bool
+abbrev refusal : EvalFault → Looked Bool
 refusal why = Err why
 
-no_refusal : (so : Bool) (left : ℕ) (why : FaultKind) → refusal why ≡ answer so left → ⊥
+no_refusal : (so : Bool) (left : ℕ) (why : EvalFault) → refusal why ≡ answer so left → ⊥
 no_refusal so left why e = cc
 
-no_answer : (so : Bool) (left : ℕ) (why : FaultKind) → answer so left ≡ refusal why → ⊥
+no_answer : (so : Bool) (left : ℕ) (why : EvalFault) → answer so left ≡ refusal why → ⊥
 no_answer so left why e = cc
 
 abbrev said : Looked Bool → Bool
@@ -105,13 +105,13 @@ absent : (ps : List (Datum × Datum)) (left : ℕ) (r : Looked Datum) → among_
 absent ps left (Ok (key, k)) e = absent_by k left (found key ps) e
 absent ps left (Err why) e = absurd (no_refusal false left why e)
 
-abbrev as_value : FaultKind → Looked Datum
+abbrev as_value : EvalFault → Looked Datum
 as_value why = Err why
 
-same_fault : (kind why : FaultKind) → refusal kind ≡ refusal why → kind ≡ why
+same_fault : (kind why : EvalFault) → refusal kind ≡ refusal why → kind ≡ why
 same_fault kind why e = cc
 
-refused : (ps : List (Datum × Datum)) (why : FaultKind) (r : Looked Datum) → among_keys r ps ≡ Err why → value_by ps r ≡ Err why
+refused : (ps : List (Datum × Datum)) (why : EvalFault) (r : Looked Datum) → among_keys r ps ≡ Err why → value_by ps r ≡ Err why
 refused ps why (Ok (key, k)) e = absurd (no_answer (is_some (found key ps)) k why e)
 refused ps why (Err kind) e = ap as_value (same_fault kind why e)
 

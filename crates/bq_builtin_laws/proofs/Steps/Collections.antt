@@ -3,7 +3,7 @@ use Rattle.std.proofs.Common.{ℕ, ℤ, Bool, true, false, cond, List, [], ◌�
 use Rattle.std.specs.List.{AllByRecursion}
 use Rattle.std.specs.Map.{lookup}
 use Rattle.std.specs.Str.{bytes_eq}
-use Rattle.bq_base.specs.declared.fault.FaultKind.TheVariants as f
+use Rattle.bq_base.specs.declared.fault.EvalFault.TheVariants as f
 use Rattle.bq_value.specs.Contents.{Contents, items, pairs, rule}
 use Rattle.bq_value.specs.Datum.{Datum, none, string, cell, or_none}
 use Rattle.bq_value.specs.Pairs.{found, keys}

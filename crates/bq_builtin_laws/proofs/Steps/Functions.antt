@@ -1,7 +1,7 @@
 -- Built-in functions have numbers of steps and outcomes of their own.
 use Rattle.std.proofs.Common.{List, Result}
-use Rattle.bq_base.specs.declared.fault.FaultKind.{FaultKind}
-use Rattle.bq_base.specs.declared.fault.FaultKind.TheVariants as fault
+use Rattle.bq_base.specs.declared.fault.EvalFault.{EvalFault}
+use Rattle.bq_base.specs.declared.fault.EvalFault.TheVariants as fault
 use Rattle.bq_resolve_predeclared.specs.declared.predeclared.Predeclared.{Predeclared}
 use Rattle.bq_resolve_predeclared.specs.declared.predeclared.Predeclared.TheVariants as p
 use Rattle.bq_value.specs.Cells.{StoreView}
@@ -49,11 +49,11 @@ failing_owns args =
     (λ vs. bind_owns (walk (λ store n. joined_texts space store n vs)) (λ t. machine.fail t) (walk_owns (λ store n. joined_texts space store n vs) (λ store. joined_takes space store vs)) (λ t. fail_owns Datum t))
 
 -- the values of a new list that the store gives
-listed_owns : (values : StoreView → Result (List Datum) FaultKind) → Own (look (λ s. values s.store) >>= λ xs. new_list xs)
+listed_owns : (values : StoreView → Result (List Datum) EvalFault) → Own (look (λ s. values s.store) >>= λ xs. new_list xs)
 listed_owns values = bind_owns (look (λ s. values s.store)) (λ xs. new_list xs) (look_owns values) (λ xs. new_list_owns xs)
 
 -- an answer that the store gives, for a choice that is named elsewhere
-chosen_owns : {E : Type 0} (e : E) (r : E → StoreView → Result Datum FaultKind) → Own (look (λ s. r e s.store))
+chosen_owns : {E : Type 0} (e : E) (r : E → StoreView → Result Datum EvalFault) → Own (look (λ s. r e s.store))
 chosen_owns e r = look_owns (r e)
 
 pub function_owns : (function : Predeclared) (args : Passed) → Own (call_function function args)

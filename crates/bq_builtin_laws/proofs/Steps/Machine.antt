@@ -1,7 +1,7 @@
 -- What a machine does has a number of steps and an outcome of its own.
 use Rattle.std.proofs.Common.{◌≡◌, ◌∙◌, ◌<◌, ℕ, zero, suc, ◌+◌, ◌-◌, Bool, true, false, cond, List, [], ◌∷◌, ◌++◌, Option, Some, None, Result, Ok, Err, nat_lt, ◌==◌, length, slice_get, set, refl, sym, ap, subst, arith, le-ltb, lt-ltb}
-use Rattle.bq_base.specs.declared.fault.FaultKind.{FaultKind}
-use Rattle.bq_base.specs.declared.fault.FaultKind.TheVariants as f
+use Rattle.bq_base.specs.declared.fault.EvalFault.{EvalFault}
+use Rattle.bq_base.specs.declared.fault.EvalFault.TheVariants as f
 use Rattle.bq_value_rule_class.specs.Class.{Class}
 use Rattle.bq_value.specs.Cells.{StoreView, with_cells, content_at}
 use Rattle.bq_value.specs.Contents.{Contents, items, pairs, rule}
@@ -22,10 +22,10 @@ use Rattle.bq_builtin_laws.proofs.Steps.Owning.{begins_itself, stays_itself, at_
 pub pure_owns : {A : Type 0} (x : A) → Own (pure x)
 pure_owns x s = here_at_no_cost machine (pure x) s (done x s) (λ n. refl) (begins_itself s.prints) (stays_itself s.store) refl
 
-pub stop_owns : (A : Type 0) (kind : FaultKind) → Own {A = A} (stop kind)
+pub stop_owns : (A : Type 0) (kind : EvalFault) → Own {A = A} (stop kind)
 stop_owns A kind s = here_at_no_cost machine {A = A} (stop kind) s (stopped (stop_at kind s)) (λ n. refl) (begins_itself s.prints) tt refl
 
-pub given_owns : {A : Type 0} (r : Result A FaultKind) → Own (given r)
+pub given_owns : {A : Type 0} (r : Result A EvalFault) → Own (given r)
 given_owns {A = A} (Ok x) = pure_owns x
 given_owns {A = A} (Err kind) = stop_owns A kind
 
@@ -36,7 +36,7 @@ pub then_owns : {A B : Type 0} (a : Action State A) (b : Action State B) → Own
 then_owns a b h k s = here_followed machine a (λ _. b) s (h s) (λ x. k)
 
 -- an answer that the store gives
-pub look_owns : {A : Type 0} (r : StoreView → Result A FaultKind) → Own (look (λ s. r s.store))
+pub look_owns : {A : Type 0} (r : StoreView → Result A EvalFault) → Own (look (λ s. r s.store))
 look_owns r s = here_at_state machine (look (λ t. r t.store)) (given (r s.store)) s (λ n. refl) refl (given_owns (r s.store) s)
 
 pub cond_owns : {A : Type 0} (b : Bool) (x y : Action State A) → Own x → Own y → Own (λ s. cond b (x s) (y s))
@@ -45,24 +45,24 @@ cond_owns false x y h k = k
 
 -- ---- walks over values
 
-abbrev walked_run : {A : Type 0} → State → Result A FaultKind → Run State A
+abbrev walked_run : {A : Type 0} → State → Result A EvalFault → Run State A
 walked_run s (Ok x) = done x s
 walked_run s (Err kind) = stopped (stop_at kind s)
 
 module _ {A : Type 0} (looked : StoreView → ℕ → Looked A) where
-  walk_enough : (s : State) (o : Result A FaultKind) (more n : ℕ) → looked s.store n ≡ with_left o more → walk looked (with_steps n s) ≡ leaving machine more (walked_run s o)
+  walk_enough : (s : State) (o : Result A EvalFault) (more n : ℕ) → looked s.store n ≡ with_left o more → walk looked (with_steps n s) ≡ leaving machine more (walked_run s o)
   walk_enough s (Ok x) more n h = ap (λ l. after_walk l (with_steps n s)) h
   walk_enough s (Err kind) more n h = ap (λ l. after_walk l (with_steps n s)) h
 
-  walk_short : (s : State) (o : Result A FaultKind) (n : ℕ) → looked s.store n ≡ Err f.StepLimit → IsCutShort machine (walk looked (with_steps n s)) (printed machine (walked_run s o))
+  walk_short : (s : State) (o : Result A EvalFault) (n : ℕ) → looked s.store n ≡ Err f.StepLimit → IsCutShort machine (walk looked (with_steps n s)) (printed machine (walked_run s o))
   walk_short s (Ok x) n h = subst (λ l. IsCutShort machine (after_walk l (with_steps n s)) s.prints) (sym h) (refl, begins_itself s.prints)
   walk_short s (Err kind) n h = subst (λ l. IsCutShort machine (after_walk l (with_steps n s)) s.prints) (sym h) (refl, begins_itself s.prints)
 
-  walk_grows : (s : State) (o : Result A FaultKind) → Begins s.prints (printed machine (walked_run s o))
+  walk_grows : (s : State) (o : Result A EvalFault) → Begins s.prints (printed machine (walked_run s o))
   walk_grows s (Ok x) = begins_itself s.prints
   walk_grows s (Err kind) = begins_itself s.prints
 
-  walk_leaves : (s : State) (o : Result A FaultKind) → Leaves machine s.store (walked_run s o)
+  walk_leaves : (s : State) (o : Result A EvalFault) → Leaves machine s.store (walked_run s o)
   walk_leaves s (Ok x) = stays_itself s.store
   walk_leaves s (Err kind) = tt
 
@@ -192,7 +192,7 @@ put_owns number c s other =
     here_at_no_cost machine (put_content number c) s (done tt (with_content s number c)) (λ n. refl) (begins_itself s.prints)
     (record { own = refl; modules = refl; rules = λ n class is. rules_kept s.store.cells number c n class other is }) refl
 
-abbrev IsRefused : {A : Type 0} → Result A FaultKind → Type 0
+abbrev IsRefused : {A : Type 0} → Result A EvalFault → Type 0
 IsRefused (Ok x) = ⊥
 IsRefused (Err kind) = Unit {0}
 
@@ -202,11 +202,11 @@ SparesRules change = (class : Class) → IsRefused (change (rule class))
 
 module _ {A : Type 0} (home number : ℕ) (change : Change A) (spares : SparesRules change) (s : State) where
   -- what a change gives is put into the cell
-  abbrev put_of : Result (A × Contents) FaultKind → Action State A
+  abbrev put_of : Result (A × Contents) EvalFault → Action State A
   put_of r = given r >>= λ (p : A × Contents). put_content number p.1 >> pure p.0
 
   -- in the place of `c`
-  put_by : (c : Contents) → slice_get s.store.cells number ≡ Some c → (r : Result (A × Contents) FaultKind) → change c ≡ r → TakesInLine machine (put_of r) s
+  put_by : (c : Contents) → slice_get s.store.cells number ≡ Some c → (r : Result (A × Contents) EvalFault) → change c ≡ r → TakesInLine machine (put_of r) s
   put_by c at (Err kind) is = here_at_state machine (put_of (Err kind)) (stop kind) s (λ n. refl) refl (stop_owns A kind s)
   put_by c at (Ok r) is = here_followed machine (put_content number r.1) (λ _. pure r.0) s (put_owns number r.1 s (subst IsNoRule (sym at) (no_rule c is))) (λ _. pure_owns r.0)
     where

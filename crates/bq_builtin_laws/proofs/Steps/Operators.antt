@@ -1,7 +1,7 @@
 -- Operators have numbers of steps and outcomes of their own.
 use Rattle.std.proofs.Common.{ℕ, ℤ, List, Result}
-use Rattle.bq_base.specs.declared.fault.FaultKind.{FaultKind}
-use Rattle.bq_base.specs.declared.fault.FaultKind.TheVariants as f
+use Rattle.bq_base.specs.declared.fault.EvalFault.{EvalFault}
+use Rattle.bq_base.specs.declared.fault.EvalFault.TheVariants as f
 use Rattle.bq_parse_grammar.specs.declared.tree.Comparison.{Comparison}
 use Rattle.bq_parse_grammar.specs.declared.tree.Operator.{Operator}
 use Rattle.bq_parse_grammar.specs.declared.tree.Operator.TheVariants as op
@@ -49,7 +49,7 @@ repr_owns v = walk_owns (λ store n. repr_of store n v) (λ store. repr_takes st
 
 -- ---- operators between values
 
-listed_owns : (values : StoreView → Result (List Datum) FaultKind) → Own (listed values)
+listed_owns : (values : StoreView → Result (List Datum) EvalFault) → Own (listed values)
 listed_owns values = bind_owns (look (λ s. values s.store)) (λ xs. new_content (items xs)) (look_owns values) (λ xs. new_owns (items xs))
 
 sum_owns : (a b : Datum) → Own (sum a b)

@@ -1,7 +1,7 @@
 -- The walk of a text, after any page, takes a number of steps of its own.
 use Rattle.std.proofs.Common.{ℕ, zero, suc, List, [], ◌∷◌, Option, Some, None, Ok, Err, refl}
 use Rattle.std.specs.Prelude.{codes}
-use Rattle.bq_base.specs.declared.fault.FaultKind.TheVariants.{TooDeep, TooLong}
+use Rattle.bq_base.specs.declared.fault.EvalFault.TheVariants.{TooDeep, TooLong}
 use Rattle.bq_value.specs.Datum.{Datum, none, boolean, int, string, tuple, range, cell, function, built_in, rule_function, attribute, list_of}
 use Rattle.bq_value.specs.Contents.{Contents, items, pairs, rule}
 use Rattle.bq_value.specs.Cells.{StoreView, content_at}

@@ -3,8 +3,8 @@ use Rattle.std.proofs.Common.{ℕ, zero, suc, ◌+◌, ◌==◌, ◌-◌, ℤ, B
 use Rattle.std.specs.Prelude.{codes}
 use Rattle.std.specs.declared.cmp.Ordering.{Ordering}
 use Rattle.std.specs.Ordering.{is_lt, is_le, is_gt, is_ge}
-use Rattle.bq_base.specs.declared.fault.FaultKind.{FaultKind}
-use Rattle.bq_base.specs.declared.fault.FaultKind.TheVariants as f
+use Rattle.bq_base.specs.declared.fault.EvalFault.{EvalFault}
+use Rattle.bq_base.specs.declared.fault.EvalFault.TheVariants as f
 use Rattle.bq_parse_grammar.specs.declared.tree.Comparison.{Comparison}
 use Rattle.bq_parse_grammar.specs.declared.tree.Comparison.TheVariants as comparison
 use Rattle.bq_value.specs.Datum.{Datum, none, boolean, int, string, tuple, range, cell, function, built_in, rule_function, attribute, list_of}
@@ -116,7 +116,7 @@ compared_takes comparison.NotIn s a b = negated_takes (λ n. contained s n a b) 
 
 -- ---- items
 
-free_takes : (r : Result Datum FaultKind) → Takes (λ n. at_no_cost n r)
+free_takes : (r : Result Datum EvalFault) → Takes (λ n. at_no_cost n r)
 free_takes (Ok v) = ok_takes v
 free_takes (Err kind) = err_takes kind
 
@@ -215,7 +215,7 @@ unfolding filled
 filled_takes zero s d vs text = ok_takes _
 filled_takes (suc most) s d vs text = filled_by_takes (filled most s) (filled_takes most s) s d vs text (partition (codes "%") text)
 
-steps_take : (r : Result (List ℕ) FaultKind) → Takes (λ n. with_steps n r)
+steps_take : (r : Result (List ℕ) EvalFault) → Takes (λ n. with_steps n r)
 steps_take (Ok text) = ok_takes text
 steps_take (Err kind) = err_takes kind
 

@@ -3,7 +3,7 @@ use Rattle.std.proofs.Common.{◌≡◌, ◌∙◌, ap, ℕ, Bool, true, false, 
 use Rattle.std.specs.Prelude.{◌||◌, Any, All, slice_index_or}
 use Rattle.std.specs.List.{list_any}
 use Rattle.std.proofs.lemmas.List.Folds.{list_any-from_Any, list_any_none}
-use Rattle.bq_base.specs.declared.fault.FaultKind.{FaultKind}
+use Rattle.bq_base.specs.declared.fault.EvalFault.{EvalFault}
 use Rattle.bq_builtin_numbers.specs.Place.{bound}
 use Rattle.bq_value.specs.Datum.{Datum, boolean, string, tuple, data_of, list_of_data_of}
 use Rattle.bq_builtin_string_methods.specs.Affixes.{has_end, texts_of, ends}
@@ -15,7 +15,7 @@ use Rattle.bq_builtin_string_methods.specs.declared.affixes.EndMethod.{EndMethod
 abbrev whole : List ℕ → List ℕ
 whole text = part_of text (bound (length text) 0 None) (bound (length text) (length text) None)
 
-abbrev answer : Bool → Result Datum FaultKind
+abbrev answer : Bool → Result Datum EvalFault
 answer b = Ok (boolean b)
 
 same : (a b : Bool) → answer a ≡ answer b → a ≡ b

@@ -1,8 +1,8 @@
 -- The parts of a partition.
 use Rattle.std.proofs.Common.{◌≡◌, subst, refl, ℕ, ◌+◌, Bool, true, false, List, [], ◌∷◌, take, drop, length, Option, Some, None, Result, Ok, Err}
 use Rattle.std.specs.Prelude.{bytes_eq, if◌then◌else◌}
-use Rattle.bq_base.specs.declared.fault.FaultKind.{FaultKind}
-use Rattle.bq_base.specs.declared.fault.FaultKind.TheVariants.{BadValue}
+use Rattle.bq_base.specs.declared.fault.EvalFault.{EvalFault}
+use Rattle.bq_base.specs.declared.fault.EvalFault.TheVariants.{BadValue}
 use Rattle.bq_builtin_string_parts.specs.Search.{IsLeastPlace, IsGreatestPlace, find, rfind}
 use Rattle.bq_builtin_string_parts.specs.Parts as parts
 use Rattle.bq_builtin_string_parts.specs.Parts.{around}
@@ -13,7 +13,7 @@ use Rattle.bq_builtin_string_methods.specs.declared.cuts.Side.{Side}
 use Rattle.bq_builtin_string_methods.specs.declared.cuts.Side.TheVariants.{Left, Right}
 use Rattle.bq_builtin_laws.specs.StringMethods.Parts.{AreThreeParts, cut, whole_first, whole_last}
 
-abbrev result : Datum → Result Datum FaultKind
+abbrev result : Datum → Result Datum EvalFault
 result v = Ok v
 
 module _ (separator text : List ℕ) where

@@ -4,7 +4,7 @@ use Rattle.std.specs.Prelude.{nat_lt, ◌^◌}
 use Rattle.std.proofs.Math.Nat.{min-le_left}
 use Rattle.std.proofs.Math.Seq.{take-append-add}
 use Rattle.std.proofs.lemmas.List.{take-append-drop, drop-append-le, length-take}
-use Rattle.bq_base.specs.declared.fault.FaultKind.TheVariants.{BadValue, Overflow}
+use Rattle.bq_base.specs.declared.fault.EvalFault.TheVariants.{BadValue, Overflow}
 use Rattle.bq_value.specs.Datum.{Datum, int}
 use Rattle.bq_builtin_numbers.specs.Place.{bound}
 use Rattle.bq_builtin_string_parts.specs.Search.{StandsAt, IsLeastPlace, IsGreatestPlace, find, rfind}

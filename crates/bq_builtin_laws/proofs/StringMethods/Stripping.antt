@@ -5,7 +5,7 @@ use Rattle.std.specs.List.{prefix_len, suffix_len}
 use Rattle.std.proofs.Math.Seq.{get_or-append_seam}
 use Rattle.std.proofs.lemmas.List.{take-append-drop, get_or-take, get_or-drop, get_or-reverse, length-reverse}
 use Rattle.std.proofs.lemmas.List.Sums.{prefix_len-le-length, prefix_len_passes, prefix_len_stops, suffix_len-le-length}
-use Rattle.bq_base.specs.declared.fault.FaultKind.{FaultKind}
+use Rattle.bq_base.specs.declared.fault.EvalFault.{EvalFault}
 use Rattle.bq_value.specs.Datum.{Datum}
 use Rattle.bq_builtin_string_parts.specs.Trim as trim
 use Rattle.bq_builtin_string_parts.specs.Trim.{is_among, lstrip, rstrip}
@@ -102,7 +102,7 @@ module _ (set : List ℕ) where
 
 -- ---- the methods
 
-abbrev result : List ℕ → Result (List ℕ) FaultKind
+abbrev result : List ℕ → Result (List ℕ) EvalFault
 result text = Ok text
 
 same_text : (a b : List ℕ) → result a ≡ result b → a ≡ b
@@ -110,7 +110,7 @@ same_text a b e = cc
 
 module _ (text set left : List ℕ) (vs : List Datum) (asked : bytes_in (slice_get vs 0) ≡ Ok set) where
   left_by : (m : StripMethod) → strip m text vs ≡ and_then (bytes_in (slice_get vs 0)) (λ end. result (without m end text)) → strip m text vs ≡ Ok left → without m set text ≡ left
-  left_by m by h = same_text (without m set text) left (ap (λ (r : Result (List ℕ) FaultKind). and_then r (λ end. result (without m end text))) (sym asked) ∙ (sym by ∙ h))
+  left_by m by h = same_text (without m set text) left (ap (λ (r : Result (List ℕ) EvalFault). and_then r (λ end. result (without m end text))) (sym asked) ∙ (sym by ∙ h))
 
   pub both_ends : strip Strip text vs ≡ Ok left → IsCutAtBothEnds set text left
   unfolding strip

@@ -1,7 +1,7 @@
 -- In which order what changes a list or dict is refused (Starlark, "Built-in methods", "Assignments"; ours: the order). What the
 -- arguments are comes first, then whether the list or dict may be changed, then what is done with it.
 use Rattle.std.specs.Prelude.{◌≡◌, ℕ, ◌+◌, not, nat_le, ◌==◌, List, [], ◌∷◌, length, Option, None, Ok}
-use Rattle.bq_base.specs.declared.fault.FaultKind.TheVariants.{Frozen, Iterating, TooLong}
+use Rattle.bq_base.specs.declared.fault.EvalFault.TheVariants.{Frozen, Iterating, TooLong}
 use Rattle.bq_value.specs.Contents.{items, pairs}
 use Rattle.bq_value.specs.Datum.{Datum, or_none}
 use Rattle.bq_builtin_machine.specs.Action.{◌>>=◌}

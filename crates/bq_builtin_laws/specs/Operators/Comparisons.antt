@@ -1,6 +1,6 @@
 -- Which comparisons are opposite (Starlark, "Comparisons", "Membership tests").
 use Rattle.std.specs.Prelude.{◌≡◌, ℕ, Bool, not, Ok, Err}
-use Rattle.bq_base.specs.declared.fault.FaultKind.{FaultKind}
+use Rattle.bq_base.specs.declared.fault.EvalFault.{EvalFault}
 use Rattle.bq_parse_grammar.specs.declared.tree.Comparison.{Comparison}
 use Rattle.bq_parse_grammar.specs.declared.tree.Comparison.TheVariants as comparison
 use Rattle.bq_value.specs.Cells.{StoreView}
@@ -11,7 +11,7 @@ use Rattle.bq_builtin_operators.specs.Comparing.{compared}
 -- the same
 pub record AreOpposite (s : StoreView) (n : ℕ) (a b : Datum) (first second : Comparison) : Type 0 where
   pub answered : (so : Bool) (left : ℕ) → compared first s n a b ≡ Ok (so, left) → compared second s n a b ≡ Ok (not so, left)
-  pub refused : (why : FaultKind) → compared first s n a b ≡ Err why → compared second s n a b ≡ Err why
+  pub refused : (why : EvalFault) → compared first s n a b ≡ Err why → compared second s n a b ≡ Err why
 
 pub record Opposites (s : StoreView) (n : ℕ) (a b : Datum) : Type 0 where
   pub equal : AreOpposite s n a b comparison.Equal comparison.NotEqual

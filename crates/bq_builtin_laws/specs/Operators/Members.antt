@@ -1,8 +1,8 @@
 -- What is in a list, a tuple or a dict (Starlark, "Membership tests", "Index expressions").
 use Rattle.std.specs.Prelude.{◌≡◌, ℕ, true, false, List, ◌∷◌, ◌++◌, Some, Ok, Err}
 use Rattle.std.specs.List.{AllByRecursion}
-use Rattle.bq_base.specs.declared.fault.FaultKind.{FaultKind}
-use Rattle.bq_base.specs.declared.fault.FaultKind.TheVariants.{NoKey}
+use Rattle.bq_base.specs.declared.fault.EvalFault.{EvalFault}
+use Rattle.bq_base.specs.declared.fault.EvalFault.TheVariants.{NoKey}
 use Rattle.bq_value.specs.Cells.{StoreView, content_at}
 use Rattle.bq_value.specs.Contents.{items, pairs}
 use Rattle.bq_value.specs.Datum.{Datum, Data, tuple, cell, list_of}
@@ -45,7 +45,7 @@ MembersAreEqualToAnElement = (s : StoreView) (n : ℕ) (v c : Datum) (xs : List 
 pub record IsKey (s : StoreView) (n : ℕ) (v c : Datum) : Type 0 where
   pub there : (left : ℕ) → contained s n v c ≡ Ok (true, left) → (x : Datum) × (item_of s n c v ≡ Ok (x, left))
   pub absent : (left : ℕ) → contained s n v c ≡ Ok (false, left) → item_of s n c v ≡ Err NoKey
-  pub refused : (why : FaultKind) → contained s n v c ≡ Err why → item_of s n c v ≡ Err why
+  pub refused : (why : EvalFault) → contained s n v c ≡ Err why → item_of s n c v ≡ Err why
 
 abbrev pub KeysHaveValues : Type 0
 KeysHaveValues =

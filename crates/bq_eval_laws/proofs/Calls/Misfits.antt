@@ -3,8 +3,8 @@ use Rattle.std.proofs.Common.{◌≡◌, ◌∙◌, sym, ap, refl, ℕ, zero, su
 use Rattle.std.specs.Prelude.{is_some, not, ◌&&◌, ◌||◌, nat_le}
 use Rattle.std.proofs.lemmas.Option.{slice_get_within}
 use Rattle.std.proofs.lemmas.Bool.{leb-true}
-use Rattle.bq_base.specs.declared.fault.FaultKind.{FaultKind}
-use Rattle.bq_base.specs.declared.fault.FaultKind.TheVariants.{Args}
+use Rattle.bq_base.specs.declared.fault.EvalFault.{EvalFault}
+use Rattle.bq_base.specs.declared.fault.EvalFault.TheVariants.{Args}
 use Rattle.bq_value.specs.Datum.{Datum, string}
 use Rattle.bq_value.specs.Pairs.{found, put}
 use Rattle.bq_builtin_machine.specs.Args.{Passed}
@@ -322,40 +322,40 @@ none_fits s p b x (missing i q at must no_place no_name) =
 
 -- ---- there is no other fault
 
-only_fill : (o : Option (Option Datum)) (i : ℕ) (v : Datum) (b : BoundView) (kind : FaultKind) → fill_by o i v b ≡ Err kind → kind ≡ Args
+only_fill : (o : Option (Option Datum)) (i : ℕ) (v : Datum) (b : BoundView) (kind : EvalFault) → fill_by o i v b ≡ Err kind → kind ≡ Args
 only_fill None i v b kind h = cc
 only_fill (Some None) i v b kind h = cc
 only_fill (Some (Some w)) i v b kind h = cc
 
-only_keyword : (t u : Bool) (b : BoundView) (kind : FaultKind) → cond t (cond u (Err Args) (bound_to b)) (Err Args) ≡ Err kind → kind ≡ Args
+only_keyword : (t u : Bool) (b : BoundView) (kind : EvalFault) → cond t (cond u (Err Args) (bound_to b)) (Err Args) ≡ Err kind → kind ≡ Args
 only_keyword false u b kind h = cc
 only_keyword true true b kind h = cc
 only_keyword true false b kind h = cc
 
-only_named : (o : Option ℕ) (s : SignatureView) (name : List ℕ) (v : Datum) (b : BoundView) (kind : FaultKind) → take_named_by o s name v b ≡ Err kind → kind ≡ Args
+only_named : (o : Option ℕ) (s : SignatureView) (name : List ℕ) (v : Datum) (b : BoundView) (kind : EvalFault) → take_named_by o s name v b ≡ Err kind → kind ≡ Args
 unfolding fill take_keyword
 only_named (Some i) s name v b kind h = only_fill (slice_get b.values i) i v b kind h
 only_named None s name v b kind h = only_keyword s.takes_keywords (is_some (found (string name) b.keywords)) (record b { keywords = put (string name) v b.keywords }) kind h
 
-only_and : (r : Binding) (next : BoundView → Binding) (kind : FaultKind) → ((why : FaultKind) → r ≡ Err why → why ≡ Args) → ((d : BoundView) → next d ≡ Err kind → kind ≡ Args) → and_bind r next ≡ Err kind → kind ≡ Args
+only_and : (r : Binding) (next : BoundView → Binding) (kind : EvalFault) → ((why : EvalFault) → r ≡ Err why → why ≡ Args) → ((d : BoundView) → next d ≡ Err kind → kind ≡ Args) → and_bind r next ≡ Err kind → kind ≡ Args
 only_and (Ok d) next kind first then h = then d h
 only_and (Err why) next kind first then h = let same_kind : why ≡ kind = cc in sym same_kind ∙ first why refl
 
-only_all : (s : SignatureView) (named : Named) (b : BoundView) (kind : FaultKind) → take_all_named s named b ≡ Err kind → kind ≡ Args
+only_all : (s : SignatureView) (named : Named) (b : BoundView) (kind : EvalFault) → take_all_named s named b ≡ Err kind → kind ≡ Args
 unfolding take_all_named take_named
 only_all s [] b kind h = cc
 only_all s (a ∷ named) b kind h = only_and (take_named s a.0 a.1 b) (take_all_named s named) kind (λ why e. only_named (place_of s a.0) s a.0 a.1 b why e) (λ d e. only_all s named d kind e) h
 
-only_whole : (t : Bool) (d : BoundView) (kind : FaultKind) → cond t (bound_to d) (Err Args) ≡ Err kind → kind ≡ Args
+only_whole : (t : Bool) (d : BoundView) (kind : EvalFault) → cond t (bound_to d) (Err Args) ≡ Err kind → kind ≡ Args
 only_whole true d kind h = cc
 only_whole false d kind h = cc
 
-only_bind : (t : Bool) (s : SignatureView) (p : Passed) (kind : FaultKind) → cond t (Err Args) (and_bind (take_all_named s p.named (placed s p.positional)) (if_complete s)) ≡ Err kind → kind ≡ Args
+only_bind : (t : Bool) (s : SignatureView) (p : Passed) (kind : EvalFault) → cond t (Err Args) (and_bind (take_all_named s p.named (placed s p.positional)) (if_complete s)) ≡ Err kind → kind ≡ Args
 only_bind true s p kind h = cc
 only_bind false s p kind h =
     only_and (take_all_named s p.named (placed s p.positional)) (if_complete s) kind (only_all s p.named (placed s p.positional)) (λ d e. only_whole (is_complete s.parameters d.values) d kind e) h
 
-args_only : (s : SignatureView) (p : Passed) (kind : FaultKind) → bind s p ≡ Err kind → kind ≡ Args
+args_only : (s : SignatureView) (p : Passed) (kind : EvalFault) → bind s p ≡ Err kind → kind ≡ Args
 unfolding bind
 args_only s p kind h = only_bind (too_many s p.positional) s p kind h
 

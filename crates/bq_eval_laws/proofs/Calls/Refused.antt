@@ -5,8 +5,8 @@ use Rattle.std.specs.List.{position_from}
 use Rattle.std.proofs.lemmas.Option.{slice_get_within}
 use Rattle.std.proofs.lemmas.Slice.Eq.{bytes_eq-Decides}
 use Rattle.std.proofs.lemmas.Bool.{leb-false}
-use Rattle.bq_base.specs.declared.fault.FaultKind.{FaultKind}
-use Rattle.bq_base.specs.declared.fault.FaultKind.TheVariants.{Args}
+use Rattle.bq_base.specs.declared.fault.EvalFault.{EvalFault}
+use Rattle.bq_base.specs.declared.fault.EvalFault.TheVariants.{Args}
 use Rattle.bq_base.proofs.Choices.{by_bool}
 use Rattle.bq_value.specs.Datum.{Datum, string}
 use Rattle.bq_value.specs.Pairs.{found, put}
@@ -181,12 +181,12 @@ module _ (s : SignatureView) (p : Passed) (done rest : Named) (name : List ℕ) 
       missing_value (y ∷ ys) zero less e = cc
       missing_value (y ∷ ys) (suc n) less e = missing_value ys n (omega (arith, less)) e
 
-  by_value : (i : ℕ) (o : Option (Option Datum)) (why : FaultKind) → slice_get b.values i ≡ o → place_of s name ≡ Some i → fill_by o i v b ≡ Err why → IsMisfit s p
+  by_value : (i : ℕ) (o : Option (Option Datum)) (why : EvalFault) → slice_get b.values i ≡ o → place_of s name ≡ Some i → fill_by o i v b ≡ Err why → IsMisfit s p
   by_value i None why e place h = absurd (no_place i place e)
   by_value i (Some None) why e place h = absurd (cc)
   by_value i (Some (Some w)) why e place h = filled_already i place w e
 
-  by_keyword : (t u : Bool) (why : FaultKind) → s.takes_keywords ≡ t → is_some (found (string name) b.keywords) ≡ u → place_of s name ≡ None
+  by_keyword : (t u : Bool) (why : EvalFault) → s.takes_keywords ≡ t → is_some (found (string name) b.keywords) ≡ u → place_of s name ≡ None
       → cond t (cond u (Err Args) (bound_to (record b { keywords = put (string name) v b.keywords }))) (Err Args) ≡ Err why → IsMisfit s p
   by_keyword false u why takes e place h = unknown (length done) name v here place takes
   by_keyword true true why takes e place h =
@@ -194,21 +194,21 @@ module _ (s : SignatureView) (p : Passed) (done rest : Named) (name : List ℕ) 
       named_twice x.at (length done) name x.value v (slice_get_within done x.at (name, x.value) x.there) (earlier x.at (name, x.value) x.there) here
   by_keyword true false why takes e place h = absurd (cc)
 
-  by_place : (o : Option ℕ) (why : FaultKind) → place_of s name ≡ o → take_named_by o s name v b ≡ Err why → IsMisfit s p
+  by_place : (o : Option ℕ) (why : EvalFault) → place_of s name ≡ o → take_named_by o s name v b ≡ Err why → IsMisfit s p
   unfolding fill take_keyword
   by_place (Some i) why place h = by_value i (slice_get b.values i) why refl place h
   by_place None why place h = by_keyword s.takes_keywords (is_some (found (string name) b.keywords)) why refl refl place h
 
-  misfit_here : (why : FaultKind) → take_named s name v b ≡ Err why → IsMisfit s p
+  misfit_here : (why : EvalFault) → take_named s name v b ≡ Err why → IsMisfit s p
   unfolding take_named
   misfit_here why h = by_place (place_of s name) why refl h
 
-stuck_by : (s : SignatureView) (p : Passed) (done : Named) (a : List ℕ × Datum) (rest : Named) (b : BoundView) → p.named ≡ done ++ a ∷ rest → IsReached s p done b → (kind : FaultKind) (x : Binding) → take_named s a.0 a.1 b ≡ x
+stuck_by : (s : SignatureView) (p : Passed) (done : Named) (a : List ℕ × Datum) (rest : Named) (b : BoundView) → p.named ≡ done ++ a ∷ rest → IsReached s p done b → (kind : EvalFault) (x : Binding) → take_named s a.0 a.1 b ≡ x
     → and_bind x (take_all_named s rest) ≡ Err kind → ((c : BoundView) → take_named s a.0 a.1 b ≡ Ok c → take_all_named s rest c ≡ Err kind → IsMisfit s p) → IsMisfit s p
 stuck_by s p done a rest b cut r kind (Ok c) e k later = later c e k
 stuck_by s p done a rest b cut r kind (Err why) e k later = misfit_here s p done rest a.0 a.1 b r cut why e
 
-stuck : (s : SignatureView) (p : Passed) (done rest : Named) (b : BoundView) → p.named ≡ done ++ rest → IsReached s p done b → (kind : FaultKind) → take_all_named s rest b ≡ Err kind → IsMisfit s p
+stuck : (s : SignatureView) (p : Passed) (done rest : Named) (b : BoundView) → p.named ≡ done ++ rest → IsReached s p done b → (kind : EvalFault) → take_all_named s rest b ≡ Err kind → IsMisfit s p
 unfolding take_all_named
 stuck s p done [] b cut r kind h = absurd (cc)
 stuck s p done (a ∷ rest) b cut r kind h =
@@ -292,7 +292,7 @@ left_by false false h = (refl, refl)
 left_by false true h = absurd (cc)
 left_by true within h = absurd (cc)
 
-pub refused_misfits : (s : SignatureView) (p : Passed) (kind : FaultKind) → bind s p ≡ Err kind → IsMisfit s p
+pub refused_misfits : (s : SignatureView) (p : Passed) (kind : EvalFault) → bind s p ≡ Err kind → IsMisfit s p
 unfolding bind
 refused_misfits s p kind h = by_number (too_many s p.positional) refl h
   where

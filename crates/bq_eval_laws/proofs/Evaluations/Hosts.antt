@@ -1,7 +1,7 @@
 -- What the rules ask for has numbers of steps and outcomes of its own, beside what a host keeps: a relation that respects the rules.
 use Rattle.std.proofs.Common.{◌≡◌, ◌∙◌, ℕ, Bool, true, false, List, Option, Some, None, refl, ap, subst}
 use Rattle.std.specs.Prelude.{if◌then◌else◌}
-use Rattle.bq_base.specs.declared.fault.FaultKind.TheVariants.{BadValue, NotInPackage}
+use Rattle.bq_base.specs.declared.fault.EvalFault.TheVariants.{BadValue, NotInPackage}
 use Rattle.bq_resolve_predeclared.specs.declared.predeclared.Predeclared.{Predeclared}
 use Rattle.bq_resolve_predeclared.specs.declared.predeclared.Predeclared.TheVariants as p
 use Rattle.bq_resolve_predeclared.specs.declared.rule_function.RuleFunction.{RuleFunction}

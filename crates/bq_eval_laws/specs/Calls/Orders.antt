@@ -1,6 +1,6 @@
 -- In which order a call of a function is refused (Starlark, "Function and method calls"; ours: the order).
 use Rattle.std.specs.Prelude.{ℕ, not, nat_lt, List, [], ◌∷◌, length}
-use Rattle.bq_base.specs.declared.fault.FaultKind.TheVariants.{Recursion, CallDepth}
+use Rattle.bq_base.specs.declared.fault.EvalFault.TheVariants.{Recursion, CallDepth}
 use Rattle.bq_builtin_machine.specs.Calls.{is_active}
 use Rattle.bq_builtin_machine.specs.State.{State}
 use Rattle.bq_builtin_refusal_laws.specs.Refusals.{Check, when}

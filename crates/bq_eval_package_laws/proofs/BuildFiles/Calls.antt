@@ -1,8 +1,8 @@
 -- The calls of build functions, and of rules of the schema and of .bzl files, have numbers of steps and outcomes of their own: what they declare hangs on the arguments, on
 -- the store and on the line, and not on the steps that are left.
 use Rattle.std.proofs.Common.{◌≡◌, ℕ, List, Result, Ok, Err, refl}
-use Rattle.bq_base.specs.declared.fault.FaultKind.{FaultKind}
-use Rattle.bq_base.specs.declared.fault.FaultKind.TheVariants.{NotInPackage}
+use Rattle.bq_base.specs.declared.fault.EvalFault.{EvalFault}
+use Rattle.bq_base.specs.declared.fault.EvalFault.TheVariants.{NotInPackage}
 use Rattle.bq_value_rule_class.specs.Class.{Class}
 use Rattle.bq_value.specs.Datum.{Datum}
 use Rattle.bq_builtin_machine.specs.Action.{Action, Run, stopped, given, on_machine}
@@ -50,23 +50,23 @@ module _ (s : State) (d : Declaring) where
   settled_line (Refused after) = refl
 
   module _ {A : Type 0} (declare : A → Declared) where
-    declares_more : (n : ℕ) (r : Result A FaultKind) → declares (with_steps n s) d r declare ≡ leaving hosted n (declares s d r declare)
+    declares_more : (n : ℕ) (r : Result A EvalFault) → declares (with_steps n s) d r declare ≡ leaving hosted n (declares s d r declare)
     declares_more n (Ok a) = settled_more n (declare a)
     declares_more n (Err why) = refl
 
-    declares_prints : (r : Result A FaultKind) → Begins s.prints (printed hosted (declares s d r declare))
+    declares_prints : (r : Result A EvalFault) → Begins s.prints (printed hosted (declares s d r declare))
     declares_prints (Ok a) = settled_prints (declare a)
     declares_prints (Err why) = begins_itself s.prints
 
-    declares_leaves : (r : Result A FaultKind) → Leaves hosted s.store (declares s d r declare)
+    declares_leaves : (r : Result A EvalFault) → Leaves hosted s.store (declares s d r declare)
     declares_leaves (Ok a) = settled_leaves (declare a)
     declares_leaves (Err why) = tt
 
-    declares_line : (r : Result A FaultKind) → InLine {S = State × HeldPackage} hosted s.line (declares s d r declare)
+    declares_line : (r : Result A EvalFault) → InLine {S = State × HeldPackage} hosted s.line (declares s d r declare)
     declares_line (Ok a) = settled_line (declare a)
     declares_line (Err why) = refl
 
-    declares_own : (a : Action (State × HeldPackage) Datum) (r : Result A FaultKind) → ((n : ℕ) → a (with_steps n s, declaring d) ≡ declares (with_steps n s) d r declare) → TakesInLine hosted a (s, declaring d)
+    declares_own : (a : Action (State × HeldPackage) Datum) (r : Result A EvalFault) → ((n : ℕ) → a (with_steps n s, declaring d) ≡ declares (with_steps n s) d r declare) → TakesInLine hosted a (s, declaring d)
     declares_own a r is =
         here_at_state hosted a (λ q. declares q.0 d r declare) (s, declaring d) is (is s.steps)
         (here_at_no_cost hosted (λ q. declares q.0 d r declare) (s, declaring d) (declares s d r declare) (λ n. declares_more n r) (declares_prints r) (declares_leaves r) (declares_line r))

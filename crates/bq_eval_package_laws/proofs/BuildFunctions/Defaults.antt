@@ -1,8 +1,8 @@
 -- Defaults are taken as calls of rules take values: another type alone is another fault.
 use Rattle.std.proofs.Common.{◌≡◌, ℤ, Bool, true, false, cond, List, [], ◌∷◌, ◌++◌, Option, Some, None, Result, Ok, Err, refl, subst}
 use Rattle.std.specs.Prelude.{◌==◌, pos, negsuc}
-use Rattle.bq_base.specs.declared.fault.FaultKind.{FaultKind}
-use Rattle.bq_base.specs.declared.fault.FaultKind.TheVariants as f
+use Rattle.bq_base.specs.declared.fault.EvalFault.{EvalFault}
+use Rattle.bq_base.specs.declared.fault.EvalFault.TheVariants as f
 use Rattle.bq_value_rule_class.specs.declared.attribute_type.AttributeType.{AttributeType}
 use Rattle.bq_value_rule_class.specs.declared.attribute_type.AttributeType.TheVariants as t
 use Rattle.bq_value_rule_class.specs.declared.value.AttributeValue.TheVariants as a
@@ -20,26 +20,26 @@ use Rattle.bq_eval_package_laws.specs.BuildFunctions.Defaults.{DefaultsAreTakenA
 use Rattle.bq_package_typed_value.proofs.Cases.{listed}
 
 -- both give one thing, or neither gives anything
-abbrev Alike : {A : Type 0} → Result A FaultKind → Result A FaultKind → Type 0
+abbrev Alike : {A : Type 0} → Result A EvalFault → Result A EvalFault → Type 0
 Alike (Ok x) (Ok y) = x ≡ y
 Alike (Ok x) (Err why) = ⊥
 Alike (Err why) (Ok y) = ⊥
 Alike (Err why) (Err kind) = Unit {0}
 
-both : {A B : Type 0} (r q : Result A FaultKind) (g h : A → Result B FaultKind) → Alike r q → ((x : A) → Alike (g x) (h x)) → Alike (and_then r g) (and_then q h)
+both : {A B : Type 0} (r q : Result A EvalFault) (g h : A → Result B EvalFault) → Alike r q → ((x : A) → Alike (g x) (h x)) → Alike (and_then r g) (and_then q h)
 both (Ok x) (Ok y) g h e each = subst (λ z. Alike (g x) (h z)) e (each x)
 both (Ok x) (Err why) g h e each = absurd e
 both (Err why) (Ok y) g h e each = absurd e
 both (Err why) (Err kind) g h e each = tt
 
-each_turn : {A B : Type 0} (g h : A → Result B FaultKind) → ((x : A) → Alike (g x) (h x)) → (done : List B) (xs : List A) → Alike (in_turn g done xs) (in_turn h done xs)
+each_turn : {A B : Type 0} (g h : A → Result B EvalFault) → ((x : A) → Alike (g x) (h x)) → (done : List B) (xs : List A) → Alike (in_turn g done xs) (in_turn h done xs)
 unfolding in_turn
 each_turn g h each done [] = refl
 each_turn g h each done (x ∷ xs) = both (g x) (h x) (λ y. in_turn g (done ++ y ∷ []) xs) (λ y. in_turn h (done ++ y ∷ []) xs) (each x) (λ y. each_turn g h each (done ++ y ∷ []) xs)
 
 -- ---- what is written, whatever another type is refused for
 
-module _ (why kind : FaultKind) where
+module _ (why kind : EvalFault) where
   text_alike : (v : Datum) → Alike (text_in why v) (text_in kind v)
   unfolding text_in
   text_alike (string s) = refl
@@ -78,7 +78,7 @@ module _ (why kind : FaultKind) where
   bool_alike (int n) = truth_alike n
   bool_alike v = tt
 
-  made : {A : Type 0} (r q : Result A FaultKind) (g : A → Written) → Alike r q → Alike (and_then r (λ x. Ok (g x))) (and_then q (λ x. Ok (g x)))
+  made : {A : Type 0} (r q : Result A EvalFault) (g : A → Written) → Alike r q → Alike (and_then r (λ x. Ok (g x))) (and_then q (λ x. Ok (g x)))
   made r q g e = both r q (λ x. Ok (g x)) (λ x. Ok (g x)) e (λ x. refl)
 
   written_alike : (store : StoreView) (type : AttributeType) (v : Datum) → Alike (written_as why store type v) (written_as kind store type v)
@@ -94,7 +94,7 @@ module _ (why kind : FaultKind) where
 
 -- ---- both ways
 
-ok_too : {A B : Type 0} (r q : Result A FaultKind) (next : A → Result B FaultKind) (y : B) → Alike r q → and_then r next ≡ Ok y → and_then q next ≡ Ok y
+ok_too : {A B : Type 0} (r q : Result A EvalFault) (next : A → Result B EvalFault) (y : B) → Alike r q → and_then r next ≡ Ok y → and_then q next ≡ Ok y
 ok_too (Ok x) (Ok z) next y e h = subst (λ z. next z ≡ Ok y) e h
 ok_too (Ok x) (Err why) next y e h = absurd e
 ok_too (Err why) q next y e h = absurd (cc)

@@ -2,8 +2,8 @@
 use Rattle.std.proofs.Common.{◌≡◌, ◌∙◌, ap, refl, ℕ, ◌⊎◌, inl, inr, Bool, true, false, List, [], ◌∷◌, Ok, Err, arith}
 use Rattle.std.specs.Prelude.{◌||◌, if◌then◌else◌}
 use Rattle.std.specs.List.{Contains, list_any}
-use Rattle.bq_base.specs.declared.fault.FaultKind.{FaultKind}
-use Rattle.bq_base.specs.declared.fault.FaultKind.TheVariants.{GlobEmpty}
+use Rattle.bq_base.specs.declared.fault.EvalFault.{EvalFault}
+use Rattle.bq_base.specs.declared.fault.EvalFault.TheVariants.{GlobEmpty}
 use Rattle.bq_base.proofs.Choices.{by_bool}
 use Rattle.bq_label.proofs.Orders.{at_head, in_tail, head_or_tail}
 use Rattle.bq_package.specs.declared.glob.GlobRequest.{GlobRequest}
@@ -60,12 +60,12 @@ pub refused : (p : PlaceView) (r : GlobRequest) → r.allows_empty ≡ false →
 unfolding found
 refused p r none h = let t = gives_nothing p r h in rw (none, t) refl
 
-found_by : (allows nothing : Bool) (names : List (List ℕ)) (why : FaultKind) → (if allows then Ok names else (if nothing then Err GlobEmpty else Ok names)) ≡ Err why → (why ≡ GlobEmpty) × (allows ≡ false) × (nothing ≡ true)
+found_by : (allows nothing : Bool) (names : List (List ℕ)) (why : EvalFault) → (if allows then Ok names else (if nothing then Err GlobEmpty else Ok names)) ≡ Err why → (why ≡ GlobEmpty) × (allows ≡ false) × (nothing ≡ true)
 found_by true nothing names why h = absurd (cc)
 found_by false false names why h = absurd (cc)
 found_by false true names why h = let is : why ≡ GlobEmpty = cc in (is, refl, refl)
 
-pub only : (p : PlaceView) (r : GlobRequest) (why : FaultKind) → found p r ≡ Err why → (why ≡ GlobEmpty) × (r.allows_empty ≡ false) × GivesNothing p r
+pub only : (p : PlaceView) (r : GlobRequest) (why : EvalFault) → found p r ≡ Err why → (why ≡ GlobEmpty) × (r.allows_empty ≡ false) × GivesNothing p r
 unfolding found
 only p r why h =
     let f = found_by r.allows_empty (list_any (is_idle p) r.include || is_nothing (names_of p r.include r.exclude)) (names_of p r.include r.exclude) why h in (

@@ -1,8 +1,8 @@
 -- Calls of build functions are refused in their orders.
 use Rattle.std.proofs.Common.{◌≡◌, ◌∙◌, ap, refl, ℕ, Bool, true, false, List, [], ◌∷◌, Option, Some, None, Result, Ok, Err}
 use Rattle.std.specs.Prelude.{not}
-use Rattle.bq_base.specs.declared.fault.FaultKind.{FaultKind}
-use Rattle.bq_base.specs.declared.fault.FaultKind.TheVariants.{BadValue}
+use Rattle.bq_base.specs.declared.fault.EvalFault.{EvalFault}
+use Rattle.bq_base.specs.declared.fault.EvalFault.TheVariants.{BadValue}
 use Rattle.bq_value_rule_class.specs.Class.{Class}
 use Rattle.bq_value.specs.Cells.{StoreView}
 use Rattle.bq_value.specs.Datum.{Datum}
@@ -31,7 +31,7 @@ use Rattle.bq_eval_package_laws.specs.BuildFunctions.Orders.{taken, then_taken, 
 
 -- ---- `glob`
 
-by_patterns : (allows : Bool) (is es : Result (List (List ℕ)) FaultKind) → fault_in (and_then is (λ xs. and_then es (λ ys. Ok (asked allows xs ys)))) ≡ first_fault (fault_in is ∷ fault_in es ∷ [])
+by_patterns : (allows : Bool) (is es : Result (List (List ℕ)) EvalFault) → fault_in (and_then is (λ xs. and_then es (λ ys. Ok (asked allows xs ys)))) ≡ first_fault (fault_in is ∷ fault_in es ∷ [])
 by_patterns allows (Err why) es = refl
 by_patterns allows (Ok xs) (Err why) = refl
 by_patterns allows (Ok xs) (Ok ys) = refl
@@ -41,7 +41,7 @@ unfolding request_by
 by_directories true allows include exclude = by_patterns allows (patterns include) (patterns exclude)
 by_directories false allows include exclude = refl
 
-by_texts : (excludes allows : Bool) (is es : Result (List (List ℕ)) FaultKind)
+by_texts : (excludes allows : Bool) (is es : Result (List (List ℕ)) EvalFault)
     → fault_in (and_then is (λ include. and_then es (λ exclude. request_by excludes allows include exclude)))
     ≡ first_fault (fault_in is ∷ fault_in es ∷ when (not excludes) BadValue ∷ fault_then is (λ xs. fault_in (patterns xs)) ∷ fault_then es (λ ys. fault_in (patterns ys)) ∷ [])
 by_texts excludes allows (Err why) es = refl
@@ -53,7 +53,7 @@ unfolding request_of
 requested_in_order store values = by_texts (excludes_directories (argument values 2)) (allows_empty store (argument values 3)) (texts_of store (argument values 0)) (texts_of store (argument values 1))
 
 module _ (p : PlaceView) (store : StoreView) where
-  by_request : (r : Result GlobRequest FaultKind) → fault_in (and_then r (found p)) ≡ first_fault (fault_in r ∷ fault_then r (λ q. fault_in (found p q)) ∷ [])
+  by_request : (r : Result GlobRequest EvalFault) → fault_in (and_then r (found p)) ≡ first_fault (fault_in r ∷ fault_then r (λ q. fault_in (found p q)) ∷ [])
   by_request (Err why) = refl
   by_request (Ok q) = last (fault_in (found p q))
     where
@@ -75,7 +75,7 @@ module _ (p : PlaceView) (store : StoreView) where
 
   -- ---- `exports_files`
 
-  by_names : (r : Result (List (List ℕ)) FaultKind) → fault_in (and_then r (labels p.own p.packages k.Name)) ≡ first_fault (fault_in r ∷ fault_then r (λ texts. fault_in (labels p.own p.packages k.Name texts)) ∷ [])
+  by_names : (r : Result (List (List ℕ)) EvalFault) → fault_in (and_then r (labels p.own p.packages k.Name)) ≡ first_fault (fault_in r ∷ fault_then r (λ texts. fault_in (labels p.own p.packages k.Name texts)) ∷ [])
   by_names (Err why) = refl
   by_names (Ok texts) = last (fault_in (labels p.own p.packages k.Name texts))
     where
@@ -100,7 +100,7 @@ module _ (d : Declaring) (s : State) where
   settled_fault (Accepted q) = refl
   settled_fault (Refused q) = refl
 
-  declared_in_order : {A : Type 0} (r : Result A FaultKind) (declare : A → Declared) → fault_of (declares s d r declare) ≡ first_fault (then_taken r declare)
+  declared_in_order : {A : Type 0} (r : Result A EvalFault) (declare : A → Declared) → fault_of (declares s d r declare) ≡ first_fault (then_taken r declare)
   declared_in_order (Err why) declare = refl
   declared_in_order (Ok a) declare = settled_fault (declare a) ∙ last (taken (declare a))
     where

@@ -1,8 +1,8 @@
 -- A call of a rule, and each of its arguments, is refused in its order.
 use Rattle.std.proofs.Common.{◌≡◌, refl, ap, ℕ, inl, inr, Bool, true, false, List, [], ◌∷◌, ◌++◌, Option, Some, None, Result, Ok, Err}
 use Rattle.std.specs.Prelude.{not, ◌&&◌, is_some}
-use Rattle.bq_base.specs.declared.fault.FaultKind.{FaultKind}
-use Rattle.bq_base.specs.declared.fault.FaultKind.TheVariants as f
+use Rattle.bq_base.specs.declared.fault.EvalFault.{EvalFault}
+use Rattle.bq_base.specs.declared.fault.EvalFault.TheVariants as f
 use Rattle.bq_base.proofs.Choices.{by_bool}
 use Rattle.bq_label.specs.Label.{LabelParts}
 use Rattle.bq_value_rule_class.specs.declared.attribute_type.AttributeType.{AttributeType}
@@ -25,7 +25,7 @@ use Rattle.bq_eval_package_laws.specs.RuleCalls.Orders.{bad_value, giving, namin
 use Rattle.bq_package_attributes.proofs.Cases.{with_attribute_by}
 
 -- an answer that is changed, and else its fault
-changed_only : {A B : Type 0} (r : Result A FaultKind) (f : A → B) → fault_in (and_then r (λ a. Ok (f a))) ≡ first_fault (fault_in r ∷ [])
+changed_only : {A B : Type 0} (r : Result A EvalFault) (f : A → B) → fault_in (and_then r (λ a. Ok (f a))) ≡ first_fault (fault_in r ∷ [])
 changed_only (Ok a) f = refl
 changed_only (Err why) f = refl
 
@@ -45,7 +45,7 @@ module _ (x : CallPlace) (g : Given) where
   unfolding with_argument with_attribute
   unknown_attribute argument h none = rw h (ap (λ o. with_attribute_by x.own x.packages x.store o (keyword argument.0) argument.1 g) none)
 
-  by_text : (r : Result (List ℕ) FaultKind)
+  by_text : (r : Result (List ℕ) EvalFault)
       → fault_in (and_then r (λ text. and_then (label x.own x.packages k.Name text) (λ l. Ok (with_label text l g)))) ≡ first_fault (fault_in r ∷ fault_then r (λ text. fault_in (label x.own x.packages k.Name text)) ∷ [])
   by_text (Err why) = refl
   by_text (Ok text) = changed_only (label x.own x.packages k.Name text) (λ l. with_label text l g)
@@ -64,7 +64,7 @@ module _ (x : CallPlace) (rule : List ℕ) (line : ℕ) where
   whole true (Some l) gs = refl
   whole false (Some l) gs = refl
 
-  by_arguments : (keywords : List (Datum × Datum)) (r : Result Given FaultKind)
+  by_arguments : (keywords : List (Datum × Datum)) (r : Result Given EvalFault)
       → fault_in (and_then r (λ g. if_whole (gives_mandatory x.class keywords) rule x.class line g.name (g.attributes ++ defaults keywords x.class))) ≡ first_fault (fault_in r ∷ fault_then r (missing x.class keywords) ∷ [])
   by_arguments keywords (Ok g) = whole (gives_mandatory x.class keywords) g.name (g.attributes ++ defaults keywords x.class)
   by_arguments keywords (Err why) = refl

@@ -1,7 +1,7 @@
 -- Defaults beside the values of calls: what `attr.NAME(default = v)` keeps is what the call of a rule keeps of `v`.
 use Rattle.std.specs.Prelude.{◌≡◌, ◌↔◌, Result, Ok}
-use Rattle.bq_base.specs.declared.fault.FaultKind.{FaultKind}
-use Rattle.bq_base.specs.declared.fault.FaultKind.TheVariants.{WrongType}
+use Rattle.bq_base.specs.declared.fault.EvalFault.{EvalFault}
+use Rattle.bq_base.specs.declared.fault.EvalFault.TheVariants.{WrongType}
 use Rattle.bq_value_rule_class.specs.declared.attribute_type.AttributeType.{AttributeType}
 use Rattle.bq_value_rule_class.specs.declared.value.AttributeValue.{AttributeValue}
 use Rattle.bq_value.specs.Datum.{Datum}
@@ -12,7 +12,7 @@ use Rattle.bq_package_typed_value.specs.Values.{value_as}
 use Rattle.bq_package.specs.Calls.{HeldPackage, own_of, packages_of, meaning}
 
 -- a value as the default of an attribute of a type, read by the host
-abbrev pub default_as : HeldPackage → StoreView → AttributeType → Datum → Result AttributeValue FaultKind
+abbrev pub default_as : HeldPackage → StoreView → AttributeType → Datum → Result AttributeValue EvalFault
 default_as held store type v = and_then (written_as WrongType store type v) (meaning.read_default held)
 
 -- a default is kept as the call of a rule in a file of that package keeps such a value, and one is refused where the other is

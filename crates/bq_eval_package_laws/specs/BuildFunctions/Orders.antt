@@ -1,7 +1,7 @@
 -- In which order the calls of build functions are refused (ours: the order).
 use Rattle.std.specs.Prelude.{ℕ, not, List, [], ◌∷◌, Option, Some, None, Result}
-use Rattle.bq_base.specs.declared.fault.FaultKind.{FaultKind}
-use Rattle.bq_base.specs.declared.fault.FaultKind.TheVariants.{BadValue, DoubleTarget}
+use Rattle.bq_base.specs.declared.fault.EvalFault.{EvalFault}
+use Rattle.bq_base.specs.declared.fault.EvalFault.TheVariants.{BadValue, DoubleTarget}
 use Rattle.bq_value.specs.Datum.{Datum}
 use Rattle.bq_value.specs.Cells.{StoreView}
 use Rattle.bq_builtin_machine.specs.Args.{Passed}
@@ -28,15 +28,15 @@ taken (Accepted q) = None
 taken (Refused q) = Some DoubleTarget
 
 -- what is read of the arguments, and then the names that it declares
-abbrev pub then_taken : {A : Type 0} → Result A FaultKind → (A → Declared) → List Check
+abbrev pub then_taken : {A : Type 0} → Result A EvalFault → (A → Declared) → List Check
 then_taken read declare = fault_in read ∷ fault_then read (λ a. taken (declare a)) ∷ []
 
 -- the target that is read of the arguments, and then its name
-abbrev pub adding : Declaring → Result Target FaultKind → List Check
+abbrev pub adding : Declaring → Result Target EvalFault → List Check
 adding d read = then_taken read (declared d.package)
 
 -- the target that a call of a rule of a .bzl file declares
-abbrev pub bzl_target : Declaring → State → List ℕ → Class → Passed → Result Target FaultKind
+abbrev pub bzl_target : Declaring → State → List ℕ → Class → Passed → Result Target EvalFault
 bzl_target d s rule class passed = declared_target d.place s.store s.line rule class passed
 
 -- ---- `glob`

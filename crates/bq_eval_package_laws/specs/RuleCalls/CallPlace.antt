@@ -1,6 +1,6 @@
 -- A call of a rule, in its place, and what it is said to give.
 use Rattle.std.specs.Prelude.{◌≡◌, ℕ, true, false, List, Result, codes, bytes_eq}
-use Rattle.bq_base.specs.declared.fault.FaultKind.{FaultKind}
+use Rattle.bq_base.specs.declared.fault.EvalFault.{EvalFault}
 use Rattle.bq_label.specs.declared.packages.BuildFile.{BuildFile}
 use Rattle.bq_label.specs.Label.{PackageParts}
 use Rattle.bq_value_rule_class.specs.Class.{Class}
@@ -20,11 +20,11 @@ pub record CallPlace : Type 0 where
   pub class : Class
 
 -- what is given once this argument is read too
-abbrev pub argument_read : CallPlace → Given → Datum × Datum → Result Given FaultKind
+abbrev pub argument_read : CallPlace → Given → Datum × Datum → Result Given EvalFault
 argument_read x g argument = with_argument x.own x.packages x.store x.class g argument
 
 -- the target that a call of the rule of this name declares
-abbrev pub target_declared : CallPlace → List ℕ → ℕ → Passed → Result Target FaultKind
+abbrev pub target_declared : CallPlace → List ℕ → ℕ → Passed → Result Target EvalFault
 target_declared x rule line passed = declaration x.own x.packages x.store x.class rule line passed
 
 -- the argument is the name of the target

@@ -1,6 +1,6 @@
 -- In which order a call of a rule, and each of its arguments, is refused (ours: the order).
 use Rattle.std.specs.Prelude.{ℕ, not, ◌&&◌, cond, List, [], ◌∷◌, Option, Some, None, is_some}
-use Rattle.bq_base.specs.declared.fault.FaultKind.TheVariants as f
+use Rattle.bq_base.specs.declared.fault.EvalFault.TheVariants as f
 use Rattle.bq_label.specs.declared.packages.BuildFile.{BuildFile}
 use Rattle.bq_label.specs.Label.{PackageParts}
 use Rattle.bq_value_rule_class.specs.declared.attribute_type.AttributeType.{AttributeType}

@@ -1,5 +1,5 @@
 use Rattle.std.proofs.Common.{rules, ◌≡◌, ◌∙◌, sym, ap, Ok, Err}
-use Rattle.bq_base.specs.declared.fault.FaultKind.{FaultKind}
+use Rattle.bq_base.specs.declared.fault.EvalFault.{EvalFault}
 use Rattle.bq_value.specs.declared.error.EvalErr.TheVariants.{Bad}
 use Rattle.bq_builtin_format.specs.Method.{formatted, unmixed}
 use Rattle.bq_builtin_format.specs.Percent.{DraftView, blank}
@@ -19,7 +19,7 @@ loop-name-init c =
 
 pub returns-in_err-left : goal.returns-in_err-left
 returns-in_err-left c =
-    let bad : (why : FaultKind) → c.in_err-left.field-0.0 ≡ Bad why → formatted c.args.store.now c.args.steps c.args.text.now c.args.values.now c.args.named.now ≡ Err why =
+    let bad : (why : EvalFault) → c.in_err-left.field-0.0 ≡ Bad why → formatted c.args.store.now c.args.steps c.args.text.now c.args.values.now c.args.named.now ≡ Err why =
     λ why is. formatted_when c.args.store.now c.args.values.now c.args.named.now c.args.steps c.args.text.now (Err why)
     (made_bad c.args.store.now c.args.values.now c.args.named.now c.loop-name.draft c.loop-name.left c.loop-name.next.now c.loop-name.numbering c.loop-name.rest.now c.in-Some.name.now c.in-Some.after.now _ why c.in-Some.ensures.field c.argument.ensures (c.in_err-left.ensures why is) _ c.loop-name.invariant.same) in
     search (rules, bad)

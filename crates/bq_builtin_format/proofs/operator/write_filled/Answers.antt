@@ -1,5 +1,5 @@
 use Rattle.std.proofs.Common.{rules, ◌≡◌, ◌∙◌, ap, sym, length, arith, length-drop, Ok, Err}
-use Rattle.bq_base.specs.declared.fault.FaultKind.{FaultKind}
+use Rattle.bq_base.specs.declared.fault.EvalFault.{EvalFault}
 use Rattle.bq_value.specs.declared.error.EvalErr.TheVariants.{Bad}
 use Rattle.bq_builtin_format.specs.Percent.{DraftView, and_write, converted, ended, filled}
 use Rattle.bq_builtin_format.proofs.Filling.{fill_step, fill_bad, fill_last, shorter, rest_one}
@@ -19,7 +19,7 @@ loop-before-smaller c =
 
 pub returns-in_err-left : goal.returns-in_err-left
 returns-in_err-left c =
-    let bad : (why : FaultKind) → c.in_err-left.field-0.0 ≡ Bad why → filled (length c.args.format.now) c.args.store.now c.args.draft.now c.args.steps c.args.values.now c.args.format.now ≡ Err why =
+    let bad : (why : EvalFault) → c.in_err-left.field-0.0 ≡ Bad why → filled (length c.args.format.now) c.args.store.now c.args.draft.now c.args.steps c.args.values.now c.args.format.now ≡ Err why =
     λ why is. c.loop-before.invariant ∙ fill_bad c.args.store.now c.loop-before.draft c.loop-before.left why c.loop-before.next.now c.loop-before.rest.now c.in-Some.before.now c.in-Some.after.now c.in-Some.ensures
     (ap (λ (d : DraftView). converted c.args.store.now d c.loop-before.left c.in-Some.after.now c.loop-before.next.now) (sym c.in_ok-write.ensures) ∙ c.in_err-left.ensures why is) in
     search (rules, bad)

@@ -1,5 +1,5 @@
 use Rattle.std.proofs.Common.{rules, ◌≡◌, refl}
-use Rattle.bq_base.specs.declared.fault.FaultKind.{FaultKind}
+use Rattle.bq_base.specs.declared.fault.EvalFault.{EvalFault}
 use Rattle.bq_value.specs.declared.error.EvalErr.TheVariants.{Bad}
 use Rattle.bq_builtin_machine.specs.Action.{stopped}
 use Rattle.bq_builtin_machine.specs.State.{stop_at}
@@ -19,7 +19,7 @@ returns-in_err-outermost-in-For g c =
     let e = evals_in h.means x in
     let b = element_in h.means x c.args.self.now.element in
     let layer = for_out c.first-item.result c.in-For.target c.in-For.iterable c.in-For.is in
-    let bad : (why : FaultKind) → c.in_err-outermost-in-For.field-0.0 ≡ Bad why → first_clauses h.means by_slots e c.args.clauses.now (frame_of x) b (slots_of c.args.frame.now) c.args.content.now (h.seen c.args.runtime.now) ≡ stopped (stop_at why (h.means.machine (h.seen c.open.new.runtime))) =
+    let bad : (why : EvalFault) → c.in_err-outermost-in-For.field-0.0 ≡ Bad why → first_clauses h.means by_slots e c.args.clauses.now (frame_of x) b (slots_of c.args.frame.now) c.args.content.now (h.seen c.args.runtime.now) ≡ stopped (stop_at why (h.means.machine (h.seen c.open.new.runtime))) =
     λ why is. first_stops h.means e b (frame_of x) (slots_of c.args.frame.now) c.args.content.now (h.seen c.args.runtime.now) c.args.clauses.now c.first-item.result _ c.in-len1-up.len_at_least c.first-item.is _ (c.in_err-outermost-in-For.ensures why is) layer refl in
     search (rules, bad)
 

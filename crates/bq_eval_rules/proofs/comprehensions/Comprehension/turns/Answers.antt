@@ -1,5 +1,5 @@
 use Rattle.std.proofs.Common.{rules, ◌≡◌, ◌∙◌, length, sym, arith}
-use Rattle.bq_base.specs.declared.fault.FaultKind.{FaultKind}
+use Rattle.bq_base.specs.declared.fault.EvalFault.{EvalFault}
 use Rattle.bq_value.specs.declared.error.EvalErr.TheVariants.{Bad}
 use Rattle.bq_builtin_machine.specs.Action.{stopped}
 use Rattle.bq_builtin_machine.specs.State.{stop_at}
@@ -45,7 +45,7 @@ returns-in_err-inside g c =
     let h = g.R.Runtime in
     let e = nested h.means c.args.self.now.rules.now.depth c.args.self.now.rules.now.context.now in
     let b = element_in h.means c.args.self.now.rules.now c.args.self.now.element in
-    let bad : (why : FaultKind) → c.in_err-inside.field-0.0 ≡ Bad why → loop_left h.means e b (loop_of c.args.first) (slots_of c.args.frame.now) c.args.content.now (h.seen c.args.runtime.now) ≡ stopped (stop_at why (h.means.machine (h.seen c.turn.new.runtime))) =
+    let bad : (why : EvalFault) → c.in_err-inside.field-0.0 ≡ Bad why → loop_left h.means e b (loop_of c.args.first) (slots_of c.args.frame.now) c.args.content.now (h.seen c.args.runtime.now) ≡ stopped (stop_at why (h.means.machine (h.seen c.turn.new.runtime))) =
     λ why is. sym c.loop-innermost.invariant ∙ turn_stops h.means e b (loop_of c.loop-innermost.innermost) (loops_of c.loop-innermost.outer.items) (slots_of c.loop-innermost.frame) c.loop-innermost.content (h.seen c.loop-innermost.runtime) c.in-Some.value c.next.new.self (one_left _ _ _ _ c.in-Some.is c.in_ok-value.ensures) _ (c.in_err-inside.ensures.leaves why is) in
     search (rules, bad)
 
@@ -68,7 +68,7 @@ returns-in_err-innermost g c =
     let h = g.R.Runtime in
     let e = nested h.means c.args.self.now.rules.now.depth c.args.self.now.rules.now.context.now in
     let b = element_in h.means c.args.self.now.rules.now c.args.self.now.element in
-    let bad : (why : FaultKind) → c.in_err-innermost.field-0.0 ≡ Bad why → loop_left h.means e b (loop_of c.args.first) (slots_of c.args.frame.now) c.args.content.now (h.seen c.args.runtime.now) ≡ stopped (stop_at why (h.means.machine (h.seen c.open.new.runtime))) =
+    let bad : (why : EvalFault) → c.in_err-innermost.field-0.0 ≡ Bad why → loop_left h.means e b (loop_of c.args.first) (slots_of c.args.frame.now) c.args.content.now (h.seen c.args.runtime.now) ≡ stopped (stop_at why (h.means.machine (h.seen c.open.new.runtime))) =
     λ why is. sym c.loop-innermost.invariant ∙ opening_stops h.means e b (slots_of c.loop-innermost.frame) c.loop-innermost.content c.loop-innermost.innermost c.loop-innermost.outer.items (h.seen c.loop-innermost.runtime) c.in-Some.value c.next.new.self (one_left _ _ _ _ c.in-Some.is c.in_ok-value.ensures) c.in_ok-inside.inside (slots_of c.turn.new.frame) c.turn.new.content (h.seen c.turn.new.runtime) c.in_ok-inside.ensures.leaves c.in-Some-inside.clause c.in-Some-inside.is _ (c.in_err-innermost.ensures why is) in
     search (rules, bad)
 

@@ -1,5 +1,5 @@
 use Rattle.std.proofs.Common.{rules, ◌≡◌, ◌∙◌, refl, sym}
-use Rattle.bq_base.specs.declared.fault.FaultKind.{FaultKind}
+use Rattle.bq_base.specs.declared.fault.EvalFault.{EvalFault}
 use Rattle.bq_value.specs.declared.error.EvalErr.TheVariants.{Bad}
 use Rattle.bq_builtin_machine.specs.Action.{stopped}
 use Rattle.bq_builtin_machine.specs.State.{stop_at}
@@ -34,7 +34,7 @@ returns-in_err-holds-in-If-clause-leaves g c =
     let e = nested h.means c.args.self.now.depth c.args.self.now.context.now in
     let b = element_in h.means c.args.self.now c.args.element in
     let layer = if_out c.clause-item.result c.in-If.condition c.in-If.is in
-    let bad : (why : FaultKind) → c.in_err-holds-in-If.field-0.0 ≡ Bad why → clauses h.means by_slots e c.args.clauses.now b (slots_of c.args.self.now.frame.now) c.args.content.now (h.seen c.args.runtime.now) ≡ stopped (stop_at why (h.means.machine (h.seen c.holds.new.runtime))) =
+    let bad : (why : EvalFault) → c.in_err-holds-in-If.field-0.0 ≡ Bad why → clauses h.means by_slots e c.args.clauses.now b (slots_of c.args.self.now.frame.now) c.args.content.now (h.seen c.args.runtime.now) ≡ stopped (stop_at why (h.means.machine (h.seen c.holds.new.runtime))) =
     λ why is. sym c.loop-rest.invariant.left ∙ condition_stops h.means e b (slots_of c.args.self.now.frame.now) c.args.content.now (h.seen c.loop-rest.runtime) c.loop-rest.rest.now c.clause-item.result c.in-len1-up.len_at_least c.clause-item.is c.in-If.condition layer _ (c.in_err-holds-in-If.ensures why is) in
     search (rules, bad)
 
@@ -70,7 +70,7 @@ returns-in_err-body-clause-leaves g c =
     let h = g.R.Runtime in
     let e = nested h.means c.args.self.now.depth c.args.self.now.context.now in
     let b = element_in h.means c.args.self.now c.args.element in
-    let bad : (why : FaultKind) → c.in_err-body.field-0.0 ≡ Bad why → clauses h.means by_slots e c.args.clauses.now b (slots_of c.args.self.now.frame.now) c.args.content.now (h.seen c.args.runtime.now) ≡ stopped (stop_at why (h.means.machine (h.seen c.body.new.runtime))) =
+    let bad : (why : EvalFault) → c.in_err-body.field-0.0 ≡ Bad why → clauses h.means by_slots e c.args.clauses.now b (slots_of c.args.self.now.frame.now) c.args.content.now (h.seen c.args.runtime.now) ≡ stopped (stop_at why (h.means.machine (h.seen c.body.new.runtime))) =
     λ why is. sym c.loop-rest.invariant.left ∙ (no_clause h.means e b (slots_of c.args.self.now.frame.now) c.args.content.now (h.seen c.loop-rest.runtime) c.loop-rest.rest.now c.in_default.len_below ∙ c.in_err-body.ensures why is) in
     search (rules, bad)
 

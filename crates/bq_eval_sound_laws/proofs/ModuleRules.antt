@@ -1,4 +1,4 @@
--- Files stop for faults of evaluation alone, where they and the files of the frozen modules are sound.
+-- Files do not get stuck, where they and the files of the frozen modules are sound.
 use Rattle.std.proofs.Common.{◌≡◌, ℕ, zero, suc, ◌==◌, Bool, true, false, List, [], ◌∷◌, Option, Some, None, slice_get, refl, subst}
 use Rattle.std.specs.Prelude.{if◌then◌else◌}
 use Rattle.std.specs.List.{AllByRecursion}
@@ -19,15 +19,15 @@ use Rattle.bq_eval_language_spec.specs.Module.{Own, with_own, def_stmt, outside_
 use Rattle.bq_eval_language_spec.specs.Slots.{by_slots, slot_of, own_of, frozen_unit, globals_among, frozen_units, first_globals, module_meaning}
 use Rattle.bq_eval_language_spec.specs.Statements.{Flow, next}
 use Rattle.bq_eval_language_spec.specs.Trees.{Eval}
-use Rattle.bq_eval_fault_laws.proofs.Lawful.{Lawful, value_of, both}
-use Rattle.bq_eval_fault_laws.specs.Faults.{Refusing}
+use Rattle.bq_eval_sound_laws.proofs.Unstuck.{value_of, both}
+use Rattle.bq_eval_sound_laws.specs.Stuck.{Unstuck, NeverStuck}
 use Rattle.bq_eval_sound_laws.specs.Sound.{ExprIsSound, FunctionIsSound, OutsideIsSound, LineIsSound, FileIsSound}
-use Rattle.bq_eval_fault_laws.proofs.ExpressionRules.{eval_rule, values_rule}
-use Rattle.bq_eval_fault_laws.proofs.StatementRules.{Ends, go_on_rule, line_rule}
-use Rattle.bq_eval_fault_laws.proofs.CallRules.{UnitIsSound, UnitsAreSound, calls_rule}
+use Rattle.bq_eval_sound_laws.proofs.ExpressionRules.{eval_rule, values_rule}
+use Rattle.bq_eval_sound_laws.proofs.StatementRules.{Ends, go_on_rule, line_rule}
+use Rattle.bq_eval_sound_laws.proofs.CallRules.{UnitIsSound, UnitsAreSound, calls_rule}
 
-module _ {S : Type 0} (m : Primitives S) (L : Lawful m) (own : Own Surroundings Frame) where
-  module _ (eval : Eval S Frame) (evals : (x : Expr) → ExprIsSound x → (env : Frame) → Refusing Datum (eval x env)) where
+module _ {S : Type 0} (m : Primitives S) (L : NeverStuck m) (own : Own Surroundings Frame) where
+  module _ (eval : Eval S Frame) (evals : (x : Expr) → ExprIsSound x → (env : Frame) → Unstuck Datum (eval x env)) where
     def_rule : (d : Def) → AllByRecursion ExprIsSound d.defaults → Ends m L (def_stmt m by_slots own eval d)
     unfolding def_stmt
     def_rule d all globals =
@@ -56,7 +56,7 @@ module _ {S : Type 0} (m : Primitives S) (L : Lawful m) (own : Own Surroundings 
       by_own true = functions
       by_own false = sound n
 
-  top_rule : (units : Units Surroundings) → UnitsAreSound m L units → AllByRecursion FunctionIsSound own.functions → (x : Expr) → ExprIsSound x → (globals : Frame) → Refusing Datum (eval_top m by_slots units own x globals)
+  top_rule : (units : Units Surroundings) → UnitsAreSound m L units → AllByRecursion FunctionIsSound own.functions → (x : Expr) → ExprIsSound x → (globals : Frame) → Unstuck Datum (eval_top m by_slots units own x globals)
   unfolding eval_top
   top_rule units sound functions x h globals =
       eval_rule m L (calls max_active m by_slots (with_own units own globals)) (calls_rule m L max_active (with_own units own globals) (own_sound units sound functions globals)) (own.round globals) max_layers x h empty
@@ -67,7 +67,7 @@ IfSound (Some file) = FileIsSound file
 IfSound _ = Unit {0}
 
 -- the files of frozen modules are sound, and so are the modules
-frozen_by : (o : Option (Option ResolvedFile)) (v : Option (List Datum)) → ((file : ResolvedFile) → o ≡ Some (Some file) → FileIsSound file) → {S : Type 0} (m : Primitives S) (L : Lawful m) → UnitIsSound m L (frozen_unit o v)
+frozen_by : (o : Option (Option ResolvedFile)) (v : Option (List Datum)) → ((file : ResolvedFile) → o ≡ Some (Some file) → FileIsSound file) → {S : Type 0} (m : Primitives S) (L : NeverStuck m) → UnitIsSound m L (frozen_unit o v)
 frozen_by None v h m L = tt
 frozen_by (Some None) v h m L = tt
 frozen_by (Some (Some file)) None h m L = tt
@@ -79,13 +79,13 @@ at_number (Some r ∷ code) all zero file e = let same : r ≡ file = cc in subs
 at_number (None ∷ code) all zero file e = absurd (let no : ⊥ = cc in no)
 at_number (c ∷ code) all (suc n) file e = at_number code all.1 n file e
 
-module _ {S : Type 0} (m : Primitives S) (L : Lawful m) where
+module _ {S : Type 0} (m : Primitives S) (L : NeverStuck m) where
   frozen_sound : (code : List (Option ResolvedFile)) → AllByRecursion IfSound code → (loaded : List FrozenView) → UnitsAreSound m L (frozen_units code loaded)
   unfolding frozen_units
   frozen_sound code all loaded n = frozen_by (slice_get code n) (globals_among n loaded) (at_number code all n) m L
 
   pub module_rule : (code : List (Option ResolvedFile)) → AllByRecursion IfSound code → (frozen : List FrozenView) (number : ℕ) (file : ResolvedFile) → FileIsSound file → (loaded : List Datum)
-      → Refusing Frame (module_meaning m (frozen_units code frozen) number file loaded)
+      → Unstuck Frame (module_meaning m (frozen_units code frozen) number file loaded)
   unfolding module_meaning language.module_meaning
   module_rule code all frozen number file sound loaded =
       let own : Own Surroundings Frame = own_of number file loaded in

@@ -1,4 +1,4 @@
--- Statements stop for faults of evaluation alone, where they are sound.
+-- Statements do not get stuck, where they are sound.
 use Rattle.std.proofs.Common.{ℕ, zero, suc, List, [], ◌∷◌, Option, Some, None}
 use Rattle.std.specs.List.{AllByRecursion}
 use Rattle.bq_parse_grammar.specs.declared.tree.Branch.{Branch, out-Branch}
@@ -16,29 +16,29 @@ use Rattle.bq_eval_language_spec.specs.Slots.{by_slots}
 use Rattle.bq_eval_language_spec.specs.Statements.{Flow, next, leave, again, answer, Exec, go_on, turn_on, steps_of, expr_stmt, assign_stmt, return_stmt, small_by, small_stmt, line, block, branches, turn, turns, for_loop, stmt_by, stmt, run_to}
 use Rattle.bq_eval_language_spec.specs.Trees.{Eval, StmtLayer}
 use Rattle.bq_eval_meaning_laws.specs.Layers.{OptionalParts}
-use Rattle.bq_eval_fault_laws.specs.Faults.{Refusing}
+use Rattle.bq_eval_sound_laws.specs.Stuck.{Unstuck, NeverStuck}
 use Rattle.bq_eval_sound_laws.specs.Sound.{AreNames, ExprIsSound, PlaceIsSound, SmallIsSound, KindIsSound, BranchIsSound, StmtLayerIsSound, StmtIsSound}
-use Rattle.bq_eval_fault_laws.proofs.Lawful.{Lawful, value_of, both, choice_of}
-use Rattle.bq_eval_fault_laws.proofs.TargetRules.{variables_rule, assign_rule, augment_rule}
+use Rattle.bq_eval_sound_laws.proofs.Unstuck.{value_of, both, choice_of}
+use Rattle.bq_eval_sound_laws.proofs.TargetRules.{variables_rule, assign_rule, augment_rule}
 
-module _ {S : Type 0} (m : Primitives S) (L : Lawful m) where
+module _ {S : Type 0} (m : Primitives S) (L : NeverStuck m) where
   -- of statements in one frame
   abbrev pub Ends : Exec S Frame → Type 0
-  Ends run = (env : Frame) → Refusing (Flow × Frame) (run env)
+  Ends run = (env : Frame) → Unstuck (Flow × Frame) (run env)
 
-  pub go_on_rule : (run : Exec S Frame) → Ends run → (r : Flow × Frame) → Refusing (Flow × Frame) (go_on run r)
+  pub go_on_rule : (run : Exec S Frame) → Ends run → (r : Flow × Frame) → Unstuck (Flow × Frame) (go_on run r)
   go_on_rule run runs (next, env) = runs env
   go_on_rule run runs (leave, env) = value_of (Flow × Frame) (leave, env)
   go_on_rule run runs (again, env) = value_of (Flow × Frame) (again, env)
   go_on_rule run runs (answer v, env) = value_of (Flow × Frame) (answer v, env)
 
-  turn_on_rule : (run : Exec S Frame) → Ends run → (r : Flow × Frame) → Refusing (Flow × Frame) (turn_on run r)
+  turn_on_rule : (run : Exec S Frame) → Ends run → (r : Flow × Frame) → Unstuck (Flow × Frame) (turn_on run r)
   turn_on_rule run runs (next, env) = runs env
   turn_on_rule run runs (leave, env) = value_of (Flow × Frame) (next, env)
   turn_on_rule run runs (again, env) = runs env
   turn_on_rule run runs (answer v, env) = value_of (Flow × Frame) (answer v, env)
 
-  module _ (eval : Eval S Frame) (evals : (x : Expr) → ExprIsSound x → (env : Frame) → Refusing Datum (eval x env)) where
+  module _ (eval : Eval S Frame) (evals : (x : Expr) → ExprIsSound x → (env : Frame) → Unstuck Datum (eval x env)) where
     -- ---- small statements
 
     expr_stmt_rule : (x : Expr) → ExprIsSound x → Ends (expr_stmt m by_slots eval x)

@@ -1,7 +1,7 @@
--- Assignments stop for faults of evaluation alone: as many places are bound as were evaluated, and the variables of a `for` have none.
+-- Assignments do not get stuck: as many places are bound as were evaluated, and the variables of a `for` have none.
 use Rattle.std.proofs.Common.{◌≡◌, true, ℕ, zero, suc, ◌+◌, ◌≤◌, List, [], ◌∷◌, length, Option, Some, None, refl, arith, length-append}
 use Rattle.std.specs.List.{AllByRecursion}
-use Rattle.bq_base.specs.declared.fault.FaultKind.TheVariants as f
+use Rattle.bq_base.specs.declared.fault.EvalFault.TheVariants as f
 use Rattle.bq_parse_grammar.specs.declared.tree.Argument.TheOpen.{TargetExpr-F}
 use Rattle.bq_parse_grammar.specs.declared.tree.Expr.{Expr}
 use Rattle.bq_parse_grammar.specs.declared.tree.Identifier.{Identifier}
@@ -10,7 +10,6 @@ use Rattle.bq_parse_grammar.specs.declared.tree.TargetExpr.{TargetExpr, out-Targ
 use Rattle.bq_resolve_scope.specs.Names.{max_layers, TargetLayer}
 use Rattle.bq_value.specs.Datum.{Datum}
 use Rattle.bq_builtin_machine.specs.Action.{Action, Run, done, stopped, following}
-use Rattle.bq_package_host.specs.Refusals.{is_refusal}
 use Rattle.bq_eval_meaning_spec.specs.Frame.{Frame, fill}
 use Rattle.bq_eval_meaning_spec.specs.Primitives.{Primitives}
 use Rattle.bq_eval_language_spec.specs.Slots.{by_slots, slot_of}
@@ -18,9 +17,9 @@ use Rattle.bq_eval_language_spec.specs.Targets.{Places, Binds, bound, bind_place
 use Rattle.bq_eval_language_spec.specs.Trees.{Eval}
 use Rattle.bq_eval_meaning_laws.specs.Layers.{TargetParts}
 use Rattle.bq_eval_depth_laws.specs.Fits.{IndexParts}
-use Rattle.bq_eval_fault_laws.specs.Faults.{IsRefusal, Refusing}
+use Rattle.bq_eval_sound_laws.specs.Stuck.{is_stuck, IsUnstuck, Unstuck, NeverStuck}
 use Rattle.bq_eval_sound_laws.specs.Sound.{TargetIsSoundTo, NoExpr, AreNames, IsOneLayer, IsOne}
-use Rattle.bq_eval_fault_laws.proofs.Lawful.{Lawful, value_of, stop_of, both}
+use Rattle.bq_eval_sound_laws.proofs.Unstuck.{value_of, stop_of, both}
 
 -- ---- how many places a target has
 
@@ -38,26 +37,26 @@ unfoldable places_in : ℕ → TargetExpr → ℕ
 places_in zero t = 0
 places_in (suc n) t = places_in_layer (places_in n) (out-TargetExpr t)
 
--- ---- runs that stop for faults of evaluation alone, or give what has this property
+-- ---- runs that do not get stuck, or give what has this property
 
 abbrev Giving : {S A : Type 0} → (A → Type 0) → Run S A → Type 0
 Giving P (done x s) = P x
-Giving P (stopped why) = is_refusal why.kind ≡ true
+Giving P (stopped why) = is_stuck why.kind ≡ false
 
 giving_then : {S A B : Type 0} (P : A → Type 0) (Q : B → Type 0) (r : Run S A) (go : A → Action S B) → Giving P r → ((x : A) → P x → (s : S) → Giving Q (go x s)) → Giving Q (following r go)
 giving_then P Q (done x s) go h k = k x h s
 giving_then P Q (stopped why) go h k = h
 
-giving_after : {S A B : Type 0} (Q : B → Type 0) (r : Run S A) (go : A → Action S B) → IsRefusal r → ((x : A) (s : S) → Giving Q (go x s)) → Giving Q (following r go)
+giving_after : {S A B : Type 0} (Q : B → Type 0) (r : Run S A) (go : A → Action S B) → IsUnstuck r → ((x : A) (s : S) → Giving Q (go x s)) → Giving Q (following r go)
 giving_after Q (done x s) go h k = k x s
 giving_after Q (stopped why) go h k = h
 
-only : {S A B : Type 0} (P : A → Type 0) (r : Run S A) (go : A → Action S B) → Giving P r → ((x : A) → P x → Refusing B (go x)) → IsRefusal (following r go)
+only : {S A B : Type 0} (P : A → Type 0) (r : Run S A) (go : A → Action S B) → Giving P r → ((x : A) → P x → Unstuck B (go x)) → IsUnstuck (following r go)
 only P (done x s) go h k = k x h s
 only P (stopped why) go h k = h
 
-module _ {S : Type 0} (m : Primitives S) (L : Lawful m) where
-  pub bound_rule : (o : Option Datum) → Refusing Datum (bound m o)
+module _ {S : Type 0} (m : Primitives S) (L : NeverStuck m) where
+  pub bound_rule : (o : Option Datum) → Unstuck Datum (bound m o)
   unfolding bound
   bound_rule None = stop_of m Datum f.Unbound refl
   bound_rule (Some v) = value_of Datum v
@@ -120,13 +119,13 @@ module _ {S : Type 0} (m : Primitives S) (L : Lawful m) where
   no_places zero t fits = refl
   no_places (suc n) t fits = none_by n (no_places n) (out-TargetExpr t) fits.0 fits.1
 
-  pub variables_rule : (t : TargetExpr) → AreNames t → (v : Datum) (env : Frame) → Refusing Frame (bind_variables m by_slots t v env)
+  pub variables_rule : (t : TargetExpr) → AreNames t → (v : Datum) (env : Frame) → Unstuck Frame (bind_variables m by_slots t v env)
   unfolding bind_variables
   variables_rule t names v env s =
       let none : places_in max_layers t ≡ 0 = no_places max_layers t names in
       only (Leaves 0) (bind_to m by_slots max_layers t v env [] s) _ (target_binds NoExpr max_layers t names v env [] 0 (omega arith) s) (λ r _. value_of Frame r.0)
 
-  module _ (E : Expr → Type 0) (eval : Eval S Frame) (evals : (x : Expr) → E x → (env : Frame) → Refusing Datum (eval x env)) where
+  module _ (E : Expr → Type 0) (eval : Eval S Frame) (evals : (x : Expr) → E x → (env : Frame) → Unstuck Datum (eval x env)) where
     -- ---- a target's places: as many more as it has
 
     abbrev More : ℕ → Places → Places → Type 0
@@ -163,19 +162,19 @@ module _ {S : Type 0} (m : Primitives S) (L : Lawful m) where
 
     -- ---- assignments
 
-    pub assign_rule : (t : TargetExpr) → TargetIsSoundTo E max_layers t → (v : Datum) (env : Frame) → Refusing Frame (assign m by_slots eval t v env)
+    pub assign_rule : (t : TargetExpr) → TargetIsSoundTo E max_layers t → (v : Datum) (env : Frame) → Unstuck Frame (assign m by_slots eval t v env)
     unfolding assign
     assign_rule t fits v env s =
         only (More (places_in max_layers t) []) (places_to m eval max_layers t env [] s) _ (target_more max_layers t fits env [] s)
         (λ ps h w. only (Leaves 0) (bind_to m by_slots max_layers t v env ps w) _ (target_binds E max_layers t fits v env ps 0 (omega (arith, h)) w) (λ r _. value_of Frame r.0))
 
-    augment_name_rule : (n : Identifier) (o : Operator) (x : Expr) → E x → (env : Frame) → Refusing Frame (augment_name m by_slots eval n o x env)
+    augment_name_rule : (n : Identifier) (o : Operator) (x : Expr) → E x → (env : Frame) → Unstuck Frame (augment_name m by_slots eval n o x env)
     unfolding augment_name
     augment_name_rule n o x h env =
         both _ _ _ _ (bound_rule (env (slot_of n.referent)))
         (λ old. both _ _ _ _ (evals x h env) (λ v. both _ _ _ _ (L.of_augment o old v) (λ new. value_of Frame (fill env (slot_of n.referent) new))))
 
-    augment_index_rule : (y i : Expr) (o : Operator) (x : Expr) → E y → E i → E x → (env : Frame) → Refusing Frame (augment_index m eval y i o x env)
+    augment_index_rule : (y i : Expr) (o : Operator) (x : Expr) → E y → E i → E x → (env : Frame) → Unstuck Frame (augment_index m eval y i o x env)
     unfolding augment_index
     augment_index_rule y i o x hy hi hx env =
         both _ _ _ _ (evals y hy env)
@@ -185,7 +184,7 @@ module _ {S : Type 0} (m : Primitives S) (L : Lawful m) where
         (λ v. both _ _ _ _ (L.of_augment o old v)
         (λ new. both _ _ _ _ (L.of_set_index u w new) (λ _. value_of Frame env))))))
 
-    augment_by_rule : (t : TargetLayer) → IndexParts E t → IsOneLayer t → (o : Operator) (x : Expr) → E x → (env : Frame) → Refusing Frame (augment_by m by_slots eval t o x env)
+    augment_by_rule : (t : TargetLayer) → IndexParts E t → IsOneLayer t → (o : Operator) (x : Expr) → E x → (env : Frame) → Unstuck Frame (augment_by m by_slots eval t o x env)
     augment_by_rule (TargetExpr-F.TargetExpr::Name n) k one o x h env = augment_name_rule n o x h env
     augment_by_rule (TargetExpr-F.TargetExpr::Index y i) k one o x h env = augment_index_rule y i o x k.0 k.1 h env
     augment_by_rule (TargetExpr-F.TargetExpr::Tuple ts) k one o x h env = absurd one
@@ -196,6 +195,6 @@ module _ {S : Type 0} (m : Primitives S) (L : Lawful m) where
     index_parts zero t fits = absurd fits
     index_parts (suc n) t fits = fits.1
 
-    pub augment_rule : (t : TargetExpr) → TargetIsSoundTo E max_layers t → IsOne t → (o : Operator) (x : Expr) → E x → (env : Frame) → Refusing Frame (augment m by_slots eval t o x env)
+    pub augment_rule : (t : TargetExpr) → TargetIsSoundTo E max_layers t → IsOne t → (o : Operator) (x : Expr) → E x → (env : Frame) → Unstuck Frame (augment m by_slots eval t o x env)
     unfolding augment
     augment_rule t fits one o x h env = augment_by_rule (out-TargetExpr t) (index_parts max_layers t fits) one o x h env

@@ -1,4 +1,4 @@
--- Comprehensions stop for faults of evaluation alone, where the variables of their clauses are names.
+-- Comprehensions do not get stuck, where the variables of their clauses are names.
 use Rattle.std.proofs.Common.{List, [], ◌∷◌}
 use Rattle.std.specs.List.{AllByRecursion}
 use Rattle.bq_parse_grammar.specs.declared.tree.Argument.TheOpen.{Clause-F}
@@ -16,17 +16,17 @@ use Rattle.bq_eval_language_spec.specs.Comprehensions.{Turn, element, pair_eleme
 use Rattle.bq_eval_language_spec.specs.Slots.{by_slots, opened}
 use Rattle.bq_eval_language_spec.specs.Trees.{Eval}
 use Rattle.bq_eval_meaning_laws.specs.Layers.{PairParts, ClauseLayerParts, ClauseParts}
-use Rattle.bq_eval_fault_laws.proofs.Lawful.{Lawful, value_of, both, choice_of}
+use Rattle.bq_eval_sound_laws.proofs.Unstuck.{value_of, both, choice_of}
 use Rattle.bq_eval_depth_laws.specs.Fits.{VariablesOfLayer, Variables}
-use Rattle.bq_eval_fault_laws.specs.Faults.{Refusing}
+use Rattle.bq_eval_sound_laws.specs.Stuck.{Unstuck, NeverStuck}
 use Rattle.bq_eval_sound_laws.specs.Sound.{AreNames}
-use Rattle.bq_eval_fault_laws.proofs.TargetRules.{variables_rule}
+use Rattle.bq_eval_sound_laws.proofs.TargetRules.{variables_rule}
 
-module _ {S : Type 0} (m : Primitives S) (L : Lawful m) (P : Expr → Type 0) (eval : Eval S Frame)
-    (evals : (x : Expr) → P x → (env : Frame) → Refusing Datum (eval x env)) where
+module _ {S : Type 0} (m : Primitives S) (L : NeverStuck m) (P : Expr → Type 0) (eval : Eval S Frame)
+    (evals : (x : Expr) → P x → (env : Frame) → Unstuck Datum (eval x env)) where
   -- of each turn
   abbrev pub EachTurn : Turn S Frame → Type 0
-  EachTurn t = (env : Frame) (c : Contents) → Refusing (Contents × Frame) (t env c)
+  EachTurn t = (env : Frame) (c : Contents) → Unstuck (Contents × Frame) (t env c)
 
   pub element_rule : (x : Expr) → P x → EachTurn (element m eval x)
   unfolding element
@@ -79,7 +79,7 @@ module _ {S : Type 0} (m : Primitives S) (L : Lawful m) (P : Expr → Type 0) (e
     first_rule (x ∷ xs) all names there env c = clause_by_rule (clauses m by_slots eval xs inner) (clauses_rule xs all.1 names.1) (out-Clause x) all.0 names.0 there env c
 
     pub comprehension_rule : (first : Contents) (cs : List Clause) → AllByRecursion (ClauseParts P) cs → AllByRecursion (Variables AreNames) cs → (own : ComprehensionFrame) (env : Frame)
-        → Refusing Datum (comprehension m by_slots eval first inner cs own env)
+        → Unstuck Datum (comprehension m by_slots eval first inner cs own env)
     unfolding comprehension
     comprehension_rule first cs all names own env =
         both _ _ _ _ (L.of_step 1) (λ _. both _ _ _ _ (first_rule cs all names env (opened env own) first) (λ r. L.of_make r.0))

@@ -1,13 +1,23 @@
--- Arguments that go to no parameter are F52.
-use Rattle.std.proofs.Common.{ℕ, Bool, List, [], ◌∷◌, Option, Some, None, Ok, Err, is_some, slice_get, refl}
+-- Arguments that go to no parameter are F52, and so are not stuck.
+use Rattle.std.proofs.Common.{◌≡◌, ℕ, Bool, true, false, cond, List, [], ◌∷◌, Option, Some, None, Result, Ok, Err, is_some, slice_get, refl}
 use Rattle.std.specs.List.{position_from}
-use Rattle.bq_base.specs.declared.fault.FaultKind.TheVariants.{Args}
+use Rattle.bq_base.specs.declared.fault.EvalFault.{EvalFault}
+use Rattle.bq_base.specs.declared.fault.EvalFault.TheVariants.{Args}
 use Rattle.bq_value.specs.Datum.{Datum, string}
 use Rattle.bq_value.specs.Pairs.{found}
 use Rattle.bq_builtin_machine.specs.Args.{Passed}
 use Rattle.bq_builtin_machine.specs.Binding.{BoundView, Binding, placed, too_many, fill_by, fill, take_keyword, take_named_by, take_named, and_bind, take_all_named, is_complete, if_complete, bind}
 use Rattle.bq_builtin_machine.specs.Parameters.{SignatureView, is_called}
-use Rattle.bq_eval_fault_laws.proofs.Fine.{Fine, fine_cond}
+use Rattle.bq_eval_sound_laws.specs.Stuck.{is_stuck}
+
+-- an answer that is not refused with the fault of `stuck`
+abbrev pub Fine : {A : Type 0} → Result A EvalFault → Type 0
+Fine (Ok x) = Unit {0}
+Fine (Err kind) = is_stuck kind ≡ false
+
+fine_cond : {A : Type 0} (t : Bool) (a c : Result A EvalFault) → Fine a → Fine c → Fine (cond t a c)
+fine_cond true a c h k = h
+fine_cond false a c h k = k
 
 then_fine : (r : Binding) (next : BoundView → Binding) → Fine r → ((b : BoundView) → Fine (next b)) → Fine (and_bind r next)
 then_fine (Ok b) next h k = k b

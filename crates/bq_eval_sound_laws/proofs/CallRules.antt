@@ -1,8 +1,8 @@
--- Calls stop for faults of evaluation alone, where the functions of all modules are sound.
+-- Calls do not get stuck, where the functions of all modules are sound.
 use Rattle.std.proofs.Common.{ℕ, zero, suc, List, [], ◌∷◌, Bool, true, false, Option, Some, None, Result, Ok, Err, slice_get, refl}
 use Rattle.std.specs.List.{AllByRecursion}
-use Rattle.bq_base.specs.declared.fault.FaultKind.{FaultKind}
-use Rattle.bq_base.specs.declared.fault.FaultKind.TheVariants as f
+use Rattle.bq_base.specs.declared.fault.EvalFault.{EvalFault}
+use Rattle.bq_base.specs.declared.fault.EvalFault.TheVariants as f
 use Rattle.bq_parse_grammar.specs.declared.tree.Expr.{Expr}
 use Rattle.bq_parse_grammar.specs.declared.tree.Identifier.{Identifier}
 use Rattle.bq_resolve_scope.specs.declared.file.Formal.{Formal}
@@ -21,20 +21,19 @@ use Rattle.bq_eval_language_spec.specs.Expressions.{eval_in}
 use Rattle.bq_eval_language_spec.specs.Slots.{by_slots, slot_of}
 use Rattle.bq_eval_language_spec.specs.Statements.{run_in}
 use Rattle.bq_eval_language_spec.specs.Trees.{Eval, Calls}
-use Rattle.bq_eval_fault_laws.proofs.Lawful.{Lawful, value_of, stop_of, both}
-use Rattle.bq_eval_fault_laws.specs.Faults.{Refusing}
+use Rattle.bq_eval_sound_laws.proofs.Unstuck.{value_of, stop_of, both}
+use Rattle.bq_eval_sound_laws.specs.Stuck.{Unstuck, NeverStuck}
 use Rattle.bq_eval_sound_laws.specs.Sound.{ExprIsSound, StmtIsSound, FunctionIsSound}
-use Rattle.bq_eval_fault_laws.proofs.Fine.{Fine}
-use Rattle.bq_eval_fault_laws.proofs.Arguments.{bind_fine}
-use Rattle.bq_eval_fault_laws.proofs.ExpressionRules.{eval_rule}
-use Rattle.bq_eval_fault_laws.proofs.StatementRules.{block_rule, run_rule}
+use Rattle.bq_eval_sound_laws.proofs.Arguments.{Fine, bind_fine}
+use Rattle.bq_eval_sound_laws.proofs.ExpressionRules.{eval_rule}
+use Rattle.bq_eval_sound_laws.proofs.StatementRules.{block_rule, run_rule}
 
-module _ {S : Type 0} (m : Primitives S) (L : Lawful m) where
+module _ {S : Type 0} (m : Primitives S) (L : NeverStuck m) where
   -- the relation holds of an action and itself
   abbrev pub Itself : (A : Type 0) → Action S A → Type 0
-  Itself A a = Refusing A a
+  Itself A a = Unstuck A a
 
-  given_rule : (A : Type 0) (r : Result A FaultKind) → Fine r → Itself A (given_by m r)
+  given_rule : (A : Type 0) (r : Result A EvalFault) → Fine r → Itself A (given_by m r)
   given_rule A (Ok x) h = value_of A x
   given_rule A (Err kind) h = stop_of m A kind h
 
