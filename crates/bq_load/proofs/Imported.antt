@@ -5,7 +5,7 @@ use Rattle.std.specs.List.{Contains}
 use Rattle.std.proofs.lemmas.List.{drop_more}
 use Rattle.std.proofs.lemmas.Option.{slice_get_within, get_or_from_slice_get}
 use Rattle.std.proofs.Math.ListN.{drop_of_length-le}
-use Rattle.bq_base.specs.declared.fault.FaultKind.{FaultKind}
+use Rattle.bq_base.specs.declared.fault.LoadFault.{LoadFault}
 use Rattle.bq_base.specs.declared.fault.Fault.{Fault}
 use Rattle.bq_label.specs.Label.{LabelParts}
 use Rattle.bq_label_set.specs.Labels.{with_labels}
@@ -41,9 +41,9 @@ none_left : (ls : List LabelParts) (i : ℕ) (o : Option LabelParts) → slice_g
 none_left ls i None e none = drop_of_length-le ls (none_further ls i e)
 none_left ls i (Some l) e none = absurd (has_place ls l (i, slice_get_within ls i l e, get_or_from_slice_get ls i l l e) none)
 
-module _ (x : LoadedParts) (loads : List LoadStmt) (ls : List LabelParts) (files : x.files ≡ with_labels [] ls) (i : ℕ) (s : LoadStmt) (h : i < length loads) (is : s ≡ get_or loads i s) (done : List Datum) (all : Result (List Datum) (Fault FaultKind))
+module _ (x : LoadedParts) (loads : List LoadStmt) (ls : List LabelParts) (files : x.files ≡ with_labels [] ls) (i : ℕ) (s : LoadStmt) (h : i < length loads) (is : s ≡ get_or loads i s) (done : List Datum) (all : Result (List Datum) (Fault LoadFault))
     (before : imports x done (drop i loads) (drop i ls) ≡ all) where
-  abbrev rest : List Datum → Result (List Datum) (Fault FaultKind)
+  abbrev rest : List Datum → Result (List Datum) (Fault LoadFault)
   rest vs = imports x vs (drop (i + 1) loads) (drop (i + 1) ls)
 
   left : drop i loads ≡ s ∷ drop (i + 1) loads
@@ -61,11 +61,11 @@ module _ (x : LoadedParts) (loads : List LoadStmt) (ls : List LabelParts) (files
 
   -- the clauses of a load have values
   pub next_load : (place : ℕ) → Some place ≡ place_named ls i → (now : List Datum) → clause_values x.resolved (slice_get x.modules place) s.line done s.clauses ≡ Ok now → imports x now (drop (i + 1) loads) (drop (i + 1) ls) ≡ all
-  next_load place at now e = sym (ap (λ (z : Result (List Datum) (Fault FaultKind)). z >>= rest) e) ∙ this_load place at
+  next_load place at now e = sym (ap (λ (z : Result (List Datum) (Fault LoadFault)). z >>= rest) e) ∙ this_load place at
 
   -- a clause is bad
-  pub bad_load : (place : ℕ) → Some place ≡ place_named ls i → (why : Fault FaultKind) → clause_values x.resolved (slice_get x.modules place) s.line done s.clauses ≡ Err why → all ≡ Err why
-  bad_load place at why e = sym (this_load place at) ∙ ap (λ (z : Result (List Datum) (Fault FaultKind)). z >>= rest) e
+  pub bad_load : (place : ℕ) → Some place ≡ place_named ls i → (why : Fault LoadFault) → clause_values x.resolved (slice_get x.modules place) s.line done s.clauses ≡ Err why → all ≡ Err why
+  bad_load place at why e = sym (this_load place at) ∙ ap (λ (z : Result (List Datum) (Fault LoadFault)). z >>= rest) e
 
   -- there are no more labels
   pub no_file : None ≡ place_named ls i → all ≡ Ok done
@@ -75,6 +75,6 @@ module _ (x : LoadedParts) (loads : List LoadStmt) (ls : List LabelParts) (files
       ∙ (ap (λ (z : List LoadStmt). imports x done z (drop i ls)) left ∙ ap (λ (z : List LabelParts). imports x done (s ∷ drop (i + 1) loads) z) (none_left ls i (slice_get ls i) refl none))
 
 -- there are no more loads
-pub no_load : (x : LoadedParts) (loads : List LoadStmt) (ls : List LabelParts) (i : ℕ) (done : List Datum) (all : Result (List Datum) (Fault FaultKind)) → length loads ≤ i → imports x done (drop i loads) (drop i ls) ≡ all → all ≡ Ok done
+pub no_load : (x : LoadedParts) (loads : List LoadStmt) (ls : List LabelParts) (i : ℕ) (done : List Datum) (all : Result (List Datum) (Fault LoadFault)) → length loads ≤ i → imports x done (drop i loads) (drop i ls) ≡ all → all ≡ Ok done
 unfolding imports
 no_load x loads ls i done all h before = sym before ∙ ap (λ (z : List LoadStmt). imports x done z (drop i ls)) (drop_of_length-le loads h)

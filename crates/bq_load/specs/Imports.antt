@@ -5,8 +5,8 @@ use Rattle.std.specs.List.{starts_with}
 use Rattle.std.specs.declared.alloc.Global.{Global}
 use Rattle.std.specs.declared.sync.Arc.{Arc}
 use Rattle.bq_base.specs.declared.fault.Fault.{Fault}
-use Rattle.bq_base.specs.declared.fault.FaultKind.{FaultKind}
-use Rattle.bq_base.specs.declared.fault.FaultKind.TheVariants as f
+use Rattle.bq_base.specs.declared.fault.LoadFault.{LoadFault}
+use Rattle.bq_base.specs.declared.fault.LoadFault.TheVariants as f
 use Rattle.bq_label.specs.Label.{LabelParts}
 use Rattle.bq_label_set.specs.Labels.{with_labels}
 use Rattle.bq_resolve_scope.specs.Names.{Name}
@@ -72,28 +72,28 @@ abbrev pub is_private : Name → Bool
 is_private name = starts_with nat_eq name (codes "_")
 
 -- the value of a symbol, or the fault that the file has none
-abbrev pub or_no_symbol : Option Datum → Result Datum FaultKind
+abbrev pub or_no_symbol : Option Datum → Result Datum LoadFault
 or_no_symbol None = Err f.NoSymbol
 or_no_symbol (Some v) = Ok v
 
 -- what a module exports by this name: F34 where it is private, else F33 where the module has no such global
-unfoldable pub exported : List (Option ResolvedFile) → Option ModuleView → Name → Result Datum FaultKind
+unfoldable pub exported : List (Option ResolvedFile) → Option ModuleView → Name → Result Datum LoadFault
 exported resolved m name = if is_private name then Err f.PrivateSymbol else or_no_symbol (global_by resolved m name)
 
 -- ---- loads
 
 -- a fault names the line of the load and the symbol
-abbrev pub at_symbol : ℕ → Name → Result Datum FaultKind → Result Datum (Fault FaultKind)
+abbrev pub at_symbol : ℕ → Name → Result Datum LoadFault → Result Datum (Fault LoadFault)
 at_symbol line name (Ok v) = Ok v
 at_symbol line name (Err kind) = Err (record { kind = kind; line = line; detail = name })
 
 -- the values so far, and one for each of these clauses; or the fault of the first bad one
-unfoldable pub clause_values : List (Option ResolvedFile) → Option ModuleView → ℕ → List Datum → List LoadedSymbol → Result (List Datum) (Fault FaultKind)
+unfoldable pub clause_values : List (Option ResolvedFile) → Option ModuleView → ℕ → List Datum → List LoadedSymbol → Result (List Datum) (Fault LoadFault)
 clause_values resolved m line done [] = Ok done
 clause_values resolved m line done (c ∷ cs) = at_symbol line c.symbol (exported resolved m c.symbol) >>= λ v. clause_values resolved m line (done ++ v ∷ []) cs
 
 -- the values so far, and those of the clauses of these loads, which name these files
-unfoldable pub imports : LoadedParts → List Datum → List LoadStmt → List LabelParts → Result (List Datum) (Fault FaultKind)
+unfoldable pub imports : LoadedParts → List Datum → List LoadStmt → List LabelParts → Result (List Datum) (Fault LoadFault)
 imports x done [] ls = Ok done
 imports x done (s ∷ ss) [] = Ok done
 imports x done (s ∷ ss) (l ∷ ls) = clause_values x.resolved (module_named x l) s.line done s.clauses >>= λ vs. imports x vs ss ls

@@ -5,6 +5,8 @@ use Rattle.std.specs.Prelude.{ℕ, ◌+◌, List, [], ◌∷◌, Option, Some, N
 use Rattle.bq_base.specs.declared.fault.Fault.{Fault}
 use Rattle.bq_base.specs.declared.fault.FaultKind.{FaultKind}
 use Rattle.bq_base.specs.declared.fault.FaultKind.TheVariants as f
+use Rattle.bq_base.specs.declared.fault.LoadFault.{LoadFault}
+use Rattle.bq_base.specs.declared.fault.LoadFault.TheVariants as of_load
 use Rattle.bq_base.specs.Fault.{fault_at}
 use Rattle.bq_label.specs.Label.{LabelParts, full_form}
 use Rattle.bq_resolve_scope.specs.declared.loads.LoadStmt.{LoadStmt}
@@ -29,20 +31,20 @@ abbrev pub line_by : LabelParts → Result Front (Fault FaultKind) → ℕ
 line_by l (Err why) = 0
 line_by l (Ok front) = line_of_load l front.file.loads front.loads
 
-abbrev pub load_fault_by : FaultKind → Result Front (Fault FaultKind) → Option Module → Fault FaultKind
-load_fault_by kind front None = fault_at kind 0
-load_fault_by kind front (Some loaded) = record { kind = kind; line = line_by loaded.label front; detail = full_form loaded.label }
+abbrev pub load_fault_by : LoadFault → Result Front (Fault FaultKind) → Option Module → Fault FaultKind
+load_fault_by kind front None = fault_at (f.Load kind) 0
+load_fault_by kind front (Some loaded) = record { kind = f.Load kind; line = line_by loaded.label front; detail = full_form loaded.label }
 
 -- the fault of a module whose file is this, for its load of module k
-unfoldable pub load_fault : LoadingParts → Result Front (Fault FaultKind) → FaultKind → ℕ → Fault FaultKind
+unfoldable pub load_fault : LoadingParts → Result Front (Fault FaultKind) → LoadFault → ℕ → Fault FaultKind
 load_fault x front kind k = load_fault_by kind front (slice_get x.modules k)
 
 abbrev pub result_of : LoadingParts → Result Front (Fault FaultKind) → Outcome ModuleView FailedView → Result ModuleView FailedView
 result_of x front (o.Loaded v) = Ok v
 result_of x front (o.Faulty e) = Err e
-result_of x front (o.Cyclic k) = Err (not_evaluated (load_fault x front f.CycleReached k))
-result_of x front (o.TooDeep k) = Err (not_evaluated (load_fault x front f.LoadDepth k))
-result_of x front (o.LoadFailed k) = Err (not_evaluated (load_fault x front f.LoadFailed k))
+result_of x front (o.Cyclic k) = Err (not_evaluated (load_fault x front of_load.CycleReached k))
+result_of x front (o.TooDeep k) = Err (not_evaluated (load_fault x front of_load.LoadDepth k))
+result_of x front (o.LoadFailed k) = Err (not_evaluated (load_fault x front of_load.LoadFailed k))
 
 -- a module with what it comes to by this outcome along loads
 abbrev pub outcome_by : LoadingParts → Module → Outcome ModuleView FailedView → OutcomeView

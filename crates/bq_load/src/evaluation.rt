@@ -15,7 +15,7 @@ ghost use Rattle.bq_load.specs.Evaluation.{kept_first, hosted_run, file_after, m
 
 use crate::imports::LoadedFiles;
 use crate::loading::Loading;
-use bq_base::{FaultKind, SourceErr};
+use bq_base::{LoadFault, SourceErr};
 use bq_label::Label;
 use bq_load_front::{Front, kind_of};
 use bq_load_module::{BuildHost, FailedModule, LoadedModule, ResolvedModule, load_module};
@@ -111,7 +111,7 @@ impl<'a> Loading<'a> {
         alloc: Global,
         module: &FileModule<'_>,
         modules: &[Arc<LoadedModule, Global>],
-    ) -> Result<Vec<Value>, SourceErr<FaultKind>>
+    ) -> Result<Vec<Value>, SourceErr<LoadFault>>
         ensures { Gives items Bad result (imports (loaded_parts (loading_of self.now) «module».now.front.now (module_views modules.now)) [] «module».now.front.now.file.loads «module».now.front.now.loads) }
     {
         let loaded = LoadedFiles {

@@ -1,6 +1,8 @@
 //! The evaluation of each module, as the outcomes along loads ask for it.
 
 ghost use Rattle.std.specs.Prelude.{◌≡◌, map, IfOk};
+ghost use Rattle.bq_base.specs.Fault.{fault_as};
+ghost use Rattle.bq_base.specs.declared.fault.FaultKind.TheVariants.{Load};
 ghost use Rattle.bq_load_order.specs.Shown.{told};
 ghost use Rattle.bq_load.specs.Views.{ModuleView, FailedView, module_view, failed_view, module_views, not_evaluated};
 ghost use Rattle.bq_load.specs.Loading.{loading_of};
@@ -9,7 +11,7 @@ ghost use Rattle.bq_load.specs.Evaluation.{file_means, by_front, means};
 use crate::evaluation::FileModule;
 use crate::loading::Loading;
 use crate::results::share_fault;
-use bq_base::{Fault, FaultKind, SourceErr};
+use bq_base::{Fault, FaultKind, LoadFault, SourceErr};
 use bq_load_module::{FailedModule, LoadedModule};
 use bq_load_order::{Evaluate, Watch};
 use std::alloc::{AllocError, Global};
@@ -40,7 +42,7 @@ impl<'a> Evaluate for Loading<'a> {
         watch: &W,
     ) -> Result<Result<LoadedModule, FailedModule>, AllocError> {
         let Some(module) = self.modules.get(m as usize) else {
-            return Ok(not_evaluated(alloc, Fault::at(FaultKind::NoSuchFile, 0)));
+            return Ok(not_evaluated(alloc, Fault::at(FaultKind::Load(LoadFault::NoSuchFile), 0)));
         };
         let front = match &module.front {
             Ok(front) => front,
@@ -57,7 +59,7 @@ impl<'a> Evaluate for Loading<'a> {
                 // PROOF: these are the values
                 Ok(self.evaluated(alloc, &file, imports, &values)?)
             }
-            Err(SourceErr::Bad(fault)) => Ok(not_evaluated(alloc, fault)),
+            Err(SourceErr::Bad(fault)) => Ok(not_imported(alloc, fault)),
             Err(SourceErr::Memory) => Err(AllocError),
         }
     }
@@ -68,4 +70,12 @@ fn not_evaluated(alloc: Global, fault: Fault<FaultKind>) -> Result<LoadedModule,
     ensures { told module_view failed_view result ≡ Err (not_evaluated fault) }
 {
     Err(FailedModule::not_evaluated(alloc, fault))
+}
+
+/// Returns a module that lacks what its loads ask for.
+fn not_imported(alloc: Global, fault: Fault<LoadFault>) -> Result<LoadedModule, FailedModule>
+    ensures { told module_view failed_view result ≡ Err (not_evaluated (fault_as Load fault)) }
+{
+    let kind = FaultKind::Load(fault.kind);
+    not_evaluated(alloc, fault.with_kind(kind))
 }

@@ -4,17 +4,18 @@ ghost use Rattle.std.specs.Prelude.{◌≡◌, option_and_then, option_map, slic
 ghost use Rattle.std.specs.Option.{option_copied, ForSome};
 ghost use Rattle.bq_base.specs.Gives.{Gives};
 ghost use Rattle.bq_base.specs.declared.fault.SourceErr.TheVariants.{Bad};
-ghost use Rattle.bq_value.specs.declared.error.EvalErr.TheVariants.{Bad as BadKind};
+ghost use Rattle.bq_load.specs.declared.exports.ExportErr.TheVariants.{Bad as BadKind, Memory};
 ghost use Rattle.bq_load_module.specs.Round.{lent_files};
 ghost use Rattle.bq_load.specs.Views.{module_view};
 ghost use Rattle.bq_load.specs.Places.{HasPlaces};
 ghost use Rattle.bq_load.specs.Imports.{value_named, globals_by, names_by, global_of, global_by, is_private, exported, at_symbol, clause_values};
 
 use crate::places::{NamePlaces, place_of};
-use bq_base::{Bytes, Fault, FaultKind, SourceErr};
+use bq_base::{Bytes, Fault, LoadFault, SourceErr};
 use bq_load_module::LoadedModule;
 use bq_resolve_scope::{LoadedSymbol, ResolvedFile};
-use bq_value::{EvalErr, Value};
+use bq_value::Value;
+use std::alloc::AllocError;
 
 /// Returns the value at the place of its name.
 #[tactic(auto, unfolding(crate::specs::Imports::value_named))]
@@ -71,6 +72,21 @@ pub(crate) fn globals_of<'a>(resolved: &'a [Option<&'a ResolvedFile>], number: u
     }
 }
 
+/// Why a module has no value for a symbol.
+#[derive(Drop)]
+pub enum ExportErr {
+    Bad(LoadFault),
+    Memory,
+}
+
+impl From<AllocError> for ExportErr {
+    ghost from_gives = { λ _ e. e ≡ Memory };
+
+    fn from(_: AllocError) -> Self {
+        ExportErr::Memory
+    }
+}
+
 /// A module that a load names, and the resolved files of all modules.
 #[derive(Clone, Copy)]
 pub(crate) struct Exports<'t, 'a> {
@@ -85,34 +101,34 @@ pub(crate) struct Exports<'t, 'a> {
 impl<'t, 'a> Exports<'t, 'a> {
     /// Returns what the module exports by this name: F34, F33.
     #[tactic(auto, unfolding(crate::specs::Imports::exported))]
-    fn exported(&self, name: &Bytes) -> Result<Value, EvalErr>
+    fn exported(&self, name: &Bytes) -> Result<Value, ExportErr>
         ensures { Gives (λ v. v) BadKind result (exported (lent_files self.now.resolved.now) (option_map module_view (option_copied self.now.module)) name.now) }
     {
         if name.as_slice().starts_with(b"_") {
-            return Err(EvalErr::Bad(FaultKind::PrivateSymbol));
+            return Err(ExportErr::Bad(LoadFault::PrivateSymbol));
         }
         let Some(module) = self.module else {
-            return Err(EvalErr::Bad(FaultKind::NoSymbol));
+            return Err(ExportErr::Bad(LoadFault::NoSymbol));
         };
         let names = globals_of(self.resolved, module.frozen.module());
         match value_by(self.places, name, names, module.frozen.globals()) {
-            None => Err(EvalErr::Bad(FaultKind::NoSymbol)),
+            None => Err(ExportErr::Bad(LoadFault::NoSymbol)),
             Some(value) => Ok(value.share()?),
         }
     }
 
     /// Returns the value of a clause of a load in this line, or its fault.
-    fn clause_value(&self, line: u32, symbol: &Bytes) -> Result<Value, SourceErr<FaultKind>>
+    fn clause_value(&self, line: u32, symbol: &Bytes) -> Result<Value, SourceErr<LoadFault>>
         ensures { Gives (λ v. v) Bad result (at_symbol line symbol.now (exported (lent_files self.now.resolved.now) (option_map module_view (option_copied self.now.module)) symbol.now)) }
     {
         match self.exported(symbol) {
             Ok(value) => Ok(value),
-            Err(EvalErr::Bad(kind)) => Err(SourceErr::Bad(Fault {
+            Err(ExportErr::Bad(kind)) => Err(SourceErr::Bad(Fault {
                 kind,
                 line,
                 detail: symbol.share()?,
             })),
-            Err(EvalErr::Memory) => Err(SourceErr::Memory),
+            Err(ExportErr::Memory) => Err(SourceErr::Memory),
         }
     }
 
@@ -123,7 +139,7 @@ impl<'t, 'a> Exports<'t, 'a> {
         line: u32,
         values: &mut Vec<Value>,
         clauses: &[LoadedSymbol],
-    ) -> Result<(), SourceErr<FaultKind>>
+    ) -> Result<(), SourceErr<LoadFault>>
         ensures { Gives (λ _. values.new.items) Bad result (clause_values (lent_files self.now.resolved.now) (option_map module_view (option_copied self.now.module)) line values.old.items clauses.now) }
     {
         for clause in clauses {

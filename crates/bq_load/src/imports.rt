@@ -12,7 +12,7 @@ ghost use Rattle.bq_load.specs.Imports.{loaded_of, names_in, names_of, clause_va
 
 use crate::exports::{Exports, globals_of};
 use crate::places::{NamePlaces, places_at, places_by_name};
-use bq_base::{FaultKind, SourceErr};
+use bq_base::{LoadFault, SourceErr};
 use bq_load_front::NamedFiles;
 use bq_load_module::LoadedModule;
 use bq_resolve_scope::{LoadStmt, ResolvedFile};
@@ -86,7 +86,7 @@ impl<'a> LoadedFiles<'a> {
         load: &LoadStmt,
         place: usize,
         values: &mut Vec<Value>,
-    ) -> Result<(), SourceErr<FaultKind>>
+    ) -> Result<(), SourceErr<LoadFault>>
         requires { AllPlaced (names_of (lent_files self.now.resolved.now) self.now.modules.now) places.now }
         ensures { Gives (λ _. values.new.items) Bad result (clause_values (lent_files self.now.resolved.now) (slice_get (module_views self.now.modules.now) place) load.now.line values.old.items load.now.clauses) }
     {
@@ -105,7 +105,7 @@ impl<'a> LoadedFiles<'a> {
         alloc: Global,
         places: &[Option<NamePlaces<'a>>],
         loads: &[LoadStmt],
-    ) -> Result<Vec<Value>, SourceErr<FaultKind>>
+    ) -> Result<Vec<Value>, SourceErr<LoadFault>>
         requires { AllPlaced (names_of (lent_files self.now.resolved.now) self.now.modules.now) places.now }
         ensures { Gives items Bad result (imports (loaded_of self.now) [] loads.now self.now.named.now) }
     {
@@ -120,7 +120,7 @@ impl<'a> LoadedFiles<'a> {
     }
 
     /// Returns the values of the clauses of loads; or the fault of the first bad clause (F33, F34).
-    pub(crate) fn imports(&self, alloc: Global, loads: &[LoadStmt]) -> Result<Vec<Value>, SourceErr<FaultKind>>
+    pub(crate) fn imports(&self, alloc: Global, loads: &[LoadStmt]) -> Result<Vec<Value>, SourceErr<LoadFault>>
         ensures { Gives items Bad result (imports (loaded_of self.now) [] loads.now self.now.named.now) }
     {
         // How many clauses look into each module decides how they look, and not what they find.

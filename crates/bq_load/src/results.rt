@@ -12,7 +12,7 @@ ghost use Rattle.bq_load.specs.Results.{line_of_load, line_by, load_fault, resul
 
 use crate::loading::Loading;
 use crate::outcome::ModuleOutcome;
-use bq_base::{Bytes, Fault, FaultKind};
+use bq_base::{Bytes, Fault, FaultKind, LoadFault};
 use bq_board::Graph;
 use bq_label::{Label, print_label};
 use bq_load_discover::Module;
@@ -98,16 +98,16 @@ impl<'a> Loading<'a> {
         &self,
         alloc: Global,
         front: &Result<Front, Fault<FaultKind>>,
-        kind: FaultKind,
+        kind: LoadFault,
         k: u32,
     ) -> Result<Fault<FaultKind>, AllocError>
         ensures { IfOk result (λ f. f ≡ load_fault (loading_of self.now) front.now kind k) }
     {
         let Some(loaded) = self.modules.get(k as usize) else {
-            return Ok(Fault::at(kind, 0));
+            return Ok(Fault::at(FaultKind::Load(kind), 0));
         };
         Ok(Fault {
-            kind,
+            kind: FaultKind::Load(kind),
             line: line_by(&loaded.label, front),
             detail: shown(alloc, &loaded.label)?,
         })
@@ -118,7 +118,7 @@ impl<'a> Loading<'a> {
         &self,
         alloc: Global,
         front: &Result<Front, Fault<FaultKind>>,
-        kind: FaultKind,
+        kind: LoadFault,
         k: u32,
     ) -> Result<FailedModule, AllocError>
         ensures { IfOk result (λ f. failed_view f ≡ not_evaluated (load_fault (loading_of self.now) front.now kind k)) }
@@ -140,13 +140,13 @@ impl<'a> Loading<'a> {
             Outcome::Loaded(module) => Ok(Ok(Arc::try_clone(module)?)),
             Outcome::Faulty(failed) => Ok(Err(share_failed(alloc, failed)?)),
             Outcome::Cyclic(k) => {
-                Ok(Err(self.not_loaded(alloc, front, FaultKind::CycleReached, *k)?))
+                Ok(Err(self.not_loaded(alloc, front, LoadFault::CycleReached, *k)?))
             }
             Outcome::TooDeep(k) => {
-                Ok(Err(self.not_loaded(alloc, front, FaultKind::LoadDepth, *k)?))
+                Ok(Err(self.not_loaded(alloc, front, LoadFault::LoadDepth, *k)?))
             }
             Outcome::LoadFailed(k) => {
-                Ok(Err(self.not_loaded(alloc, front, FaultKind::LoadFailed, *k)?))
+                Ok(Err(self.not_loaded(alloc, front, LoadFault::LoadFailed, *k)?))
             }
         }
     }

@@ -1,6 +1,7 @@
 -- A module evaluates by names to what it evaluates to by slots.
 use Rattle.std.proofs.Common.{◌≡◌, ◌∙◌, ℕ, List, [], map, Option, Some, None, Result, Ok, Err, slice_get, refl, sym, ap}
 use Rattle.bq_base.specs.declared.fault.FaultKind.{FaultKind}
+use Rattle.bq_base.specs.declared.fault.LoadFault.{LoadFault}
 use Rattle.bq_base.specs.declared.fault.Fault.{Fault}
 use Rattle.bq_parse_grammar.specs.declared.tree.FileKind.{FileKind}
 use Rattle.bq_parse_grammar.specs.declared.tree.FileKind.TheVariants as kinds
@@ -53,12 +54,12 @@ module _ (x : LoadingParts) (all : List ParsedModule) (are : AreReadAs all x.mod
         (λ i. module_by (agree.0 i) (package_left (agree.1 i)))
         ∙ ap (λ kept. slots.module_after front.file values (module_run x.names meaning resolved m front.file (map (λ v. v.frozen) modules) values x.limit kept)) (kept_same l (kind_of l))
 
-    imports_by : (modules : List ModuleView) (r : Result (List Datum) (Fault FaultKind)) → by_imports named m l parsed.file modules r ≡ slots.by_imports x m l front.file modules r
+    imports_by : (modules : List ModuleView) (r : Result (List Datum) (Fault LoadFault)) → by_imports named m l parsed.file modules r ≡ slots.by_imports x m l front.file modules r
     imports_by modules (Ok values) = run_same modules values
     imports_by modules (Err why) = refl
 
     -- what its loads give, where they name these files
-    abbrev given : List ModuleView → List LabelParts → Result (List Datum) (Fault FaultKind)
+    abbrev given : List ModuleView → List LabelParts → Result (List Datum) (Fault LoadFault)
     given modules ls = loads.imports (record { files = with_labels [] ls; modules = modules; resolved = resolved }) [] front.file.loads ls
 
     file_same : (modules : List ModuleView) → file_means named m l parsed modules ≡ slots.file_means x m l front modules

@@ -4,6 +4,8 @@ use Rattle.std.specs.Prelude.{if◌then◌else◌}
 use Rattle.bq_base.specs.declared.fault.Fault.{Fault}
 use Rattle.bq_base.specs.declared.fault.FaultKind.{FaultKind}
 use Rattle.bq_base.specs.declared.fault.FaultKind.TheVariants as f
+use Rattle.bq_base.specs.declared.fault.LoadFault.{LoadFault}
+use Rattle.bq_base.specs.declared.fault.LoadFault.TheVariants as of_load
 use Rattle.bq_label.specs.declared.workspace.File.{File}
 use Rattle.bq_label.specs.Label.{LabelParts, full_form}
 use Rattle.bq_label.specs.Packages.{packages_of}
@@ -57,10 +59,10 @@ line_is l (Ok parsed) (Ok front) h =
     ap (λ ns. line_of_load l ns parsed.loads) (sym (loads_kept parsed.file front.file h.0)) ∙ line_same l front.file.loads parsed.loads
     ∙ ap (slots.line_of_load l front.file.loads) (sym h.1)
 
-abbrev fault_on : FaultKind → List ℕ → ℕ → Fault FaultKind
-fault_on kind detail line = record { kind = kind; line = line; detail = detail }
+abbrev fault_on : LoadFault → List ℕ → ℕ → Fault FaultKind
+fault_on kind detail line = record { kind = f.Load kind; line = line; detail = detail }
 
-fault_is : (kind : FaultKind) (x : Result ParsedFront (Fault FaultKind)) (r : Result Front (Fault FaultKind)) → IsFrontOf x r → (s : Option ParsedModule) (t : Option Module) → Maybe IsReadAs s t
+fault_is : (kind : LoadFault) (x : Result ParsedFront (Fault FaultKind)) (r : Result Front (Fault FaultKind)) → IsFrontOf x r → (s : Option ParsedModule) (t : Option Module) → Maybe IsReadAs s t
     → load_fault_by kind x s ≡ slots.load_fault_by kind r t
 fault_is kind x r is None None h = refl
 fault_is kind x r is None (Some t) h = absurd h
@@ -73,16 +75,16 @@ module _ (x : LoadingParts) (all : List ParsedModule) (are : AreReadAs all x.mod
   named = with_modules x all
 
   module _ (s : Result ParsedFront (Fault FaultKind)) (r : Result Front (Fault FaultKind)) (is : IsFrontOf s r) where
-    fault_same : (kind : FaultKind) (k : ℕ) → load_fault named s kind k ≡ slots.load_fault x r kind k
+    fault_same : (kind : LoadFault) (k : ℕ) → load_fault named s kind k ≡ slots.load_fault x r kind k
     unfolding load_fault slots.load_fault
     fault_same kind k = fault_is kind s r is (slice_get all k) (slice_get x.modules k) (in_place IsReadAs all x.modules k are)
 
     result_same : (one : Outcome ModuleView FailedView) → result_of named s one ≡ slots.result_of x r one
     result_same (o.Loaded v) = refl
     result_same (o.Faulty e) = refl
-    result_same (o.Cyclic k) = ap (λ why. Err (not_evaluated why)) (fault_same f.CycleReached k)
-    result_same (o.TooDeep k) = ap (λ why. Err (not_evaluated why)) (fault_same f.LoadDepth k)
-    result_same (o.LoadFailed k) = ap (λ why. Err (not_evaluated why)) (fault_same f.LoadFailed k)
+    result_same (o.Cyclic k) = ap (λ why. Err (not_evaluated why)) (fault_same of_load.CycleReached k)
+    result_same (o.TooDeep k) = ap (λ why. Err (not_evaluated why)) (fault_same of_load.LoadDepth k)
+    result_same (o.LoadFailed k) = ap (λ why. Err (not_evaluated why)) (fault_same of_load.LoadFailed k)
 
   -- the recursion along loads is a word over what modules evaluate to
   outcome_same : (p : Loads) (m : ℕ) → outcome (means named) p m ≡ outcome (evaluation.means x) p m

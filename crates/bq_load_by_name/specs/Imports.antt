@@ -2,8 +2,8 @@
 -- statements): the global of the symbol's name that the other file itself binds, unless its name begins with `_`.
 use Rattle.std.specs.Prelude.{ℕ, List, [], ◌∷◌, ◌++◌, Option, Some, None, Result, Ok, Err, slice_get, option_and_then, if◌then◌else◌}
 use Rattle.bq_base.specs.declared.fault.Fault.{Fault}
-use Rattle.bq_base.specs.declared.fault.FaultKind.{FaultKind}
-use Rattle.bq_base.specs.declared.fault.FaultKind.TheVariants as f
+use Rattle.bq_base.specs.declared.fault.LoadFault.{LoadFault}
+use Rattle.bq_base.specs.declared.fault.LoadFault.TheVariants as f
 use Rattle.bq_label.specs.Label.{LabelParts}
 use Rattle.bq_resolve_scope.specs.Names.{Name, global_names}
 use Rattle.bq_resolve_by_name.specs.Files.{ParsedFile}
@@ -34,18 +34,18 @@ global_by parsed (Some m) name =
     value_named name (elim (slice_get parsed m.frozen.own) [ Some (Some file) ↦ global_names file.statements | _ ↦ [] ]) m.frozen.cells.globals
 
 -- what a module exports by this name: F34 where it is private, else F33 where the module has no such global
-unfoldable pub exported : List (Option ParsedFile) → Option ModuleView → Name → Result Datum FaultKind
+unfoldable pub exported : List (Option ParsedFile) → Option ModuleView → Name → Result Datum LoadFault
 exported parsed m name = if is_private name then Err f.PrivateSymbol else or_no_symbol (global_by parsed m name)
 
 -- ---- loads
 
 -- the values so far, and one for each of these symbols; or the fault of the first bad one
-unfoldable pub symbol_values : List (Option ParsedFile) → Option ModuleView → ℕ → List Datum → List Name → Result (List Datum) (Fault FaultKind)
+unfoldable pub symbol_values : List (Option ParsedFile) → Option ModuleView → ℕ → List Datum → List Name → Result (List Datum) (Fault LoadFault)
 symbol_values parsed m line done [] = Ok done
 symbol_values parsed m line done (n ∷ ns) = at_symbol line n (exported parsed m n) >>= λ v. symbol_values parsed m line (done ++ v ∷ []) ns
 
 -- the values so far, and those of the symbols of these loads, which name these files
-unfoldable pub imports : LoadedParts → List Datum → List WrittenLoad → List LabelParts → Result (List Datum) (Fault FaultKind)
+unfoldable pub imports : LoadedParts → List Datum → List WrittenLoad → List LabelParts → Result (List Datum) (Fault LoadFault)
 imports x done [] ls = Ok done
 imports x done (s ∷ ss) [] = Ok done
 imports x done (s ∷ ss) (l ∷ ls) = symbol_values x.parsed (module_named x l) s.line done s.symbols >>= λ vs. imports x vs ss ls

@@ -5,6 +5,8 @@ use Rattle.std.specs.Prelude.{◌≡◌, ℕ, ◌+◌, List, [], ◌∷◌, Some
 use Rattle.bq_base.specs.declared.fault.Fault.{Fault}
 use Rattle.bq_base.specs.declared.fault.FaultKind.{FaultKind}
 use Rattle.bq_base.specs.declared.fault.FaultKind.TheVariants as f
+use Rattle.bq_base.specs.declared.fault.LoadFault.{LoadFault}
+use Rattle.bq_base.specs.declared.fault.LoadFault.TheVariants as of_load
 use Rattle.bq_base.specs.Fault.{fault_at}
 use Rattle.bq_label.specs.declared.workspace.File.{File}
 use Rattle.bq_label.specs.Label.{LabelParts, full_form}
@@ -38,17 +40,17 @@ line_by l (Err why) = 0
 line_by l (Ok front) = line_of_load l (file_loads front.file.statements) front.loads
 
 -- the fault of a module whose file is this, for its load of module k
-unfoldable pub load_fault : ParsedParts → Result ParsedFront (Fault FaultKind) → FaultKind → ℕ → Fault FaultKind
+unfoldable pub load_fault : ParsedParts → Result ParsedFront (Fault FaultKind) → LoadFault → ℕ → Fault FaultKind
 load_fault x front kind k =
-    elim (slice_get x.modules k) [ None ↦ fault_at kind 0 | Some m ↦ record { kind = kind; line = line_by m.label front; detail = full_form m.label } ]
+    elim (slice_get x.modules k) [ None ↦ fault_at (f.Load kind) 0 | Some m ↦ record { kind = f.Load kind; line = line_by m.label front; detail = full_form m.label } ]
 
 -- the outcome of a module, with the fault that a load gave it
 abbrev pub result_of : ParsedParts → Result ParsedFront (Fault FaultKind) → Outcome ModuleView FailedView → Result ModuleView FailedView
 result_of x front (o.Loaded v) = Ok v
 result_of x front (o.Faulty e) = Err e
-result_of x front (o.Cyclic k) = Err (not_evaluated (load_fault x front f.CycleReached k))
-result_of x front (o.TooDeep k) = Err (not_evaluated (load_fault x front f.LoadDepth k))
-result_of x front (o.LoadFailed k) = Err (not_evaluated (load_fault x front f.LoadFailed k))
+result_of x front (o.Cyclic k) = Err (not_evaluated (load_fault x front of_load.CycleReached k))
+result_of x front (o.TooDeep k) = Err (not_evaluated (load_fault x front of_load.LoadDepth k))
+result_of x front (o.LoadFailed k) = Err (not_evaluated (load_fault x front of_load.LoadFailed k))
 
 -- a module's outcome by the recursion along loads
 abbrev pub outcome_of : ParsedParts → Loads → ℕ → ParsedModule → OutcomeView

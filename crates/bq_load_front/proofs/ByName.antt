@@ -1,7 +1,13 @@
 -- What is made of a file is what the file is: the fault of its names is the first rule that it breaks, and what it resolves to has its loads.
 use Rattle.std.proofs.Common.{◌≡◌, ◌∙◌, ℕ, List, [], ◌∷◌, ◌++◌, map, Option, None, Some, Result, Ok, Err, refl, sym, ap, subst}
 use Rattle.bq_base.specs.declared.fault.FaultKind.{FaultKind}
+use Rattle.bq_base.specs.declared.fault.FaultKind.TheVariants as f
+use Rattle.bq_base.specs.declared.fault.TokenFault.{TokenFault}
+use Rattle.bq_base.specs.declared.fault.StatementFault.{StatementFault}
+use Rattle.bq_base.specs.declared.fault.NameFault.{NameFault}
+use Rattle.bq_base.specs.declared.fault.LoadFault.{LoadFault}
 use Rattle.bq_base.specs.declared.fault.Fault.{Fault}
+use Rattle.bq_base.specs.Fault.{fault_as, or_fault_as}
 use Rattle.bq_source.specs.declared.token.Token.{Token}
 use Rattle.bq_source_lexer.specs.Tokens.{tokens_of}
 use Rattle.bq_parse_grammar.specs.declared.tree.TopLevel.{TopLevel}
@@ -37,17 +43,17 @@ ResultsAgree (Ok file) (Ok found) = ResolvesTo file found
 ResultsAgree (Err why) (Err told) = told ≡ why
 ResultsAgree _ _ = ⊥
 
-no_first : (why : Fault FaultKind) (vs : List (Fault FaultKind)) → vs ≡ [] → first vs ≡ Some why → ⊥
+no_first : (why : Fault NameFault) (vs : List (Fault NameFault)) → vs ≡ [] → first vs ≡ Some why → ⊥
 no_first why vs none e =
-    let no : None ≡ Some why = sym (ap (λ (z : List (Fault FaultKind)). first z) none) ∙ e in
+    let no : None ≡ Some why = sym (ap (λ (z : List (Fault NameFault)). first z) none) ∙ e in
     cc
 
-is_first : (v why : Fault FaultKind) (more vs : List (Fault FaultKind)) → vs ≡ v ∷ more → first vs ≡ Some why → why ≡ v
+is_first : (v why : Fault NameFault) (more vs : List (Fault NameFault)) → vs ≡ v ∷ more → first vs ≡ Some why → why ≡ v
 is_first v why more vs is e =
-    let same : Some v ≡ Some why = sym (ap (λ (z : List (Fault FaultKind)). first z) is) ∙ e in
+    let same : Some v ≡ Some why = sym (ap (λ (z : List (Fault NameFault)). first z) is) ∙ e in
     cc
 
-not_none : (v : Fault FaultKind) (more vs : List (Fault FaultKind)) → vs ≡ v ∷ more → vs ≡ [] → ⊥
+not_none : (v : Fault NameFault) (more vs : List (Fault NameFault)) → vs ≡ v ∷ more → vs ≡ [] → ⊥
 not_none v more vs is none =
     let no : [] ≡ v ∷ more = sym none ∙ is in
     cc
@@ -56,19 +62,24 @@ module _ (universe : UniverseParts) where
   abbrev parsed_file : List TopLevel → ParsedFile
   parsed_file trees = record { universe = universe; statements = trees }
 
-  by_names : (ts : List Lexeme) (trees : List TopLevel) → Parses universe.kind ts (Ok trees) → (vs : List (Fault FaultKind)) → violations universe trees ≡ vs
-      → (r : Result ResolvedFile (Fault FaultKind)) → resolved universe trees ≡ r → ResultsAgree (unless_broken (parsed_file trees) vs) r
+  by_names : (ts : List Lexeme) (trees : List TopLevel) → Parses universe.kind ts (Ok trees) → (vs : List (Fault NameFault)) → violations universe trees ≡ vs
+      → (r : Result ResolvedFile (Fault NameFault)) → resolved universe trees ≡ r → ResultsAgree (unless_broken (parsed_file trees) vs) (or_fault_as f.Name r)
   by_names ts trees p [] is (Ok found) e = record { lexemes = ts; parses = p; names = e }
   by_names ts trees p [] is (Err told) e = absurd (no_first told (violations universe trees) is ((first_violation universe trees told).0 e))
   by_names ts trees p (v ∷ more) is (Ok found) e = absurd (not_none v more (violations universe trees) is ((without_violations universe trees).0 (found, e)))
-  by_names ts trees p (v ∷ more) is (Err told) e = is_first v told more (violations universe trees) is ((first_violation universe trees told).0 e)
+  by_names ts trees p (v ∷ more) is (Err told) e = ap (fault_as f.Name) (is_first v told more (violations universe trees) is ((first_violation universe trees told).0 e))
 
-  by_trees : (ts : List Lexeme) (r : Result (List TopLevel) (Fault FaultKind)) → Parses universe.kind ts r → ResultsAgree (r >>= file_from universe) (r >>= λ trees. resolved universe trees)
+  by_trees : (ts : List Lexeme) (r : Result (List TopLevel) (Fault StatementFault)) → Parses universe.kind ts r
+      → ResultsAgree (or_fault_as f.Statement r >>= file_from universe) (or_fault_as f.Statement r >>= λ trees. or_fault_as f.Name (resolved universe trees))
   by_trees ts (Ok trees) p = by_names ts trees p (violations universe trees) refl (resolved universe trees) refl
   by_trees ts (Err why) p = refl
 
-  by_tokens : (text : List ℕ) (r : Result (List Token) (Fault FaultKind))
-      → ResultsAgree ((r >>= λ ts. statements_of universe.kind (lexemes text ts)) >>= file_from universe) (r >>= λ ts. statements_of universe.kind (lexemes text ts) >>= λ trees. resolved universe trees)
+  abbrev trees_in : List ℕ → Result (List Token) (Fault TokenFault) → Result (List TopLevel) (Fault FaultKind)
+  trees_in text r = or_fault_as f.Token r >>= λ ts. or_fault_as f.Statement (statements_of universe.kind (lexemes text ts))
+
+  by_tokens : (text : List ℕ) (r : Result (List Token) (Fault TokenFault))
+      → ResultsAgree (trees_in text r >>= file_from universe)
+      (or_fault_as f.Token r >>= λ ts. or_fault_as f.Statement (statements_of universe.kind (lexemes text ts)) >>= λ trees. or_fault_as f.Name (resolved universe trees))
   by_tokens text (Ok ts) = by_trees (lexemes text ts) (statements_of universe.kind (lexemes text ts)) (file_reads universe.kind (lexemes text ts))
   by_tokens text (Err why) = refl
 
@@ -85,13 +96,13 @@ module _ (inputs : InputParts) (own : PackageParts) where
   as_written done (x ∷ xs) = λ i. file_named inputs own (written_load x) >>= λ l. as_written (done ++ l ∷ []) xs i
 
 module _ (inputs : InputParts) (l : LabelParts) where
-  abbrev front_with : ResolvedFile → Result (List LabelParts) (Fault FaultKind) → Result Front (Fault FaultKind)
-  front_with found r = r >>= λ ls. Ok (record { file = found; loads = ls })
+  abbrev front_with : ResolvedFile → Result (List LabelParts) (Fault LoadFault) → Result Front (Fault FaultKind)
+  front_with found r = or_fault_as f.Load r >>= λ ls. Ok (record { file = found; loads = ls })
 
-  abbrev parsed_with : ParsedFile → Result (List LabelParts) (Fault FaultKind) → Result ParsedFront (Fault FaultKind)
-  parsed_with file r = r >>= λ ls. Ok (record { file = file; loads = ls })
+  abbrev parsed_with : ParsedFile → Result (List LabelParts) (Fault LoadFault) → Result ParsedFront (Fault FaultKind)
+  parsed_with file r = or_fault_as f.Load r >>= λ ls. Ok (record { file = file; loads = ls })
 
-  by_labels : (file : ParsedFile) (found : ResolvedFile) → ResolvesTo file found → (r : Result (List LabelParts) (Fault FaultKind)) → IsFrontOf (parsed_with file r) (front_with found r)
+  by_labels : (file : ParsedFile) (found : ResolvedFile) → ResolvesTo file found → (r : Result (List LabelParts) (Fault LoadFault)) → IsFrontOf (parsed_with file r) (front_with found r)
   by_labels file found is (Ok ls) = (is, refl)
   by_labels file found is (Err why) = refl
 
@@ -101,8 +112,8 @@ module _ (inputs : InputParts) (l : LabelParts) where
 
   by_file : (x : Result ParsedFile (Fault FaultKind)) (r : Result ResolvedFile (Fault FaultKind)) → ResultsAgree x r → IsFrontOf (x >>= front_from inputs l) (r >>= λ found. front_with found (labels_of (load_of inputs (package_of l)) [] found.loads))
   by_file (Ok file) (Ok found) is =
-      let ls : Result (List LabelParts) (Fault FaultKind) = labels_of (file_named inputs (package_of l)) [] (file_loads file.statements) in
-      subst (λ (z : Result (List LabelParts) (Fault FaultKind)). IsFrontOf (parsed_with file ls) (front_with found z)) (sym (same_labels file found is)) (by_labels file found is ls)
+      let ls : Result (List LabelParts) (Fault LoadFault) = labels_of (file_named inputs (package_of l)) [] (file_loads file.statements) in
+      subst (λ (z : Result (List LabelParts) (Fault LoadFault)). IsFrontOf (parsed_with file ls) (front_with found z)) (sym (same_labels file found is)) (by_labels file found is ls)
   by_file (Ok file) (Err told) is = absurd is
   by_file (Err why) (Ok found) is = absurd is
   by_file (Err why) (Err told) is = is
