@@ -133,6 +133,7 @@ impl<'a> Frame<'a> {
 
     /// Puts a value into a slot.
     #[tactic(auto, using(crate::proofs::Slots::list_filled, crate::proofs::Slots::own_filled, crate::proofs::Slots::bound_filled))]
+    #[inline(always)]
     pub fn fill(&mut self, slot: usize, value: Value) -> Result<(), AllocError>
         ensures { OnOk result (slots_of self.new ≡ fill (slots_of self.old) slot value) }
     {

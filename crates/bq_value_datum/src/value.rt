@@ -82,6 +82,7 @@ impl Model for Value {
 /// and not by calls within calls.
 impl Drop for Value {
     #[cycle(give_up)]
+    #[inline(always)]
     fn drop(self) {
         let Value { node } = self;
         match node {
@@ -90,23 +91,40 @@ impl Drop for Value {
             | Node::Int(_)
             | Node::Range(_)
             | Node::Cell(_)
-            | Node::Text(_)
             | Node::BuiltIn(_)
-            | Node::SchemaRule(_, _)
-            | Node::RuleFunction(_)
-            | Node::Attribute(_) => {}
-            Node::Tuple(shared) => {
-                if let Some(items) = Arc::into_inner(shared) {
-                    give_up(items);
-                }
-            }
-            Node::Function(shared) => {
-                if let Some(function) = Arc::into_inner(shared) {
-                    let Function { defaults, .. } = function;
-                    give_up(defaults);
-                }
-            }
+            | Node::RuleFunction(_) => {}
+            Node::Text(text) => drop_text(text),
+            Node::SchemaRule(_, name) => drop_text(name),
+            Node::Attribute(attribute) => drop_attribute(attribute),
+            Node::Tuple(items) => drop_tuple(items),
+            Node::Function(function) => drop_function(function),
         }
+    }
+}
+
+// What drops a value looks at its kind in place. The kinds that own memory are functions of their own, since the room that they need
+// would be made for an integer too.
+
+#[inline(never)]
+fn drop_text(_text: Bytes) {}
+
+#[inline(never)]
+fn drop_attribute(_attribute: Arc<Attribute>) {}
+
+#[cycle(give_up)]
+#[inline(never)]
+fn drop_tuple(items: Arc<Vec<Value>>) {
+    if let Some(items) = Arc::into_inner(items) {
+        give_up(items);
+    }
+}
+
+#[cycle(give_up)]
+#[inline(never)]
+fn drop_function(function: Arc<Function>) {
+    if let Some(function) = Arc::into_inner(function) {
+        let Function { defaults, .. } = function;
+        give_up(defaults);
     }
 }
 
@@ -273,6 +291,7 @@ impl Value {
     }
 
     /// Returns another owner of the value. Fails where 2^63 owners are alive.
+    #[inline(always)]
     pub fn share(&self) -> Result<Value, AllocError>
         ensures { IfOk result (λ v. v ≡ self.now) }
     {
@@ -280,16 +299,63 @@ impl Value {
             Node::NoneValue => Node::NoneValue,
             Node::Bool(b) => Node::Bool(*b),
             Node::Int(n) => Node::Int(*n),
-            Node::Text(bytes) => Node::Text(bytes.share()?),
-            Node::Tuple(items) => Node::Tuple(items.clone()?),
             Node::Range(range) => Node::Range(*range),
             Node::Cell(cell) => Node::Cell(*cell),
-            Node::Function(function) => Node::Function(function.clone()?),
             Node::BuiltIn(function) => Node::BuiltIn(*function),
-            Node::SchemaRule(place, name) => Node::SchemaRule(*place, name.share()?),
             Node::RuleFunction(function) => Node::RuleFunction(*function),
-            Node::Attribute(attribute) => Node::Attribute(attribute.clone()?),
+            Node::Text(text) => return share_text(text),
+            Node::Tuple(items) => return share_tuple(items),
+            Node::Function(function) => return share_function(function),
+            Node::SchemaRule(place, name) => return share_rule(*place, name),
+            Node::Attribute(attribute) => return share_attribute(attribute),
         };
         Ok(Value { node })
     }
+}
+
+// As for drops, the kinds that own memory are shared out of line.
+
+#[inline(never)]
+fn share_text(text: &Bytes) -> Result<Value, AllocError>
+    ensures { IfOk result (λ v. v ≡ string text.now) }
+{
+    Ok(Value {
+        node: Node::Text(text.share()?),
+    })
+}
+
+#[inline(never)]
+fn share_tuple(items: &Arc<Vec<Value>>) -> Result<Value, AllocError>
+    ensures { IfOk result (λ v. v ≡ tuple (data_of items.now.value.items)) }
+{
+    Ok(Value {
+        node: Node::Tuple(items.clone()?),
+    })
+}
+
+#[inline(never)]
+fn share_function(parts: &Arc<Function>) -> Result<Value, AllocError>
+    ensures { IfOk result (λ v. v ≡ function parts.now.value.module parts.now.value.place parts.now.value.name (data_of parts.now.value.defaults.items)) }
+{
+    Ok(Value {
+        node: Node::Function(parts.clone()?),
+    })
+}
+
+#[inline(never)]
+fn share_rule(place: u32, name: &Bytes) -> Result<Value, AllocError>
+    ensures { IfOk result (λ v. v ≡ built_in (schema_rule place name.now)) }
+{
+    Ok(Value {
+        node: Node::SchemaRule(place, name.share()?),
+    })
+}
+
+#[inline(never)]
+fn share_attribute(parts: &Arc<Attribute>) -> Result<Value, AllocError>
+    ensures { IfOk result (λ v. v ≡ attribute parts.now.value) }
+{
+    Ok(Value {
+        node: Node::Attribute(parts.clone()?),
+    })
 }

@@ -2,6 +2,12 @@ use Rattle.std.proofs.Common.{◌≤◌, ◌+◌, ◌*◌, vec_len}
 use Rattle.bq_value_datum.specs.Datum.{data_of, weights}
 use Rattle.bq_value_datum.proofs.value.+give_up.Given as goal
 
+abbrev pub decreases-drop_tuple : goal.decreases-drop_tuple
+decreases-drop_tuple l = 3 * (weights (data_of l.items.value.items) + 1)
+
+abbrev pub decreases-drop_function : goal.decreases-drop_function
+decreases-drop_function l = 3 * (weights (data_of l.function.value.defaults.items) + 1)
+
 abbrev pub decreases-give_up : goal.decreases-give_up
 decreases-give_up l = 3 * weights (data_of l.left.items) + 2
 
