@@ -5,7 +5,6 @@ use Rattle.bq_source.specs.StringLiteral.{quoted}
 use Rattle.bq_base.specs.declared.fault.Fault.{Fault}
 use Rattle.bq_base.specs.declared.fault.EvalFault.{EvalFault}
 use Rattle.bq_base.specs.declared.fault.EvalFault.TheVariants as f
-use Rattle.bq_base.specs.declared.fault.FaultKind.TheVariants.{Eval}
 use Rattle.bq_resolve_scope.specs.Names.{Name}
 use Rattle.bq_resolve_scope.specs.declared.file.ResolvedFile.{ResolvedFile}
 use Rattle.bq_value.specs.Cells.{StoreView, FrozenView, frozen, loading}
@@ -20,7 +19,7 @@ use Rattle.bq_eval_operations.specs.Runtime.{primitives}
 -- A file that was evaluated: its frozen module, and what it printed. Or one that failed: why, and what it had printed by then.
 pub data Ended : Type 0 where
   evaluated : FrozenView → List (List ℕ) → Ended
-  failed : Fault → List (List ℕ) → Ended
+  failed : Fault EvalFault → List (List ℕ) → Ended
 
 -- ---- before
 
@@ -44,8 +43,8 @@ abbrev pub detail_of : EvalFault → List ℕ → List ℕ
 detail_of kind message = cond (eval_fault_number kind == eval_fault_number f.Fail) (quoted message) []
 
 -- the fault that an evaluation stopped with, as a line of the report tells it
-abbrev pub fault_of : Stop → Fault
-fault_of why = record { kind = Eval why.kind; line = why.line; detail = detail_of why.kind why.message }
+abbrev pub fault_of : Stop → Fault EvalFault
+fault_of why = record { kind = why.kind; line = why.line; detail = detail_of why.kind why.message }
 
 abbrev pub ended : {W : Type 0} → ResolvedFile → List Datum → Run (State × W) Frame → Ended
 ended file imports (done globals s) = evaluated (frozen s.0.store file.globals (frozen_values file imports globals)) s.0.prints

@@ -10,7 +10,7 @@ ghost use Rattle.bq_eval.specs.Outcomes.{ended_of};
 
 use crate::module::ResolvedModule;
 use crate::outcome::FileOutcome;
-use bq_base::{Bytes, EvalFault, Fault, FaultKind};
+use bq_base::{Bytes, EvalFault, Fault};
 use bq_builtin_machine::Machine;
 use bq_eval_frame::Frame;
 use bq_value::{Value, freeze};
@@ -64,11 +64,11 @@ pub(crate) fn module_of(
 }
 
 /// Returns the fault of a file that stopped.
-fn fault_of(alloc: Global, kind: EvalFault, machine: &Machine) -> Result<Fault, AllocError>
+fn fault_of(alloc: Global, kind: EvalFault, machine: &Machine) -> Result<Fault<EvalFault>, AllocError>
     ensures { IfOk result (λ fault. fault ≡ fault_of (stop_at kind machine.now)) }
 {
     Ok(Fault {
-        kind: FaultKind::Eval(kind),
+        kind,
         line: machine.line(),
         detail: detail_of(alloc, kind, machine.message())?,
     })

@@ -1,7 +1,8 @@
 -- Expressions resolve to what means the same.
 use Rattle.std.proofs.Common.{◌≡◌, ℕ, List, [], ◌∷◌, Result, Ok, Err, refl, sym, subst, arith}
+use Rattle.bq_base.specs.declared.fault.NameFault.{NameFault}
 use Rattle.bq_base.specs.declared.fault.Fault.{Fault}
-use Rattle.bq_base.specs.declared.fault.TextFault.TheVariants as f
+use Rattle.bq_base.specs.declared.fault.NameFault.TheVariants as f
 use Rattle.bq_parse_grammar.specs.declared.tree.Argument.TheOpen.{Expr-F}
 use Rattle.bq_parse_grammar.specs.declared.tree.Clause.{Clause}
 use Rattle.bq_parse_grammar.specs.declared.tree.ComprehensionFrame.{ComprehensionFrame}
@@ -72,7 +73,7 @@ module _ {S : Type 0} (m : Primitives S) (file : FileParts) (visit : List BlockP
         (comprehension_alike m by_names by_slots E F (Shows (record { base = h.2; names = comprehension_names cs } ∷ rest)) (Shows rest) cs h.1 h.5 own mine (opens h.2 h.3) none inner (within h.0)
         (alike (record { base = h.2; names = comprehension_names cs } ∷ rest) h.0 h.4)))
 
-    framed_walks : (cs : List Clause) (own : ComprehensionFrame) (k : ℕ) (r : Result ((ComprehensionFrame → Expr) × Passed) Fault) → Walked {A = ComprehensionFrame → Expr} (λ z. Made [] cs z) 0 r
+    framed_walks : (cs : List Clause) (own : ComprehensionFrame) (k : ℕ) (r : Result ((ComprehensionFrame → Expr) × Passed) (Fault NameFault)) → Walked {A = ComprehensionFrame → Expr} (λ z. Made [] cs z) 0 r
         → Walked {A = Expr} (λ z. Meant [] (turns.comprehension m by_names E none inner cs own) z) k (scope.framed k r)
     framed_walks cs own k (Err why) h = tt
     framed_walks cs own k (Ok p) h = (

@@ -1,5 +1,6 @@
 -- What walks make that resolve a tree: something of which `P` holds, and no slot is given back.
 use Rattle.std.proofs.Common.{◌≡◌, ◌≤◌, ◌+◌, ℕ, suc, List, [], ◌∷◌, ◌++◌, length, Option, Some, None, Result, Ok, Err, refl, sym, ◌∙◌, ap, subst, arith}
+use Rattle.bq_base.specs.declared.fault.NameFault.{NameFault}
 use Rattle.bq_base.specs.declared.fault.Fault.{Fault}
 use Rattle.bq_parse_grammar.specs.declared.tree.Identifier.{Identifier}
 use Rattle.bq_parse_grammar.specs.declared.tree.Referent.{Referent}
@@ -36,18 +37,18 @@ Every P (x ∷ xs) = P x × Every P xs
 
 -- ---- walks among blocks whose slots are taken already
 
-abbrev pub Walked : {A : Type 0} → (A → Type 0) → ℕ → Result (A × Passed) Fault → Type 0
+abbrev pub Walked : {A : Type 0} → (A → Type 0) → ℕ → Result (A × Passed) (Fault NameFault) → Type 0
 Walked P slots (Err why) = Unit {0}
 Walked P slots (Ok p) = (slots ≤ p.1.slots) × P p.0
 
 abbrev pub Walks : {A : Type 0} → List BlockParts → (A → Type 0) → Visit A → Type 0
 Walks {A = A} blocks P v = (u : Passed) → Below blocks u.slots → Walked {A = A} P u.slots (v u)
 
-pub from : {A : Type 0} (P : A → Type 0) (n k : ℕ) (r : Result (A × Passed) Fault) → n ≤ k → Walked {A = A} P k r → Walked {A = A} P n r
+pub from : {A : Type 0} (P : A → Type 0) (n k : ℕ) (r : Result (A × Passed) (Fault NameFault)) → n ≤ k → Walked {A = A} P k r → Walked {A = A} P n r
 from P n k (Err why) h w = tt
 from P n k (Ok p) h w = let a : k ≤ p.1.slots = w.0 in (omega arith, w.1)
 
-then_by : {A B : Type 0} (blocks : List BlockParts) (P : A → Type 0) (Q : B → Type 0) (n : ℕ) (r : Result (A × Passed) Fault) (go : A → Visit B) → Below blocks n → Walked {A = A} P n r
+then_by : {A B : Type 0} (blocks : List BlockParts) (P : A → Type 0) (Q : B → Type 0) (n : ℕ) (r : Result (A × Passed) (Fault NameFault)) (go : A → Visit B) → Below blocks n → Walked {A = A} P n r
     → ((x : A) → P x → Walks {A = B} blocks Q (go x)) → Walked {A = B} Q n (following r go)
 then_by blocks P Q n (Err why) go b w next = tt
 then_by blocks P Q n (Ok p) go b w next = from Q n p.1.slots (go p.0 p.1) w.0 (next p.0 w.1 p.1 (below_more blocks n p.1.slots w.0 b))
@@ -56,7 +57,7 @@ pub walks_bind : {A B : Type 0} (blocks : List BlockParts) (P : A → Type 0) (Q
     → ((x : A) → P x → Walks {A = B} blocks Q (go x)) → Walks {A = B} blocks Q (v >>= go)
 walks_bind blocks P Q v go first next u b = then_by blocks P Q u.slots (v u) go b (first u b) next
 
-weaker_by : {A : Type 0} (P Q : A → Type 0) (n : ℕ) (r : Result (A × Passed) Fault) → ((x : A) → P x → Q x) → Walked {A = A} P n r → Walked {A = A} Q n r
+weaker_by : {A : Type 0} (P Q : A → Type 0) (n : ℕ) (r : Result (A × Passed) (Fault NameFault)) → ((x : A) → P x → Q x) → Walked {A = A} P n r → Walked {A = A} Q n r
 weaker_by P Q n (Err why) w h = tt
 weaker_by P Q n (Ok p) w h = (h.0, w p.0 h.1)
 
@@ -66,7 +67,7 @@ walks_weaker blocks P Q v w h u b = weaker_by P Q u.slots (v u) w (h u b)
 pub walks_pure : {A : Type 0} (blocks : List BlockParts) (P : A → Type 0) (x : A) → P x → Walks {A = A} blocks P (pure x)
 walks_pure blocks P x h u b = (omega arith, h)
 
-pub walks_given : {A : Type 0} (blocks : List BlockParts) (why : Fault) (o : Option A) → Walks {A = A} blocks (λ x. o ≡ Some x) (given why o)
+pub walks_given : {A : Type 0} (blocks : List BlockParts) (why : Fault NameFault) (o : Option A) → Walks {A = A} blocks (λ x. o ≡ Some x) (given why o)
 walks_given blocks why None u b = tt
 walks_given blocks why (Some x) u b = (omega arith, refl)
 
@@ -91,7 +92,7 @@ walks_three blocks P Q R T v u t make w one two three =
 abbrev pub Refers : Identifier → Option Referent → Identifier → Type 0
 Refers n o j = (x : Referent) × (o ≡ Some x) × (j ≡ refer n x)
 
-pub walks_refer : (blocks : List BlockParts) (why : Fault) (n : Identifier) (o : Option Referent) → Walks {A = Identifier} blocks (λ j. Refers n o j) (given why o >>= λ x. pure (refer n x))
+pub walks_refer : (blocks : List BlockParts) (why : Fault NameFault) (n : Identifier) (o : Option Referent) → Walks {A = Identifier} blocks (λ j. Refers n o j) (given why o >>= λ x. pure (refer n x))
 walks_refer blocks why n o = walks_map blocks (λ x. o ≡ Some x) (λ j. Refers n o j) (given why o) (λ x. refer n x) (λ x e. (x, e, refl)) (walks_given blocks why o)
 
 -- ---- lists

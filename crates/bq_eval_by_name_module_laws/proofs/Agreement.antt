@@ -1,6 +1,7 @@
 -- The law of names for files.
 use Rattle.std.proofs.Common.{◌≡◌, ◌<◌, ℕ, zero, suc, Bool, true, false, ◌==◌, List, [], ◌∷◌, length, take, drop, Option, Some, None, slice_get, Result, Ok, Err, refl, sym, ap, ◌∙◌, subst, arith}
 use Rattle.std.specs.Prelude.{if◌then◌else◌}
+use Rattle.bq_base.specs.declared.fault.NameFault.{NameFault}
 use Rattle.bq_base.specs.declared.fault.Fault.{Fault}
 use Rattle.bq_parse_grammar.specs.declared.tree.TopLevel.{TopLevel}
 use Rattle.bq_resolve_scope.specs.declared.file.FileLine.{FileLine}
@@ -42,7 +43,7 @@ use Rattle.bq_eval_by_name_module_laws.proofs.Loads.{nothing_bound, all_places, 
 use Rattle.bq_eval_by_name_module_laws.proofs.Modules.{tops_alike}
 use Rattle.bq_eval_by_name_module_laws.proofs.Sent.{all_sent}
 
-parts_by : (file : FileParts) (q : Result (List FileLine × Passed) Fault) (x : ResolvedFile) → resolved_by file q ≡ Ok x
+parts_by : (file : FileParts) (q : Result (List FileLine × Passed) (Fault NameFault)) (x : ResolvedFile) → resolved_by file q ≡ Ok x
     → (zs : List FileLine) × (v : Passed) × (q ≡ Ok (zs, v)) × (x ≡ record { statements = zs; functions = v.functions; globals = file.globals; loads = v.loads })
 parts_by file (Err why) x e = absurd (let no : ⊥ = cc in no)
 parts_by file (Ok p) x e =

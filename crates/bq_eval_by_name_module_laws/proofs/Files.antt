@@ -1,8 +1,9 @@
 -- A file does by slots what it does by names: each of its statements does, and each `def` is its function of the next place.
 use Rattle.std.proofs.Common.{◌≡◌, ℕ, Bool, true, false, ◌&&◌, List, [], ◌∷◌, ◌++◌, length, map, Result, Ok, Err, refl, sym, ap, ◌∙◌, subst, arith}
 use Rattle.std.specs.Prelude.{if◌then◌else◌}
+use Rattle.bq_base.specs.declared.fault.NameFault.{NameFault}
 use Rattle.bq_base.specs.declared.fault.Fault.{Fault}
-use Rattle.bq_base.specs.declared.fault.TextFault.TheVariants as f
+use Rattle.bq_base.specs.declared.fault.NameFault.TheVariants as f
 use Rattle.bq_parse_grammar.specs.declared.tree.Branch.{Branch}
 use Rattle.bq_parse_grammar.specs.declared.tree.Identifier.{Identifier}
 use Rattle.bq_parse_grammar.specs.declared.tree.LoadClause.{LoadClause}
@@ -40,7 +41,7 @@ use Rattle.bq_eval_by_name_module_laws.proofs.Places.{parameters_stay}
 module _ (file : FileParts) where
   -- ---- a line adds no function
 
-  clause_by : (a b : Bool) (why rebound : Fault) (y : LoadedSymbol) (names : List Name) (u : Passed)
+  clause_by : (a b : Bool) (why rebound : Fault NameFault) (y : LoadedSymbol) (names : List Name) (u : Passed)
       → Kept {A = LoadedSymbol} Anything u (if a then Err why else (if b then Err rebound else Ok (y, record u { loaded = names })))
   clause_by true b why rebound y names u = tt
   clause_by false true why rebound y names u = tt
@@ -97,7 +98,7 @@ module _ (file : FileParts) where
       (code : List Stmt) × (end : Passed) × (statements_in file names body (record u { slots = length names }) ≡ Ok (code, end)) × (k ≡ length u.functions)
       × (w.functions ≡ u.functions ++ record { name = name; parameters = l.parameters; slots = end.slots; body = code } ∷ [])
 
-  function_by : (name : Name) (l : ParameterParts) (names : List Name) (body : List Stmt) (u : Passed) (r : Result (List Stmt × Passed) Fault) (k : ℕ) (w : Passed)
+  function_by : (name : Name) (l : ParameterParts) (names : List Name) (body : List Stmt) (u : Passed) (r : Result (List Stmt × Passed) (Fault NameFault)) (k : ℕ) (w : Passed)
       → statements_in file names body (record u { slots = length names }) ≡ r → Kept {A = List Stmt} Anything u r → with_function file name l.parameters u.slots r ≡ Ok (k, w)
       → FunctionMade name l names body u k w
   function_by name l names body u (Err why) k w e h made = absurd (let no : ⊥ = cc in no)

@@ -1,8 +1,9 @@
 -- No two load clauses of a file that resolves bind one name (F22), so each is found at its own place among the names that loads bind.
 use Rattle.std.proofs.Common.{◌≡◌, ℕ, suc, ◌+◌, Bool, true, false, ◌&&◌, List, [], ◌∷◌, ◌++◌, length, Some, refl, sym, ap, ◌∙◌, subst, arith, length-append}
 use Rattle.std.specs.Prelude.{if◌then◌else◌}
+use Rattle.bq_base.specs.declared.fault.NameFault.{NameFault}
 use Rattle.bq_base.specs.declared.fault.Fault.{Fault}
-use Rattle.bq_base.specs.declared.fault.TextFault.TheVariants as f
+use Rattle.bq_base.specs.declared.fault.NameFault.TheVariants as f
 use Rattle.bq_parse_grammar.specs.declared.tree.Branch.{Branch}
 use Rattle.bq_parse_grammar.specs.declared.tree.LoadClause.{LoadClause}
 use Rattle.bq_parse_grammar.specs.declared.tree.SmallKind.{SmallKind}
@@ -78,7 +79,7 @@ pub none_second : {A : Type 0} (xs ys : List A) → xs ++ ys ≡ [] → ys ≡ [
 none_second [] ys e = e
 none_second (x ∷ xs) ys e = absurd (let no : ⊥ = cc in no)
 
-not_by : (t : Bool) (why : Fault) (rest : List Fault) → (if t then why ∷ [] else rest) ≡ [] → t ≡ false
+not_by : (t : Bool) (why : Fault NameFault) (rest : List (Fault NameFault)) → (if t then why ∷ [] else rest) ≡ [] → t ≡ false
 not_by true why rest e = absurd (let no : ⊥ = cc in no)
 not_by false why rest e = refl
 

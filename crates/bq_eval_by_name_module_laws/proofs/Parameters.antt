@@ -2,8 +2,9 @@
 -- parameters that have one.
 use Rattle.std.proofs.Common.{◌≡◌, ℕ, Bool, true, false, List, [], ◌∷◌, ◌++◌, length, refl, sym, ap, ◌∙◌, subst}
 use Rattle.std.specs.Prelude.{if◌then◌else◌, Some}
+use Rattle.bq_base.specs.declared.fault.NameFault.{NameFault}
 use Rattle.bq_base.specs.declared.fault.Fault.{Fault}
-use Rattle.bq_base.specs.declared.fault.TextFault.TheVariants as f
+use Rattle.bq_base.specs.declared.fault.NameFault.TheVariants as f
 use Rattle.bq_parse_grammar.specs.declared.tree.Expr.{Expr}
 use Rattle.bq_parse_grammar.specs.declared.tree.Identifier.{Identifier}
 use Rattle.bq_parse_grammar.specs.declared.tree.Parameter.{Parameter}
@@ -56,7 +57,7 @@ module _ (file : FileParts) where
   Named l name x m =
       (place_among name m.names ≡ Some (length l.names)) × (m.names ≡ with_name l.names name) × (m.parameters ≡ l.parameters ++ x ∷ []) × (m.defaults ≡ l.defaults)
 
-  named_by : (t : Bool) (why : Fault) (l : ParameterParts) (n : Identifier) (x : Formal) (u : Passed) → has l.names n.name ≡ t
+  named_by : (t : Bool) (why : Fault NameFault) (l : ParameterParts) (n : Identifier) (x : Formal) (u : Passed) → has l.names n.name ≡ t
       → Kept {A = ParameterParts} (Named l n.name x) u
       (let go : Visit ParameterParts = if t then stop why else pure (record l { names = l.names ++ n.name ∷ []; parameters = l.parameters ++ x ∷ [] }) in go u)
   unfolding with_name

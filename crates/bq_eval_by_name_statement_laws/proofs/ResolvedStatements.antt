@@ -1,8 +1,9 @@
 -- Statements resolve to what does the same.
 use Rattle.std.proofs.Common.{◌≡◌, ℕ, zero, suc, Bool, true, false, ◌&&◌, List, [], ◌∷◌, inl, inr, Option, Ok, Err, refl, sym, ap, ◌∙◌, subst, arith}
 use Rattle.std.specs.Prelude.{if◌then◌else◌}
+use Rattle.bq_base.specs.declared.fault.NameFault.{NameFault}
 use Rattle.bq_base.specs.declared.fault.Fault.{Fault}
-use Rattle.bq_base.specs.declared.fault.TextFault.TheVariants as f
+use Rattle.bq_base.specs.declared.fault.NameFault.TheVariants as f
 use Rattle.bq_parse_grammar.specs.declared.tree.Branch.{Branch, out-Branch, roll-Branch, out-roll-Branch}
 use Rattle.bq_parse_grammar.specs.declared.tree.Expr.{Expr}
 use Rattle.bq_parse_grammar.specs.declared.tree.Load.{Load}
@@ -36,7 +37,7 @@ use Rattle.bq_eval_by_name_statement_laws.proofs.ResolvedTargets.{of_each, targe
 
 -- ---- loads
 
-clause_by : (t u : Bool) (why other : Fault) (x : LoadedSymbol) (p q : Passed) → p.slots ≡ q.slots
+clause_by : (t u : Bool) (why other : Fault NameFault) (x : LoadedSymbol) (p q : Passed) → p.slots ≡ q.slots
     → Walked {A = LoadedSymbol} (λ _. Unit {0}) p.slots (if t then Err why else (if u then Err other else Ok (x, q)))
 clause_by true u why other x p q e = tt
 clause_by false true why other x p q e = tt

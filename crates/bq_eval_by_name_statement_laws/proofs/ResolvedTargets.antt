@@ -1,8 +1,9 @@
 -- Targets resolve to what does the same.
 use Rattle.std.proofs.Common.{◌≡◌, ℕ, zero, suc, Bool, true, false, ◌&&◌, ◌||◌, List, [], ◌∷◌, inl, inr, Ok, Err, refl, ap, arith}
 use Rattle.std.specs.Prelude.{if◌then◌else◌}
+use Rattle.bq_base.specs.declared.fault.NameFault.{NameFault}
 use Rattle.bq_base.specs.declared.fault.Fault.{Fault}
-use Rattle.bq_base.specs.declared.fault.TextFault.TheVariants as f
+use Rattle.bq_base.specs.declared.fault.NameFault.TheVariants as f
 use Rattle.bq_parse_grammar.specs.declared.tree.Argument.TheOpen.{TargetExpr-F}
 use Rattle.bq_parse_grammar.specs.declared.tree.Expr.{Expr}
 use Rattle.bq_parse_grammar.specs.declared.tree.FileKind.{FileKind}
@@ -35,7 +36,7 @@ of_each K B (x ∷ xs) h = (λ name at. h name (inl at), of_each K B xs (λ name
 
 -- ---- a name is bound
 
-bound_by : (t : Bool) (why : Fault) (p q : Passed) → p.slots ≡ q.slots → Walked {A = Unit {0}} (λ _. Unit {0}) p.slots (if t then Err why else Ok (tt, q))
+bound_by : (t : Bool) (why : Fault NameFault) (p q : Passed) → p.slots ≡ q.slots → Walked {A = Unit {0}} (λ _. Unit {0}) p.slots (if t then Err why else Ok (tt, q))
 bound_by true why p q e = tt
 bound_by false why p q e = (omega (arith, e), tt)
 

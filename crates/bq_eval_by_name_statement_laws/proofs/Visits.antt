@@ -1,5 +1,6 @@
 -- The expressions in a statement resolve to what means the same, and no slot is given back.
 use Rattle.std.proofs.Common.{◌≡◌, List, Result, Ok, Err, refl, arith}
+use Rattle.bq_base.specs.declared.fault.NameFault.{NameFault}
 use Rattle.bq_base.specs.declared.fault.Fault.{Fault}
 use Rattle.bq_parse_grammar.specs.declared.tree.Expr.{Expr}
 use Rattle.bq_resolve_scope.specs.Names.{max_layers, place_among}
@@ -32,7 +33,7 @@ module _ {S : Type 0} (m : Primitives S) (file : FileParts) (blocks : List Block
       (expr_walks m file round surroundings call call (record { globals = λ n. refl; loaded = λ n. refl; universe = refl }) (λ v p s. refl) max_layers max_layers max_layers (omega arith) (omega arith) blocks nested x)
 
   module _ (R : Env → Frame → Type 0) (E : Eval S Env) (F : Eval S Frame) (evals : EvalsAgree file blocks R E F) where
-    visited : (x : Expr) (p : Passed) → Below blocks p.slots → (r : Result (Expr × Passed) Fault) → scope.expr file blocks x p ≡ r → Walked {A = Expr} (λ _. Unit {0}) p.slots r
+    visited : (x : Expr) (p : Passed) → Below blocks p.slots → (r : Result (Expr × Passed) (Fault NameFault)) → scope.expr file blocks x p ≡ r → Walked {A = Expr} (λ _. Unit {0}) p.slots r
         → Walked {A = Expr} (λ z. ExprAgree R E F x z) p.slots r
     visited x p below (Err why) e w = tt
     visited x p below (Ok q) e w = (w.0, λ env frame h s. rw (evals x q.0 p q.1 below e env frame s h) (itself (F q.0 frame s)))

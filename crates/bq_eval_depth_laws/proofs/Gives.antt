@@ -2,6 +2,7 @@
 use Rattle.std.proofs.Common.{◌≡◌, ◌∙◌, List, [], ◌∷◌, ◌++◌, map, append-nil, Option, Some, None, Result, Ok, Err, refl, sym, ap}
 use Rattle.std.specs.List.{AllByRecursion}
 use Rattle.std.specs.Option.{option_map}
+use Rattle.bq_base.specs.declared.fault.NameFault.{NameFault}
 use Rattle.bq_base.specs.declared.fault.Fault.{Fault}
 use Rattle.bq_resolve_scope.specs.declared.file.Function.{Function}
 use Rattle.bq_resolve_scope.specs.Visit.{Passed, Visit, following, ◌>>=◌, pure, given, each, optional}
@@ -20,21 +21,21 @@ module _ (F : Function → Type 0) where
   abbrev pub FunctionsAre : Passed → Type 0
   FunctionsAre s = AllByRecursion F s.functions
 
-  abbrev pub Giving : {A : Type 0} → (A → Type 0) → Result (A × Passed) Fault → Type 0
+  abbrev pub Giving : {A : Type 0} → (A → Type 0) → Result (A × Passed) (Fault NameFault) → Type 0
   Giving P (Err why) = Unit {0}
   Giving P (Ok p) = P p.0 × FunctionsAre p.1
 
   abbrev pub Gives : {A : Type 0} → (A → Type 0) → Visit A → Type 0
   Gives {A = A} P v = (s : Passed) → FunctionsAre s → Giving {A = A} P (v s)
 
-  then_by : {A B : Type 0} (P : A → Type 0) (Q : B → Type 0) (r : Result (A × Passed) Fault) (go : A → Visit B) → Giving {A = A} P r → ((x : A) → P x → Gives {A = B} Q (go x)) → Giving {A = B} Q (following r go)
+  then_by : {A B : Type 0} (P : A → Type 0) (Q : B → Type 0) (r : Result (A × Passed) (Fault NameFault)) (go : A → Visit B) → Giving {A = A} P r → ((x : A) → P x → Gives {A = B} Q (go x)) → Giving {A = B} Q (following r go)
   then_by P Q (Err why) go h next = tt
   then_by P Q (Ok p) go h next = next p.0 h.0 p.1 h.1
 
   pub gives_bind : {A B : Type 0} (P : A → Type 0) (Q : B → Type 0) (v : Visit A) (go : A → Visit B) → Gives {A = A} P v → ((x : A) → P x → Gives {A = B} Q (go x)) → Gives {A = B} Q (v >>= go)
   gives_bind P Q v go first next s fit = then_by P Q (v s) go (first s fit) next
 
-  giving_as : {A : Type 0} (P Q : A → Type 0) → ((x : A) → P x → Q x) → (r : Result (A × Passed) Fault) → Giving {A = A} P r → Giving {A = A} Q r
+  giving_as : {A : Type 0} (P Q : A → Type 0) → ((x : A) → P x → Q x) → (r : Result (A × Passed) (Fault NameFault)) → Giving {A = A} P r → Giving {A = A} Q r
   giving_as P Q weaker (Err why) h = tt
   giving_as P Q weaker (Ok p) h = (weaker p.0 h.0, h.1)
 
@@ -58,7 +59,7 @@ module _ (F : Function → Type 0) where
       gives_bind P S v (λ x. u >>= λ y. w >>= λ z. pure (make x y z)) first (λ x h. gives_two Q R S u w (make x) second third (λ y z k l. made x y z h k l))
 
   -- of what may be unknown
-  pub gives_given : {A : Type 0} (why : Fault) (o : Option A) → Gives {A = A} (λ x. Unit {0}) (given why o)
+  pub gives_given : {A : Type 0} (why : Fault NameFault) (o : Option A) → Gives {A = A} (λ x. Unit {0}) (given why o)
   gives_given why None s fit = tt
   gives_given why (Some x) s fit = (tt, fit)
 

@@ -2,8 +2,9 @@
 use Rattle.std.proofs.Common.{◌≡◌, ◌∙◌, ℕ, zero, suc, Bool, true, false, ◌&&◌, ◌||◌, List, [], ◌∷◌, map, ◌++◌, ◌+◌, length, Option, Some, None, Result, Ok, Err, refl, sym, ap}
 use Rattle.std.specs.Prelude.{if◌then◌else◌}
 use Rattle.std.specs.Option.{option_map}
+use Rattle.bq_base.specs.declared.fault.NameFault.{NameFault}
 use Rattle.bq_base.specs.declared.fault.Fault.{Fault}
-use Rattle.bq_base.specs.declared.fault.TextFault.TheVariants as f
+use Rattle.bq_base.specs.declared.fault.NameFault.TheVariants as f
 use Rattle.bq_parse_grammar.specs.declared.tree.Argument.TheOpen.{Argument-F, Clause-F, Expr-F, Suffix-F, TargetExpr-F}
 use Rattle.bq_parse_grammar.specs.declared.tree.Argument.{Argument, out-Argument}
 use Rattle.bq_parse_grammar.specs.declared.tree.Argument.TheVariants as a
@@ -81,7 +82,7 @@ place_stands (Some (b.Predeclared p)) = tt
 place_stands (Some (b.Member p)) = tt
 
 module _ (F : Function → Type 0) where
-  global_by : (q : Bool) (why : Fault) (names : List Name) (u : Passed) → FunctionsAre F u → Giving F {A = Unit {0}} (λ _. Unit {0}) (if q then Err why else Ok (tt, record u { bound = names }))
+  global_by : (q : Bool) (why : Fault NameFault) (names : List Name) (u : Passed) → FunctionsAre F u → Giving F {A = Unit {0}} (λ _. Unit {0}) (if q then Err why else Ok (tt, record u { bound = names }))
   global_by true why names u fit = tt
   global_by false why names u fit = (tt, fit)
 
@@ -90,7 +91,7 @@ module _ (F : Function → Type 0) where
   bind_gives kind [] m = λ u fit. global_by (is_bzl kind && (has u.bound m.name || has u.loaded m.name)) (fault_of f.Rebound m) (with_name u.bound m.name) u fit
   bind_gives kind (x ∷ bs) m = λ u fit. (tt, fit)
 
-  use_by : (n : Identifier) (why : Fault) (o : Option Referent) → AnyOf o → Gives F {A = Identifier} (Refers RefersToAny n) (given why o >>= λ x. pure (refer n x))
+  use_by : (n : Identifier) (why : Fault NameFault) (o : Option Referent) → AnyOf o → Gives F {A = Identifier} (Refers RefersToAny n) (given why o >>= λ x. pure (refer n x))
   use_by n why None any u fit = tt
   use_by n why (Some x) any u fit = ((x, any, refl), fit)
 
@@ -98,7 +99,7 @@ module _ (F : Function → Type 0) where
   unfolding use_at
   use_keeps file blocks n = use_by n (fault_of f.UnknownName n) (use_of file blocks n.name) (use_stands file blocks n.name)
 
-  place_by : (n : Identifier) (why : Fault) (o : Option Referent) → PlaceOf o → Gives F {A = Identifier} (Refers RefersToPlace n) (given why o >>= λ x. pure (refer n x))
+  place_by : (n : Identifier) (why : Fault NameFault) (o : Option Referent) → PlaceOf o → Gives F {A = Identifier} (Refers RefersToPlace n) (given why o >>= λ x. pure (refer n x))
   place_by n why None any u fit = tt
   place_by n why (Some x) any u fit = ((x, any, refl), fit)
 
@@ -325,7 +326,7 @@ module _ (F : Function → Type 0) where
       abbrev Makes : E → (ComprehensionFrame → Expr) → Type 0
       Makes c make = (own : ComprehensionFrame) → expr_of M.after (make own) ≡ c
 
-      framed_keeps : (c : E) (k : ℕ) (r : Result ((ComprehensionFrame → Expr) × Passed) Fault) → Giving F {A = ComprehensionFrame → Expr} (Makes c) r → Giving F {A = Expr} (λ z. expr_of M.after z ≡ c) (framed k r)
+      framed_keeps : (c : E) (k : ℕ) (r : Result ((ComprehensionFrame → Expr) × Passed) (Fault NameFault)) → Giving F {A = ComprehensionFrame → Expr} (Makes c) r → Giving F {A = Expr} (λ z. expr_of M.after z ≡ c) (framed k r)
       framed_keeps c k (Err why) h = tt
       framed_keeps c k (Ok p) h = (h.0 (frame.Own p.1.slots), h.1)
 

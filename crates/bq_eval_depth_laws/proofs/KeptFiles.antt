@@ -3,8 +3,9 @@
 use Rattle.std.proofs.Common.{◌≡◌, ℕ, Bool, true, false, List, [], ◌∷◌, ◌++◌, map, length, Result, Ok, Err, sym, subst}
 use Rattle.std.specs.Prelude.{if◌then◌else◌}
 use Rattle.std.specs.List.{AllByRecursion}
+use Rattle.bq_base.specs.declared.fault.NameFault.{NameFault}
 use Rattle.bq_base.specs.declared.fault.Fault.{Fault}
-use Rattle.bq_base.specs.declared.fault.TextFault.TheVariants as f
+use Rattle.bq_base.specs.declared.fault.NameFault.TheVariants as f
 use Rattle.bq_parse_grammar.specs.declared.tree.Expr.{Expr}
 use Rattle.bq_parse_grammar.specs.declared.tree.Identifier.{Identifier}
 use Rattle.bq_parse_grammar.specs.declared.tree.Parameter.{Parameter}
@@ -81,7 +82,7 @@ module _ {A C E S T H O P W D B : Type 0} (M : Measure A C E S T H O P) (N : Stm
     abbrev PartsAre : ParameterParts → Type 0
     PartsAre l = AllByRecursion FormalIs l.parameters × AllByRecursion (λ x. GE (expr_of M.after x)) l.defaults
 
-    named_by : (q : Bool) (why : Fault) (l : ParameterParts) (u : Passed) → PartsAre l → FunctionsAre FunctionIs u
+    named_by : (q : Bool) (why : Fault NameFault) (l : ParameterParts) (u : Passed) → PartsAre l → FunctionsAre FunctionIs u
         → Giving FunctionIs {A = ParameterParts} PartsAre (let go : Visit ParameterParts = if q then stop why else pure l in go u)
     named_by true why l u h fit = tt
     named_by false why l u h fit = (h, fit)
@@ -115,7 +116,7 @@ module _ {A C E S T H O P W D B : Type 0} (M : Measure A C E S T H O P) (N : Stm
 
     -- ---- functions
 
-    with_gives : (name : Name) (ps : List Formal) → AllByRecursion FormalIs ps → (k : ℕ) (r : Result (List Stmt × Passed) Fault) → Giving FunctionIs {A = List Stmt} (λ ys. AllByRecursion (λ x. GD (stmt_of N.later x)) ys) r
+    with_gives : (name : Name) (ps : List Formal) → AllByRecursion FormalIs ps → (k : ℕ) (r : Result (List Stmt × Passed) (Fault NameFault)) → Giving FunctionIs {A = List Stmt} (λ ys. AllByRecursion (λ x. GD (stmt_of N.later x)) ys) r
         → Giving FunctionIs {A = ℕ} (λ _. Unit {0}) (with_function file name ps k r)
     with_gives name ps are k (Err why) h = tt
     with_gives name ps are k (Ok p) h = (tt, and_last (λ d. FunctionIs d) p.1.functions (record { name = name; parameters = ps; slots = p.1.slots; body = p.0 }) h.1 (are, h.0))
@@ -159,7 +160,7 @@ module _ {A C E S T H O P W D B : Type 0} (M : Measure A C E S T H O P) (N : Stm
         gives_map FunctionIs OutsideIs (λ l. OutsideIs l.statement) (file_stmt file t.line (out-Stmt t.statement)) (λ x. record { line = t.line; statement = x })
         (file_stmt_gives t.line (out-Stmt t.statement) h) (λ x p. p)
 
-  file_by : (file : FileParts) (r : Result (List FileLine × Passed) Fault) (z : ResolvedFile) → Giving FunctionIs {A = List FileLine} (λ ls. AllByRecursion (λ l. OutsideIs l.statement) ls) r
+  file_by : (file : FileParts) (r : Result (List FileLine × Passed) (Fault NameFault)) (z : ResolvedFile) → Giving FunctionIs {A = List FileLine} (λ ls. AllByRecursion (λ l. OutsideIs l.statement) ls) r
       → resolved_by file r ≡ Ok z → FileIs z
   file_by file (Err why) z h e = absurd (let no : ⊥ = cc in no)
   file_by file (Ok p) z h e =

@@ -3,8 +3,9 @@ use Rattle.std.proofs.Common.{◌≡◌, ◌∙◌, ℕ, zero, suc, Bool, true, 
 use Rattle.std.specs.Prelude.{if◌then◌else◌}
 use Rattle.std.specs.List.{AllByRecursion}
 use Rattle.std.specs.Option.{option_map}
+use Rattle.bq_base.specs.declared.fault.NameFault.{NameFault}
 use Rattle.bq_base.specs.declared.fault.Fault.{Fault}
-use Rattle.bq_base.specs.declared.fault.TextFault.TheVariants as f
+use Rattle.bq_base.specs.declared.fault.NameFault.TheVariants as f
 use Rattle.bq_parse_grammar.specs.declared.tree.Branch.{Branch, out-Branch, roll-Branch}
 use Rattle.bq_parse_grammar.specs.declared.tree.Expr.{Expr}
 use Rattle.bq_parse_grammar.specs.declared.tree.Load.{Load}
@@ -32,7 +33,7 @@ use Rattle.bq_eval_depth_laws.proofs.Measures.{Measure, before, HasNoTree, StmtM
 module _ (F : Function → Type 0) (file : FileParts) where
   -- ---- loads, which hold no tree
 
-  clause_by : (q r : Bool) (why other : Fault) (x : LoadedSymbol) (l : Passed → Passed) → ((u : Passed) → FunctionsAre F u → FunctionsAre F (l u)) → (u : Passed) → FunctionsAre F u
+  clause_by : (q r : Bool) (why other : Fault NameFault) (x : LoadedSymbol) (l : Passed → Passed) → ((u : Passed) → FunctionsAre F u → FunctionsAre F (l u)) → (u : Passed) → FunctionsAre F u
       → Giving F {A = LoadedSymbol} (λ _. Unit {0}) (if q then Err why else (if r then Err other else Ok (x, l u)))
   clause_by true r why other x l keeps u fit = tt
   clause_by false true why other x l keeps u fit = tt

@@ -1,6 +1,7 @@
 -- Nothing is misplaced in a file that the grammar gives.
 use Rattle.std.proofs.Common.{◌≡◌, ◌∙◌, ℕ, Bool, false, List, [], ◌∷◌, Result, Ok, refl, sym, ap, subst}
 use Rattle.std.specs.List.{AllByRecursion}
+use Rattle.bq_base.specs.declared.fault.StatementFault.{StatementFault}
 use Rattle.bq_base.specs.declared.fault.Fault.{Fault}
 use Rattle.bq_parse_grammar.specs.declared.tree.FileKind.{FileKind}
 use Rattle.bq_parse_grammar.specs.declared.tree.TopLevel.{TopLevel}
@@ -31,7 +32,7 @@ statement_is_clean kind ts x p =
     let reads : IsTopLevel max_nesting ts x = read_is kind ts x (Ok x) refl p in
     (none.0, sym (top_nested max_nesting ts x reads) ∙ none.1, top_lacks max_nesting ts x reads)
 
-pub file_is_clean : (kind : FileKind) (ps : List (List Lexeme)) (xs : List TopLevel) (r : Result (List TopLevel) Fault) → r ≡ Ok xs → ReadsAll kind ps r → AllByRecursion (IsClean (is_build kind)) xs
+pub file_is_clean : (kind : FileKind) (ps : List (List Lexeme)) (xs : List TopLevel) (r : Result (List TopLevel) (Fault StatementFault)) → r ≡ Ok xs → ReadsAll kind ps r → AllByRecursion (IsClean (is_build kind)) xs
 file_is_clean kind ps xs r e (R.later h g) = absurd (cc)
 file_is_clean kind ps xs r e (R.bad h g) = absurd (cc)
 file_is_clean kind ps [] r e R.over = tt

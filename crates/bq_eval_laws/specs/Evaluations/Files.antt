@@ -1,5 +1,6 @@
 -- The laws of files: their steps, the frozen modules, and the rules that are declared.
 use Rattle.std.specs.Prelude.{◌≡◌, ◌≢◌, ℕ, ◌<◌, ◌≤◌, List, Option, Some, Contains}
+use Rattle.bq_base.specs.declared.fault.EvalFault.{EvalFault}
 use Rattle.bq_base.specs.declared.fault.Fault.{Fault}
 use Rattle.bq_base.specs.declared.fault.EvalFault.TheVariants.{StepLimit}
 use Rattle.bq_resolve_scope.specs.Names.{Name}
@@ -51,7 +52,7 @@ FrozenAre (evaluated frozen prints) P = P frozen
 FrozenAre (failed fault prints) P = Unit {0}
 
 -- the fault names the line of one of these statements
-pub record IsAtStatement (statements : List FileLine) (fault : Fault) : Type 0 where
+pub record IsAtStatement (statements : List FileLine) (fault : Fault EvalFault) : Type 0 where
   pub statement : FileLine
   pub among : Contains statements statement
   pub line : fault.line ≡ statement.line
