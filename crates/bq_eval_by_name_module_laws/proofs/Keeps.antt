@@ -1,5 +1,6 @@
 -- What walks make that keep the functions so far; and what stands between.
 use Rattle.std.proofs.Common.{◌≡◌, List, [], ◌∷◌, ◌++◌, Result, Ok, Err, refl, ap, ◌∙◌, subst}
+use Rattle.bq_base.specs.declared.fault.NameFault.{NameFault}
 use Rattle.bq_base.specs.declared.fault.Fault.{Fault}
 use Rattle.bq_base.specs.declared.fault.NameFault.{NameFault}
 use Rattle.bq_resolve_scope.specs.Visit.{Passed, Visit, following, ◌>>=◌, each}

@@ -1,5 +1,6 @@
 -- The expressions in a statement resolve to what means the same, and no slot is given back.
 use Rattle.std.proofs.Common.{◌≡◌, List, Result, Ok, Err, refl, arith}
+use Rattle.bq_base.specs.declared.fault.NameFault.{NameFault}
 use Rattle.bq_base.specs.declared.fault.Fault.{Fault}
 use Rattle.bq_base.specs.declared.fault.NameFault.{NameFault}
 use Rattle.bq_parse_grammar.specs.declared.tree.Expr.{Expr}

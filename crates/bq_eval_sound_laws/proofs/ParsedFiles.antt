@@ -1,6 +1,7 @@
 -- Nothing is misplaced in a file that the grammar gives.
 use Rattle.std.proofs.Common.{◌≡◌, ◌∙◌, ℕ, Bool, false, List, [], ◌∷◌, Result, Ok, refl, sym, ap, subst}
 use Rattle.std.specs.List.{AllByRecursion}
+use Rattle.bq_base.specs.declared.fault.StatementFault.{StatementFault}
 use Rattle.bq_base.specs.declared.fault.Fault.{Fault}
 use Rattle.bq_base.specs.declared.fault.StatementFault.{StatementFault}
 use Rattle.bq_parse_grammar.specs.declared.tree.FileKind.{FileKind}

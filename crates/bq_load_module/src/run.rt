@@ -1,6 +1,8 @@
 //! The run of a file to its module.
 
 ghost use Rattle.std.specs.Prelude.{◌≡◌, Some, option_map, IfOk};
+ghost use Rattle.bq_base.specs.Fault.{fault_as};
+ghost use Rattle.bq_base.specs.declared.fault.FaultKind.TheVariants.{Eval};
 ghost use Rattle.bq_eval.specs.Outcomes.{ended_of, run_of};
 ghost use Rattle.bq_package.specs.Calls.{held_by, meaning, package_in};
 ghost use Rattle.bq_package_target.specs.Package.{finished};
@@ -9,7 +11,7 @@ ghost use Rattle.bq_load_module.specs.Views.{module_view, failed_view};
 ghost use Rattle.bq_load_module.specs.Run.{without_cells, module_with, module_by, module_after};
 
 use crate::outcome::{FailedModule, LoadedModule};
-use bq_base::Bytes;
+use bq_base::{Bytes, EvalFault, Fault, FaultKind};
 use bq_eval::{EvaluatedFile, FileOutcome, ResolvedModule, eval_module};
 use bq_package::BuildHost;
 use bq_package_host::BuiltIns;
@@ -67,6 +69,17 @@ fn loaded_module(
     build_module(alloc, number, prints, kept)
 }
 
+/// Returns a module whose evaluation failed.
+fn failed_module(fault: Fault<EvalFault>, prints: Vec<Bytes>) -> FailedModule
+    ensures { failed_view result ≡ record { fault = fault_as Eval fault; prints = prints.items } }
+{
+    let kind = FaultKind::Eval(fault.kind);
+    FailedModule {
+        fault: fault.with_kind(kind),
+        prints,
+    }
+}
+
 /// Returns the module of an ended evaluation.
 fn module_by(
     alloc: Global,
@@ -78,7 +91,7 @@ fn module_by(
     let kept = host.into_package();
     match outcome {
         FileOutcome::Module(frozen, prints) => Ok(Ok(loaded_module(alloc, frozen, prints, kept)?)),
-        FileOutcome::Failed(fault, prints) => Ok(Err(FailedModule { fault, prints })),
+        FileOutcome::Failed(fault, prints) => Ok(Err(failed_module(fault, prints))),
     }
 }
 

@@ -17,7 +17,7 @@ pattern_ok text p h = by (is_pattern text) h
     by true e = let same : text ≡ p = cc in rw same refl
     by false e = absurd (cc)
 
-pub pattern_err : (text : List ℕ) (why : Fault) → pattern_of text ≡ Err why → pattern text ≡ Err GlobPattern
+pub pattern_err : (text : List ℕ) (why : Fault EvalFault) → pattern_of text ≡ Err why → pattern text ≡ Err GlobPattern
 unfolding pattern_of
 pattern_err text why h = by (is_pattern text) h
   where
@@ -38,5 +38,5 @@ module _ (texts : List (List ℕ)) (i : ℕ) (t : List ℕ) (done : List (List �
   pub one_more : (p : List ℕ) (more : List (List ℕ)) → pattern_of t ≡ Ok p → more ≡ done ++ p ∷ [] → in_turn pattern done (drop i texts) ≡ in_turn pattern more (drop (i + 1) texts)
   one_more p more h grown = turned (Ok p) (pattern_ok t p h) ∙ ap (λ (z : List (List ℕ)). in_turn pattern z (drop (i + 1) texts)) (sym grown)
 
-  pub none_more : (why : Fault) → pattern_of t ≡ Err why → in_turn pattern done (drop i texts) ≡ Err GlobPattern
+  pub none_more : (why : Fault EvalFault) → pattern_of t ≡ Err why → in_turn pattern done (drop i texts) ≡ Err GlobPattern
   none_more why h = turned (Err GlobPattern) (pattern_err t why h)

@@ -1,6 +1,7 @@
 -- The lines of facts (`--facts`): one for each target, each module and each fault.
 use Rattle.std.specs.Prelude.{ℕ, Bool, ◌&&◌, not, nat_eq, List, [], Option, Some, None, Result, Ok, Err, length, slice_get}
 use Rattle.std.specs.List.{filter, flat_map, list_any, range_with_len}
+use Rattle.bq_base.specs.declared.fault.FaultKind.{FaultKind}
 use Rattle.bq_base.specs.declared.fault.Fault.{Fault}
 use Rattle.bq_label.specs.declared.packages.BuildFile.{BuildFile}
 use Rattle.bq_base_fault_line.specs.declared.fault_line.FaultLine.{FaultLine}
@@ -40,7 +41,7 @@ target_lines packages w numbers = flat_map (line_at packages w) numbers
 -- ---- modules
 
 -- the loads of a file: none where it has a fault of its own or a bad load
-abbrev pub statements_by : Result Front Fault → List LoadStmt
+abbrev pub statements_by : Result Front (Fault FaultKind) → List LoadStmt
 statements_by (Err why) = []
 statements_by (Ok front) = front.file.loads
 

@@ -15,10 +15,10 @@ fn numbers_and_names(rt: HostRuntime) {
 }
 
 const KINDS: &[(FaultKind, u32, &str)] = &[
-    (FaultKind::BadByte, 1, "BadByte"),
-    (FaultKind::LeftOut, 12, "LeftOut"),
-    (FaultKind::WrongType, 40, "Type"),
-    (FaultKind::DoubleTarget, 74, "DoubleTarget"),
+    (FaultKind::Token(TokenFault::BadByte), 1, "BadByte"),
+    (FaultKind::Statement(StatementFault::LeftOut), 12, "LeftOut"),
+    (FaultKind::Eval(EvalFault::WrongType), 40, "Type"),
+    (FaultKind::Eval(EvalFault::DoubleTarget), 74, "DoubleTarget"),
     (FaultKind::Schema, 80, "Schema"),
 ];
 
@@ -28,7 +28,7 @@ fn source_error(alloc: Global, detail: &[u8]) -> Result<SourceErr, AllocError> {
         return Ok(SourceErr::from(AllocError));
     }
     Ok(SourceErr::Bad(Fault {
-        kind: FaultKind::CycleReached,
+        kind: FaultKind::Load(LoadFault::CycleReached),
         line: 1,
         detail: Bytes::from_slice(alloc, detail)?,
     }))

@@ -1,7 +1,7 @@
 -- A host that notes which calls it accepts: those of its own functions, all but `licenses`, which is F70, as are calls of rules that .bzl
 -- files declare. A BUILD file is evaluated, and no default is read.
 use Rattle.std.specs.Prelude.{ℕ, List, [], ◌∷◌, ◌++◌, Bool, true, false, Err, if◌then◌else◌}
-use Rattle.bq_base.specs.declared.fault.FaultKind.TheVariants.{NotInPackage, BadLabel}
+use Rattle.bq_base.specs.declared.fault.EvalFault.TheVariants.{NotInPackage, BadLabel}
 use Rattle.bq_resolve_predeclared.specs.declared.host_function.HostFunction.{HostFunction}
 use Rattle.bq_resolve_predeclared.specs.declared.host_function.HostFunction.TheVariants as h
 use Rattle.bq_value_rule_class.specs.Class.{Class}

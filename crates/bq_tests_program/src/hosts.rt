@@ -5,7 +5,7 @@
 ghost use Rattle.std.specs.Prelude.{◌≡◌};
 ghost use Rattle.bq_tests_program.specs.Noting.{is_licenses, noted};
 
-use bq_base::{Bytes, FaultKind};
+use bq_base::{Bytes, EvalFault};
 use bq_base_names::NameSet;
 use bq_builtin_machine::{Args, Machine};
 use bq_eval::{EvaluatedFile, FileOutcome, ResolvedModule, eval_module};
@@ -48,7 +48,7 @@ impl Host for Noting {
     }
 
     fn read_default(&self, _alloc: Global, _written: Written) -> Result<AttributeValue, EvalErr> {
-        Err(EvalErr::Bad(FaultKind::BadLabel))
+        Err(EvalErr::Bad(EvalFault::BadLabel))
     }
 
     #[tactic(auto, unfolding(crate::specs::Noting::noted_call))]
@@ -60,7 +60,7 @@ impl Host for Noting {
         _machine: &mut Machine,
     ) -> Result<Value, EvalErr> {
         if is_licenses(function) {
-            return Err(EvalErr::Bad(FaultKind::NotInPackage));
+            return Err(EvalErr::Bad(EvalFault::NotInPackage));
         }
         self.calls.push(function)?;
         Ok(Value::none())
@@ -75,7 +75,7 @@ impl Host for Noting {
         _args: Args,
         _machine: &mut Machine,
     ) -> Result<Value, EvalErr> {
-        Err(EvalErr::Bad(FaultKind::NotInPackage))
+        Err(EvalErr::Bad(EvalFault::NotInPackage))
     }
 }
 

@@ -1,10 +1,11 @@
 use Rattle.std.proofs.Common.{◌≡◌, Option, Some, None, Err, refl, subst}
+use Rattle.bq_base.specs.declared.fault.EvalFault.{EvalFault}
 use Rattle.bq_base.specs.declared.fault.Fault.{Fault}
 use Rattle.bq_label.specs.Label.{LabelParts, PackageParts}
 use Rattle.bq_label.specs.Reading.{label_of, or_bad_label}
 use Rattle.bq_query_target_pattern.proofs.read.label_named.Goals as goal
 
-refused : (o : Option LabelParts) (f : Fault) → or_bad_label o ≡ Err f → o ≡ None
+refused : (o : Option LabelParts) (f : Fault EvalFault) → or_bad_label o ≡ Err f → o ≡ None
 refused None f e = refl
 refused (Some l) f e = absurd (cc e)
 
