@@ -1,4 +1,4 @@
--- The faults of files, by the stage that finds them: their numbers and names.
+-- The faults of files: their numbers and names, and which of them each stage has.
 use Rattle.std.specs.Prelude.{ℕ, List, [], codes, Result, Ok, Err}
 use Rattle.bq_base.specs.declared.fault.TokenFault.{TokenFault}
 use Rattle.bq_base.specs.declared.fault.TokenFault.TheVariants as t
@@ -16,116 +16,64 @@ use Rattle.bq_base.specs.declared.fault.Fault.{Fault}
 use Rattle.bq_base.specs.declared.fault.SourceErr.{SourceErr}
 use Rattle.bq_base.specs.declared.fault.SourceErr.TheVariants.{Bad, Memory}
 
--- faults of tokens: the number after the `F` of a fault line, and the name after the number
-abbrev pub token_fault_entry : TokenFault → ℕ × List ℕ
-token_fault_entry t.BadByte = (1, codes "BadByte")
-token_fault_entry t.Indent = (2, codes "Indent")
-token_fault_entry t.Tab = (3, codes "Tab")
-token_fault_entry t.OpenString = (4, codes "OpenString")
-token_fault_entry t.Escape = (5, codes "Escape")
-token_fault_entry t.BadInt = (6, codes "BadInt")
-token_fault_entry t.Bracket = (7, codes "Bracket")
-token_fault_entry t.FileTooLong = (8, codes "FileTooLong")
-
-abbrev pub token_fault_number : TokenFault → ℕ
-token_fault_number fault = (token_fault_entry fault).0
-
-abbrev pub token_fault_name : TokenFault → List ℕ
-token_fault_name fault = (token_fault_entry fault).1
-
--- the same of statements
-abbrev pub statement_fault_entry : StatementFault → ℕ × List ℕ
-statement_fault_entry s.Syntax = (10, codes "Syntax")
-statement_fault_entry s.Nesting = (11, codes "Nesting")
-statement_fault_entry s.LeftOut = (12, codes "LeftOut")
-statement_fault_entry s.NotInBuild = (13, codes "NotInBuild")
-
-abbrev pub statement_fault_number : StatementFault → ℕ
-statement_fault_number fault = (statement_fault_entry fault).0
-
-abbrev pub statement_fault_name : StatementFault → List ℕ
-statement_fault_name fault = (statement_fault_entry fault).1
-
--- the same of names and flow
-abbrev pub name_fault_entry : NameFault → ℕ × List ℕ
-name_fault_entry n.Nesting = (11, codes "Nesting")
-name_fault_entry n.UnknownName = (20, codes "UnknownName")
-name_fault_entry n.Rebound = (21, codes "Rebound")
-name_fault_entry n.BoundTwice = (22, codes "BoundTwice")
-name_fault_entry n.BadFlow = (23, codes "BadFlow")
-name_fault_entry n.DoubleParameter = (24, codes "DoubleParameter")
-
-abbrev pub name_fault_number : NameFault → ℕ
-name_fault_number fault = (name_fault_entry fault).0
-
-abbrev pub name_fault_name : NameFault → List ℕ
-name_fault_name fault = (name_fault_entry fault).1
-
--- the same of loads
-abbrev pub load_fault_entry : LoadFault → ℕ × List ℕ
-load_fault_entry l.BadLoadLabel = (30, codes "BadLoadLabel")
-load_fault_entry l.NoSuchFile = (31, codes "NoSuchFile")
-load_fault_entry l.NoPackage = (32, codes "NoPackage")
-load_fault_entry l.NoSymbol = (33, codes "NoSymbol")
-load_fault_entry l.PrivateSymbol = (34, codes "PrivateSymbol")
-load_fault_entry l.CycleReached = (35, codes "CycleReached")
-load_fault_entry l.LoadFailed = (36, codes "LoadFailed")
-load_fault_entry l.CrossesPackage = (37, codes "CrossesPackage")
-load_fault_entry l.LoadDepth = (38, codes "LoadDepth")
-
-abbrev pub load_fault_number : LoadFault → ℕ
-load_fault_number fault = (load_fault_entry fault).0
-
-abbrev pub load_fault_name : LoadFault → List ℕ
-load_fault_name fault = (load_fault_entry fault).1
-
--- the same of evaluations
-abbrev pub eval_fault_entry : EvalFault → ℕ × List ℕ
-eval_fault_entry e.CrossesPackage = (37, codes "CrossesPackage")
-eval_fault_entry e.WrongType = (40, codes "Type")
-eval_fault_entry e.Overflow = (41, codes "Overflow")
-eval_fault_entry e.DivZero = (42, codes "DivZero")
-eval_fault_entry e.Index = (43, codes "Index")
-eval_fault_entry e.NoKey = (44, codes "NoKey")
-eval_fault_entry e.Unhashable = (45, codes "Unhashable")
-eval_fault_entry e.DoubleKey = (46, codes "DoubleKey")
-eval_fault_entry e.Frozen = (47, codes "Frozen")
-eval_fault_entry e.Iterating = (48, codes "Iterating")
-eval_fault_entry e.Unbound = (49, codes "Unbound")
-eval_fault_entry e.Recursion = (50, codes "Recursion")
-eval_fault_entry e.CallDepth = (51, codes "CallDepth")
-eval_fault_entry e.Args = (52, codes "Args")
-eval_fault_entry e.StepLimit = (53, codes "StepLimit")
-eval_fault_entry e.TooLong = (54, codes "TooLong")
-eval_fault_entry e.TooDeep = (55, codes "TooDeep")
-eval_fault_entry e.Fail = (56, codes "Fail")
-eval_fault_entry e.BadValue = (57, codes "BadValue")
-eval_fault_entry e.NoMethod = (58, codes "NoMethod")
-eval_fault_entry e.Format = (59, codes "Format")
-eval_fault_entry e.Select = (60, codes "Select")
-eval_fault_entry e.NotInPackage = (70, codes "NotInPackage")
-eval_fault_entry e.NoAttribute = (71, codes "NoAttribute")
-eval_fault_entry e.MissingAttribute = (72, codes "MissingAttribute")
-eval_fault_entry e.AttributeType = (73, codes "AttributeType")
-eval_fault_entry e.DoubleTarget = (74, codes "DoubleTarget")
-eval_fault_entry e.BadName = (75, codes "BadName")
-eval_fault_entry e.GlobEmpty = (76, codes "GlobEmpty")
-eval_fault_entry e.GlobPattern = (77, codes "GlobPattern")
-eval_fault_entry e.BadLabel = (78, codes "BadLabel")
-
-abbrev pub eval_fault_number : EvalFault → ℕ
-eval_fault_number fault = (eval_fault_entry fault).0
-
-abbrev pub eval_fault_name : EvalFault → List ℕ
-eval_fault_name fault = (eval_fault_entry fault).1
-
--- the same of all faults
+-- the number after the `F` of a fault line, and the name after the number
 abbrev pub fault_entry : FaultKind → ℕ × List ℕ
-fault_entry (f.Token fault) = token_fault_entry fault
-fault_entry (f.Statement fault) = statement_fault_entry fault
-fault_entry (f.Name fault) = name_fault_entry fault
-fault_entry (f.Load fault) = load_fault_entry fault
-fault_entry (f.Eval fault) = eval_fault_entry fault
+fault_entry f.BadByte = (1, codes "BadByte")
+fault_entry f.Indent = (2, codes "Indent")
+fault_entry f.Tab = (3, codes "Tab")
+fault_entry f.OpenString = (4, codes "OpenString")
+fault_entry f.Escape = (5, codes "Escape")
+fault_entry f.BadInt = (6, codes "BadInt")
+fault_entry f.Bracket = (7, codes "Bracket")
+fault_entry f.FileTooLong = (8, codes "FileTooLong")
+fault_entry f.Syntax = (10, codes "Syntax")
+fault_entry f.Nesting = (11, codes "Nesting")
+fault_entry f.LeftOut = (12, codes "LeftOut")
+fault_entry f.NotInBuild = (13, codes "NotInBuild")
+fault_entry f.UnknownName = (20, codes "UnknownName")
+fault_entry f.Rebound = (21, codes "Rebound")
+fault_entry f.BoundTwice = (22, codes "BoundTwice")
+fault_entry f.BadFlow = (23, codes "BadFlow")
+fault_entry f.DoubleParameter = (24, codes "DoubleParameter")
+fault_entry f.BadLoadLabel = (30, codes "BadLoadLabel")
+fault_entry f.NoSuchFile = (31, codes "NoSuchFile")
+fault_entry f.NoPackage = (32, codes "NoPackage")
+fault_entry f.NoSymbol = (33, codes "NoSymbol")
+fault_entry f.PrivateSymbol = (34, codes "PrivateSymbol")
+fault_entry f.CycleReached = (35, codes "CycleReached")
+fault_entry f.LoadFailed = (36, codes "LoadFailed")
+fault_entry f.CrossesPackage = (37, codes "CrossesPackage")
+fault_entry f.LoadDepth = (38, codes "LoadDepth")
+fault_entry f.WrongType = (40, codes "Type")
+fault_entry f.Overflow = (41, codes "Overflow")
+fault_entry f.DivZero = (42, codes "DivZero")
+fault_entry f.Index = (43, codes "Index")
+fault_entry f.NoKey = (44, codes "NoKey")
+fault_entry f.Unhashable = (45, codes "Unhashable")
+fault_entry f.DoubleKey = (46, codes "DoubleKey")
+fault_entry f.Frozen = (47, codes "Frozen")
+fault_entry f.Iterating = (48, codes "Iterating")
+fault_entry f.Unbound = (49, codes "Unbound")
+fault_entry f.Recursion = (50, codes "Recursion")
+fault_entry f.CallDepth = (51, codes "CallDepth")
+fault_entry f.Args = (52, codes "Args")
+fault_entry f.StepLimit = (53, codes "StepLimit")
+fault_entry f.TooLong = (54, codes "TooLong")
+fault_entry f.TooDeep = (55, codes "TooDeep")
+fault_entry f.Fail = (56, codes "Fail")
+fault_entry f.BadValue = (57, codes "BadValue")
+fault_entry f.NoMethod = (58, codes "NoMethod")
+fault_entry f.Format = (59, codes "Format")
+fault_entry f.Select = (60, codes "Select")
+fault_entry f.NotInPackage = (70, codes "NotInPackage")
+fault_entry f.NoAttribute = (71, codes "NoAttribute")
+fault_entry f.MissingAttribute = (72, codes "MissingAttribute")
+fault_entry f.AttributeType = (73, codes "AttributeType")
+fault_entry f.DoubleTarget = (74, codes "DoubleTarget")
+fault_entry f.BadName = (75, codes "BadName")
+fault_entry f.GlobEmpty = (76, codes "GlobEmpty")
+fault_entry f.GlobPattern = (77, codes "GlobPattern")
+fault_entry f.BadLabel = (78, codes "BadLabel")
 fault_entry f.DanglingLabel = (79, codes "DanglingLabel")
 fault_entry f.Schema = (80, codes "Schema")
 
@@ -136,6 +84,86 @@ fault_number kind = (fault_entry kind).0
 -- after the number
 abbrev pub fault_name : FaultKind → List ℕ
 fault_name kind = (fault_entry kind).1
+
+-- ---- the stages
+
+-- the faults of tokens, among all
+abbrev pub kind_of_token : TokenFault → FaultKind
+kind_of_token t.BadByte = f.BadByte
+kind_of_token t.Indent = f.Indent
+kind_of_token t.Tab = f.Tab
+kind_of_token t.OpenString = f.OpenString
+kind_of_token t.Escape = f.Escape
+kind_of_token t.BadInt = f.BadInt
+kind_of_token t.Bracket = f.Bracket
+kind_of_token t.FileTooLong = f.FileTooLong
+
+-- those of statements
+abbrev pub kind_of_statement : StatementFault → FaultKind
+kind_of_statement s.Syntax = f.Syntax
+kind_of_statement s.Nesting = f.Nesting
+kind_of_statement s.LeftOut = f.LeftOut
+kind_of_statement s.NotInBuild = f.NotInBuild
+
+-- those of names and flow
+abbrev pub kind_of_name : NameFault → FaultKind
+kind_of_name n.Nesting = f.Nesting
+kind_of_name n.UnknownName = f.UnknownName
+kind_of_name n.Rebound = f.Rebound
+kind_of_name n.BoundTwice = f.BoundTwice
+kind_of_name n.BadFlow = f.BadFlow
+kind_of_name n.DoubleParameter = f.DoubleParameter
+
+-- those of loads
+abbrev pub kind_of_load : LoadFault → FaultKind
+kind_of_load l.BadLoadLabel = f.BadLoadLabel
+kind_of_load l.NoSuchFile = f.NoSuchFile
+kind_of_load l.NoPackage = f.NoPackage
+kind_of_load l.NoSymbol = f.NoSymbol
+kind_of_load l.PrivateSymbol = f.PrivateSymbol
+kind_of_load l.CycleReached = f.CycleReached
+kind_of_load l.LoadFailed = f.LoadFailed
+kind_of_load l.CrossesPackage = f.CrossesPackage
+kind_of_load l.LoadDepth = f.LoadDepth
+
+-- those of evaluations
+abbrev pub kind_of_eval : EvalFault → FaultKind
+kind_of_eval e.CrossesPackage = f.CrossesPackage
+kind_of_eval e.WrongType = f.WrongType
+kind_of_eval e.Overflow = f.Overflow
+kind_of_eval e.DivZero = f.DivZero
+kind_of_eval e.Index = f.Index
+kind_of_eval e.NoKey = f.NoKey
+kind_of_eval e.Unhashable = f.Unhashable
+kind_of_eval e.DoubleKey = f.DoubleKey
+kind_of_eval e.Frozen = f.Frozen
+kind_of_eval e.Iterating = f.Iterating
+kind_of_eval e.Unbound = f.Unbound
+kind_of_eval e.Recursion = f.Recursion
+kind_of_eval e.CallDepth = f.CallDepth
+kind_of_eval e.Args = f.Args
+kind_of_eval e.StepLimit = f.StepLimit
+kind_of_eval e.TooLong = f.TooLong
+kind_of_eval e.TooDeep = f.TooDeep
+kind_of_eval e.Fail = f.Fail
+kind_of_eval e.BadValue = f.BadValue
+kind_of_eval e.NoMethod = f.NoMethod
+kind_of_eval e.Format = f.Format
+kind_of_eval e.Select = f.Select
+kind_of_eval e.NotInPackage = f.NotInPackage
+kind_of_eval e.NoAttribute = f.NoAttribute
+kind_of_eval e.MissingAttribute = f.MissingAttribute
+kind_of_eval e.AttributeType = f.AttributeType
+kind_of_eval e.DoubleTarget = f.DoubleTarget
+kind_of_eval e.BadName = f.BadName
+kind_of_eval e.GlobEmpty = f.GlobEmpty
+kind_of_eval e.GlobPattern = f.GlobPattern
+kind_of_eval e.BadLabel = f.BadLabel
+
+abbrev pub eval_fault_number : EvalFault → ℕ
+eval_fault_number fault = fault_number (kind_of_eval fault)
+
+-- ---- faults
 
 -- a fault without detail
 abbrev pub fault_at : {K : Type 0} → K → ℕ → Fault K

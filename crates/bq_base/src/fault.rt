@@ -2,18 +2,16 @@
 //! the variant.
 
 ghost use Rattle.std.specs.Prelude.{◌≡◌};
-ghost use Rattle.bq_base.specs.Fault.{token_fault_number, token_fault_name, statement_fault_number, statement_fault_name};
-ghost use Rattle.bq_base.specs.Fault.{name_fault_number, name_fault_name, load_fault_number, load_fault_name};
-ghost use Rattle.bq_base.specs.Fault.{eval_fault_number, eval_fault_name, fault_number, fault_name, fault_at, err_as};
-ghost use Rattle.bq_base.specs.declared.fault.FaultKind.TheVariants.{Token, Statement, Name, Load, Eval};
+ghost use Rattle.bq_base.specs.Fault.{fault_number, fault_name, kind_of_token, kind_of_statement, kind_of_name, kind_of_load, kind_of_eval, eval_fault_number, fault_at, err_as};
 ghost use Rattle.bq_base.specs.declared.fault.SourceErr.TheVariants.{Memory};
 
 use crate::bytes::Bytes;
 use std::alloc::{AllocError, AllocFailed};
 
-/// What is wrong with the tokens of a text (F1 to F8).
+/// What is wrong, as `F1 BadByte`.
 #[derive(Clone, Copy, Debug, PartialEq, Eq)]
-pub enum TokenFault {
+pub enum FaultKind {
+    // Lexis.
     BadByte = 1,
     Indent = 2,
     Tab = 3,
@@ -22,100 +20,18 @@ pub enum TokenFault {
     BadInt = 6,
     Bracket = 7,
     FileTooLong = 8,
-}
-
-impl TokenFault {
-    /// The number after the `F`.
-    pub fn number(self) -> u32
-        ensures { result ≡ token_fault_number self }
-    {
-        self as u32
-    }
-
-    /// The name after the number.
-    pub fn name(self) -> &'static str
-        ensures { result.now ≡ token_fault_name self }
-    {
-        match self {
-            TokenFault::BadByte => "BadByte",
-            TokenFault::Indent => "Indent",
-            TokenFault::Tab => "Tab",
-            TokenFault::OpenString => "OpenString",
-            TokenFault::Escape => "Escape",
-            TokenFault::BadInt => "BadInt",
-            TokenFault::Bracket => "Bracket",
-            TokenFault::FileTooLong => "FileTooLong",
-        }
-    }
-}
-
-/// What is wrong with a statement (F10 to F13).
-#[derive(Clone, Copy, Debug, PartialEq, Eq)]
-pub enum StatementFault {
+    // Grammar.
     Syntax = 10,
     Nesting = 11,
     LeftOut = 12,
     NotInBuild = 13,
-}
-
-impl StatementFault {
-    /// The number after the `F`.
-    pub fn number(self) -> u32
-        ensures { result ≡ statement_fault_number self }
-    {
-        self as u32
-    }
-
-    /// The name after the number.
-    pub fn name(self) -> &'static str
-        ensures { result.now ≡ statement_fault_name self }
-    {
-        match self {
-            StatementFault::Syntax => "Syntax",
-            StatementFault::Nesting => "Nesting",
-            StatementFault::LeftOut => "LeftOut",
-            StatementFault::NotInBuild => "NotInBuild",
-        }
-    }
-}
-
-/// What is wrong with the names and the flow of a file (F20 to F24). F11 is of trees that no parsed file has.
-#[derive(Clone, Copy, Debug, PartialEq, Eq)]
-pub enum NameFault {
-    Nesting = 11,
+    // Names.
     UnknownName = 20,
     Rebound = 21,
     BoundTwice = 22,
     BadFlow = 23,
     DoubleParameter = 24,
-}
-
-impl NameFault {
-    /// The number after the `F`.
-    pub fn number(self) -> u32
-        ensures { result ≡ name_fault_number self }
-    {
-        self as u32
-    }
-
-    /// The name after the number.
-    pub fn name(self) -> &'static str
-        ensures { result.now ≡ name_fault_name self }
-    {
-        match self {
-            NameFault::Nesting => "Nesting",
-            NameFault::UnknownName => "UnknownName",
-            NameFault::Rebound => "Rebound",
-            NameFault::BoundTwice => "BoundTwice",
-            NameFault::BadFlow => "BadFlow",
-            NameFault::DoubleParameter => "DoubleParameter",
-        }
-    }
-}
-
-/// What is wrong with the loads of a file (F30 to F38).
-#[derive(Clone, Copy, Debug, PartialEq, Eq)]
-pub enum LoadFault {
+    // Loads.
     BadLoadLabel = 30,
     NoSuchFile = 31,
     NoPackage = 32,
@@ -125,40 +41,7 @@ pub enum LoadFault {
     LoadFailed = 36,
     CrossesPackage = 37,
     LoadDepth = 38,
-}
-
-impl LoadFault {
-    /// The number after the `F`.
-    pub fn number(self) -> u32
-        ensures { result ≡ load_fault_number self }
-    {
-        self as u32
-    }
-
-    /// The name after the number.
-    pub fn name(self) -> &'static str
-        ensures { result.now ≡ load_fault_name self }
-    {
-        match self {
-            LoadFault::BadLoadLabel => "BadLoadLabel",
-            LoadFault::NoSuchFile => "NoSuchFile",
-            LoadFault::NoPackage => "NoPackage",
-            LoadFault::NoSymbol => "NoSymbol",
-            LoadFault::PrivateSymbol => "PrivateSymbol",
-            LoadFault::CycleReached => "CycleReached",
-            LoadFault::LoadFailed => "LoadFailed",
-            LoadFault::CrossesPackage => "CrossesPackage",
-            LoadFault::LoadDepth => "LoadDepth",
-        }
-    }
-}
-
-/// What is wrong in the evaluation of a file: in its operators, calls, steps and targets (F37, F40 to F60, F70 to F78).
-#[derive(Clone, Copy, Debug, PartialEq, Eq)]
-pub enum EvalFault {
-    // Labels.
-    CrossesPackage = 37,
-    // Values, calls and steps.
+    // Evaluation.
     WrongType = 40,
     Overflow = 41,
     DivZero = 42,
@@ -190,73 +73,10 @@ pub enum EvalFault {
     GlobEmpty = 76,
     GlobPattern = 77,
     BadLabel = 78,
-}
-
-impl EvalFault {
-    /// The number after the `F`.
-    pub fn number(self) -> u32
-        ensures { result ≡ eval_fault_number self }
-    {
-        self as u32
-    }
-
-    /// The name after the number.
-    pub fn name(self) -> &'static str
-        ensures { result.now ≡ eval_fault_name self }
-    {
-        match self {
-            EvalFault::CrossesPackage => "CrossesPackage",
-            EvalFault::WrongType => "Type",
-            EvalFault::Overflow => "Overflow",
-            EvalFault::DivZero => "DivZero",
-            EvalFault::Index => "Index",
-            EvalFault::NoKey => "NoKey",
-            EvalFault::Unhashable => "Unhashable",
-            EvalFault::DoubleKey => "DoubleKey",
-            EvalFault::Frozen => "Frozen",
-            EvalFault::Iterating => "Iterating",
-            EvalFault::Unbound => "Unbound",
-            EvalFault::Recursion => "Recursion",
-            EvalFault::CallDepth => "CallDepth",
-            EvalFault::Args => "Args",
-            EvalFault::StepLimit => "StepLimit",
-            EvalFault::TooLong => "TooLong",
-            EvalFault::TooDeep => "TooDeep",
-            EvalFault::Fail => "Fail",
-            EvalFault::BadValue => "BadValue",
-            EvalFault::NoMethod => "NoMethod",
-            EvalFault::Format => "Format",
-            EvalFault::Select => "Select",
-            EvalFault::NotInPackage => "NotInPackage",
-            EvalFault::NoAttribute => "NoAttribute",
-            EvalFault::MissingAttribute => "MissingAttribute",
-            EvalFault::AttributeType => "AttributeType",
-            EvalFault::DoubleTarget => "DoubleTarget",
-            EvalFault::BadName => "BadName",
-            EvalFault::GlobEmpty => "GlobEmpty",
-            EvalFault::GlobPattern => "GlobPattern",
-            EvalFault::BadLabel => "BadLabel",
-        }
-    }
-}
-
-/// What is wrong, as `F1 BadByte`.
-#[derive(Clone, Copy, Debug, PartialEq, Eq)]
-pub enum FaultKind {
-    /// In the tokens of a file.
-    Token(TokenFault),
-    /// In a statement of a file.
-    Statement(StatementFault),
-    /// In the names of a file.
-    Name(NameFault),
-    /// In a file's loads.
-    Load(LoadFault),
-    /// In a file's evaluation.
-    Eval(EvalFault),
-    /// A label in the target graph names no target (F79).
-    DanglingLabel,
-    /// `rules.schema` is faulty (F80).
-    Schema,
+    // The target graph.
+    DanglingLabel = 79,
+    // `rules.schema`.
+    Schema = 80,
 }
 
 impl FaultKind {
@@ -264,15 +84,7 @@ impl FaultKind {
     pub fn number(self) -> u32
         ensures { result ≡ fault_number self }
     {
-        match self {
-            FaultKind::Token(fault) => fault.number(),
-            FaultKind::Statement(fault) => fault.number(),
-            FaultKind::Name(fault) => fault.number(),
-            FaultKind::Load(fault) => fault.number(),
-            FaultKind::Eval(fault) => fault.number(),
-            FaultKind::DanglingLabel => 79,
-            FaultKind::Schema => 80,
-        }
+        self as u32
     }
 
     /// The name after the number.
@@ -280,54 +92,263 @@ impl FaultKind {
         ensures { result.now ≡ fault_name self }
     {
         match self {
-            FaultKind::Token(fault) => fault.name(),
-            FaultKind::Statement(fault) => fault.name(),
-            FaultKind::Name(fault) => fault.name(),
-            FaultKind::Load(fault) => fault.name(),
-            FaultKind::Eval(fault) => fault.name(),
+            FaultKind::BadByte => "BadByte",
+            FaultKind::Indent => "Indent",
+            FaultKind::Tab => "Tab",
+            FaultKind::OpenString => "OpenString",
+            FaultKind::Escape => "Escape",
+            FaultKind::BadInt => "BadInt",
+            FaultKind::Bracket => "Bracket",
+            FaultKind::FileTooLong => "FileTooLong",
+            FaultKind::Syntax => "Syntax",
+            FaultKind::Nesting => "Nesting",
+            FaultKind::LeftOut => "LeftOut",
+            FaultKind::NotInBuild => "NotInBuild",
+            FaultKind::UnknownName => "UnknownName",
+            FaultKind::Rebound => "Rebound",
+            FaultKind::BoundTwice => "BoundTwice",
+            FaultKind::BadFlow => "BadFlow",
+            FaultKind::DoubleParameter => "DoubleParameter",
+            FaultKind::BadLoadLabel => "BadLoadLabel",
+            FaultKind::NoSuchFile => "NoSuchFile",
+            FaultKind::NoPackage => "NoPackage",
+            FaultKind::NoSymbol => "NoSymbol",
+            FaultKind::PrivateSymbol => "PrivateSymbol",
+            FaultKind::CycleReached => "CycleReached",
+            FaultKind::LoadFailed => "LoadFailed",
+            FaultKind::CrossesPackage => "CrossesPackage",
+            FaultKind::LoadDepth => "LoadDepth",
+            FaultKind::WrongType => "Type",
+            FaultKind::Overflow => "Overflow",
+            FaultKind::DivZero => "DivZero",
+            FaultKind::Index => "Index",
+            FaultKind::NoKey => "NoKey",
+            FaultKind::Unhashable => "Unhashable",
+            FaultKind::DoubleKey => "DoubleKey",
+            FaultKind::Frozen => "Frozen",
+            FaultKind::Iterating => "Iterating",
+            FaultKind::Unbound => "Unbound",
+            FaultKind::Recursion => "Recursion",
+            FaultKind::CallDepth => "CallDepth",
+            FaultKind::Args => "Args",
+            FaultKind::StepLimit => "StepLimit",
+            FaultKind::TooLong => "TooLong",
+            FaultKind::TooDeep => "TooDeep",
+            FaultKind::Fail => "Fail",
+            FaultKind::BadValue => "BadValue",
+            FaultKind::NoMethod => "NoMethod",
+            FaultKind::Format => "Format",
+            FaultKind::Select => "Select",
+            FaultKind::NotInPackage => "NotInPackage",
+            FaultKind::NoAttribute => "NoAttribute",
+            FaultKind::MissingAttribute => "MissingAttribute",
+            FaultKind::AttributeType => "AttributeType",
+            FaultKind::DoubleTarget => "DoubleTarget",
+            FaultKind::BadName => "BadName",
+            FaultKind::GlobEmpty => "GlobEmpty",
+            FaultKind::GlobPattern => "GlobPattern",
+            FaultKind::BadLabel => "BadLabel",
             FaultKind::DanglingLabel => "DanglingLabel",
             FaultKind::Schema => "Schema",
         }
     }
 }
 
-impl From<TokenFault> for FaultKind {
-    ghost from_gives = { λ fault kind. kind ≡ Token fault };
+/// What is wrong with the tokens of a text: F1 to F8.
+#[derive(Clone, Copy, Debug, PartialEq, Eq)]
+pub enum TokenFault {
+    BadByte,
+    Indent,
+    Tab,
+    OpenString,
+    Escape,
+    BadInt,
+    Bracket,
+    FileTooLong,
+}
 
-    fn from(fault: TokenFault) -> Self {
-        FaultKind::Token(fault)
+impl TokenFault {
+    /// The same fault, among all.
+    pub fn kind(self) -> FaultKind
+        ensures { result ≡ kind_of_token self }
+    {
+        match self {
+            TokenFault::BadByte => FaultKind::BadByte,
+            TokenFault::Indent => FaultKind::Indent,
+            TokenFault::Tab => FaultKind::Tab,
+            TokenFault::OpenString => FaultKind::OpenString,
+            TokenFault::Escape => FaultKind::Escape,
+            TokenFault::BadInt => FaultKind::BadInt,
+            TokenFault::Bracket => FaultKind::Bracket,
+            TokenFault::FileTooLong => FaultKind::FileTooLong,
+        }
     }
 }
 
-impl From<StatementFault> for FaultKind {
-    ghost from_gives = { λ fault kind. kind ≡ Statement fault };
+/// What is wrong with a statement: F10 to F13.
+#[derive(Clone, Copy, Debug, PartialEq, Eq)]
+pub enum StatementFault {
+    Syntax,
+    Nesting,
+    LeftOut,
+    NotInBuild,
+}
 
-    fn from(fault: StatementFault) -> Self {
-        FaultKind::Statement(fault)
+impl StatementFault {
+    /// The same fault, among all.
+    pub fn kind(self) -> FaultKind
+        ensures { result ≡ kind_of_statement self }
+    {
+        match self {
+            StatementFault::Syntax => FaultKind::Syntax,
+            StatementFault::Nesting => FaultKind::Nesting,
+            StatementFault::LeftOut => FaultKind::LeftOut,
+            StatementFault::NotInBuild => FaultKind::NotInBuild,
+        }
     }
 }
 
-impl From<NameFault> for FaultKind {
-    ghost from_gives = { λ fault kind. kind ≡ Name fault };
+/// What is wrong with the names and the flow of a file: F20 to F24; and F11, of trees that no file is parsed to.
+#[derive(Clone, Copy, Debug, PartialEq, Eq)]
+pub enum NameFault {
+    Nesting,
+    UnknownName,
+    Rebound,
+    BoundTwice,
+    BadFlow,
+    DoubleParameter,
+}
 
-    fn from(fault: NameFault) -> Self {
-        FaultKind::Name(fault)
+impl NameFault {
+    /// The same fault, among all.
+    pub fn kind(self) -> FaultKind
+        ensures { result ≡ kind_of_name self }
+    {
+        match self {
+            NameFault::Nesting => FaultKind::Nesting,
+            NameFault::UnknownName => FaultKind::UnknownName,
+            NameFault::Rebound => FaultKind::Rebound,
+            NameFault::BoundTwice => FaultKind::BoundTwice,
+            NameFault::BadFlow => FaultKind::BadFlow,
+            NameFault::DoubleParameter => FaultKind::DoubleParameter,
+        }
     }
 }
 
-impl From<LoadFault> for FaultKind {
-    ghost from_gives = { λ fault kind. kind ≡ Load fault };
+/// What is wrong with the loads of a file: F30 to F38.
+#[derive(Clone, Copy, Debug, PartialEq, Eq)]
+pub enum LoadFault {
+    BadLoadLabel,
+    NoSuchFile,
+    NoPackage,
+    NoSymbol,
+    PrivateSymbol,
+    CycleReached,
+    LoadFailed,
+    CrossesPackage,
+    LoadDepth,
+}
 
-    fn from(fault: LoadFault) -> Self {
-        FaultKind::Load(fault)
+impl LoadFault {
+    /// The same fault, among all.
+    pub fn kind(self) -> FaultKind
+        ensures { result ≡ kind_of_load self }
+    {
+        match self {
+            LoadFault::BadLoadLabel => FaultKind::BadLoadLabel,
+            LoadFault::NoSuchFile => FaultKind::NoSuchFile,
+            LoadFault::NoPackage => FaultKind::NoPackage,
+            LoadFault::NoSymbol => FaultKind::NoSymbol,
+            LoadFault::PrivateSymbol => FaultKind::PrivateSymbol,
+            LoadFault::CycleReached => FaultKind::CycleReached,
+            LoadFault::LoadFailed => FaultKind::LoadFailed,
+            LoadFault::CrossesPackage => FaultKind::CrossesPackage,
+            LoadFault::LoadDepth => FaultKind::LoadDepth,
+        }
     }
 }
 
-impl From<EvalFault> for FaultKind {
-    ghost from_gives = { λ fault kind. kind ≡ Eval fault };
+/// What is wrong in the evaluation of a file: F37, F40 to F60 and F70 to F78.
+#[derive(Clone, Copy, Debug, PartialEq, Eq)]
+pub enum EvalFault {
+    CrossesPackage,
+    WrongType,
+    Overflow,
+    DivZero,
+    Index,
+    NoKey,
+    Unhashable,
+    DoubleKey,
+    Frozen,
+    Iterating,
+    Unbound,
+    Recursion,
+    CallDepth,
+    Args,
+    StepLimit,
+    TooLong,
+    TooDeep,
+    Fail,
+    BadValue,
+    NoMethod,
+    Format,
+    Select,
+    NotInPackage,
+    NoAttribute,
+    MissingAttribute,
+    AttributeType,
+    DoubleTarget,
+    BadName,
+    GlobEmpty,
+    GlobPattern,
+    BadLabel,
+}
 
-    fn from(fault: EvalFault) -> Self {
-        FaultKind::Eval(fault)
+impl EvalFault {
+    /// The same fault, among all.
+    pub fn kind(self) -> FaultKind
+        ensures { result ≡ kind_of_eval self }
+    {
+        match self {
+            EvalFault::CrossesPackage => FaultKind::CrossesPackage,
+            EvalFault::WrongType => FaultKind::WrongType,
+            EvalFault::Overflow => FaultKind::Overflow,
+            EvalFault::DivZero => FaultKind::DivZero,
+            EvalFault::Index => FaultKind::Index,
+            EvalFault::NoKey => FaultKind::NoKey,
+            EvalFault::Unhashable => FaultKind::Unhashable,
+            EvalFault::DoubleKey => FaultKind::DoubleKey,
+            EvalFault::Frozen => FaultKind::Frozen,
+            EvalFault::Iterating => FaultKind::Iterating,
+            EvalFault::Unbound => FaultKind::Unbound,
+            EvalFault::Recursion => FaultKind::Recursion,
+            EvalFault::CallDepth => FaultKind::CallDepth,
+            EvalFault::Args => FaultKind::Args,
+            EvalFault::StepLimit => FaultKind::StepLimit,
+            EvalFault::TooLong => FaultKind::TooLong,
+            EvalFault::TooDeep => FaultKind::TooDeep,
+            EvalFault::Fail => FaultKind::Fail,
+            EvalFault::BadValue => FaultKind::BadValue,
+            EvalFault::NoMethod => FaultKind::NoMethod,
+            EvalFault::Format => FaultKind::Format,
+            EvalFault::Select => FaultKind::Select,
+            EvalFault::NotInPackage => FaultKind::NotInPackage,
+            EvalFault::NoAttribute => FaultKind::NoAttribute,
+            EvalFault::MissingAttribute => FaultKind::MissingAttribute,
+            EvalFault::AttributeType => FaultKind::AttributeType,
+            EvalFault::DoubleTarget => FaultKind::DoubleTarget,
+            EvalFault::BadName => FaultKind::BadName,
+            EvalFault::GlobEmpty => FaultKind::GlobEmpty,
+            EvalFault::GlobPattern => FaultKind::GlobPattern,
+            EvalFault::BadLabel => FaultKind::BadLabel,
+        }
+    }
+
+    /// The number after the `F`.
+    pub fn number(self) -> u32
+        ensures { result ≡ eval_fault_number self }
+    {
+        self.kind().number()
     }
 }
 
@@ -391,12 +412,12 @@ impl<K, T: Drop> From<AllocFailed<T>> for SourceErr<K> {
 }
 
 impl From<SourceErr<TokenFault>> for SourceErr<FaultKind> {
-    ghost from_gives = { λ e joined. joined ≡ err_as Token e };
+    ghost from_gives = { λ e joined. joined ≡ err_as kind_of_token e };
 
     fn from(e: SourceErr<TokenFault>) -> Self {
         match e {
             SourceErr::Bad(why) => {
-                let kind = FaultKind::Token(why.kind);
+                let kind = why.kind.kind();
                 SourceErr::Bad(why.with_kind(kind))
             }
             SourceErr::Memory => SourceErr::Memory,
@@ -405,12 +426,12 @@ impl From<SourceErr<TokenFault>> for SourceErr<FaultKind> {
 }
 
 impl From<SourceErr<StatementFault>> for SourceErr<FaultKind> {
-    ghost from_gives = { λ e joined. joined ≡ err_as Statement e };
+    ghost from_gives = { λ e joined. joined ≡ err_as kind_of_statement e };
 
     fn from(e: SourceErr<StatementFault>) -> Self {
         match e {
             SourceErr::Bad(why) => {
-                let kind = FaultKind::Statement(why.kind);
+                let kind = why.kind.kind();
                 SourceErr::Bad(why.with_kind(kind))
             }
             SourceErr::Memory => SourceErr::Memory,
@@ -419,12 +440,12 @@ impl From<SourceErr<StatementFault>> for SourceErr<FaultKind> {
 }
 
 impl From<SourceErr<NameFault>> for SourceErr<FaultKind> {
-    ghost from_gives = { λ e joined. joined ≡ err_as Name e };
+    ghost from_gives = { λ e joined. joined ≡ err_as kind_of_name e };
 
     fn from(e: SourceErr<NameFault>) -> Self {
         match e {
             SourceErr::Bad(why) => {
-                let kind = FaultKind::Name(why.kind);
+                let kind = why.kind.kind();
                 SourceErr::Bad(why.with_kind(kind))
             }
             SourceErr::Memory => SourceErr::Memory,
@@ -433,26 +454,12 @@ impl From<SourceErr<NameFault>> for SourceErr<FaultKind> {
 }
 
 impl From<SourceErr<LoadFault>> for SourceErr<FaultKind> {
-    ghost from_gives = { λ e joined. joined ≡ err_as Load e };
+    ghost from_gives = { λ e joined. joined ≡ err_as kind_of_load e };
 
     fn from(e: SourceErr<LoadFault>) -> Self {
         match e {
             SourceErr::Bad(why) => {
-                let kind = FaultKind::Load(why.kind);
-                SourceErr::Bad(why.with_kind(kind))
-            }
-            SourceErr::Memory => SourceErr::Memory,
-        }
-    }
-}
-
-impl From<SourceErr<EvalFault>> for SourceErr<FaultKind> {
-    ghost from_gives = { λ e joined. joined ≡ err_as Eval e };
-
-    fn from(e: SourceErr<EvalFault>) -> Self {
-        match e {
-            SourceErr::Bad(why) => {
-                let kind = FaultKind::Eval(why.kind);
+                let kind = why.kind.kind();
                 SourceErr::Bad(why.with_kind(kind))
             }
             SourceErr::Memory => SourceErr::Memory,

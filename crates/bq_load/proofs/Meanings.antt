@@ -5,7 +5,6 @@ use Rattle.bq_base.specs.declared.fault.FaultKind.{FaultKind}
 use Rattle.bq_base.specs.declared.fault.Fault.{Fault}
 use Rattle.bq_base.specs.declared.fault.FaultKind.TheVariants as f
 use Rattle.bq_base.specs.declared.fault.LoadFault.{LoadFault}
-use Rattle.bq_base.specs.declared.fault.LoadFault.TheVariants as of_load
 use Rattle.bq_base.specs.Fault.{fault_at}
 use Rattle.bq_value.specs.Datum.{Datum}
 use Rattle.bq_load_front.specs.declared.front.Front.{Front}
@@ -16,7 +15,7 @@ use Rattle.bq_load.specs.Imports.{imports}
 use Rattle.bq_load.specs.Evaluation.{by_imports, by_front, by_module, file_means, loaded_parts, means}
 
 module _ (x : LoadingParts) (m : ℕ) (modules : List ModuleView) where
-  pub means_no_module : slice_get x.modules m ≡ None → means x m modules ≡ Err (not_evaluated (fault_at (f.Load of_load.NoSuchFile) 0))
+  pub means_no_module : slice_get x.modules m ≡ None → means x m modules ≡ Err (not_evaluated (fault_at f.NoSuchFile 0))
   unfolding means
   means_no_module none = ap (by_module x m modules) none
 

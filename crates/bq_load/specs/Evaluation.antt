@@ -5,8 +5,7 @@ use Rattle.bq_base.specs.declared.fault.FaultKind.{FaultKind}
 use Rattle.bq_base.specs.declared.fault.Fault.{Fault}
 use Rattle.bq_base.specs.declared.fault.FaultKind.TheVariants as f
 use Rattle.bq_base.specs.declared.fault.LoadFault.{LoadFault}
-use Rattle.bq_base.specs.declared.fault.LoadFault.TheVariants as of_load
-use Rattle.bq_base.specs.Fault.{fault_at, fault_as}
+use Rattle.bq_base.specs.Fault.{fault_as, fault_at, kind_of_load}
 use Rattle.bq_parse_grammar.specs.declared.tree.FileKind.{FileKind}
 use Rattle.bq_parse_grammar.specs.declared.tree.FileKind.TheVariants as kinds
 use Rattle.bq_label.specs.Label.{LabelParts, package_of}
@@ -60,7 +59,7 @@ abbrev pub loaded_parts : LoadingParts → Front → List ModuleView → LoadedP
 loaded_parts x front modules = record { files = with_labels [] front.loads; modules = modules; resolved = resolved_files x.modules }
 
 abbrev pub by_imports : LoadingParts → ℕ → LabelParts → ResolvedFile → List ModuleView → Result (List Datum) (Fault LoadFault) → Result ModuleView FailedView
-by_imports x m l file modules (Err why) = Err (not_evaluated (fault_as f.Load why))
+by_imports x m l file modules (Err why) = Err (not_evaluated (fault_as kind_of_load why))
 by_imports x m l file modules (Ok values) = file_after x m l file modules values
 
 unfoldable pub file_means : LoadingParts → ℕ → LabelParts → Front → List ModuleView → Result ModuleView FailedView
@@ -73,7 +72,7 @@ by_front x m l modules (Ok front) = file_means x m l front modules
 
 -- no module has a number past the last one; it would be F31
 abbrev pub by_module : LoadingParts → ℕ → List ModuleView → Option Module → Result ModuleView FailedView
-by_module x m modules None = Err (not_evaluated (fault_at (f.Load of_load.NoSuchFile) 0))
+by_module x m modules None = Err (not_evaluated (fault_at f.NoSuchFile 0))
 by_module x m modules (Some s) = by_front x m s.label modules s.front
 
 -- what module m evaluates to, by the modules of the files that its loads name, each once, in the order in which they first name them

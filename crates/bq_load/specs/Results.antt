@@ -4,10 +4,9 @@
 use Rattle.std.specs.Prelude.{ℕ, ◌+◌, List, [], ◌∷◌, Option, Some, None, Result, Ok, Err, slice_get, bytes_eq, if◌then◌else◌}
 use Rattle.bq_base.specs.declared.fault.Fault.{Fault}
 use Rattle.bq_base.specs.declared.fault.FaultKind.{FaultKind}
-use Rattle.bq_base.specs.declared.fault.FaultKind.TheVariants as f
 use Rattle.bq_base.specs.declared.fault.LoadFault.{LoadFault}
 use Rattle.bq_base.specs.declared.fault.LoadFault.TheVariants as of_load
-use Rattle.bq_base.specs.Fault.{fault_at}
+use Rattle.bq_base.specs.Fault.{fault_at, kind_of_load}
 use Rattle.bq_label.specs.Label.{LabelParts, full_form}
 use Rattle.bq_resolve_scope.specs.declared.loads.LoadStmt.{LoadStmt}
 use Rattle.bq_board.specs.Graph.{Loads}
@@ -32,8 +31,8 @@ line_by l (Err why) = 0
 line_by l (Ok front) = line_of_load l front.file.loads front.loads
 
 abbrev pub load_fault_by : LoadFault → Result Front (Fault FaultKind) → Option Module → Fault FaultKind
-load_fault_by kind front None = fault_at (f.Load kind) 0
-load_fault_by kind front (Some loaded) = record { kind = f.Load kind; line = line_by loaded.label front; detail = full_form loaded.label }
+load_fault_by kind front None = fault_at (kind_of_load kind) 0
+load_fault_by kind front (Some loaded) = record { kind = kind_of_load kind; line = line_by loaded.label front; detail = full_form loaded.label }
 
 -- the fault of a module whose file is this, for its load of module k
 unfoldable pub load_fault : LoadingParts → Result Front (Fault FaultKind) → LoadFault → ℕ → Fault FaultKind

@@ -1,8 +1,7 @@
 //! The evaluation of each module, as the outcomes along loads ask for it.
 
 ghost use Rattle.std.specs.Prelude.{◌≡◌, map, IfOk};
-ghost use Rattle.bq_base.specs.Fault.{fault_as};
-ghost use Rattle.bq_base.specs.declared.fault.FaultKind.TheVariants.{Load};
+ghost use Rattle.bq_base.specs.Fault.{fault_as, kind_of_load};
 ghost use Rattle.bq_load_order.specs.Shown.{told};
 ghost use Rattle.bq_load.specs.Views.{ModuleView, FailedView, module_view, failed_view, module_views, not_evaluated};
 ghost use Rattle.bq_load.specs.Loading.{loading_of};
@@ -42,7 +41,7 @@ impl<'a> Evaluate for Loading<'a> {
         watch: &W,
     ) -> Result<Result<LoadedModule, FailedModule>, AllocError> {
         let Some(module) = self.modules.get(m as usize) else {
-            return Ok(not_evaluated(alloc, Fault::at(FaultKind::Load(LoadFault::NoSuchFile), 0)));
+            return Ok(not_evaluated(alloc, Fault::at(FaultKind::NoSuchFile, 0)));
         };
         let front = match &module.front {
             Ok(front) => front,
@@ -74,8 +73,8 @@ fn not_evaluated(alloc: Global, fault: Fault<FaultKind>) -> Result<LoadedModule,
 
 /// Returns a module that lacks what its loads ask for.
 fn not_imported(alloc: Global, fault: Fault<LoadFault>) -> Result<LoadedModule, FailedModule>
-    ensures { told module_view failed_view result ≡ Err (not_evaluated (fault_as Load fault)) }
+    ensures { told module_view failed_view result ≡ Err (not_evaluated (fault_as kind_of_load fault)) }
 {
-    let kind = FaultKind::Load(fault.kind);
+    let kind = fault.kind.kind();
     not_evaluated(alloc, fault.with_kind(kind))
 }

@@ -104,10 +104,10 @@ impl<'a> Loading<'a> {
         ensures { IfOk result (λ f. f ≡ load_fault (loading_of self.now) front.now kind k) }
     {
         let Some(loaded) = self.modules.get(k as usize) else {
-            return Ok(Fault::at(FaultKind::Load(kind), 0));
+            return Ok(Fault::at(kind.kind(), 0));
         };
         Ok(Fault {
-            kind: FaultKind::Load(kind),
+            kind: kind.kind(),
             line: line_by(&loaded.label, front),
             detail: shown(alloc, &loaded.label)?,
         })

@@ -1,11 +1,10 @@
 -- Parts of definitions, as words that proofs name.
 use Rattle.std.specs.Prelude.{ℕ, List, [], Option, Some, None, Result, Ok, Err}
-use Rattle.bq_base.specs.Fault.{fault_at, fault_as}
+use Rattle.bq_base.specs.Fault.{fault_as, fault_at, kind_of_load}
 use Rattle.bq_base.specs.declared.fault.Fault.{Fault}
 use Rattle.bq_base.specs.declared.fault.FaultKind.{FaultKind}
 use Rattle.bq_base.specs.declared.fault.FaultKind.TheVariants as f
 use Rattle.bq_base.specs.declared.fault.LoadFault.{LoadFault}
-use Rattle.bq_base.specs.declared.fault.LoadFault.TheVariants as of_load
 use Rattle.bq_parse_grammar.specs.declared.tree.FileKind.{FileKind}
 use Rattle.bq_parse_grammar.specs.declared.tree.FileKind.TheVariants as kinds
 use Rattle.bq_label.specs.Label.{LabelParts, package_of, full_form}
@@ -39,7 +38,7 @@ kept_by x l kind = elim kind [
 -- a module, by what its loads gave
 abbrev pub by_imports : ParsedParts → ℕ → LabelParts → ParsedFile → List ModuleView → Result (List Datum) (Fault LoadFault) → Result ModuleView FailedView
 by_imports x m l file modules r = elim r [
-  | Err why ↦ Err (not_evaluated (fault_as f.Load why))
+  | Err why ↦ Err (not_evaluated (fault_as kind_of_load why))
   | Ok values ↦ module_after file values (evaluation x m l file modules values)
 ]
 
@@ -49,9 +48,9 @@ by_front x m l modules r = elim r [ Err why ↦ Err (not_evaluated why) | Ok fro
 
 -- the outcome of a module, if there is one
 abbrev pub by_module : ParsedParts → ℕ → List ModuleView → Option ParsedModule → Result ModuleView FailedView
-by_module x m modules o = elim o [ None ↦ Err (not_evaluated (fault_at (f.Load of_load.NoSuchFile) 0)) | Some s ↦ by_front x m s.label modules s.front ]
+by_module x m modules o = elim o [ None ↦ Err (not_evaluated (fault_at f.NoSuchFile 0)) | Some s ↦ by_front x m s.label modules s.front ]
 
 -- the fault of a loader, by the module that it loads
 abbrev pub load_fault_by : LoadFault → Result ParsedFront (Fault FaultKind) → Option ParsedModule → Fault FaultKind
 load_fault_by kind front o =
-    elim o [ None ↦ fault_at (f.Load kind) 0 | Some m ↦ record { kind = f.Load kind; line = line_by m.label front; detail = full_form m.label } ]
+    elim o [ None ↦ fault_at (kind_of_load kind) 0 | Some m ↦ record { kind = kind_of_load kind; line = line_by m.label front; detail = full_form m.label } ]

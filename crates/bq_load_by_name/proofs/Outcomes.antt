@@ -1,9 +1,9 @@
 -- The recursion along loads gives the same outcomes by names and by slots.
 use Rattle.std.proofs.Common.{◌≡◌, ◌∙◌, ℕ, zero, suc, ◌+◌, List, [], ◌∷◌, map, Option, Some, None, Result, Ok, Err, option_map, slice_get, refl, sym, ap, subst, arith, bytes_eq}
 use Rattle.std.specs.Prelude.{if◌then◌else◌}
+use Rattle.bq_base.specs.Fault.{kind_of_load}
 use Rattle.bq_base.specs.declared.fault.Fault.{Fault}
 use Rattle.bq_base.specs.declared.fault.FaultKind.{FaultKind}
-use Rattle.bq_base.specs.declared.fault.FaultKind.TheVariants as f
 use Rattle.bq_base.specs.declared.fault.LoadFault.{LoadFault}
 use Rattle.bq_base.specs.declared.fault.LoadFault.TheVariants as of_load
 use Rattle.bq_label.specs.declared.workspace.File.{File}
@@ -60,7 +60,7 @@ line_is l (Ok parsed) (Ok front) h =
     ∙ ap (slots.line_of_load l front.file.loads) (sym h.1)
 
 abbrev fault_on : LoadFault → List ℕ → ℕ → Fault FaultKind
-fault_on kind detail line = record { kind = f.Load kind; line = line; detail = detail }
+fault_on kind detail line = record { kind = kind_of_load kind; line = line; detail = detail }
 
 fault_is : (kind : LoadFault) (x : Result ParsedFront (Fault FaultKind)) (r : Result Front (Fault FaultKind)) → IsFrontOf x r → (s : Option ParsedModule) (t : Option Module) → Maybe IsReadAs s t
     → load_fault_by kind x s ≡ slots.load_fault_by kind r t

@@ -2,8 +2,7 @@
 -- statements give, run on a fresh machine with all its steps.
 use Rattle.std.specs.Prelude.{ℕ, List, [], map, Some, None, Result, Ok, Err, slice_get}
 use Rattle.bq_base.specs.declared.fault.FaultKind.TheVariants as f
-use Rattle.bq_base.specs.declared.fault.LoadFault.TheVariants as of_load
-use Rattle.bq_base.specs.Fault.{fault_at, fault_as}
+use Rattle.bq_base.specs.Fault.{fault_as, fault_at, kind_of_load}
 use Rattle.bq_parse_grammar.specs.declared.tree.FileKind.TheVariants as kinds
 use Rattle.bq_label.specs.Label.{LabelParts, package_of}
 use Rattle.bq_label_set.specs.Labels.{with_labels}
@@ -49,7 +48,7 @@ loaded_parts x front modules = record { files = with_labels [] front.loads; modu
 -- the outcome of a file, over those of the modules before it; a symbol that they lack is its fault
 unfoldable pub file_means : ParsedParts → ℕ → LabelParts → ParsedFront → List ModuleView → Result ModuleView FailedView
 file_means x m l front modules = elim (imports (loaded_parts x front modules) [] (file_loads front.file.statements) front.loads) [
-  | Err why ↦ Err (not_evaluated (fault_as f.Load why))
+  | Err why ↦ Err (not_evaluated (fault_as kind_of_load why))
   | Ok values ↦ module_after front.file values (evaluation x m l front.file modules values)
 ]
 
@@ -57,6 +56,6 @@ file_means x m l front modules = elim (imports (loaded_parts x front modules) []
 -- module has a number past the last one; it would be F31.
 unfoldable pub means : ParsedParts → ℕ → List ModuleView → Result ModuleView FailedView
 means x m modules = elim (slice_get x.modules m) [
-  | None ↦ Err (not_evaluated (fault_at (f.Load of_load.NoSuchFile) 0))
+  | None ↦ Err (not_evaluated (fault_at f.NoSuchFile 0))
   | Some s ↦ elim s.front [ Err why ↦ Err (not_evaluated why) | Ok front ↦ file_means x m s.label front modules ]
 ]

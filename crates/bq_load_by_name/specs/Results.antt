@@ -4,10 +4,9 @@
 use Rattle.std.specs.Prelude.{◌≡◌, ℕ, ◌+◌, List, [], ◌∷◌, Some, None, Result, Ok, Err, slice_get, bytes_eq, if◌then◌else◌}
 use Rattle.bq_base.specs.declared.fault.Fault.{Fault}
 use Rattle.bq_base.specs.declared.fault.FaultKind.{FaultKind}
-use Rattle.bq_base.specs.declared.fault.FaultKind.TheVariants as f
 use Rattle.bq_base.specs.declared.fault.LoadFault.{LoadFault}
 use Rattle.bq_base.specs.declared.fault.LoadFault.TheVariants as of_load
-use Rattle.bq_base.specs.Fault.{fault_at}
+use Rattle.bq_base.specs.Fault.{fault_at, kind_of_load}
 use Rattle.bq_label.specs.declared.workspace.File.{File}
 use Rattle.bq_label.specs.Label.{LabelParts, full_form}
 use Rattle.bq_label.specs.Packages.{packages_of}
@@ -42,7 +41,7 @@ line_by l (Ok front) = line_of_load l (file_loads front.file.statements) front.l
 -- the fault of a module whose file is this, for its load of module k
 unfoldable pub load_fault : ParsedParts → Result ParsedFront (Fault FaultKind) → LoadFault → ℕ → Fault FaultKind
 load_fault x front kind k =
-    elim (slice_get x.modules k) [ None ↦ fault_at (f.Load kind) 0 | Some m ↦ record { kind = f.Load kind; line = line_by m.label front; detail = full_form m.label } ]
+    elim (slice_get x.modules k) [ None ↦ fault_at (kind_of_load kind) 0 | Some m ↦ record { kind = kind_of_load kind; line = line_by m.label front; detail = full_form m.label } ]
 
 -- the outcome of a module, with the fault that a load gave it
 abbrev pub result_of : ParsedParts → Result ParsedFront (Fault FaultKind) → Outcome ModuleView FailedView → Result ModuleView FailedView

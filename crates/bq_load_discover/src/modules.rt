@@ -5,7 +5,7 @@ ghost use Rattle.bq_label_set.specs.Labels.{with_labels};
 ghost use Rattle.bq_load_front.specs.Front.{loads_by};
 ghost use Rattle.bq_load_discover.specs.Module.{module_of};
 
-use bq_base::{Fault, FaultKind, LoadFault, SourceErr};
+use bq_base::{Fault, FaultKind, SourceErr};
 use bq_label::Label;
 use bq_load_front::{Front, Inputs, front_of};
 use std::alloc::{AllocError, Global};
@@ -43,7 +43,7 @@ impl Module {
 
     /// Drops what its file is. What is left is a module whose file is missing.
     pub(crate) fn forget(&mut self) {
-        self.front = Err(Fault::at(FaultKind::Load(LoadFault::NoSuchFile), 0));
+        self.front = Err(Fault::at(FaultKind::NoSuchFile, 0));
     }
 
     /// Returns the labels of the files that it loads, each once, in the order in which it first loads them; none if its

@@ -1,13 +1,12 @@
 -- What is made of a file is what the file is: the fault of its names is the first rule that it breaks, and what it resolves to has its loads.
 use Rattle.std.proofs.Common.{◌≡◌, ◌∙◌, ℕ, List, [], ◌∷◌, ◌++◌, map, Option, None, Some, Result, Ok, Err, refl, sym, ap, subst}
 use Rattle.bq_base.specs.declared.fault.FaultKind.{FaultKind}
-use Rattle.bq_base.specs.declared.fault.FaultKind.TheVariants as f
 use Rattle.bq_base.specs.declared.fault.TokenFault.{TokenFault}
 use Rattle.bq_base.specs.declared.fault.StatementFault.{StatementFault}
 use Rattle.bq_base.specs.declared.fault.NameFault.{NameFault}
 use Rattle.bq_base.specs.declared.fault.LoadFault.{LoadFault}
 use Rattle.bq_base.specs.declared.fault.Fault.{Fault}
-use Rattle.bq_base.specs.Fault.{fault_as, or_fault_as}
+use Rattle.bq_base.specs.Fault.{fault_as, kind_of_load, kind_of_name, kind_of_statement, kind_of_token, or_fault_as}
 use Rattle.bq_source.specs.declared.token.Token.{Token}
 use Rattle.bq_source_lexer.specs.Tokens.{tokens_of}
 use Rattle.bq_parse_grammar.specs.declared.tree.TopLevel.{TopLevel}
@@ -63,23 +62,23 @@ module _ (universe : UniverseParts) where
   parsed_file trees = record { universe = universe; statements = trees }
 
   by_names : (ts : List Lexeme) (trees : List TopLevel) → Parses universe.kind ts (Ok trees) → (vs : List (Fault NameFault)) → violations universe trees ≡ vs
-      → (r : Result ResolvedFile (Fault NameFault)) → resolved universe trees ≡ r → ResultsAgree (unless_broken (parsed_file trees) vs) (or_fault_as f.Name r)
+      → (r : Result ResolvedFile (Fault NameFault)) → resolved universe trees ≡ r → ResultsAgree (unless_broken (parsed_file trees) vs) (or_fault_as kind_of_name r)
   by_names ts trees p [] is (Ok found) e = record { lexemes = ts; parses = p; names = e }
   by_names ts trees p [] is (Err told) e = absurd (no_first told (violations universe trees) is ((first_violation universe trees told).0 e))
   by_names ts trees p (v ∷ more) is (Ok found) e = absurd (not_none v more (violations universe trees) is ((without_violations universe trees).0 (found, e)))
-  by_names ts trees p (v ∷ more) is (Err told) e = ap (fault_as f.Name) (is_first v told more (violations universe trees) is ((first_violation universe trees told).0 e))
+  by_names ts trees p (v ∷ more) is (Err told) e = ap (fault_as kind_of_name) (is_first v told more (violations universe trees) is ((first_violation universe trees told).0 e))
 
   by_trees : (ts : List Lexeme) (r : Result (List TopLevel) (Fault StatementFault)) → Parses universe.kind ts r
-      → ResultsAgree (or_fault_as f.Statement r >>= file_from universe) (or_fault_as f.Statement r >>= λ trees. or_fault_as f.Name (resolved universe trees))
+      → ResultsAgree (or_fault_as kind_of_statement r >>= file_from universe) (or_fault_as kind_of_statement r >>= λ trees. or_fault_as kind_of_name (resolved universe trees))
   by_trees ts (Ok trees) p = by_names ts trees p (violations universe trees) refl (resolved universe trees) refl
   by_trees ts (Err why) p = refl
 
   abbrev trees_in : List ℕ → Result (List Token) (Fault TokenFault) → Result (List TopLevel) (Fault FaultKind)
-  trees_in text r = or_fault_as f.Token r >>= λ ts. or_fault_as f.Statement (statements_of universe.kind (lexemes text ts))
+  trees_in text r = or_fault_as kind_of_token r >>= λ ts. or_fault_as kind_of_statement (statements_of universe.kind (lexemes text ts))
 
   by_tokens : (text : List ℕ) (r : Result (List Token) (Fault TokenFault))
       → ResultsAgree (trees_in text r >>= file_from universe)
-      (or_fault_as f.Token r >>= λ ts. or_fault_as f.Statement (statements_of universe.kind (lexemes text ts)) >>= λ trees. or_fault_as f.Name (resolved universe trees))
+      (or_fault_as kind_of_token r >>= λ ts. or_fault_as kind_of_statement (statements_of universe.kind (lexemes text ts)) >>= λ trees. or_fault_as kind_of_name (resolved universe trees))
   by_tokens text (Ok ts) = by_trees (lexemes text ts) (statements_of universe.kind (lexemes text ts)) (file_reads universe.kind (lexemes text ts))
   by_tokens text (Err why) = refl
 
@@ -97,10 +96,10 @@ module _ (inputs : InputParts) (own : PackageParts) where
 
 module _ (inputs : InputParts) (l : LabelParts) where
   abbrev front_with : ResolvedFile → Result (List LabelParts) (Fault LoadFault) → Result Front (Fault FaultKind)
-  front_with found r = or_fault_as f.Load r >>= λ ls. Ok (record { file = found; loads = ls })
+  front_with found r = or_fault_as kind_of_load r >>= λ ls. Ok (record { file = found; loads = ls })
 
   abbrev parsed_with : ParsedFile → Result (List LabelParts) (Fault LoadFault) → Result ParsedFront (Fault FaultKind)
-  parsed_with file r = or_fault_as f.Load r >>= λ ls. Ok (record { file = file; loads = ls })
+  parsed_with file r = or_fault_as kind_of_load r >>= λ ls. Ok (record { file = file; loads = ls })
 
   by_labels : (file : ParsedFile) (found : ResolvedFile) → ResolvesTo file found → (r : Result (List LabelParts) (Fault LoadFault)) → IsFrontOf (parsed_with file r) (front_with found r)
   by_labels file found is (Ok ls) = (is, refl)

@@ -2,10 +2,9 @@
 use Rattle.std.proofs.Common.{◌≡◌, ◌∙◌, ◌⊎◌, List, [], ◌∷◌, ◌++◌, map, Option, None, Some, Result, Ok, Err, refl, sym, ap, subst, inl, inr, append-nil, append_assoc, arith}
 use Rattle.std.specs.List.{Contains}
 use Rattle.bq_base.specs.declared.fault.FaultKind.{FaultKind}
-use Rattle.bq_base.specs.declared.fault.FaultKind.TheVariants as f
 use Rattle.bq_base.specs.declared.fault.LoadFault.{LoadFault}
 use Rattle.bq_base.specs.declared.fault.Fault.{Fault}
-use Rattle.bq_base.specs.Fault.{or_fault_as}
+use Rattle.bq_base.specs.Fault.{kind_of_load, or_fault_as}
 use Rattle.bq_label.specs.declared.workspace.File.{File}
 use Rattle.bq_label.specs.Label.{PackageParts, LabelParts, package_of}
 use Rattle.bq_label.specs.Packages.{label_file}
@@ -142,7 +141,7 @@ module _ (inputs : InputParts) (own : PackageParts) where
 
 module _ (inputs : InputParts) (m l : LabelParts) where
   abbrev front_with : ParsedFile → Result (List LabelParts) (Fault LoadFault) → Result ParsedFront (Fault FaultKind)
-  front_with file r = or_fault_as f.Load r >>= λ ls. Ok (record { file = file; loads = ls })
+  front_with file r = or_fault_as kind_of_load r >>= λ ls. Ok (record { file = file; loads = ls })
 
   of_loads : (file : ParsedFile) (r : Result (List LabelParts) (Fault LoadFault)) → labels_of (file_named inputs (package_of m)) [] (file_loads file.statements) ≡ r → Contains (loads_in (front_with file r)) l
       → IsNamed inputs (package_of m) l

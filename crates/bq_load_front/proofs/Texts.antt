@@ -1,12 +1,11 @@
 -- The file of a text is what its one reading gives, unless it breaks a rule of names and flow.
 use Rattle.std.proofs.Common.{◌≡◌, ◌∙◌, ℕ, List, [], ◌∷◌, None, Some, Result, Ok, Err, refl, sym, ap, subst}
 use Rattle.bq_base.specs.declared.fault.FaultKind.{FaultKind}
-use Rattle.bq_base.specs.declared.fault.FaultKind.TheVariants as f
 use Rattle.bq_base.specs.declared.fault.TokenFault.{TokenFault}
 use Rattle.bq_base.specs.declared.fault.StatementFault.{StatementFault}
 use Rattle.bq_base.specs.declared.fault.NameFault.{NameFault}
 use Rattle.bq_base.specs.declared.fault.Fault.{Fault}
-use Rattle.bq_base.specs.Fault.{fault_as, or_fault_as}
+use Rattle.bq_base.specs.Fault.{fault_as, kind_of_name, kind_of_statement, kind_of_token, or_fault_as}
 use Rattle.bq_source.specs.declared.token.Token.{Token}
 use Rattle.bq_source_lexer.specs.Reading.{Lexes}
 use Rattle.bq_source_lexer.specs.Tokens.{tokens_of}
@@ -39,10 +38,10 @@ module _ (universe : UniverseParts) (text : List ℕ) where
   of_trees r = r >>= file_from universe
 
   abbrev of_statements : Result (List TopLevel) (Fault StatementFault) → Result ParsedFile (Fault FaultKind)
-  of_statements r = of_trees (or_fault_as f.Statement r)
+  of_statements r = of_trees (or_fault_as kind_of_statement r)
 
   abbrev of_tokens : Result (List Token) (Fault TokenFault) → Result ParsedFile (Fault FaultKind)
-  of_tokens r = of_trees (or_fault_as f.Token r >>= λ ts. or_fault_as f.Statement (statements_of universe.kind (lexemes text ts)))
+  of_tokens r = of_trees (or_fault_as kind_of_token r >>= λ ts. or_fault_as kind_of_statement (statements_of universe.kind (lexemes text ts)))
 
   -- ---- what a text gives
 
@@ -70,9 +69,9 @@ module _ (universe : UniverseParts) (text : List ℕ) where
   kept : (trees : List TopLevel) → violations universe trees ≡ [] → of_trees (Ok trees) ≡ good (file_with trees)
   kept trees e = ap (unless_broken (file_with trees)) e
 
-  broken : (trees : List TopLevel) (why : Fault NameFault) (vs : List (Fault NameFault)) → violations universe trees ≡ vs → first vs ≡ Some why → of_trees (Ok trees) ≡ bad (fault_as f.Name why)
+  broken : (trees : List TopLevel) (why : Fault NameFault) (vs : List (Fault NameFault)) → violations universe trees ≡ vs → first vs ≡ Some why → of_trees (Ok trees) ≡ bad (fault_as kind_of_name why)
   broken trees why [] is e = absurd (let none : None ≡ Some why = e in let no : ⊥ = cc in no)
-  broken trees why (v ∷ vs) is e = let one : Some v ≡ Some why = e in let same : v ≡ why = cc in ap (unless_broken (file_with trees)) is ∙ ap (λ (z : Fault NameFault). bad (fault_as f.Name z)) same
+  broken trees why (v ∷ vs) is e = let one : Some v ≡ Some why = e in let same : v ≡ why = cc in ap (unless_broken (file_with trees)) is ∙ ap (λ (z : Fault NameFault). bad (fault_as kind_of_name z)) same
 
   only : (r : Result ParsedFile (Fault FaultKind)) → ReadsAsFile universe text r → of_tokens (tokens_of text) ≡ r
   only r (ReadsAsFile.bad_tokens why l e) = ap of_tokens (tokens_are (Err why) l) ∙ sym e

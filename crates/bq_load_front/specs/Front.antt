@@ -5,8 +5,7 @@ use Rattle.bq_base.specs.declared.fault.FaultKind.{FaultKind}
 use Rattle.bq_base.specs.declared.fault.Fault.{Fault}
 use Rattle.bq_base.specs.declared.fault.FaultKind.TheVariants as f
 use Rattle.bq_base.specs.declared.fault.LoadFault.{LoadFault}
-use Rattle.bq_base.specs.declared.fault.LoadFault.TheVariants as of_load
-use Rattle.bq_base.specs.Fault.{fault_at, or_fault_as}
+use Rattle.bq_base.specs.Fault.{fault_at, kind_of_load, or_fault_as}
 use Rattle.bq_label.specs.declared.workspace.File.{File}
 use Rattle.bq_label.specs.Label.{PackageParts, LabelParts, package_of}
 use Rattle.bq_label.specs.Packages.{label_file}
@@ -24,11 +23,11 @@ load_of inputs own x = file_named inputs own (written_load x)
 -- what a text gives as the file of this label
 abbrev pub front_by : InputParts → LabelParts → List ℕ → Result Front (Fault FaultKind)
 front_by inputs l text =
-    resolved_file (universe_of inputs (kind_of l)) text >>= λ file. or_fault_as f.Load (labels_of (load_of inputs (package_of l)) [] file.loads) >>= λ ls. Ok (record { file = file; loads = ls })
+    resolved_file (universe_of inputs (kind_of l)) text >>= λ file. or_fault_as kind_of_load (labels_of (load_of inputs (package_of l)) [] file.loads) >>= λ ls. Ok (record { file = file; loads = ls })
 
 -- no module of a workspace lacks its file
 abbrev pub front_at : InputParts → LabelParts → Option File → Result Front (Fault FaultKind)
-front_at inputs l None = Err (fault_at (f.Load of_load.NoSuchFile) 0)
+front_at inputs l None = Err (fault_at f.NoSuchFile 0)
 front_at inputs l (Some x) = front_by inputs l x.content
 
 -- what the file of this label gives

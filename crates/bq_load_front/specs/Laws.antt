@@ -2,13 +2,12 @@
 use Rattle.std.specs.Prelude.{◌≡◌, ◌↔◌, ℕ, List, [], ◌∷◌, ◌++◌, map, Result, Ok, Err}
 use Rattle.std.specs.List.{Contains}
 use Rattle.bq_base.specs.declared.fault.FaultKind.{FaultKind}
-use Rattle.bq_base.specs.declared.fault.FaultKind.TheVariants as f
 use Rattle.bq_base.specs.declared.fault.TokenFault.{TokenFault}
 use Rattle.bq_base.specs.declared.fault.StatementFault.{StatementFault}
 use Rattle.bq_base.specs.declared.fault.NameFault.{NameFault}
 use Rattle.bq_base.specs.declared.fault.LoadFault.{LoadFault}
 use Rattle.bq_base.specs.declared.fault.Fault.{Fault}
-use Rattle.bq_base.specs.Fault.{fault_as}
+use Rattle.bq_base.specs.Fault.{fault_as, kind_of_name, kind_of_statement, kind_of_token}
 use Rattle.bq_source.specs.declared.token.Token.{Token}
 use Rattle.bq_source_lexer.specs.Reading.{Lexes}
 use Rattle.bq_parse_grammar.specs.declared.tree.TopLevel.{TopLevel}
@@ -35,11 +34,11 @@ pub record TextResolvesTo (universe : UniverseParts) (text : List ℕ) (file : R
 
 -- the text has this fault
 pub data HasFault (universe : UniverseParts) (text : List ℕ) (why : Fault FaultKind) : Type 0 where
-  of_tokens : (at : Fault TokenFault) → Lexes text (Err at) → why ≡ fault_as f.Token at → HasFault universe text why
-  of_statements : (tokens : List Token) (at : Fault StatementFault) → Lexes text (Ok tokens) → Parses universe.kind (lexemes text tokens) (Err at) → why ≡ fault_as f.Statement at
+  of_tokens : (at : Fault TokenFault) → Lexes text (Err at) → why ≡ fault_as kind_of_token at → HasFault universe text why
+  of_statements : (tokens : List Token) (at : Fault StatementFault) → Lexes text (Ok tokens) → Parses universe.kind (lexemes text tokens) (Err at) → why ≡ fault_as kind_of_statement at
       → HasFault universe text why
   of_names : (tokens : List Token) (trees : List TopLevel) (at : Fault NameFault) → Lexes text (Ok tokens) → Parses universe.kind (lexemes text tokens) (Ok trees) → resolved universe trees ≡ Err at
-      → why ≡ fault_as f.Name at → HasFault universe text why
+      → why ≡ fault_as kind_of_name at → HasFault universe text why
 
 abbrev pub FilesOfTexts : Type 0
 FilesOfTexts = (universe : UniverseParts) (text : List ℕ) (r : Result ParsedFile (Fault FaultKind)) → (file_of_text universe text ≡ r) ↔ ReadsAsFile universe text r

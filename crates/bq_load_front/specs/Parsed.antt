@@ -9,8 +9,7 @@ use Rattle.bq_base.specs.declared.fault.TokenFault.{TokenFault}
 use Rattle.bq_base.specs.declared.fault.StatementFault.{StatementFault}
 use Rattle.bq_base.specs.declared.fault.NameFault.{NameFault}
 use Rattle.bq_base.specs.declared.fault.LoadFault.{LoadFault}
-use Rattle.bq_base.specs.declared.fault.LoadFault.TheVariants as of_load
-use Rattle.bq_base.specs.Fault.{fault_at, fault_as, or_fault_as}
+use Rattle.bq_base.specs.Fault.{fault_as, fault_at, kind_of_load, kind_of_name, kind_of_statement, kind_of_token, or_fault_as}
 use Rattle.bq_source.specs.declared.token.Token.{Token}
 use Rattle.bq_source_lexer.specs.Reading.{Lexes}
 use Rattle.bq_parse_grammar.specs.Lexeme.{lexemes}
@@ -39,10 +38,10 @@ pub record ParsedFront : Type 0 where
 -- the text is that of this file: it reads as tokens, these as statements, and they break no rule of names and flow. Or it has this fault: of its
 -- tokens, else of its statements, else the first of these rules that is broken.
 pub data ReadsAsFile (universe : UniverseParts) (text : List ℕ) (r : Result ParsedFile (Fault FaultKind)) : Type 0 where
-  bad_tokens : (why : Fault TokenFault) → Lexes text (Err why) → r ≡ Err (fault_as f.Token why) → ReadsAsFile universe text r
-  bad_statements : (tokens : List Token) (why : Fault StatementFault) → Lexes text (Ok tokens) → Parses universe.kind (lexemes text tokens) (Err why) → r ≡ Err (fault_as f.Statement why) → ReadsAsFile universe text r
+  bad_tokens : (why : Fault TokenFault) → Lexes text (Err why) → r ≡ Err (fault_as kind_of_token why) → ReadsAsFile universe text r
+  bad_statements : (tokens : List Token) (why : Fault StatementFault) → Lexes text (Ok tokens) → Parses universe.kind (lexemes text tokens) (Err why) → r ≡ Err (fault_as kind_of_statement why) → ReadsAsFile universe text r
   bad_names : (tokens : List Token) (trees : List TopLevel) (why : Fault NameFault) → Lexes text (Ok tokens) → Parses universe.kind (lexemes text tokens) (Ok trees)
-      → first (violations universe trees) ≡ Some why → r ≡ Err (fault_as f.Name why) → ReadsAsFile universe text r
+      → first (violations universe trees) ≡ Some why → r ≡ Err (fault_as kind_of_name why) → ReadsAsFile universe text r
   good : (tokens : List Token) (trees : List TopLevel) → Lexes text (Ok tokens) → Parses universe.kind (lexemes text tokens) (Ok trees) → violations universe trees ≡ []
       → r ≡ Ok (record { universe = universe; statements = trees }) → ReadsAsFile universe text r
 
@@ -65,11 +64,11 @@ kind_of l = if ends_with nat_eq l.name (codes ".bzl") then kinds.Bzl else kinds.
 
 -- a file with the labels that it loads, or the fault of the first bad one
 abbrev pub front_from : InputParts → LabelParts → ParsedFile → Result ParsedFront (Fault FaultKind)
-front_from inputs l file = or_fault_as f.Load (labels_of (file_named inputs (package_of l)) [] (file_loads file.statements)) >>= λ ls. Ok (record { file = file; loads = ls })
+front_from inputs l file = or_fault_as kind_of_load (labels_of (file_named inputs (package_of l)) [] (file_loads file.statements)) >>= λ ls. Ok (record { file = file; loads = ls })
 
 -- what the file of this label is; no module of a workspace lacks its file
 pub data IsFront (inputs : InputParts) (l : LabelParts) (r : Result ParsedFront (Fault FaultKind)) : Type 0 where
-  no_file : label_file inputs.files l ≡ None → r ≡ Err (fault_at (f.Load of_load.NoSuchFile) 0) → IsFront inputs l r
+  no_file : label_file inputs.files l ≡ None → r ≡ Err (fault_at f.NoSuchFile 0) → IsFront inputs l r
   found : (x : File) (file : Result ParsedFile (Fault FaultKind)) → label_file inputs.files l ≡ Some x → ReadsAsFile (universe_of inputs (kind_of l)) x.content file
       → r ≡ (file >>= front_from inputs l) → IsFront inputs l r
 

@@ -2,9 +2,8 @@
 use Rattle.std.specs.Prelude.{ℕ, List, Result, Ok, Err, Vec}
 use Rattle.std.specs.Global.{Global}
 use Rattle.bq_base.specs.declared.fault.FaultKind.{FaultKind}
-use Rattle.bq_base.specs.declared.fault.FaultKind.TheVariants as f
 use Rattle.bq_base.specs.declared.fault.Fault.{Fault}
-use Rattle.bq_base.specs.Fault.{or_fault_as}
+use Rattle.bq_base.specs.Fault.{kind_of_name, kind_of_statement, kind_of_token, or_fault_as}
 use Rattle.bq_source_lexer.specs.Tokens.{tokens_of}
 use Rattle.bq_parse_grammar.specs.Lexeme.{lexemes}
 use Rattle.bq_parse_grammar.specs.Parses.{statements_of}
@@ -21,7 +20,7 @@ abbrev pub ◌>>=◌ : {A B K : Type 0} → Result A (Fault K) → (A → Result
 -- its tokens, the trees of its statements, and what their names stand for
 unfoldable pub resolved_file : UniverseParts → List ℕ → Result ResolvedFile (Fault FaultKind)
 resolved_file universe text =
-    or_fault_as f.Token (tokens_of text) >>= λ ts. or_fault_as f.Statement (statements_of universe.kind (lexemes text ts)) >>= λ trees. or_fault_as f.Name (resolved universe trees)
+    or_fault_as kind_of_token (tokens_of text) >>= λ ts. or_fault_as kind_of_statement (statements_of universe.kind (lexemes text ts)) >>= λ trees. or_fault_as kind_of_name (resolved universe trees)
 
 -- the views of what functions return, under which `Gives` relates it to a definition
 abbrev pub itself : {A : Type 0} → A → A

@@ -68,7 +68,7 @@ pub fn front_of(alloc: Global, inputs: &Inputs<'_>, label: &Label) -> Result<Fro
     ensures { Gives itself Bad result (front_of inputs.now label.now) }
 {
     let Some(file) = label_file(alloc, inputs.workspace(), label)? else {
-        return Err(SourceErr::Bad(Fault::at(FaultKind::Load(LoadFault::NoSuchFile), 0)));
+        return Err(SourceErr::Bad(Fault::at(FaultKind::NoSuchFile, 0)));
     };
     let universe = inputs.universe(kind_of(label));
     let resolved = resolved_file(alloc, universe, file.content.as_slice())?;

@@ -1,8 +1,7 @@
 -- What the run of a file ends in: its module, or why it failed. The host has the package of the file. What a BUILD file made is given up
 -- once its package is finished: nobody loads one.
 use Rattle.std.specs.Prelude.{ℕ, List, [], Option, Some, None, Result, Ok, Err, option_map}
-use Rattle.bq_base.specs.Fault.{fault_as}
-use Rattle.bq_base.specs.declared.fault.FaultKind.TheVariants.{Eval}
+use Rattle.bq_base.specs.Fault.{fault_as, kind_of_eval}
 use Rattle.bq_resolve_scope.specs.declared.file.ResolvedFile.{ResolvedFile}
 use Rattle.bq_value.specs.Cells.{FrozenView, frozen}
 use Rattle.bq_value.specs.Datum.{Datum}
@@ -25,7 +24,7 @@ module_with made prints p = record { frozen = elim p [ None ↦ made | Some decl
 -- what an evaluation ends in, with the package that is declared then
 abbrev pub module_by : Ended → Option PackageTargets → Result ModuleView FailedView
 module_by (evaluated made prints) p = Ok (module_with made prints (option_map finished p))
-module_by (failed why prints) p = Err (record { fault = fault_as Eval why; prints = prints })
+module_by (failed why prints) p = Err (record { fault = fault_as kind_of_eval why; prints = prints })
 
 -- the package that an evaluation declares
 abbrev pub package_left : Option HeldPackage → Option PackageTargets

@@ -1,8 +1,7 @@
 //! The run of a file to its module.
 
 ghost use Rattle.std.specs.Prelude.{◌≡◌, Some, option_map, IfOk};
-ghost use Rattle.bq_base.specs.Fault.{fault_as};
-ghost use Rattle.bq_base.specs.declared.fault.FaultKind.TheVariants.{Eval};
+ghost use Rattle.bq_base.specs.Fault.{fault_as, kind_of_eval};
 ghost use Rattle.bq_eval.specs.Outcomes.{ended_of, run_of};
 ghost use Rattle.bq_package.specs.Calls.{held_by, meaning, package_in};
 ghost use Rattle.bq_package_target.specs.Package.{finished};
@@ -11,7 +10,7 @@ ghost use Rattle.bq_load_module.specs.Views.{module_view, failed_view};
 ghost use Rattle.bq_load_module.specs.Run.{without_cells, module_with, module_by, module_after};
 
 use crate::outcome::{FailedModule, LoadedModule};
-use bq_base::{Bytes, EvalFault, Fault, FaultKind};
+use bq_base::{Bytes, EvalFault, Fault};
 use bq_eval::{EvaluatedFile, FileOutcome, ResolvedModule, eval_module};
 use bq_package::BuildHost;
 use bq_package_host::BuiltIns;
@@ -71,9 +70,9 @@ fn loaded_module(
 
 /// Returns a module whose evaluation failed.
 fn failed_module(fault: Fault<EvalFault>, prints: Vec<Bytes>) -> FailedModule
-    ensures { failed_view result ≡ record { fault = fault_as Eval fault; prints = prints.items } }
+    ensures { failed_view result ≡ record { fault = fault_as kind_of_eval fault; prints = prints.items } }
 {
-    let kind = FaultKind::Eval(fault.kind);
+    let kind = fault.kind.kind();
     FailedModule {
         fault: fault.with_kind(kind),
         prints,

@@ -8,7 +8,7 @@ ghost use Rattle.bq_source.specs.Operators.{operators, kind_of};
 ghost use Rattle.bq_source.specs.Spelling.{IsListed};
 ghost use Rattle.bq_source.specs.Number.{begins_number, is_number_byte, max_int};
 ghost use Rattle.bq_source.specs.StringLiteral.{scan_string, string_value};
-ghost use Rattle.bq_base.specs.Fault.{token_fault_number, token_fault_name};
+ghost use Rattle.bq_base.specs.Fault.{fault_number, fault_name, kind_of_token};
 ghost use Rattle.bq_source.specs.declared.operators.Lexeme.{Lexeme};
 ghost use Rattle.bq_source.specs.declared.token.TokenKind.{TokenKind};
 ghost use Rattle.bq_source.specs.declared.token.TokenKind.TheVariants as k;
@@ -61,5 +61,5 @@ pub fn limits_of_the_lexis()
 
 /// The faults of the lexis have the numbers F1 to F8, and their names.
 pub fn faults_have_their_numbers()
-    ensures { AllByRecursion (λ row. (token_fault_number row.0 ≡ row.1) × (token_fault_name row.0 ≡ row.2)) fault_table }
+    ensures { AllByRecursion (λ row. (fault_number (kind_of_token row.0) ≡ row.1) × (fault_name (kind_of_token row.0) ≡ row.2)) fault_table }
 {}

@@ -3,7 +3,7 @@
 //! What owns bytes or an error is one function for a row of a table, and drops it before anything else can fail: the prover follows each
 //! way out with all that a function owns.
 
-use bq_base::{Bytes, Fault, FaultKind, SourceErr};
+use bq_base::{Bytes, Fault, FaultKind};
 use bq_query_lex::QueryErr;
 use std::alloc::{AllocError, Global};
 
@@ -15,38 +15,35 @@ fn numbers_and_names(rt: HostRuntime) {
 }
 
 const KINDS: &[(FaultKind, u32, &str)] = &[
-    (FaultKind::Token(TokenFault::BadByte), 1, "BadByte"),
-    (FaultKind::Statement(StatementFault::LeftOut), 12, "LeftOut"),
-    (FaultKind::Eval(EvalFault::WrongType), 40, "Type"),
-    (FaultKind::Eval(EvalFault::DoubleTarget), 74, "DoubleTarget"),
+    (FaultKind::BadByte, 1, "BadByte"),
+    (FaultKind::LeftOut, 12, "LeftOut"),
+    (FaultKind::WrongType, 40, "Type"),
+    (FaultKind::DoubleTarget, 74, "DoubleTarget"),
     (FaultKind::Schema, 80, "Schema"),
 ];
 
-/// F35 with this detail, or a lack of memory where it is empty.
-fn source_error(alloc: Global, detail: &[u8]) -> Result<SourceErr, AllocError> {
-    if detail.is_empty() {
-        return Ok(SourceErr::from(AllocError));
-    }
-    Ok(SourceErr::Bad(Fault {
-        kind: FaultKind::Load(LoadFault::CycleReached),
+/// F35 with this detail.
+fn fault(alloc: Global, detail: &[u8]) -> Result<Fault<FaultKind>, AllocError> {
+    Ok(Fault {
+        kind: FaultKind::CycleReached,
         line: 1,
         detail: Bytes::from_slice(alloc, detail)?,
-    }))
+    })
 }
 
 /// Whether it is shown so.
 fn is_shown(alloc: Global, detail: &[u8], wanted: &str) -> Result<bool, AllocError> {
-    let error = source_error(alloc, detail)?;
-    let found = format!(in alloc; "{error}");
-    drop(error);
+    let fault = fault(alloc, detail)?;
+    let found = format!(in alloc; "{fault}");
+    drop(fault);
     Ok(found?.as_str() == wanted)
 }
 
 #[test]
-fn shows_errors(rt: HostRuntime) -> Result<(), AllocError> {
+fn shows_faults(rt: HostRuntime) -> Result<(), AllocError> {
     let alloc = rt.alloc();
     assert!(rt; is_shown(alloc, b"//:b.bzl", "line 1: F35 CycleReached //:b.bzl")?);
-    assert!(rt; is_shown(alloc, b"", "out of memory")?);
+    assert!(rt; is_shown(alloc, b"", "line 1: F35 CycleReached")?);
     Ok(())
 }
 

@@ -3,9 +3,8 @@ use Rattle.std.specs.Prelude.{length, slice_get}
 use Rattle.std.proofs.lemmas.Option.{slice_get_past, slice_get_read}
 use Rattle.bq_value.specs.Datum.{Datum}
 use Rattle.bq_base.specs.declared.fault.FaultKind.{FaultKind}
-use Rattle.bq_base.specs.declared.fault.FaultKind.TheVariants as f
 use Rattle.bq_base.specs.declared.fault.Fault.{Fault}
-use Rattle.bq_base.specs.Fault.{fault_as}
+use Rattle.bq_base.specs.Fault.{fault_as, kind_of_load}
 use Rattle.bq_load_order.specs.Shown.{told}
 use Rattle.bq_load.specs.Views.{module_view, failed_view, module_views, not_evaluated}
 use Rattle.bq_load.specs.Loading.{loading_of}
@@ -37,7 +36,7 @@ returns-in-Err-Bad g c =
     let ms = module_views c.args.imports.now in
     let read = c.in-Some.ensures.lookup in
     let there : slice_get x.modules c.args.m ≡ Some s = slice_get_read x.modules (length x.modules) c.args.m s refl read.3.0 read.1 in
-    let is : told module_view failed_view c.not_imported.result ≡ Err (not_evaluated (fault_as f.Load why)) = rw c.in-Err-Bad.field-0-is at c.not_imported.ensures in
+    let is : told module_view failed_view c.not_imported.result ≡ Err (not_evaluated (fault_as kind_of_load why)) = rw c.in-Err-Bad.field-0-is at c.not_imported.ensures in
     is ∙ sym (means_file x c.args.m ms s c.in-Ok.front there c.in-Ok.is (Err why) (c.in-Err-Bad.ensures why c.in-Err-Bad.field-0-is))
 
 pub returns-in_ok-evaluated-in-Ok-imports : goal.returns-in_ok-evaluated-in-Ok-imports
