@@ -3,7 +3,6 @@ use Rattle.std.proofs.Common.{◌≡◌, ◌<◌, ℕ, zero, suc, Bool, true, fa
 use Rattle.std.specs.Prelude.{if◌then◌else◌}
 use Rattle.bq_base.specs.declared.fault.NameFault.{NameFault}
 use Rattle.bq_base.specs.declared.fault.Fault.{Fault}
-use Rattle.bq_base.specs.declared.fault.NameFault.{NameFault}
 use Rattle.bq_parse_grammar.specs.declared.tree.TopLevel.{TopLevel}
 use Rattle.bq_resolve_scope.specs.declared.file.FileLine.{FileLine}
 use Rattle.bq_resolve_scope.specs.declared.file.ResolvedFile.{ResolvedFile}

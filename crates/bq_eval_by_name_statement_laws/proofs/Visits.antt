@@ -2,7 +2,6 @@
 use Rattle.std.proofs.Common.{◌≡◌, List, Result, Ok, Err, refl, arith}
 use Rattle.bq_base.specs.declared.fault.NameFault.{NameFault}
 use Rattle.bq_base.specs.declared.fault.Fault.{Fault}
-use Rattle.bq_base.specs.declared.fault.NameFault.{NameFault}
 use Rattle.bq_parse_grammar.specs.declared.tree.Expr.{Expr}
 use Rattle.bq_resolve_scope.specs.Names.{max_layers, place_among}
 use Rattle.bq_resolve_scope.specs.Scope.{BlockParts, FileParts}
