@@ -15,7 +15,6 @@ use Rattle.bq_eval.specs.Module.{Ended, evaluated as ran, failed, ended, kept_af
 use Rattle.bq_label.specs.declared.workspace.File.{File}
 use Rattle.bq_label.specs.Label.{LabelParts}
 use Rattle.bq_label.specs.Workspace.{IsWorkspace}
-use Rattle.bq_load_discover.specs.declared.modules.Module.{Module}
 use Rattle.bq_load.specs.Evaluation.{kept_first, evaluation, package_left, module_by, module_after, loaded_parts, by_imports, file_means, by_front, by_module, means}
 use Rattle.bq_load.specs.Imports.{is_private, global_by, or_no_symbol, exported, at_symbol, clause_values, module_named, imports, LoadedParts}
 use Rattle.bq_load.specs.Results.{load_fault, result_of, outcomes_from, outcomes}
@@ -41,7 +40,6 @@ use Rattle.bq_load_label.proofs.Tests.{there_is_file}
 use Rattle.bq_load_laws.proofs.Graphs.Nothing.{loads_nothing}
 use Rattle.bq_load_outcome_spec.proofs.Solution.{outcome_is, evaluated_is}
 use Rattle.bq_package_schema.specs.Schema.{Rules}
-use Rattle.bq_parse_grammar.specs.Lexeme.{lexemes}
 use Rattle.bq_parse_grammar.specs.declared.tree.FileKind.{FileKind}
 use Rattle.bq_parse_grammar.specs.declared.tree.FileKind.TheVariants as kinds
 use Rattle.bq_eval_laws.specs.Evaluations.Files.{FailsAtAStatement}
@@ -54,7 +52,7 @@ use Rattle.bq_resolve_scope.specs.declared.loads.LoadStmt.{LoadStmt}
 use Rattle.bq_resolve_scope.specs.declared.loads.LoadedSymbol.{LoadedSymbol}
 use Rattle.bq_resolve_scope.specs.declared.file.ResolvedFile.{ResolvedFile}
 use Rattle.bq_value.specs.Datum.{Datum}
-use Rattle.bq_load_laws.specs.Faults.Parts.{universe_at, IsAtLoad, FailsIn, FailsInItsPart, OutcomesFailInTheirParts, LoadedModulesFailInTheirParts}
+use Rattle.bq_load_laws.specs.Faults.Parts.{IsAtLoad, FailsIn, FailsInItsPart, OutcomesFailInTheirParts, LoadedModulesFailInTheirParts}
 use Rattle.bq_load_laws.specs.Outcomes.FirstLoad.{IsAtItsLoad, fault_at_load}
 use Rattle.bq_load_laws.specs.Packages.Declared.{DeclaresAllIn, DeclaresItsTargets, OutcomesDeclareTheirTargets}
 use Rattle.bq_load_laws.specs.Packages.Packages.{IsOwnOf}

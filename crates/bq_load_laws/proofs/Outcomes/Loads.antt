@@ -1,5 +1,5 @@
 -- A module of a load graph that comes to nothing by its loads is told at the first load of the module that it names.
-use Rattle.std.proofs.Common.{◌≡◌, ◌∙◌, ℕ, suc, inl, inr, Bool, true, false, cond, List, [], ◌∷◌, length, map, Option, Some, None, Result, Ok, Err, slice_get, option_map, Contains, refl, sym, ap, subst, arith, true≢false}
+use Rattle.std.proofs.Common.{◌≡◌, ◌∙◌, ℕ, inl, inr, Bool, true, false, cond, List, [], ◌∷◌, length, map, Option, Some, None, Result, Ok, Err, slice_get, option_map, Contains, refl, sym, ap, subst, arith, true≢false}
 use Rattle.std.proofs.lemmas.List.{length-map}
 use Rattle.std.proofs.lemmas.Option.{get_or_from_slice_get}
 use Rattle.bq_base.specs.declared.fault.Fault.{Fault}
@@ -11,7 +11,6 @@ use Rattle.bq_label.specs.declared.workspace.File.{File}
 use Rattle.bq_label.specs.Label.{LabelParts, package_of}
 use Rattle.bq_label.specs.Packages.{label_file}
 use Rattle.bq_label_set.proofs.Added.{none_in, the_labels_added}
-use Rattle.bq_resolve_scope.specs.declared.loads.LoadStmt.{LoadStmt}
 use Rattle.bq_resolve_scope.specs.declared.file.ResolvedFile.{ResolvedFile}
 use Rattle.bq_board.specs.Counts.{Has}
 use Rattle.bq_board.specs.Cycles.{is_cyclic, starts_path}
