@@ -7,7 +7,7 @@
 //! In reading order:
 //!
 //! - `bytes`: the shared byte string of names, texts and details;
-//! - `fault`: the table of all faults that users see;
+//! - `fault`: the table of all faults that users see, and the faults of each stage, which fails with these alone;
 //! - `shown`: how these two are shown to people.
 #![tactic(auto)]
 

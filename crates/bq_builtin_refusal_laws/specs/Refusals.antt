@@ -10,11 +10,11 @@ abbrev pub Check : Type 0
 Check = Option EvalFault
 
 -- this fault, where this is so
-abbrev pub when : Bool → EvalFault → Check
+abbrev pub when : {K : Type 0} → Bool → K → Option K
 when so kind = cond so (Some kind) None
 
 -- the first fault that checks find
-abbrev pub first_fault : List Check → Check
+abbrev pub first_fault : {K : Type 0} → List (Option K) → Option K
 first_fault [] = None
 first_fault (Some kind ∷ checks) = Some kind
 first_fault (None ∷ checks) = first_fault checks
@@ -25,7 +25,7 @@ fault_of (done a s) = None
 fault_of (stopped why) = Some why.kind
 
 -- why there is no answer, if there is none
-abbrev pub fault_in : {A : Type 0} → Result A EvalFault → Check
+abbrev pub fault_in : {A K : Type 0} → Result A K → Option K
 fault_in (Ok a) = None
 fault_in (Err kind) = Some kind
 
@@ -44,5 +44,5 @@ abbrev pub IsRefusedForFirst : {S A : Type 0} → Run S A → List Check → Typ
 IsRefusedForFirst run checks = fault_of run ≡ first_fault checks
 
 -- there is no answer for the first fault that these checks find, and there is one where they find none
-abbrev pub FailsForFirst : {A : Type 0} → Result A EvalFault → List Check → Type 0
+abbrev pub FailsForFirst : {A K : Type 0} → Result A K → List (Option K) → Type 0
 FailsForFirst result checks = fault_in result ≡ first_fault checks

@@ -11,7 +11,6 @@ use Rattle.bq_parse_grammar.specs.declared.tree.Expr.{Expr, out-Expr, roll-Expr}
 use Rattle.bq_parse_grammar.specs.declared.tree.Expr.TheVariants as e
 use Rattle.bq_parse_grammar.specs.Targets.{ExprLayer}
 use Rattle.bq_resolve_scope.specs.Expressions as scope
-use Rattle.bq_resolve_scope.specs.Expressions.{refer}
 use Rattle.bq_resolve_scope.specs.Names.{comprehension_names}
 use Rattle.bq_resolve_scope.specs.Scope.{BlockParts, FileParts, use_of}
 use Rattle.bq_resolve_scope.specs.Visit.{Passed, Visit, fault_of, each}

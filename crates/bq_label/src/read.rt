@@ -34,7 +34,12 @@ fn read_name(alloc: Global, package: PackageId, name: &[u8]) -> Result<Label, So
 }
 
 #[tactic(auto, unfolding(crate::specs::Reading::valid_label, crate::specs::Reading::is_label))]
-fn read_parts(alloc: Global, repo: Bytes, package: &[u8], name: &[u8]) -> Result<Label, SourceErr<EvalFault>>
+fn read_parts(
+    alloc: Global,
+    repo: Bytes,
+    package: &[u8],
+    name: &[u8],
+) -> Result<Label, SourceErr<EvalFault>>
     ensures { Gives (λ label. label) Bad result (or_bad_label (valid_label (label_at repo «package».now name.now))) }
 {
     let package = Bytes::from_slice(alloc, package)?;
@@ -76,7 +81,11 @@ fn read_external(alloc: Global, text: &[u8]) -> Result<Label, SourceErr<EvalFaul
 /// The forms are those of Bazel's page "Labels": `//package:name`, `//a/b` for `//a/b:b`, `:name`, `name`, and
 /// `@repository` in front of `//` or for `@repository//:repository`.
 #[tactic(auto, unfolding(crate::specs::Reading::parts_of, crate::specs::Reading::label_of))]
-pub fn read_label(alloc: Global, text: &[u8], package: &PackageId) -> Result<Label, SourceErr<EvalFault>>
+pub fn read_label(
+    alloc: Global,
+    text: &[u8],
+    package: &PackageId,
+) -> Result<Label, SourceErr<EvalFault>>
     ensures { Gives (λ label. label) Bad result (or_bad_label (label_of «package».now text.now)) }
 {
     match text {

@@ -1,5 +1,5 @@
 -- What a module evaluates to, by what its file is on its own and what it gets of the modules that it loads.
-use Rattle.std.proofs.Common.{◌≡◌, ◌∙◌, ℕ, List, [], Option, None, Some, Result, Ok, Err, ap}
+use Rattle.std.proofs.Common.{◌≡◌, ◌∙◌, ℕ, List, [], None, Some, Result, Ok, Err, ap}
 use Rattle.std.specs.Prelude.{slice_get}
 use Rattle.bq_base.specs.declared.fault.FaultKind.{FaultKind}
 use Rattle.bq_base.specs.declared.fault.Fault.{Fault}

@@ -120,7 +120,11 @@ impl<'a> LoadedFiles<'a> {
     }
 
     /// Returns the values of the clauses of loads; or the fault of the first bad clause (F33, F34).
-    pub(crate) fn imports(&self, alloc: Global, loads: &[LoadStmt]) -> Result<Vec<Value>, SourceErr<LoadFault>>
+    pub(crate) fn imports(
+        &self,
+        alloc: Global,
+        loads: &[LoadStmt],
+    ) -> Result<Vec<Value>, SourceErr<LoadFault>>
         ensures { Gives items Bad result (imports (loaded_of self.now) [] loads.now self.now.named.now) }
     {
         // How many clauses look into each module decides how they look, and not what they find.

@@ -1,5 +1,5 @@
 -- What the file of a label is, by the grammar, is what is read of it: so it is one thing.
-use Rattle.std.proofs.Common.{◌≡◌, ◌∙◌, Option, None, Some, Result, Ok, Err, refl, sym, ap, subst}
+use Rattle.std.proofs.Common.{◌≡◌, ◌∙◌, Option, None, Some, Result, refl, sym, ap, subst}
 use Rattle.bq_base.specs.declared.fault.FaultKind.{FaultKind}
 use Rattle.bq_base.specs.declared.fault.Fault.{Fault}
 use Rattle.bq_label.specs.declared.workspace.File.{File}

@@ -64,7 +64,11 @@ pub fn kind_of(label: &Label) -> FileKind
 /// Returns what the file of this label resolves to and its loads, or its first fault: of its text (F1 to F24), then of its
 /// first bad load. A label that names no file is F31; no module has such a label.
 #[tactic(auto, unfolding(crate::specs::Front::front_of))]
-pub fn front_of(alloc: Global, inputs: &Inputs<'_>, label: &Label) -> Result<Front, SourceErr<FaultKind>>
+pub fn front_of(
+    alloc: Global,
+    inputs: &Inputs<'_>,
+    label: &Label,
+) -> Result<Front, SourceErr<FaultKind>>
     ensures { Gives itself Bad result (front_of inputs.now label.now) }
 {
     let Some(file) = label_file(alloc, inputs.workspace(), label)? else {

@@ -34,7 +34,12 @@ fn bzl_label(alloc: Global, own: &PackageId, text: &[u8]) -> Result<Option<Label
 }
 
 /// Returns the fault of a load, in this line, of the file of this label.
-fn file_fault(alloc: Global, kind: LoadFault, line: u32, label: &Label) -> Result<Fault<LoadFault>, AllocError>
+fn file_fault(
+    alloc: Global,
+    kind: LoadFault,
+    line: u32,
+    label: &Label,
+) -> Result<Fault<LoadFault>, AllocError>
     ensures { IfOk result (λ fault. fault ≡ record { kind = kind; line = line; detail = full_form label.now }) }
 {
     let detail = Bytes::from_vec(alloc, print_label(alloc, label)?)?;

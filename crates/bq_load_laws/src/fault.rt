@@ -4,14 +4,14 @@ ghost use Rattle.bq_load_laws.specs.Faults.Lines.{FaultsStandOnLines, OutcomesSt
 ghost use Rattle.bq_load_laws.specs.Faults.Parts.{OutcomesFailInTheirParts, LoadedModulesFailInTheirParts, FaultsAreOfModules, FaultLinesAreOfModules};
 
 /// Each outcome of a load graph is a module, or a fault of one part of its file: of its tokens, its statements, its names, its loads or
-/// its evaluation. It has one of that part's numbers. So it is in a workspace that is loaded.
+/// its evaluation, each of which has faults of its own type. So it is in a workspace that is loaded.
 pub fn outcomes_fail_in_their_parts()
     ensures outcomes { OutcomesFailInTheirParts }
     ensures loaded { LoadedModulesFailInTheirParts }
 {}
 
-/// Whatever the part is, the fault has one of the numbers F1 to F8, F10 to F13, F20 to F24, F30 to F38, F40 to F60 and F70 to F78; so does
-/// each fault line of a workspace that is loaded.
+/// Whatever the part is, the fault is neither of the target graph (F79) nor of the schema (F80); nor is that of any fault line of a workspace
+/// that is loaded.
 pub fn fault_lines_are_of_modules()
     ensures faults { FaultsAreOfModules }
     ensures lines { FaultLinesAreOfModules }

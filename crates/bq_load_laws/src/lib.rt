@@ -22,10 +22,8 @@
 //!   one (`proofs/Packages/Kept.antt`);
 //! - `fault`: for every workspace, schema, limit and load graph, a module whose outcome is a fault fails in its tokens (F1 to F8), its
 //!   statements (F10 to F13), its names (F20 to F24), its loads (F30 to F38, at the line of one of them), or its evaluation (F37, F40 to
-//!   F60, F70 to F78). The proofs: what is read of a file is what it resolves to, or the fault of one of its parts, each with its numbers
-//!   (`proofs/Faults/Texts.antt`); a file that was parsed and resolved is evaluated with faults of evaluation alone
-//!   (bq_eval_fault_laws); all others are of loads
-//!   (`proofs/Faults/Outcomes.antt`). None of them is in line 0, since no token, statement or load is (`bq_load_line_laws`), and no target
+//!   F60, F70 to F78). Which these are, the types of the parts say. The proofs: what is read of a file is what it resolves to, or the fault
+//!   of one of its parts (`proofs/Faults/Texts.antt`); all others are of its evaluation or of loads (`proofs/Faults/Outcomes.antt`). None of them is in line 0, since no token, statement or load is (`bq_load_line_laws`), and no target
 //!   that a call declares is (`proofs/Faults/Numbered.antt`);
 //! - `call`: a module whose loads all have values can call the functions of each module that loads lead to from it, so none of its calls
 //!   is F40 because the function is of a module that isn't there. The proof: what is loaded is a .bzl file, which stays as it was frozen

@@ -2,7 +2,7 @@
 use Rattle.std.proofs.Common.{◌≡◌, ℕ, ◌≤◌, List, [], ◌∷◌, Bool, true, false, ◌&&◌, ◌||◌, Result, Ok, Err, refl, sym, ap, ◌∙◌, subst}
 use Rattle.std.specs.List.{AllByRecursion}
 use Rattle.bq_base.specs.declared.fault.Fault.{Fault}
-use Rattle.bq_base.specs.declared.fault.FaultKind.{FaultKind}
+use Rattle.bq_base.specs.declared.fault.StatementFault.{StatementFault}
 use Rattle.bq_base.proofs.Choices.{by_test}
 use Rattle.bq_source.specs.declared.token.Token.{Token}
 use Rattle.bq_source.specs.declared.token.TokenKind.TheVariants as k
@@ -82,7 +82,7 @@ pub record IsOf (p : List Lexeme) (x : TopLevel) : Type 0 where
   pub stand : AllByRecursion Stands p
   pub writes : Writes (parts.stmt x.statement ∷ []) p
 
-read_of : (kind : FileKind) (p : List Lexeme) (x : TopLevel) (r : Result TopLevel FaultKind) → r ≡ Ok x → ReadsAs kind p r → Begun p → IsOf p x
+read_of : (kind : FileKind) (p : List Lexeme) (x : TopLevel) (r : Result TopLevel StatementFault) → r ≡ Ok x → ReadsAs kind p r → Begun p → IsOf p x
 read_of kind p x r e (V.too_deep f) b = absurd (cc)
 read_of kind p x r e (V.no_tree f g) b = absurd (cc)
 read_of kind p x r e (V.left_out f g h) b = absurd (cc)
@@ -97,22 +97,22 @@ read_of kind p x r e (V.read {x = y} f g h i) b =
     }
 
 -- what is known of each tree of a file, or of the line of its fault
-abbrev pub TreesAre : (TopLevel → Type 0) → Result (List TopLevel) (Fault FaultKind) → Type 0
+abbrev pub TreesAre : (TopLevel → Type 0) → Result (List TopLevel) (Fault StatementFault) → Type 0
 TreesAre P (Ok xs) = AllByRecursion P xs
 TreesAre P (Err why) = 1 ≤ why.line
 
 module _ (P : TopLevel → Type 0) (tells : (p : List Lexeme) (x : TopLevel) → IsOf p x → P x) (kind : FileKind) where
-  all_read : (ps : List (List Lexeme)) (r : Result (List TopLevel) (Fault FaultKind)) → ReadsAll kind ps r → AllByRecursion Begun ps → TreesAre P r
+  all_read : (ps : List (List Lexeme)) (r : Result (List TopLevel) (Fault StatementFault)) → ReadsAll kind ps r → AllByRecursion Begun ps → TreesAre P r
   all_read ps r R.over b = tt
   all_read ps r (R.good {p = p} {ps = qs} {x = x} {xs = xs} h g) b = (tells p x (read_of kind p x (Ok x) refl h b.0), all_read qs (Ok xs) g b.1)
   all_read ps r (R.later {ps = qs} {why = why} h g) b = all_read qs (Err why) g b.1
-  all_read ps r (R.bad {p = p} h e) b = subst (λ (z : Fault FaultKind). 1 ≤ z.line) (sym e) b.0.0
+  all_read ps r (R.bad {p = p} h e) b = subst (λ (z : Fault StatementFault). 1 ≤ z.line) (sym e) b.0.0
 
-  pub trees_are : (ts : List Lexeme) (r : Result (List TopLevel) (Fault FaultKind)) → Numbered ts → Parses kind ts r → TreesAre P r
+  pub trees_are : (ts : List Lexeme) (r : Result (List TopLevel) (Fault StatementFault)) → Numbered ts → Parses kind ts r → TreesAre P r
   trees_are ts r h g = all_read (pieces ts) r g (pieces_begun ts h)
 
 pub statements_count : (kind : FileKind) (ts : List Lexeme) (xs : List TopLevel) → Numbered ts → Parses kind ts (Ok xs) → AllByRecursion (λ x. 1 ≤ x.line) xs
 statements_count kind ts xs h g = trees_are (λ x. 1 ≤ x.line) (λ p x i. i.line) kind ts (Ok xs) h g
 
-pub fault_counts : (kind : FileKind) (ts : List Lexeme) (why : Fault FaultKind) → Numbered ts → Parses kind ts (Err why) → 1 ≤ why.line
+pub fault_counts : (kind : FileKind) (ts : List Lexeme) (why : Fault StatementFault) → Numbered ts → Parses kind ts (Err why) → 1 ≤ why.line
 fault_counts kind ts why h g = trees_are (λ x. 1 ≤ x.line) (λ p x i. i.line) kind ts (Err why) h g

@@ -17,7 +17,7 @@ use Rattle.bq_source_lexer.specs.declared.place.Margin.{Margin}
 use Rattle.bq_source_lexer.specs.declared.place.OpenBracket.{OpenBracket}
 use Rattle.bq_source_lexer.specs.Reading.{State, skip, token_at, push_empty, push_token, end_line, end_line_by, close_above, width_of, set_width, indent, close_by, nest, nest_by, take_token, refuse, and_then, step, finish, Runs, ends, stops, goes, Lexes, too_long, cut}
 use Rattle.bq_source_lexer.proofs.Cases.{end_text, finish_by, advance, indent_by}
-use Rattle.bq_base.specs.declared.fault.FaultKind.{FaultKind}
+use Rattle.bq_base.specs.declared.fault.TokenFault.{TokenFault}
 use Rattle.bq_base.specs.declared.fault.Fault.{Fault}
 use Rattle.bq_base.proofs.Choices.{by_test}
 
@@ -42,7 +42,7 @@ record Counts (s : State) : Type 0 where
   brackets : AllByRecursion BracketCounts s.open_brackets
   tokens : AllByRecursion TokenCounts s.tokens
 
-abbrev StaysCounted : Result State (Fault FaultKind) → Type 0
+abbrev StaysCounted : Result State (Fault TokenFault) → Type 0
 StaysCounted (Ok t) = Counts t
 StaysCounted (Err e) = 1 ≤ e.line
 
@@ -100,7 +100,7 @@ line_ended (o ∷ os) m e s g = skipped e s g
 line_ended [] (Some m) e s g = let n = skipped e s g in record { line = n.line; margin = n.line; brackets = n.brackets; tokens = n.tokens }
 line_ended [] None e s g = let n = taken k.Newline e s g in record { line = n.line; margin = n.line; brackets = n.brackets; tokens = n.tokens }
 
-then : (r : Result State (Fault FaultKind)) (next : State → Result State (Fault FaultKind)) → StaysCounted r → ((t : State) → Counts t → StaysCounted (next t)) → StaysCounted (and_then r next)
+then : (r : Result State (Fault TokenFault)) (next : State → Result State (Fault TokenFault)) → StaysCounted r → ((t : State) → Counts t → StaysCounted (next t)) → StaysCounted (and_then r next)
 then (Ok t) next h f = f t h
 then (Err e) next h f = h
 
@@ -121,7 +121,7 @@ ended None s g = pushed k.Newline s g
 ended (Some m) s g = g
 
 -- tokens, or a fault, from line 1 on
-abbrev pub ReadingCounts : Result (List Token) (Fault FaultKind) → Type 0
+abbrev pub ReadingCounts : Result (List Token) (Fault TokenFault) → Type 0
 ReadingCounts (Ok ts) = AllByRecursion (λ t. 1 ≤ t.line) ts
 ReadingCounts (Err e) = 1 ≤ e.line
 
@@ -133,17 +133,17 @@ finishes : (s : State) → Counts s → ReadingCounts (finish s)
 unfolding finish
 finishes s g = finished s.open_brackets s g.brackets g
 
-counted : {s : State} {r : Result (List Token) (Fault FaultKind)} → Runs s r → Counts s → ReadingCounts r
+counted : {s : State} {r : Result (List Token) (Fault TokenFault)} → Runs s r → Counts s → ReadingCounts r
 counted {s = s} (ends e h) g = subst ReadingCounts h (finishes s g)
 counted {s = s} (stops some h) g = subst StaysCounted h (stepped s g)
 counted {s = s} (goes some h on) g = counted on (subst StaysCounted h (stepped s g))
 
-pub read : (text : List ℕ) (r : Result (List Token) (Fault FaultKind)) → Lexes text r → ReadingCounts r
+pub read : (text : List ℕ) (r : Result (List Token) (Fault TokenFault)) → Lexes text r → ReadingCounts r
 read text r (too_long l) = omega arith
 read text r (cut l h) = counted h record { line = omega arith; margin = omega arith; brackets = tt; tokens = tt }
 
 pub tokens_count : (text : List ℕ) (ts : List Token) → Lexes text (Ok ts) → AllByRecursion (λ t. 1 ≤ t.line) ts
 tokens_count text ts h = read text (Ok ts) h
 
-pub fault_counts : (text : List ℕ) (why : Fault FaultKind) → Lexes text (Err why) → 1 ≤ why.line
+pub fault_counts : (text : List ℕ) (why : Fault TokenFault) → Lexes text (Err why) → 1 ≤ why.line
 fault_counts text why h = read text (Err why) h

@@ -1,7 +1,8 @@
 -- Lines are counted from 1: so no fault names line 0.
 use Rattle.std.specs.Prelude.{◌≡◌, ◌≤◌, ℕ, List, Ok, Err}
 use Rattle.std.specs.List.{AllByRecursion}
-use Rattle.bq_base.specs.declared.fault.FaultKind.{FaultKind}
+use Rattle.bq_base.specs.declared.fault.StatementFault.{StatementFault}
+use Rattle.bq_base.specs.declared.fault.NameFault.{NameFault}
 use Rattle.bq_base.specs.declared.fault.Fault.{Fault}
 use Rattle.bq_source.specs.declared.token.Token.{Token}
 use Rattle.bq_source_lexer.specs.Reading.{Lexes}
@@ -19,12 +20,12 @@ StatementsStand =
     (kind : FileKind) (text : List ℕ) (ts : List Token) (xs : List TopLevel) → Lexes text (Ok ts) → Parses kind (lexemes text ts) (Ok xs) → AllByRecursion (λ x. 1 ≤ x.line) xs
 
 abbrev pub StatementFaultsStand : Type 0
-StatementFaultsStand = (kind : FileKind) (text : List ℕ) (ts : List Token) (why : Fault FaultKind) → Lexes text (Ok ts) → Parses kind (lexemes text ts) (Err why) → 1 ≤ why.line
+StatementFaultsStand = (kind : FileKind) (text : List ℕ) (ts : List Token) (why : Fault StatementFault) → Lexes text (Ok ts) → Parses kind (lexemes text ts) (Err why) → 1 ≤ why.line
 
 -- the fault of a text whose names stand for nothing; and what it resolves to: its loads, and its statements
 abbrev pub NameFaultsStand : Type 0
 NameFaultsStand =
-    (universe : UniverseParts) (kind : FileKind) (text : List ℕ) (ts : List Token) (xs : List TopLevel) (why : Fault FaultKind)
+    (universe : UniverseParts) (kind : FileKind) (text : List ℕ) (ts : List Token) (xs : List TopLevel) (why : Fault NameFault)
     → Lexes text (Ok ts) → Parses kind (lexemes text ts) (Ok xs) → resolved universe xs ≡ Err why → 1 ≤ why.line
 
 abbrev pub LoadsStand : Type 0

@@ -2,7 +2,7 @@
 
 ghost use Rattle.std.specs.Prelude.{◌≡◌, ◌≤◌, List, Ok, Err, ℕ};
 ghost use Rattle.std.specs.List.{AllByRecursion};
-ghost use Rattle.bq_base.specs.declared.fault.FaultKind.{FaultKind};
+ghost use Rattle.bq_base.specs.declared.fault.TokenFault.{TokenFault};
 ghost use Rattle.bq_base.specs.declared.fault.Fault.{Fault};
 ghost use Rattle.bq_source.specs.declared.token.Token.{Token};
 ghost use Rattle.bq_source_lexer.specs.Reading.{Lexes};
@@ -11,7 +11,7 @@ ghost use Rattle.bq_load_line_laws.specs.Lines.{StatementsStand, StatementFaults
 /// Each token of a text, and the fault of one that has no tokens, stands on a line from 1 on.
 pub fn tokens_stand_on_lines()
     ensures tokens { (text : List ℕ) (ts : List Token) → Lexes text (Ok ts) → AllByRecursion (λ t. 1 ≤ t.line) ts }
-    ensures fault { (text : List ℕ) (why : Fault FaultKind) → Lexes text (Err why) → 1 ≤ why.line }
+    ensures fault { (text : List ℕ) (why : Fault TokenFault) → Lexes text (Err why) → 1 ≤ why.line }
 {}
 
 /// So does each top-level statement of a text, and the fault of one whose tokens are no statements.

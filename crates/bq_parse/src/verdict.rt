@@ -35,7 +35,11 @@ fn allowed(kind: FileKind, tokens: &Tokens<'_>, statement: &TopLevel) -> Result<
 /// Returns the top-level statement that these tokens are. At its first line: F11 where too many brackets and indents are open, else F10
 /// where it has no tree, else F12, else F13.
 #[tactic(auto, unfolding(bq_parse_grammar::specs::Parses::verdict))]
-pub fn verdict(alloc: Global, kind: FileKind, tokens: &Tokens<'_>) -> Result<TopLevel, SourceErr<StatementFault>>
+pub fn verdict(
+    alloc: Global,
+    kind: FileKind,
+    tokens: &Tokens<'_>,
+) -> Result<TopLevel, SourceErr<StatementFault>>
     ensures { Gives itself Bad result (at_line tokens.now (spec.verdict kind tokens.now)) }
 {
     let line = tokens.line();

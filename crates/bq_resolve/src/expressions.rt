@@ -29,7 +29,11 @@ pub fn expr(scope: &Scope<'_>, walk: &mut Walk, expr: &mut Expr) -> Result<(), S
 }
 
 #[tactic(auto, unfolding(bq_resolve_scope::specs::Statements::target, bq_resolve_scope::specs::Names::max_layers))]
-pub fn target(scope: &Scope<'_>, walk: &mut Walk, target: &mut TargetExpr) -> Result<(), SourceErr<NameFault>>
+pub fn target(
+    scope: &Scope<'_>,
+    walk: &mut Walk,
+    target: &mut TargetExpr,
+) -> Result<(), SourceErr<NameFault>>
     ensures { Writes (spec.target scope.now.file.now scope.now.blocks.now target.old walk.old) result target.new walk.new }
 {
     let rules = Rules {

@@ -31,7 +31,6 @@ use Rattle.bq_resolve_scope.specs.Visit.{Passed, Visit, ◌>>=◌, pure, given, 
 use Rattle.bq_resolve_scope.specs.Expressions.{refer, bound_at, framed, NamedSpace, MemberCall, member_call, namespace_at, use_at, target_by, target_to, pair, operation, choice, argument_by, arguments, suffix_by, suffixes, operand, call_member, primary_by, primary, clause_by, clauses, in_block, comprehension, expr_by, expr_to}
 use Rattle.bq_resolve_by_name.specs.Slots.{most, framed_slots, ClauseSlots, both_slots, outer_slots, inner_slots, comprehension_slots, expr_slots, argument_slots, clause_slots, suffix_slots, target_slots, choice_slots, operation_slots, pair_slots}
 use Rattle.bq_resolve_by_name.proofs.Steps as S
-use Rattle.bq_resolve_by_name.proofs.Steps.{part_slots}
 use Rattle.bq_resolve_by_name.proofs.Needs.{Within, within_more, split, pure_is, Made, Needs, moved, weaker, needs_pure, needs_stop, needs_given, needs_bind, needs_map, needs_two, needs_three, needs_each, needs_all, part, needs_optional, needs_inside}
 use Rattle.bq_resolve_by_name.proofs.Uses.{name_slots, use_needs, name_needs}
 

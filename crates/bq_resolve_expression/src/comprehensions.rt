@@ -14,13 +14,18 @@ use bq_parse_grammar::{Clause, ComprehensionFrame, Expr, Pair};
 use bq_resolve_scope::{Block, MAX_LAYERS, comprehension_names};
 use bq_tree_items::{Boxed, Items};
 
-impl<'a, F: Copy + Fn(&Scope<'_>, usize, &mut Walk, &mut Expr) -> Result<(), SourceErr<NameFault>>> Rules<
+impl<
     'a,
-    F,
-> {
+    F: Copy + Fn(&Scope<'_>, usize, &mut Walk, &mut Expr) -> Result<(), SourceErr<NameFault>>,
+> Rules<'a, F> {
     /// Resolves a clause: its iterable among the blocks `round`.
     #[tactic(auto, unfolding(bq_resolve_scope::specs::Names::max_layers))]
-    fn clause(&self, round: &[Block], walk: &mut Walk, clause: &mut Clause) -> Result<(), SourceErr<NameFault>>
+    fn clause(
+        &self,
+        round: &[Block],
+        walk: &mut Walk,
+        clause: &mut Clause,
+    ) -> Result<(), SourceErr<NameFault>>
         requires { WritesNested self.now.depth (F.pre self.now.visit) (F.post self.now.visit) }
         ensures { Writes (clause_in self.now.depth self.now.scope round.now (out-Clause clause.old) walk.old) result clause.new walk.new }
     {
@@ -35,7 +40,11 @@ impl<'a, F: Copy + Fn(&Scope<'_>, usize, &mut Walk, &mut Expr) -> Result<(), Sou
     }
 
     /// Resolves the clauses after the first, which lie inside.
-    fn further_clauses(&self, walk: &mut Walk, clauses: &mut Items<Clause>) -> Result<(), SourceErr<NameFault>>
+    fn further_clauses(
+        &self,
+        walk: &mut Walk,
+        clauses: &mut Items<Clause>,
+    ) -> Result<(), SourceErr<NameFault>>
         requires { WritesNested self.now.depth (F.pre self.now.visit) (F.post self.now.visit) }
         ensures { Writes (further_clauses self.now.depth self.now.scope (take 1 clauses.old) (drop 1 clauses.old) walk.old) result clauses.new walk.new }
     {

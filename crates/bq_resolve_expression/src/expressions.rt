@@ -17,10 +17,10 @@ use bq_base::{Fault, NameFault, SourceErr};
 use bq_parse_grammar::{Choice, Comparison, Expr, Identifier, Operation};
 use bq_tree_items::{Boxed, Items};
 
-impl<'a, F: Copy + Fn(&Scope<'_>, usize, &mut Walk, &mut Expr) -> Result<(), SourceErr<NameFault>>> Rules<
+impl<
     'a,
-    F,
-> {
+    F: Copy + Fn(&Scope<'_>, usize, &mut Walk, &mut Expr) -> Result<(), SourceErr<NameFault>>,
+> Rules<'a, F> {
     /// Resolves the use of a name: it is of the innermost block that holds it, else F20.
     #[tactic(auto, unfolding(bq_resolve_scope::specs::Expressions::use_at))]
     fn name(&self, walk: &mut Walk, name: &mut Identifier) -> Result<(), SourceErr<NameFault>>
@@ -36,7 +36,11 @@ impl<'a, F: Copy + Fn(&Scope<'_>, usize, &mut Walk, &mut Expr) -> Result<(), Sou
     }
 
     #[tactic(auto, unfolding(bq_resolve_scope::specs::Expressions::operation))]
-    fn operation(&self, walk: &mut Walk, operation: &mut Operation) -> Result<(), SourceErr<NameFault>>
+    fn operation(
+        &self,
+        walk: &mut Walk,
+        operation: &mut Operation,
+    ) -> Result<(), SourceErr<NameFault>>
         requires { WritesNested self.now.depth (F.pre self.now.visit) (F.post self.now.visit) }
         ensures { Writes (in_scope spec.operation self.now.depth self.now.scope operation.old walk.old) result operation.new walk.new }
     {

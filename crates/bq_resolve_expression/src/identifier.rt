@@ -25,7 +25,11 @@ pub fn fault_of(kind: NameFault, name: &Identifier) -> Result<Fault<NameFault>, 
 /// Resolves a name that is bound: its block holds it. Outside functions and comprehensions, where there is no enclosing block, it is a
 /// name of the file, which a .bzl file binds once.
 #[tactic(auto, unfolding(bq_resolve_scope::specs::Expressions::bound_at, bq_resolve_scope::specs::Expressions::bind_global))]
-pub fn bound_at(scope: &Scope<'_>, walk: &mut Walk, name: &mut Identifier) -> Result<(), SourceErr<NameFault>>
+pub fn bound_at(
+    scope: &Scope<'_>,
+    walk: &mut Walk,
+    name: &mut Identifier,
+) -> Result<(), SourceErr<NameFault>>
     ensures writes { Writes (spec.bound_at scope.now.file.now scope.now.blocks.now name.old walk.old) result name.new walk.new }
     ensures spelling { name.new.name ≡ name.old.name }
 {

@@ -51,10 +51,10 @@ fn refer(operand: &mut Expr, member: Predeclared)
     }
 }
 
-impl<'a, F: Copy + Fn(&Scope<'_>, usize, &mut Walk, &mut Expr) -> Result<(), SourceErr<NameFault>>> Rules<
+impl<
     'a,
-    F,
-> {
+    F: Copy + Fn(&Scope<'_>, usize, &mut Walk, &mut Expr) -> Result<(), SourceErr<NameFault>>,
+> Rules<'a, F> {
     /// Resolves an operand that is no namespace, and what is done to it.
     #[tactic(auto, unfolding(bq_resolve_scope::specs::Expressions::operand))]
     fn operand(

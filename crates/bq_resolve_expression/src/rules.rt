@@ -20,10 +20,10 @@ pub struct Rules<'a, F> {
     pub visit: F,
 }
 
-impl<'a, F: Copy + Fn(&Scope<'_>, usize, &mut Walk, &mut Expr) -> Result<(), SourceErr<NameFault>>> Rules<
+impl<
     'a,
-    F,
-> {
+    F: Copy + Fn(&Scope<'_>, usize, &mut Walk, &mut Expr) -> Result<(), SourceErr<NameFault>>,
+> Rules<'a, F> {
     /// Resolves an expression inside.
     pub fn expr(&self, walk: &mut Walk, expr: &mut Expr) -> Result<(), SourceErr<NameFault>>
         requires { WritesNested self.now.depth (F.pre self.now.visit) (F.post self.now.visit) }
@@ -41,7 +41,11 @@ impl<'a, F: Copy + Fn(&Scope<'_>, usize, &mut Walk, &mut Expr) -> Result<(), Sou
     }
 
     /// Resolves expressions, one after another.
-    pub fn exprs(&self, walk: &mut Walk, exprs: &mut Items<Expr>) -> Result<(), SourceErr<NameFault>>
+    pub fn exprs(
+        &self,
+        walk: &mut Walk,
+        exprs: &mut Items<Expr>,
+    ) -> Result<(), SourceErr<NameFault>>
         requires { WritesNested self.now.depth (F.pre self.now.visit) (F.post self.now.visit) }
         ensures { Writes (visit.each (spec.expr_to self.now.depth self.now.scope.file.now self.now.scope.blocks.now) [] exprs.old walk.old) result exprs.new walk.new }
     {
@@ -61,7 +65,11 @@ impl<'a, F: Copy + Fn(&Scope<'_>, usize, &mut Walk, &mut Expr) -> Result<(), Sou
         self.expr(walk, &mut pair.value)
     }
 
-    pub fn pairs(&self, walk: &mut Walk, pairs: &mut Items<Pair>) -> Result<(), SourceErr<NameFault>>
+    pub fn pairs(
+        &self,
+        walk: &mut Walk,
+        pairs: &mut Items<Pair>,
+    ) -> Result<(), SourceErr<NameFault>>
         requires { WritesNested self.now.depth (F.pre self.now.visit) (F.post self.now.visit) }
         ensures { Writes (visit.each (in_scope spec.pair self.now.depth self.now.scope) [] pairs.old walk.old) result pairs.new walk.new }
     {
@@ -81,7 +89,11 @@ impl<'a, F: Copy + Fn(&Scope<'_>, usize, &mut Walk, &mut Expr) -> Result<(), Sou
         self.expr(walk, &mut choice.condition)
     }
 
-    pub fn choices(&self, walk: &mut Walk, choices: &mut Items<Choice>) -> Result<(), SourceErr<NameFault>>
+    pub fn choices(
+        &self,
+        walk: &mut Walk,
+        choices: &mut Items<Choice>,
+    ) -> Result<(), SourceErr<NameFault>>
         requires { WritesNested self.now.depth (F.pre self.now.visit) (F.post self.now.visit) }
         ensures { Writes (visit.each (in_scope spec.choice self.now.depth self.now.scope) [] choices.old walk.old) result choices.new walk.new }
     {

@@ -17,10 +17,10 @@ use bq_base::{NameFault, SourceErr};
 use bq_parse_grammar::{Argument, Expr, Suffix};
 use bq_tree_items::{Boxed, Items};
 
-impl<'a, F: Copy + Fn(&Scope<'_>, usize, &mut Walk, &mut Expr) -> Result<(), SourceErr<NameFault>>> Rules<
+impl<
     'a,
-    F,
-> {
+    F: Copy + Fn(&Scope<'_>, usize, &mut Walk, &mut Expr) -> Result<(), SourceErr<NameFault>>,
+> Rules<'a, F> {
     fn argument(&self, walk: &mut Walk, argument: &mut Argument) -> Result<(), SourceErr<NameFault>>
         requires { WritesNested self.now.depth (F.pre self.now.visit) (F.post self.now.visit) }
         ensures { Writes (in_scope spec.argument_by self.now.depth self.now.scope (out-Argument argument.old) walk.old) result argument.new walk.new }
@@ -48,7 +48,11 @@ impl<'a, F: Copy + Fn(&Scope<'_>, usize, &mut Walk, &mut Expr) -> Result<(), Sou
         Ok(())
     }
 
-    fn optional(&self, walk: &mut Walk, part: &mut Option<Boxed<Expr>>) -> Result<(), SourceErr<NameFault>>
+    fn optional(
+        &self,
+        walk: &mut Walk,
+        part: &mut Option<Boxed<Expr>>,
+    ) -> Result<(), SourceErr<NameFault>>
         requires { WritesNested self.now.depth (F.pre self.now.visit) (F.post self.now.visit) }
         ensures { Writes (visit.optional (spec.expr_to self.now.depth self.now.scope.file.now self.now.scope.blocks.now) part.old walk.old) result part.new walk.new }
     {

@@ -13,10 +13,10 @@ use bq_base::{Fault, NameFault, SourceErr};
 use bq_parse_grammar::{Expr, TargetExpr};
 use bq_tree_items::Items;
 
-impl<'a, F: Copy + Fn(&Scope<'_>, usize, &mut Walk, &mut Expr) -> Result<(), SourceErr<NameFault>>> Rules<
+impl<
     'a,
-    F,
-> {
+    F: Copy + Fn(&Scope<'_>, usize, &mut Walk, &mut Expr) -> Result<(), SourceErr<NameFault>>,
+> Rules<'a, F> {
     #[cycle(targets)]
     fn targets_to(
         &self,

@@ -1,8 +1,8 @@
 //! Laws of resolved files, by the definition of `bq_resolve_scope`.
 //!
 //! In: nothing; the functions do nothing, and their contracts are the laws. The promise: in each function of a file that resolves, two uses
-//! share a slot exactly where they share name and block; and no file that is parsed is too deep to be resolved, so what it fails with then
-//! is a fault of names (F20 to F24), and never F11.
+//! share a slot exactly where they share name and block; and no file that is parsed is too deep to be resolved: what it fails with then
+//! is never F11, and so, by its type, F20 to F24.
 //!
 //! By subject:
 //!

@@ -17,7 +17,7 @@ use Rattle.bq_base.specs.Fault.{fault_at}
 use Rattle.bq_source.specs.Operators.{kind_of}
 use Rattle.bq_source.specs.Spelling.{IsSpelled, IsNoGap, spelled, misspelled}
 use Rattle.bq_source_lexer.specs.Layout as layout
-use Rattle.bq_source_lexer.specs.Layout.{closed_by, opened_by, Leaves, IsInLine, IsBetween, Before, beginning, past, line_from, token_of, with_tokens, width, has_tab, IsEmptyAt, IsIndented, Takes, Cut, here, on, Finishes, Reads, IsPlaced, FaultAfter, IsFaulty}
+use Rattle.bq_source_lexer.specs.Layout.{closed_by, opened_by, Leaves, IsInLine, IsBetween, Before, beginning, past, line_from, token_of, with_tokens, width, IsEmptyAt, IsIndented, Takes, Cut, here, on, Finishes, Reads, IsPlaced, FaultAfter, IsFaulty}
 use Rattle.bq_source_lexer.proofs.LexemeKinds.{nested, nests}
 use Rattle.bq_source_lexer.proofs.LaidOut.{marks_leave}
 use Rattle.bq_source_laws.proofs.Pieces.{extent_of, Next, gap_next, line_end_next, spelled_next, misspelled_next}

@@ -29,7 +29,7 @@ use Rattle.bq_eval_operations.specs.Runtime.{primitives}
 use Rattle.bq_eval_meaning_laws.proofs.Respects.{Relation, Respects, OfLines, choosing}
 use Rattle.bq_eval_laws.specs.Evaluations.Files.{HostTakes}
 use Rattle.bq_builtin_laws.specs.Steps.Steps.{machine, hosted, Begins, leaving, printed, IsCutShort, Leaves, Takes, InLine, TakesInLine}
-use Rattle.bq_builtin_laws.proofs.Steps.Owning.{begins_itself, stays_itself, at_no_cost, at_state, followed, here_at_no_cost, here_at_state, here_followed}
+use Rattle.bq_builtin_laws.proofs.Steps.Owning.{begins_itself, stays_itself, at_state, followed, here_at_no_cost, here_at_state, here_followed}
 use Rattle.bq_builtin_laws.specs.Steps.Laws.{Own}
 use Rattle.bq_builtin_laws.proofs.Steps.Machine.{pure_owns, stop_owns, bind_owns, look_owns, step_owns, enter_owns, leave_owns, new_owns, begin_owns, end_owns, line_takes}
 use Rattle.bq_builtin_laws.proofs.Steps.Operators.{binary_owns, unary_owns, compare_owns, index_owns, slice_owns, augment_owns, set_index_owns}

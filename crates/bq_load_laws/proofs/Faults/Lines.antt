@@ -1,14 +1,24 @@
--- The faults of modules, and their lines, have the numbers of the parts of modules.
-use Rattle.std.proofs.Common.{◌≡◌, ℕ, inl, inr, Bool, true, false, ◌||◌, List, [], ◌∷◌, Result, Ok, Err, refl, subst, arith, Contains, IfErr}
+-- The faults of modules, and their lines, are those of the stages of modules.
+use Rattle.std.proofs.Common.{◌≡◌, ℕ, inl, inr, true, List, [], ◌∷◌, Result, Ok, Err, refl, sym, subst, arith, Contains, IfErr}
 use Rattle.std.specs.List.{AllByRecursion}
 use Rattle.std.proofs.lemmas.List.Elements.{Contains-append_cases}
 use Rattle.bq_base.specs.declared.fault.Fault.{Fault}
 use Rattle.bq_base.specs.declared.fault.FaultKind.{FaultKind}
+use Rattle.bq_base.specs.declared.fault.TokenFault.{TokenFault}
+use Rattle.bq_base.specs.declared.fault.TokenFault.TheVariants as t
+use Rattle.bq_base.specs.declared.fault.StatementFault.{StatementFault}
+use Rattle.bq_base.specs.declared.fault.StatementFault.TheVariants as s
+use Rattle.bq_base.specs.declared.fault.NameFault.{NameFault}
+use Rattle.bq_base.specs.declared.fault.NameFault.TheVariants as n
+use Rattle.bq_base.specs.declared.fault.LoadFault.{LoadFault}
+use Rattle.bq_base.specs.declared.fault.LoadFault.TheVariants as l
+use Rattle.bq_base.specs.declared.fault.EvalFault.{EvalFault}
+use Rattle.bq_base.specs.declared.fault.EvalFault.TheVariants as e
+use Rattle.bq_base.specs.Fault.{fault_as, kind_of_token, kind_of_statement, kind_of_name, kind_of_load, kind_of_eval}
 use Rattle.bq_label.specs.declared.workspace.File.{File}
 use Rattle.bq_label.specs.Label.{LabelParts}
 use Rattle.bq_label.specs.Workspace.{IsWorkspace}
 use Rattle.bq_label.proofs.Orders.{head_or_tail}
-use Rattle.bq_package_host.specs.Refusals.{is_refusal}
 use Rattle.bq_base_fault_line.specs.declared.fault_line.FaultLine.{FaultLine}
 use Rattle.bq_base_fault_line.specs.FaultLine.{sorted_lines}
 use Rattle.bq_base_fault_line.proofs.LineOrder.{same_lines}
@@ -20,43 +30,86 @@ use Rattle.bq_load.specs.Views.{ModuleView, FailedView, OutcomeView}
 use Rattle.bq_load_discover.specs.LoadGraph.{GraphParts, IsReadGraph, inputs_of}
 use Rattle.bq_load_front.specs.Inputs.{InputParts}
 use Rattle.bq_package_schema.specs.Schema.{Rules}
-use Rattle.bq_resolve_laws.specs.Depths.Nesting.{is_of_names}
-use Rattle.bq_load_laws.specs.Faults.Parts.{is_of_tokens, is_of_statements, is_of_loads, is_of_module, FailsIn, FailsInItsPart, FaultsAreOfModules, FaultLinesAreOfModules}
+use Rattle.bq_load_laws.specs.Faults.Parts.{is_of_module, FailsIn, FailsInItsPart, FaultsAreOfModules, FaultLinesAreOfModules}
 use Rattle.bq_load_laws.proofs.Faults.Outcomes.{outcomes_fail}
 
-left : (a b : Bool) → a ≡ true → (a || b) ≡ true
-left true b e = refl
-left false b e = absurd (cc)
+of_token : (kind : TokenFault) → is_of_module (kind_of_token kind) ≡ true
+of_token t.BadByte = refl
+of_token t.Indent = refl
+of_token t.Tab = refl
+of_token t.OpenString = refl
+of_token t.Escape = refl
+of_token t.BadInt = refl
+of_token t.Bracket = refl
+of_token t.FileTooLong = refl
 
-right : (a b : Bool) → b ≡ true → (a || b) ≡ true
-right true b e = refl
-right false b e = e
+of_statement : (kind : StatementFault) → is_of_module (kind_of_statement kind) ≡ true
+of_statement s.Syntax = refl
+of_statement s.Nesting = refl
+of_statement s.LeftOut = refl
+of_statement s.NotInBuild = refl
 
-module _ (t s n l e : Bool) where
-  by_tokens : t ≡ true → (t || s || n || l || e) ≡ true
-  by_tokens k = left (t || s || n || l) e (left (t || s || n) l (left (t || s) n (left t s k)))
+of_name : (kind : NameFault) → is_of_module (kind_of_name kind) ≡ true
+of_name n.Nesting = refl
+of_name n.UnknownName = refl
+of_name n.Rebound = refl
+of_name n.BoundTwice = refl
+of_name n.BadFlow = refl
+of_name n.DoubleParameter = refl
 
-  by_statements : s ≡ true → (t || s || n || l || e) ≡ true
-  by_statements k = left (t || s || n || l) e (left (t || s || n) l (left (t || s) n (right t s k)))
+of_load : (kind : LoadFault) → is_of_module (kind_of_load kind) ≡ true
+of_load l.BadLoadLabel = refl
+of_load l.NoSuchFile = refl
+of_load l.NoPackage = refl
+of_load l.NoSymbol = refl
+of_load l.PrivateSymbol = refl
+of_load l.CycleReached = refl
+of_load l.LoadFailed = refl
+of_load l.CrossesPackage = refl
+of_load l.LoadDepth = refl
 
-  by_names : n ≡ true → (t || s || n || l || e) ≡ true
-  by_names k = left (t || s || n || l) e (left (t || s || n) l (right (t || s) n k))
+of_eval : (kind : EvalFault) → is_of_module (kind_of_eval kind) ≡ true
+of_eval e.CrossesPackage = refl
+of_eval e.WrongType = refl
+of_eval e.Overflow = refl
+of_eval e.DivZero = refl
+of_eval e.Index = refl
+of_eval e.NoKey = refl
+of_eval e.Unhashable = refl
+of_eval e.DoubleKey = refl
+of_eval e.Frozen = refl
+of_eval e.Iterating = refl
+of_eval e.Unbound = refl
+of_eval e.Recursion = refl
+of_eval e.CallDepth = refl
+of_eval e.Args = refl
+of_eval e.StepLimit = refl
+of_eval e.TooLong = refl
+of_eval e.TooDeep = refl
+of_eval e.Fail = refl
+of_eval e.BadValue = refl
+of_eval e.NoMethod = refl
+of_eval e.Format = refl
+of_eval e.Select = refl
+of_eval e.NotInPackage = refl
+of_eval e.NoAttribute = refl
+of_eval e.MissingAttribute = refl
+of_eval e.AttributeType = refl
+of_eval e.DoubleTarget = refl
+of_eval e.BadName = refl
+of_eval e.GlobEmpty = refl
+of_eval e.GlobPattern = refl
+of_eval e.BadLabel = refl
 
-  by_loads : l ≡ true → (t || s || n || l || e) ≡ true
-  by_loads k = left (t || s || n || l) e (right (t || s || n) l k)
-
-  by_evaluation : e ≡ true → (t || s || n || l || e) ≡ true
-  by_evaluation k = right (t || s || n || l) e k
+by_stage : {K : Type 0} (kind : K → FaultKind) (at : Fault K) (why : Fault FaultKind) → why ≡ fault_as kind at → is_of_module (kind at.kind) ≡ true → is_of_module why.kind ≡ true
+by_stage kind at why is h = subst (λ (z : Fault FaultKind). is_of_module z.kind ≡ true) (sym is) h
 
 pub of_module : FaultsAreOfModules
-of_module inputs l why (FailsIn.of_tokens x is reads k) = by_tokens (is_of_tokens why.kind) (is_of_statements why.kind) (is_of_names why.kind) (is_of_loads why.kind) (is_refusal why.kind) k
-of_module inputs l why (FailsIn.of_statements x tokens is reads parses k) =
-    by_statements (is_of_tokens why.kind) (is_of_statements why.kind) (is_of_names why.kind) (is_of_loads why.kind) (is_refusal why.kind) k
-of_module inputs l why (FailsIn.of_names x tokens trees is reads parses names k) =
-    by_names (is_of_tokens why.kind) (is_of_statements why.kind) (is_of_names why.kind) (is_of_loads why.kind) (is_refusal why.kind) k
-of_module inputs l why (FailsIn.of_loads x file is has k at) = by_loads (is_of_tokens why.kind) (is_of_statements why.kind) (is_of_names why.kind) (is_of_loads why.kind) (is_refusal why.kind) k
-of_module inputs l why (FailsIn.of_evaluation x file is has k at) =
-    by_evaluation (is_of_tokens why.kind) (is_of_statements why.kind) (is_of_names why.kind) (is_of_loads why.kind) (is_refusal why.kind) k
+of_module inputs m why (FailsIn.of_tokens x at there reads is) = by_stage kind_of_token at why is (of_token at.kind)
+of_module inputs m why (FailsIn.of_statements x tokens at there reads parses is) = by_stage kind_of_statement at why is (of_statement at.kind)
+of_module inputs m why (FailsIn.of_names x tokens trees at there reads parses names shallow is) = by_stage kind_of_name at why is (of_name at.kind)
+of_module inputs m why (FailsIn.of_loads x file at there has in_load is) = by_stage kind_of_load at why is (of_load at.kind)
+of_module inputs m why (FailsIn.of_evaluation x file at there has in_statement is) = by_stage kind_of_eval at why is (of_eval at.kind)
 
 none_in : (line : FaultLine) → Contains [] line → ⊥
 none_in line c = omega arith

@@ -1,7 +1,10 @@
 -- Lines are counted from 1: a fault of any part of a file is in such a line, and so is what the file declares.
-use Rattle.std.proofs.Common.{◌≡◌, ◌≤◌, ◌⊎◌, ℕ, List, [], ◌∷◌, Result, Ok, Err, Contains, IfErr, inl, inr, sym, subst}
+use Rattle.std.proofs.Common.{◌≡◌, ◌≤◌, ◌⊎◌, ℕ, List, [], ◌∷◌, Result, Ok, Err, Contains, IfErr, inl, inr, sym, ap, subst}
 use Rattle.std.specs.List.{AllByRecursion}
 use Rattle.std.proofs.lemmas.List.Elements.{All-contains, All-from_recursion, Contains-append_cases}
+use Rattle.bq_base.specs.declared.fault.FaultKind.{FaultKind}
+use Rattle.bq_base.specs.declared.fault.Fault.{Fault}
+use Rattle.bq_base.specs.Fault.{fault_as, kind_of_token, kind_of_statement, kind_of_name, kind_of_load, kind_of_eval}
 use Rattle.bq_label.proofs.Orders.{at_head, in_tail}
 use Rattle.bq_label.specs.Label.{LabelParts}
 use Rattle.bq_source.specs.declared.token.Token.{Token}
@@ -48,15 +51,21 @@ same_line m n e h = subst (λ k. 1 ≤ k) (sym e) h
 
 -- ---- faults
 
+line_of : {K : Type 0} (kind : K → FaultKind) (at : Fault K) (why : Fault FaultKind) → why ≡ fault_as kind at → 1 ≤ at.line → 1 ≤ why.line
+line_of kind at why is h = same_line why.line at.line (ap (λ (z : Fault FaultKind). z.line) is) h
+
 pub faults_stand : FaultsStandOnLines
-faults_stand inputs l why (FailsIn.of_tokens x is reads k) = tokens.fault_counts x.content why reads
-faults_stand inputs l why (FailsIn.of_statements x ts is reads parses k) = pieces.fault_counts (kind_of l) (lexemes x.content ts) why (numbered x.content ts reads) parses
-faults_stand inputs l why (FailsIn.of_names x ts trees is reads parses names k) =
-    fault_stands (universe_at inputs l) (kind_of l) (lexemes x.content ts) trees why (numbered x.content ts reads) parses names
-faults_stand inputs l why (FailsIn.of_loads x file is has k at) =
-    same_line why.line at.load.line at.line (each_of (λ (y : LoadStmt). 1 ≤ y.line) file.loads (file_numbered inputs l x.content file has).1 at.load at.among)
-faults_stand inputs l why (FailsIn.of_evaluation x file is has k at) =
-    same_line why.line at.statement.line at.line (each_of (λ (y : FileLine). 1 ≤ y.line) file.statements (file_numbered inputs l x.content file has).0 at.statement at.among)
+faults_stand inputs l why (FailsIn.of_tokens x at there reads is) = line_of kind_of_token at why is (tokens.fault_counts x.content at reads)
+faults_stand inputs l why (FailsIn.of_statements x ts at there reads parses is) =
+    line_of kind_of_statement at why is (pieces.fault_counts (kind_of l) (lexemes x.content ts) at (numbered x.content ts reads) parses)
+faults_stand inputs l why (FailsIn.of_names x ts trees at there reads parses names shallow is) =
+    line_of kind_of_name at why is (fault_stands (universe_at inputs l) (kind_of l) (lexemes x.content ts) trees at (numbered x.content ts reads) parses names)
+faults_stand inputs l why (FailsIn.of_loads x file at there has in_load is) =
+    line_of kind_of_load at why is
+    (same_line at.line in_load.load.line in_load.line (each_of (λ (y : LoadStmt). 1 ≤ y.line) file.loads (file_numbered inputs l x.content file has).1 in_load.load in_load.among))
+faults_stand inputs l why (FailsIn.of_evaluation x file at there has in_statement is) =
+    line_of kind_of_eval at why is
+    (same_line at.line in_statement.statement.line in_statement.line (each_of (λ (y : FileLine). 1 ≤ y.line) file.statements (file_numbered inputs l x.content file has).0 in_statement.statement in_statement.among))
 
 outcome_stands : (inputs : InputParts) (l : LabelParts) (r : Result ModuleView FailedView) → IfErr r (λ m. FailsIn inputs l m.fault) → IfErr r (λ m. 1 ≤ m.fault.line)
 outcome_stands inputs l (Ok v) h = tt

@@ -5,7 +5,8 @@ use Rattle.std.specs.List.{AllByRecursion, list_any}
 use Rattle.std.proofs.lemmas.Option.{get_or_from_slice_get}
 use Rattle.bq_base.specs.declared.fault.Fault.{Fault}
 use Rattle.bq_base.specs.declared.fault.FaultKind.{FaultKind}
-use Rattle.bq_base.specs.declared.fault.FaultKind.TheVariants as f
+use Rattle.bq_base.specs.declared.fault.LoadFault.{LoadFault}
+use Rattle.bq_base.specs.declared.fault.LoadFault.TheVariants as f
 use Rattle.bq_board.specs.Cycles.{is_cyclic, starts_path}
 use Rattle.bq_board.specs.Depth.{max_load_depth, is_too_deep}
 use Rattle.bq_board.specs.Counts.{Has}
@@ -14,11 +15,10 @@ use Rattle.bq_eval.specs.Module.{Ended, evaluated as ran, failed, ended, kept_af
 use Rattle.bq_label.specs.declared.workspace.File.{File}
 use Rattle.bq_label.specs.Label.{LabelParts}
 use Rattle.bq_label.specs.Workspace.{IsWorkspace}
-use Rattle.bq_load_discover.specs.declared.modules.Module.{Module}
 use Rattle.bq_load.specs.Evaluation.{kept_first, evaluation, package_left, module_by, module_after, loaded_parts, by_imports, file_means, by_front, by_module, means}
 use Rattle.bq_load.specs.Imports.{is_private, global_by, or_no_symbol, exported, at_symbol, clause_values, module_named, imports, LoadedParts}
 use Rattle.bq_load.specs.Results.{load_fault, result_of, outcomes_from, outcomes}
-use Rattle.bq_load.specs.ResolvedFiles.{front_file, resolved_files}
+use Rattle.bq_load.specs.ResolvedFiles.{resolved_files}
 use Rattle.bq_load.specs.Loading.{LoadingParts, loading_in}
 use Rattle.bq_load.specs.Views.{ModuleView, FailedView, OutcomeView}
 use Rattle.bq_load_discover.specs.LoadGraph.{GraphParts, IsReadGraph, inputs_of}
@@ -40,23 +40,19 @@ use Rattle.bq_load_label.proofs.Tests.{there_is_file}
 use Rattle.bq_load_laws.proofs.Graphs.Nothing.{loads_nothing}
 use Rattle.bq_load_outcome_spec.proofs.Solution.{outcome_is, evaluated_is}
 use Rattle.bq_package_schema.specs.Schema.{Rules}
-use Rattle.bq_parse_grammar.specs.Lexeme.{lexemes}
 use Rattle.bq_parse_grammar.specs.declared.tree.FileKind.{FileKind}
 use Rattle.bq_parse_grammar.specs.declared.tree.FileKind.TheVariants as kinds
 use Rattle.bq_eval_laws.specs.Evaluations.Files.{FailsAtAStatement}
 use Rattle.bq_eval_laws.proofs.Evaluations.Lines.{files_fail_at}
 use Rattle.bq_package.specs.Calls.{meaning}
 use Rattle.bq_eval_package_laws.proofs.BuildFiles.Calls.{calls_own}
-use Rattle.bq_eval_fault_laws.specs.Faults.{FailsAsEvaluated, IsResolvedFile, IfAny}
-use Rattle.bq_eval_fault_laws.proofs.BuildCalls.{calls_refuse}
-use Rattle.bq_eval_fault_laws.proofs.Files.{files_fail}
 use Rattle.bq_package_target.specs.Package.{PackageTargets}
 use Rattle.bq_resolve_scope.specs.Names.{Name}
 use Rattle.bq_resolve_scope.specs.declared.loads.LoadStmt.{LoadStmt}
 use Rattle.bq_resolve_scope.specs.declared.loads.LoadedSymbol.{LoadedSymbol}
 use Rattle.bq_resolve_scope.specs.declared.file.ResolvedFile.{ResolvedFile}
 use Rattle.bq_value.specs.Datum.{Datum}
-use Rattle.bq_load_laws.specs.Faults.Parts.{is_of_loads, universe_at, IsAtLoad, FailsIn, FailsInItsPart, OutcomesFailInTheirParts, LoadedModulesFailInTheirParts}
+use Rattle.bq_load_laws.specs.Faults.Parts.{IsAtLoad, FailsIn, FailsInItsPart, OutcomesFailInTheirParts, LoadedModulesFailInTheirParts}
 use Rattle.bq_load_laws.specs.Outcomes.FirstLoad.{IsAtItsLoad, fault_at_load}
 use Rattle.bq_load_laws.specs.Packages.Declared.{DeclaresAllIn, DeclaresItsTargets, OutcomesDeclareTheirTargets}
 use Rattle.bq_load_laws.specs.Packages.Packages.{IsOwnOf}
@@ -67,21 +63,21 @@ use Rattle.bq_load_laws.proofs.Packages.Made.{Declares, IsMade, file_made}
 
 -- ---- symbols
 
--- a result that fails, if it does, with a fault of loads at the line of one of these
-abbrev ByLoads : {A : Type 0} → List LoadStmt → Result A (Fault FaultKind) → Type 0
+-- a result that fails, if it does, at the line of one of these loads
+abbrev ByLoads : {A : Type 0} → List LoadStmt → Result A (Fault LoadFault) → Type 0
 ByLoads all (Ok x) = Unit {0}
-ByLoads all (Err why) = (is_of_loads why.kind ≡ true) × IsAtLoad all why
+ByLoads all (Err why) = IsAtLoad all why
 
-then_only : {A B : Type 0} (all : List LoadStmt) (r : Result A (Fault FaultKind)) (go : A → Result B (Fault FaultKind)) → ByLoads all r → ((x : A) → ByLoads all (go x)) → ByLoads all (r >>= go)
+then_only : {A B : Type 0} (all : List LoadStmt) (r : Result A (Fault LoadFault)) (go : A → Result B (Fault LoadFault)) → ByLoads all r → ((x : A) → ByLoads all (go x)) → ByLoads all (r >>= go)
 then_only all (Ok x) go h next = next x
 then_only all (Err why) go h next = h
 
 module _ (all : List LoadStmt) (load : LoadStmt) (among : Contains all load) where
-  at_it : (why : Fault FaultKind) → why.line ≡ load.line → IsAtLoad all why
+  at_it : (why : Fault LoadFault) → why.line ≡ load.line → IsAtLoad all why
   at_it why e = record { load = load; among = among; line = e }
 
   of_global : (name : Name) (v : Option Datum) → ByLoads all (at_symbol load.line name (or_no_symbol v))
-  of_global name None = (refl, at_it _ refl)
+  of_global name None = at_it _ refl
   of_global name (Some v) = tt
 
   of_symbol : (resolved : List (Option ResolvedFile)) (m : Option ModuleView) (name : Name) → ByLoads all (at_symbol load.line name (exported resolved m name))
@@ -89,7 +85,7 @@ module _ (all : List LoadStmt) (load : LoadStmt) (among : Contains all load) whe
   of_symbol resolved m name = by_privacy (is_private name)
     where
       by_privacy : (b : Bool) → ByLoads all (at_symbol load.line name (if b then Err f.PrivateSymbol else or_no_symbol (global_by resolved m name)))
-      by_privacy true = (refl, at_it _ refl)
+      by_privacy true = at_it _ refl
       by_privacy false = of_global name (global_by resolved m name)
 
   clauses_fail : (resolved : List (Option ResolvedFile)) (m : Option ModuleView) (done : List Datum) (cs : List LoadedSymbol) → ByLoads all (clause_values resolved m load.line done cs)
@@ -122,7 +118,7 @@ and_false false = refl
 
 -- each fault of the module of this number for a load is at the first such load in its file
 abbrev pub LoadsAreTold : InputParts → LoadingParts → Loads → ℕ → LabelParts → Type 0
-LoadsAreTold inputs x p m l = (front : Front) → front_of inputs l ≡ Ok front → (kind : FaultKind) (k : ℕ) → Has (row p m) k → IsAtItsLoad x k (front_of inputs l) kind
+LoadsAreTold inputs x p m l = (front : Front) → front_of inputs l ≡ Ok front → (kind : LoadFault) (k : ℕ) → Has (row p m) k → IsAtItsLoad x k (front_of inputs l) kind
 
 -- ---- a file of a load graph
 
@@ -135,41 +131,26 @@ module _ (inputs : InputParts) where
   abbrev pub IsComeTo : OutcomeView → Type 0
   IsComeTo o = ComesTo o.label o.result
 
-  resolved_by : (l : LabelParts) (r : Result Front (Fault FaultKind)) → IsFront inputs l r → IfAny (front_file r)
-  resolved_by l (Err why) h = tt
-  resolved_by l (Ok front) h =
-      let has = h.2 in
-      record { kind = kind_of l; lexemes = lexemes h.0.content has.tokens; statements = has.trees; universe = universe_at inputs l; parses = has.parses; resolves = has.names }
-
   -- the files of these labels are there
   abbrev AreThere : List LabelParts → Type 0
   AreThere ls = (l : LabelParts) → Contains ls l → is_some (label_file inputs.files l) ≡ true
 
-  all_resolved : (ls : List LabelParts) → AreThere ls → AllByRecursion IfAny (resolved_files (map (module_of inputs) ls))
-  all_resolved [] there = tt
-  all_resolved (l ∷ ls) there =
-      (resolved_by l (front_of inputs l) (fronts_fail inputs l (there l (at_head l ls))), all_resolved ls (λ k c. there k (in_tail l ls k c)))
-
-module _ (inputs : InputParts) (x : LoadingParts) (all : AllByRecursion IfAny (resolved_files x.modules)) where
+module _ (inputs : InputParts) (x : LoadingParts) where
   abbrev Comes : LabelParts → Result ModuleView FailedView → Type 0
   Comes l r = ComesTo inputs l r
 
   -- ---- evaluation
 
   module _ (l : LabelParts) (front : Front) (is : IsFront inputs l (Ok front)) (m : ℕ) (modules : List ModuleView) where
-    is_resolved : IsResolvedFile front.file
-    is_resolved = resolved_by inputs l (Ok front) is
-
-    by_end : (e : Ended) (p : Option PackageTargets) → FailsAsEvaluated e → FailsAtAStatement front.file e → IfErr (module_by e p) (λ v. FailsIn inputs l v.fault)
-    by_end (ran made prints) p h at = tt
-    by_end (failed why prints) p h at = FailsIn.of_evaluation is.0 front.file is.1 is.2 h at
+    by_end : (e : Ended) (p : Option PackageTargets) → FailsAtAStatement front.file e → IfErr (module_by e p) (λ v. FailsIn inputs l v.fault)
+    by_end (ran made prints) p at = tt
+    by_end (failed why prints) p at = FailsIn.of_evaluation is.0 front.file why is.1 is.2 at refl
 
     run_fails : (values : List Datum) → IfErr (module_after front.file values (evaluation x m l front.file modules values)) (λ v. FailsIn inputs l v.fault)
     unfolding module_after evaluation
     run_fails values =
         by_end (ended front.file values (module_run x.names meaning (resolved_files x.modules) m front.file (map (λ v. v.frozen) modules) values x.limit (kept_first x l)))
         (package_left (kept_after (module_run x.names meaning (resolved_files x.modules) m front.file (map (λ v. v.frozen) modules) values x.limit (kept_first x l))))
-        (files_fail x.names meaning calls_refuse (resolved_files x.modules) all m front.file is_resolved (map (λ v. v.frozen) modules) values x.limit (kept_first x l))
         (files_fail_at x.names meaning calls_own (resolved_files x.modules) m front.file (map (λ v. v.frozen) modules) values (kept_first x l) x.limit)
 
     by_package : (k : FileKind) (p : Option PackageTargets) → IsOwnOf k l p → Declares front.file.statements p → DeclaresAllIn inputs l p
@@ -184,8 +165,8 @@ module _ (inputs : InputParts) (x : LoadingParts) (all : AllByRecursion IfAny (r
     by_run : (values : List Datum) → Comes l (module_after front.file values (evaluation x m l front.file modules values))
     by_run values = by_both (module_after front.file values (evaluation x m l front.file modules values)) (run_fails values) (file_made x m l front.file modules values)
 
-    by_values : (r : Result (List Datum) (Fault FaultKind)) → ByLoads front.file.loads r → Comes l (by_imports x m l front.file modules r)
-    by_values (Err why) h = FailsIn.of_loads is.0 front.file is.1 is.2 h.0 h.1
+    by_values : (r : Result (List Datum) (Fault LoadFault)) → ByLoads front.file.loads r → Comes l (by_imports x m l front.file modules r)
+    by_values (Err why) h = FailsIn.of_loads is.0 front.file why is.1 is.2 h refl
     by_values (Ok values) h = by_run values
 
   file_comes : (l : LabelParts) (front : Front) → IsFront inputs l (Ok front) → (m : ℕ) (modules : List ModuleView) → Comes l (file_means x m l front modules)
@@ -216,7 +197,7 @@ module _ (inputs : InputParts) (x : LoadingParts) (all : AllByRecursion IfAny (r
     -- a file that resolves may load modules that are cyclic, too deep or failed
     module _ (front : Front) (read : front_of inputs l ≡ Ok front) (is : IsFront inputs l (Ok front)) where
       -- at the first load of the module that it names
-      told_there : (kind : FaultKind) (k : ℕ) (i : IsAtItsLoad x k (front_of inputs l) kind) → IsAtLoad front.file.loads (fault_at_load kind i.load i.loaded)
+      told_there : (kind : LoadFault) (k : ℕ) (i : IsAtItsLoad x k (front_of inputs l) kind) → IsAtLoad front.file.loads (fault_at_load kind i.load i.loaded)
       told_there kind k i =
           let of_file = i.first in
           let same : of_file.own ≡ front = same_front of_file.own front (sym of_file.read ∙ read) in
@@ -224,19 +205,19 @@ module _ (inputs : InputParts) (x : LoadingParts) (all : AllByRecursion IfAny (r
           let loads_are = ap (λ (z : Front). z.file.loads) (sym same) ∙ place.loads_are in
           record { load = i.load; among = subst (λ (z : List LoadStmt). Contains z i.load) (sym loads_are) (among_all place.before i.load place.after); line = refl }
 
-      of_kind : (kind : FaultKind) (k : ℕ) → is_of_loads kind ≡ true → Has (row p m) k → FailsIn inputs l (load_fault x (front_of inputs l) kind k)
-      of_kind kind k h loads_it =
+      of_kind : (kind : LoadFault) (k : ℕ) → Has (row p m) k → FailsIn inputs l (load_fault x (front_of inputs l) kind k)
+      of_kind kind k loads_it =
           let i = told front read kind k loads_it in
-          subst (FailsIn inputs l) (sym i.fault) (FailsIn.of_loads is.0 front.file is.1 is.2 h (told_there kind k i))
+          subst (FailsIn inputs l) (sym i.fault) (FailsIn.of_loads is.0 front.file (fault_at_load kind i.load i.loaded) is.1 is.2 (told_there kind k i) refl)
 
       by_loaded_values : (vs : Result (List ModuleView) ℕ) → ((k : ℕ) → vs ≡ Err k → Has (row p m) k) → Holds (evaluated (means x m) vs)
       by_loaded_values (Ok vs) unread = by_result (means x m vs) (means_comes vs)
-      by_loaded_values (Err k) unread = of_kind f.LoadFailed k refl (unread k refl)
+      by_loaded_values (Err k) unread = of_kind f.LoadFailed k (unread k refl)
 
       by_cases : (cyclic deep : Bool) (k d : ℕ) (vs : Result (List ModuleView) ℕ) → (cyclic ≡ true → Has (row p m) k) → (deep ≡ true → Has (row p m) d) → ((j : ℕ) → vs ≡ Err j → Has (row p m) j)
           → Holds (cond cyclic (o.Cyclic k) (cond deep (o.TooDeep d) (evaluated (means x m) vs)))
-      by_cases true deep k d vs cycle far unread = of_kind f.CycleReached k refl (cycle refl)
-      by_cases false true k d vs cycle far unread = of_kind f.LoadDepth d refl (far refl)
+      by_cases true deep k d vs cycle far unread = of_kind f.CycleReached k (cycle refl)
+      by_cases false true k d vs cycle far unread = of_kind f.LoadDepth d (far refl)
       by_cases false false k d vs cycle far unread = by_loaded_values vs unread
 
       with_file : Holds (outcome (means x) p m)
@@ -274,15 +255,12 @@ module _ (inputs : InputParts) (x : LoadingParts) (all : AllByRecursion IfAny (r
 module _ (inputs : InputParts) (x : LoadingParts) (labels : List LabelParts) (read : x.modules ≡ map (module_of inputs) labels) (p : Loads)
     (none : (m : ℕ) (l : LabelParts) (why : Fault FaultKind) → slice_get labels m ≡ Some l → front_of inputs l ≡ Err why → row p m ≡ []) (known : Known p)
     (told : (m : ℕ) (l : LabelParts) → slice_get labels m ≡ Some l → LoadsAreTold inputs x p m l) (all_there : AreThere inputs labels) where
-  all_files : AllByRecursion IfAny (resolved_files x.modules)
-  all_files = subst (λ (z : List Module). AllByRecursion IfAny (resolved_files z)) (sym read) (all_resolved inputs labels all_there)
-
   from : (m : ℕ) (ls : List LabelParts) → ((i : ℕ) → slice_get labels (m + i) ≡ slice_get ls i) → AreThere inputs ls → AllByRecursion (IsComeTo inputs) (outcomes_from x p m (map (module_of inputs) ls))
   from m [] same there = tt
   from m (l ∷ ls) same there =
       let zero_more : m + 0 ≡ m = omega arith in
       let at : slice_get labels m ≡ Some l = ap (slice_get labels) (sym zero_more) ∙ same 0 in
-      (module_comes inputs x all_files p m l (module_at inputs x labels read m l at) (λ why. none m l why at) known (told m l at) (there l (at_head l ls)), from (m + 1) ls next (λ k c. there k (in_tail l ls k c)))
+      (module_comes inputs x p m l (module_at inputs x labels read m l at) (λ why. none m l why at) known (told m l at) (there l (at_head l ls)), from (m + 1) ls next (λ k c. there k (in_tail l ls k c)))
     where
       next : (i : ℕ) → slice_get labels (m + 1 + i) ≡ slice_get ls i
       next i = let more : m + 1 + i ≡ m + suc i = omega arith in ap (slice_get labels) more ∙ same (suc i)

@@ -1,8 +1,8 @@
 -- A load is refused in its order.
 use Rattle.std.proofs.Common.{◌≡◌, ◌∙◌, ap, refl, ℕ, inl, inr, List, [], ◌∷◌, Option, Some, None}
 use Rattle.std.specs.Prelude.{not, is_some}
-use Rattle.bq_base.specs.declared.fault.FaultKind.{FaultKind}
-use Rattle.bq_base.specs.declared.fault.FaultKind.TheVariants.{BadLoadLabel}
+use Rattle.bq_base.specs.declared.fault.LoadFault.{LoadFault}
+use Rattle.bq_base.specs.declared.fault.LoadFault.TheVariants.{BadLoadLabel}
 use Rattle.bq_base.proofs.Choices.{by_bool}
 use Rattle.bq_label.specs.declared.workspace.File.{File}
 use Rattle.bq_label.specs.declared.packages.BuildFile.{BuildFile}
@@ -27,7 +27,7 @@ module _ (files : List File) (packages : List BuildFile) where
     ]
   ]
 
-  by_fault : (line : ℕ) (l : LabelParts) (o : Option FaultKind) → fault_of_load (unless_fault line l o) ≡ first_fault (o ∷ [])
+  by_fault : (line : ℕ) (l : LabelParts) (o : Option LoadFault) → fault_of_load (unless_fault line l o) ≡ first_fault (o ∷ [])
   by_fault line l None = refl
   by_fault line l (Some kind) = refl
 

@@ -4,8 +4,8 @@ use Rattle.std.specs.Prelude.{bytes_eq, slice_get}
 use Rattle.std.specs.List.{AllByRecursion}
 use Rattle.std.proofs.lemmas.Bool.{false≢true}
 use Rattle.std.proofs.lemmas.Slice.Eq.{bytes_eq-Decides}
-use Rattle.bq_base.specs.declared.fault.FaultKind.{FaultKind}
-use Rattle.bq_base.specs.declared.fault.FaultKind.TheVariants.{NoSymbol, PrivateSymbol}
+use Rattle.bq_base.specs.declared.fault.LoadFault.{LoadFault}
+use Rattle.bq_base.specs.declared.fault.LoadFault.TheVariants.{NoSymbol, PrivateSymbol}
 use Rattle.bq_base.proofs.Choices.{by_bool}
 use Rattle.bq_resolve_scope.specs.Names.{Name}
 use Rattle.bq_resolve_scope.specs.declared.file.ResolvedFile.{ResolvedFile}
@@ -57,10 +57,10 @@ there name (n ∷ ns) after (u ∷ us) v h e =
 
 -- ---- symbols
 
-abbrev kept : Datum → Result Datum FaultKind
+abbrev kept : Datum → Result Datum LoadFault
 kept v = Ok v
 
-no_value : (kind : FaultKind) (v : Datum) → Err kind ≡ kept v → ⊥
+no_value : (kind : LoadFault) (v : Datum) → Err kind ≡ kept v → ⊥
 no_value kind v e = cc
 
 same_value : (u v : Datum) → kept u ≡ kept v → u ≡ v

@@ -5,6 +5,8 @@ use Rattle.std.specs.List.{AllByRecursion}
 use Rattle.std.proofs.lemmas.Slice.Eq.{bytes_eq-Decides}
 use Rattle.bq_base.specs.declared.fault.Fault.{Fault}
 use Rattle.bq_base.specs.declared.fault.FaultKind.{FaultKind}
+use Rattle.bq_base.specs.declared.fault.LoadFault.{LoadFault}
+use Rattle.bq_base.specs.Fault.{fault_as, kind_of_load}
 use Rattle.bq_base.proofs.Choices.{by_bool}
 use Rattle.bq_label.proofs.Orders.{head_or_tail}
 use Rattle.bq_label_set.proofs.Added.{none_in}
@@ -24,7 +26,7 @@ first_line l k load [] after (j ∷ js) later form place others = absurd (omega 
 first_line l k load (b ∷ bs) after [] later form place others = absurd (omega (arith, place))
 first_line l k load (b ∷ bs) after (j ∷ js) later form place others = let other_form = others.0 in rw other_form (first_line l k load bs after js later form (omega (arith, place)) others.1)
 
-pub names_the_first : (x : LoadingParts) (k : ℕ) (front : Result Front (Fault FaultKind)) (loaded : Module) (kind : FaultKind) (load : LoadStmt) → LoadsFirst x k front loaded load → load_fault x front kind k ≡ fault_at_load kind load loaded
+pub names_the_first : (x : LoadingParts) (k : ℕ) (front : Result Front (Fault FaultKind)) (loaded : Module) (kind : LoadFault) (load : LoadStmt) → LoadsFirst x k front loaded load → load_fault x front kind k ≡ fault_as kind_of_load (fault_at_load kind load loaded)
 unfolding load_fault
 names_the_first x k front loaded kind load l =
     let first = l.first in

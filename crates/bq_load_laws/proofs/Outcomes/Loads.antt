@@ -1,15 +1,16 @@
 -- A module of a load graph that comes to nothing by its loads is told at the first load of the module that it names.
-use Rattle.std.proofs.Common.{◌≡◌, ◌∙◌, ℕ, suc, inl, inr, Bool, true, false, cond, List, [], ◌∷◌, length, map, Option, Some, None, Result, Ok, Err, slice_get, option_map, Contains, refl, sym, ap, subst, arith, true≢false}
+use Rattle.std.proofs.Common.{◌≡◌, ◌∙◌, ℕ, inl, inr, Bool, true, false, cond, List, [], ◌∷◌, length, map, Option, Some, None, Result, Ok, Err, slice_get, option_map, Contains, refl, sym, ap, subst, arith, true≢false}
 use Rattle.std.proofs.lemmas.List.{length-map}
 use Rattle.std.proofs.lemmas.Option.{get_or_from_slice_get}
 use Rattle.bq_base.specs.declared.fault.Fault.{Fault}
 use Rattle.bq_base.specs.declared.fault.FaultKind.{FaultKind}
-use Rattle.bq_base.specs.declared.fault.FaultKind.TheVariants as f
+use Rattle.bq_base.specs.declared.fault.LoadFault.{LoadFault}
+use Rattle.bq_base.specs.declared.fault.LoadFault.TheVariants as f
+use Rattle.bq_base.specs.Fault.{kind_of_load, or_fault_as}
 use Rattle.bq_label.specs.declared.workspace.File.{File}
 use Rattle.bq_label.specs.Label.{LabelParts, package_of}
 use Rattle.bq_label.specs.Packages.{label_file}
 use Rattle.bq_label_set.proofs.Added.{none_in, the_labels_added}
-use Rattle.bq_resolve_scope.specs.declared.loads.LoadStmt.{LoadStmt}
 use Rattle.bq_resolve_scope.specs.declared.file.ResolvedFile.{ResolvedFile}
 use Rattle.bq_board.specs.Counts.{Has}
 use Rattle.bq_board.specs.Cycles.{is_cyclic, starts_path}
@@ -122,13 +123,13 @@ module _ (inputs : InputParts) (l : LabelParts) (front : Front) where
   same_front : (x y : Front) → ok x ≡ ok y → x ≡ y
   same_front x y e = cc
 
-  wide_labels : (file : ResolvedFile) (r : Result (List LabelParts) (Fault FaultKind)) → labels_of (load_of inputs (package_of l)) [] file.loads ≡ r → (r >>= λ ls. ok (made file ls)) ≡ ok front → Wide front
+  wide_labels : (file : ResolvedFile) (r : Result (List LabelParts) (Fault LoadFault)) → labels_of (load_of inputs (package_of l)) [] file.loads ≡ r → (or_fault_as kind_of_load r >>= λ ls. ok (made file ls)) ≡ ok front → Wide front
   wide_labels file (Ok ls) is e =
       let names : NameFiles (load_of inputs (package_of l)) file.loads ls = ((are_read (load_of inputs (package_of l)) file.loads).0 ls).0 is in
       subst Wide (same_front (made file ls) front e) (sym (length-map file.loads (load_of inputs (package_of l))) ∙ ap length names ∙ length-map ls named)
   wide_labels file (Err why) is e = absurd (cc)
 
-  wide_text : (r : Result ResolvedFile (Fault FaultKind)) → (r >>= λ file. labels_of (load_of inputs (package_of l)) [] file.loads >>= λ ls. ok (made file ls)) ≡ ok front → Wide front
+  wide_text : (r : Result ResolvedFile (Fault FaultKind)) → (r >>= λ file. or_fault_as kind_of_load (labels_of (load_of inputs (package_of l)) [] file.loads) >>= λ ls. ok (made file ls)) ≡ ok front → Wide front
   wide_text (Ok file) e = wide_labels file (labels_of (load_of inputs (package_of l)) [] file.loads) refl e
   wide_text (Err why) e = absurd (cc)
 
@@ -150,7 +151,7 @@ module _ (files : List File) (rules : Rules) (limit : ℕ) (g : GraphParts) (is 
   x = loading_in files rules limit g
 
   -- its fault for a load is at the first load of that module in its file
-  pub at_load : (m : ℕ) (l : LabelParts) (front : Front) → slice_get g.labels m ≡ Some l → front_of inputs l ≡ Ok front → (kind : FaultKind) (k : ℕ) → Has (row g.edges m) k → IsAtItsLoad x k (front_of inputs l) kind
+  pub at_load : (m : ℕ) (l : LabelParts) (front : Front) → slice_get g.labels m ≡ Some l → front_of inputs l ≡ Ok front → (kind : LoadFault) (k : ℕ) → Has (row g.edges m) k → IsAtItsLoad x k (front_of inputs l) kind
   at_load m l front at e kind k h =
       let r = labelled g.labels (row g.edges m) (edges_from (parsed_of inputs) l) (row_of inputs g is m l at) k h in
       let loaded = module_of inputs r.label in
@@ -161,7 +162,7 @@ module _ (files : List File) (rules : Rules) (limit : ℕ) (g : GraphParts) (is 
       record { loaded = loaded; load = first.load; first = is_first; fault = names_the_first x k (front_of inputs l) loaded kind first.load is_first }
 
   module _ (m : ℕ) (l : LabelParts) (at : slice_get g.labels m ≡ Some l) where
-    by_outcome : (one : Outcome ModuleView FailedView) → NamesOne (means x) g.edges is.graph.valid.1 m one → ((kind : FaultKind) (k : ℕ) → Has (row g.edges m) k → IsAtItsLoad x k (front_of inputs l) kind)
+    by_outcome : (one : Outcome ModuleView FailedView) → NamesOne (means x) g.edges is.graph.valid.1 m one → ((kind : LoadFault) (k : ℕ) → Has (row g.edges m) k → IsAtItsLoad x k (front_of inputs l) kind)
         → NamesItsLoad x (front_of inputs l) one
     by_outcome (o.Loaded v) h told = tt
     by_outcome (o.Faulty e) h told = tt
@@ -170,7 +171,7 @@ module _ (files : List File) (rules : Rules) (limit : ℕ) (g : GraphParts) (is 
     by_outcome (o.LoadFailed k) h told = told f.LoadFailed k h
 
     -- a file that does not resolve loads nothing
-    by_front : (r : Result Front (Fault FaultKind)) → front_of inputs l ≡ r → (kind : FaultKind) (k : ℕ) → Has (row g.edges m) k → IsAtItsLoad x k (front_of inputs l) kind
+    by_front : (r : Result Front (Fault FaultKind)) → front_of inputs l ≡ r → (kind : LoadFault) (k : ℕ) → Has (row g.edges m) k → IsAtItsLoad x k (front_of inputs l) kind
     by_front (Ok front) e kind k h = at_load m l front at e kind k h
     by_front (Err why) e kind k h =
         let none : row g.edges m ≡ [] = get_or_from_slice_get g.edges m [] [] (loads_nothing inputs g m l why is at e) in

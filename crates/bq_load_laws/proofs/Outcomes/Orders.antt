@@ -2,7 +2,10 @@
 use Rattle.std.proofs.Common.{◌≡◌, ◌∙◌, ap, refl, ℕ, inl, inr, List, [], ◌∷◌, Option, Some, None, Result, Ok, Err}
 use Rattle.std.specs.Prelude.{not, is_some, slice_get}
 use Rattle.bq_base.specs.declared.fault.FaultKind.{FaultKind}
-use Rattle.bq_base.specs.declared.fault.FaultKind.TheVariants.{NoSymbol, CycleReached, LoadDepth, LoadFailed}
+use Rattle.bq_base.specs.declared.fault.FaultKind.TheVariants.{CycleReached, LoadDepth, LoadFailed}
+use Rattle.bq_base.specs.declared.fault.LoadFault.{LoadFault}
+use Rattle.bq_base.specs.declared.fault.LoadFault.TheVariants as load
+use Rattle.bq_base.specs.Fault.{kind_of_load}
 use Rattle.bq_base.proofs.Choices.{by_bool}
 use Rattle.bq_board.specs.Graph.{Loads, row}
 use Rattle.bq_board.specs.Cycles.{is_cyclic}
@@ -26,7 +29,7 @@ use Rattle.bq_load_laws.specs.Outcomes.Orders.{exporting, failure, load_failed, 
 
 -- ---- symbols
 
-by_global : (o : Option Datum) → fault_in (or_no_symbol o) ≡ first_fault (when (not (is_some o)) NoSymbol ∷ [])
+by_global : (o : Option Datum) → fault_in (or_no_symbol o) ≡ first_fault (when (not (is_some o)) load.NoSymbol ∷ [])
 by_global None = refl
 by_global (Some v) = refl
 
@@ -41,11 +44,11 @@ exported_in_order resolved m name = elim (by_bool (is_private name)) [
 
 module _ (x : LoadingParts) (p : Loads) (m : ℕ) (front : Result Front (Fault FaultKind)) where
   -- a fault of a load is of this kind
-  of_kind : (kind : FaultKind) (k : ℕ) → (load_fault x front kind k).kind ≡ kind
+  of_kind : (kind : LoadFault) (k : ℕ) → (load_fault x front kind k).kind ≡ kind_of_load kind
   unfolding load_fault
   of_kind kind k = by_module (slice_get x.modules k)
     where
-      by_module : (o : Option Module) → (load_fault_by kind front o).kind ≡ kind
+      by_module : (o : Option Module) → (load_fault_by kind front o).kind ≡ kind_of_load kind
       by_module None = refl
       by_module (Some loaded) = refl
 
@@ -55,15 +58,15 @@ module _ (x : LoadingParts) (p : Loads) (m : ℕ) (front : Result Front (Fault F
 
   by_values : (r : Result (List ModuleView) ℕ) → failure (result_of x front (evaluated (means x m) r)) ≡ first_fault (load_failed r ∷ own_failure x m r ∷ [])
   by_values (Ok vs) = by_value (means x m vs)
-  by_values (Err l) = ap Some (of_kind LoadFailed l)
+  by_values (Err l) = ap Some (of_kind load.LoadFailed l)
 
   by_graph : (at : ℕ → Outcome ModuleView FailedView)
       → failure (result_of x front (by_loads (means x) p at m)) ≡ first_fault (when (is_cyclic p m) CycleReached ∷ when (is_too_deep p m) LoadDepth ∷ load_failed (values at (row p m)) ∷ own_failure x m (values at (row p m)) ∷ [])
   unfolding by_loads
   by_graph at = elim (by_bool (is_cyclic p m)) [
-    | inl t ↦ rw t (ap Some (of_kind CycleReached _))
+    | inl t ↦ rw t (ap Some (of_kind load.CycleReached _))
     | inr t ↦ elim (by_bool (is_too_deep p m)) [
-      | inl u ↦ rw (t, u) (ap Some (of_kind LoadDepth _))
+      | inl u ↦ rw (t, u) (ap Some (of_kind load.LoadDepth _))
       | inr u ↦ rw (t, u) (by_values (values at (row p m)))
     ]
   ]

@@ -2,7 +2,7 @@
 use Rattle.std.proofs.Common.{◌≡◌, ◌∙◌, ◌++◌, ℕ, Bool, true, false, List, [], Result, Ok, Err, refl, sym, ap, append_assoc, append-nil}
 use Rattle.std.specs.Prelude.{if◌then◌else◌}
 use Rattle.std.specs.List.{list_any}
-use Rattle.bq_base.specs.declared.fault.FaultKind.{FaultKind}
+use Rattle.bq_base.specs.declared.fault.EvalFault.{EvalFault}
 use Rattle.bq_label.specs.Label.{LabelParts}
 use Rattle.bq_value_rule_class.specs.Class.{Class}
 use Rattle.bq_builtin_machine.specs.Action.{given, ◌>>=◌}
@@ -82,11 +82,11 @@ module _ (line : ℕ) (first : Declaring) where
     settled_left (Accepted after) grows = grows
     settled_left (Refused after) grows = tt
 
-    target_left : (r : Result Target FaultKind) → IsAt s.line r → Left (Held line (declaring first)) (declares s d r (declared d.package))
+    target_left : (r : Result Target EvalFault) → IsAt s.line r → Left (Held line (declaring first)) (declares s d r (declared d.package))
     target_left (Ok t) e = settled_left (declared d.package t) (declared_grows t e)
     target_left (Err why) e = tt
 
-    files_left : (r : Result (List LabelParts) FaultKind) → Left (Held line (declaring first)) (declares s d r (λ ls. exported d.package ls s.line))
+    files_left : (r : Result (List LabelParts) EvalFault) → Left (Held line (declaring first)) (declares s d r (λ ls. exported d.package ls s.line))
     files_left (Ok ls) = settled_left (exported d.package ls s.line) (exported_grows ls)
     files_left (Err why) = tt
 

@@ -2,8 +2,8 @@
 -- in the statement's line. So of the statements of a file each makes of what is kept what such calls may make of it.
 use Rattle.std.proofs.Common.{◌≡◌, ℕ, Bool, true, false, List, [], ◌∷◌, Option, Some, None, Result, Ok, Err, refl, sym, subst}
 use Rattle.std.specs.Prelude.{if◌then◌else◌}
-use Rattle.bq_base.specs.declared.fault.FaultKind.{FaultKind}
-use Rattle.bq_base.specs.declared.fault.FaultKind.TheVariants.{NotInPackage}
+use Rattle.bq_base.specs.declared.fault.EvalFault.{EvalFault}
+use Rattle.bq_base.specs.declared.fault.EvalFault.TheVariants.{NotInPackage}
 use Rattle.bq_resolve_predeclared.specs.declared.host_function.HostFunction.{HostFunction}
 use Rattle.bq_resolve_predeclared.specs.declared.predeclared.Predeclared.{Predeclared}
 use Rattle.bq_resolve_predeclared.specs.declared.predeclared.Predeclared.TheVariants as p
@@ -66,7 +66,7 @@ module _ {W : Type 0} (names : List Name) (host : HostCalls W) (units : Units Su
   abbrev run_one : FileLine → Frame → State × W → Flowing W
   run_one t globals = top_level (primitives names host) by_slots own (eval_top (primitives names host) by_slots units own) t globals
 
-look_stays : {W A : Type 0} (r : Result A FaultKind) (s : State × W) → InLine {S = State × W} hosted s.0.line (beside s.1 (given r s.0))
+look_stays : {W A : Type 0} (r : Result A EvalFault) (s : State × W) → InLine {S = State × W} hosted s.0.line (beside s.1 (given r s.0))
 look_stays (Ok x) s = refl
 look_stays (Err why) s = refl
 

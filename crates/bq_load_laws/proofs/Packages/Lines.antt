@@ -1,7 +1,7 @@
 -- The targets that a call declares are source files, or in the line that is passed to it.
 use Rattle.std.proofs.Common.{◌≡◌, ◌∷◌, ◌++◌, ℕ, Bool, true, false, List, [], map, Option, Some, None, Result, Ok, Err, slice_get, inl, inr, refl}
 use Rattle.std.specs.List.{AllByRecursion}
-use Rattle.bq_base.specs.declared.fault.FaultKind.{FaultKind}
+use Rattle.bq_base.specs.declared.fault.EvalFault.{EvalFault}
 use Rattle.bq_label.specs.declared.packages.BuildFile.{BuildFile}
 use Rattle.bq_label.specs.Label.{LabelParts, PackageParts}
 use Rattle.bq_value_rule_class.specs.Class.{Class}
@@ -52,12 +52,12 @@ files_are_files line ts ls = sources_are_files line (new_files (names_of ts) ls)
 -- ---- the line of what a call declares
 
 -- a target in this line, or none
-abbrev pub IsAt : ℕ → Result Target FaultKind → Type 0
+abbrev pub IsAt : ℕ → Result Target EvalFault → Type 0
 IsAt line (Ok t) = t.line ≡ line
 IsAt line (Err why) = Unit {0}
 
 module _ (line : ℕ) where
-  then_at : {A : Type 0} (r : Result A FaultKind) (next : A → Result Target FaultKind) → ((a : A) → IsAt line (next a)) → IsAt line (and_then r next)
+  then_at : {A : Type 0} (r : Result A EvalFault) (next : A → Result Target EvalFault) → ((a : A) → IsAt line (next a)) → IsAt line (and_then r next)
   then_at (Ok a) next h = h a
   then_at (Err why) next h = tt
 

@@ -1,9 +1,10 @@
 -- The package that a file makes is its own, and its statements declare its targets.
-use Rattle.std.proofs.Common.{◌≡◌, ◌++◌, ◌∷◌, ℕ, Bool, true, false, List, [], Option, Some, None, Result, Ok, Err, slice_get, refl, sym, ap, subst}
+use Rattle.std.proofs.Common.{◌≡◌, ◌++◌, ◌∷◌, ℕ, Bool, true, false, List, [], Option, Some, None, Result, Ok, Err, refl, sym, ap, subst}
 use Rattle.std.proofs.lemmas.Option.{none-some}
 use Rattle.std.specs.Prelude.{IfOk, bytes_eq, option_map, ◌&&◌, if◌then◌else◌}
 use Rattle.std.specs.Cmp.Lexicographic.{bytes_decides}
 use Rattle.bq_base.specs.declared.fault.FaultKind.{FaultKind}
+use Rattle.bq_base.specs.declared.fault.LoadFault.{LoadFault}
 use Rattle.bq_base.specs.declared.fault.Fault.{Fault}
 use Rattle.bq_parse_grammar.specs.declared.tree.FileKind.{FileKind}
 use Rattle.bq_parse_grammar.specs.declared.tree.FileKind.TheVariants as kinds
@@ -89,7 +90,7 @@ module _ (k : FileKind) (l : LabelParts) where
   its_own_alone ts (Ok v) h = h.0
   its_own_alone ts (Err why) h = tt
 
-imported_own : (x : LoadingParts) (m : ℕ) (l : LabelParts) (file : ResolvedFile) (modules : List ModuleView) (values : Result (List Datum) (Fault FaultKind)) → IfOk (by_imports x m l file modules values) (Own (kind_of l) l)
+imported_own : (x : LoadingParts) (m : ℕ) (l : LabelParts) (file : ResolvedFile) (modules : List ModuleView) (values : Result (List Datum) (Fault LoadFault)) → IfOk (by_imports x m l file modules values) (Own (kind_of l) l)
 imported_own x m l file modules (Err why) = tt
 imported_own x m l file modules (Ok values) =
     its_own_alone (kind_of l) l file.statements (module_after file values (evaluation x m l file modules values)) (file_made x m l file modules values)

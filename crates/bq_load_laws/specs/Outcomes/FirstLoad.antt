@@ -3,7 +3,9 @@ use Rattle.std.specs.Prelude.{◌≡◌, ℕ, List, ◌∷◌, ◌++◌, length,
 use Rattle.std.specs.List.{AllByRecursion}
 use Rattle.bq_base.specs.declared.fault.Fault.{Fault}
 use Rattle.bq_base.specs.declared.fault.FaultKind.{FaultKind}
-use Rattle.bq_base.specs.declared.fault.FaultKind.TheVariants as f
+use Rattle.bq_base.specs.declared.fault.LoadFault.{LoadFault}
+use Rattle.bq_base.specs.declared.fault.LoadFault.TheVariants as f
+use Rattle.bq_base.specs.Fault.{fault_as, kind_of_load}
 use Rattle.bq_label.specs.declared.workspace.File.{File}
 use Rattle.bq_label.specs.Label.{LabelParts, full_form}
 use Rattle.bq_resolve_scope.specs.declared.loads.LoadStmt.{LoadStmt}
@@ -40,20 +42,20 @@ pub record LoadsFirst (x : LoadingParts) (k : ℕ) (front : Result Front (Fault 
   pub first : IsFirstLoadOf loaded.label load own.file.loads own.loads
 
 -- the fault at that load, which names what it loads
-abbrev pub fault_at_load : FaultKind → LoadStmt → Module → Fault FaultKind
+abbrev pub fault_at_load : LoadFault → LoadStmt → Module → Fault LoadFault
 fault_at_load kind load loaded = record { kind = kind; line = load.line; detail = full_form loaded.label }
 
 -- the fault of a module for its load of another is at the first load of that one in its file
 abbrev pub FaultsAreAtFirstLoads : Type 0
-FaultsAreAtFirstLoads = (x : LoadingParts) (k : ℕ) (front : Result Front (Fault FaultKind)) (loaded : Module) (kind : FaultKind) (load : LoadStmt)
-    → LoadsFirst x k front loaded load → load_fault x front kind k ≡ fault_at_load kind load loaded
+FaultsAreAtFirstLoads = (x : LoadingParts) (k : ℕ) (front : Result Front (Fault FaultKind)) (loaded : Module) (kind : LoadFault) (load : LoadStmt)
+    → LoadsFirst x k front loaded load → load_fault x front kind k ≡ fault_as kind_of_load (fault_at_load kind load loaded)
 
 -- the fault of a module whose file is this, for its load of module `k`, is at the first such load in its file
-pub record IsAtItsLoad (x : LoadingParts) (k : ℕ) (front : Result Front (Fault FaultKind)) (kind : FaultKind) : Type 0 where
+pub record IsAtItsLoad (x : LoadingParts) (k : ℕ) (front : Result Front (Fault FaultKind)) (kind : LoadFault) : Type 0 where
   pub loaded : Module
   pub load : LoadStmt
   pub first : LoadsFirst x k front loaded load
-  pub fault : load_fault x front kind k ≡ fault_at_load kind load loaded
+  pub fault : load_fault x front kind k ≡ fault_as kind_of_load (fault_at_load kind load loaded)
 
 -- so it is where the module comes to nothing by its loads
 abbrev pub NamesItsLoad : LoadingParts → Result Front (Fault FaultKind) → Outcome ModuleView FailedView → Type 0

@@ -1,7 +1,7 @@
 -- The faults of an expression name lines, where those of its parts do.
 use Rattle.std.proofs.Common.{◌≡◌, ◌≤◌, List, [], ◌∷◌, Bool, false, Option, Some, None, sym, ap, ◌∙◌, subst}
 use Rattle.std.specs.List.{AllByRecursion, flat_map}
-use Rattle.bq_base.specs.declared.fault.FaultKind.{FaultKind}
+use Rattle.bq_base.specs.declared.fault.NameFault.{NameFault}
 use Rattle.bq_base.specs.declared.fault.Fault.{Fault}
 use Rattle.bq_source.specs.declared.token.TokenKind.TheVariants as k
 use Rattle.bq_parse_grammar.specs.declared.tree.Argument.TheOpen.{Argument-F, Clause-F, Expr-F, Suffix-F, TargetExpr-F}
@@ -95,7 +95,7 @@ module _ (file : FileParts) where
         two_fine (in_clause_by file inner outer around (out-Clause x)) _ (h.0 inner sound outer around)
         (all_fine (ClauseFine file) (λ d. in_clause_by file inner around around (out-Clause d)) (λ d g. g inner sound around around) xs h.1)
 
-    comprehension_fine : (element : Around → List (Fault FaultKind)) → ((own : Around) → Fine (element own)) → (around : Around) (cs : List Clause) → AllByRecursion (ClauseFine file) cs
+    comprehension_fine : (element : Around → List (Fault NameFault)) → ((own : Around) → Fine (element own)) → (around : Around) (cs : List Clause) → AllByRecursion (ClauseFine file) cs
         → Fine (in_comprehension file inner element around cs)
     unfolding in_comprehension
     comprehension_fine element each around cs h = two_fine (element (comprehension_names cs ∷ around)) _ (each _) (clauses_fine around (comprehension_names cs ∷ around) cs h)

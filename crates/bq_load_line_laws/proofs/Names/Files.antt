@@ -1,9 +1,9 @@
 -- What a file resolves to has lines, and so has its fault.
 use Rattle.std.proofs.Common.{◌≡◌, ◌≢◌, ℕ, ◌+◌, ◌≤◌, List, [], ◌∷◌, length, Some, Ok, Err, inl, inr, refl, sym, subst}
 use Rattle.std.specs.List.{AllByRecursion}
-use Rattle.bq_base.specs.declared.fault.FaultKind.{FaultKind}
+use Rattle.bq_base.specs.declared.fault.NameFault.{NameFault}
 use Rattle.bq_base.specs.declared.fault.Fault.{Fault}
-use Rattle.bq_base.specs.declared.fault.FaultKind.TheVariants as f
+use Rattle.bq_base.specs.declared.fault.NameFault.TheVariants as f
 use Rattle.bq_parse_grammar.specs.Lexeme.{Lexeme}
 use Rattle.bq_parse_grammar.specs.Parses.{Parses}
 use Rattle.bq_parse_grammar.specs.Pieces.{pieces}
@@ -58,16 +58,16 @@ unfolding violations
 violations_fine universe xs h =
     let file : FileParts = file_names universe xs in turn_fine (TreeFine file) (in_top_level file) after (top_fine file) nothing_before xs h
 
-first_fine : (ws : List (Fault FaultKind)) (why : Fault FaultKind) → Fine ws → first ws ≡ Some why → OnLine why
+first_fine : (ws : List (Fault NameFault)) (why : Fault NameFault) → Fine ws → first ws ≡ Some why → OnLine why
 first_fine [] why h e = absurd (let no : ⊥ = cc in no)
 first_fine (w ∷ ws) why h e = let same : w ≡ why = cc in subst OnLine same h.0
 
 -- it isn't F11
-on_a_line : (why : Fault FaultKind) → OnLine why → why.kind ≢ f.Nesting → 1 ≤ why.line
+on_a_line : (why : Fault NameFault) → OnLine why → why.kind ≢ f.Nesting → 1 ≤ why.line
 on_a_line why (inl h) n = h
 on_a_line why (inr e) n = absurd (n e)
 
-pub fault_stands : (universe : UniverseParts) (kind : FileKind) (ts : List Lexeme) (xs : List TopLevel) (why : Fault FaultKind) → Numbered ts → Parses kind ts (Ok xs) → resolved universe xs ≡ Err why → 1 ≤ why.line
+pub fault_stands : (universe : UniverseParts) (kind : FileKind) (ts : List Lexeme) (xs : List TopLevel) (why : Fault NameFault) → Numbered ts → Parses kind ts (Ok xs) → resolved universe xs ≡ Err why → 1 ≤ why.line
 fault_stands universe kind ts xs why h g e =
     on_a_line why (first_fine (violations universe xs) why (violations_fine universe xs (trees_fine (file_names universe xs) kind ts xs h g)) ((first_violation universe xs why).0 e))
     (none_too_deep universe xs why (file_within kind (pieces ts) xs (Ok xs) refl g) e)

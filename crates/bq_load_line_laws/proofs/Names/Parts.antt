@@ -1,7 +1,7 @@
 -- What is known of each part: whatever is around it, and however many layers of it are looked at, its faults name lines.
 use Rattle.std.proofs.Common.{ℕ, zero, suc, ◌≤◌, List, [], ◌∷◌, Bool}
 use Rattle.std.specs.List.{AllByRecursion}
-use Rattle.bq_base.specs.declared.fault.FaultKind.{FaultKind}
+use Rattle.bq_base.specs.declared.fault.NameFault.{NameFault}
 use Rattle.bq_base.specs.declared.fault.Fault.{Fault}
 use Rattle.bq_source.specs.declared.token.TokenKind.{TokenKind}
 use Rattle.bq_source.specs.declared.token.TokenKind.TheVariants as k
@@ -60,7 +60,7 @@ module _ (file : FileParts) where
 
   -- the faults of expressions inside
   abbrev pub Inner : Type 0
-  Inner = Around → Expr → List (Fault FaultKind)
+  Inner = Around → Expr → List (Fault NameFault)
 
   abbrev pub Sound : Inner → Type 0
   Sound inner = (around : Around) (x : Expr) → ExprFine x → Fine (inner around x)
@@ -87,8 +87,8 @@ module _ (file : FileParts) where
 
   abbrev pub TargetLayerFine : TargetLayer → Type 0
   TargetLayerFine l =
-      ((inner : Inner) → Sound inner → (one : TargetExpr → List (Fault FaultKind)) → ((t : TargetExpr) → TargetFine t → Fine (one t)) → (around : Around) → Fine (in_target_by file inner one around l))
-      × ((one : Before → TargetExpr → List (Fault FaultKind)) → ((before : Before) (t : TargetExpr) → TargetFine t → Fine (one before t)) → (add : List Name → TargetExpr → List Name) (before : Before)
+      ((inner : Inner) → Sound inner → (one : TargetExpr → List (Fault NameFault)) → ((t : TargetExpr) → TargetFine t → Fine (one t)) → (around : Around) → Fine (in_target_by file inner one around l))
+      × ((one : Before → TargetExpr → List (Fault NameFault)) → ((before : Before) (t : TargetExpr) → TargetFine t → Fine (one before t)) → (add : List Name → TargetExpr → List Name) (before : Before)
       → Fine (in_file_target_by file one add before l))
 
   target_in : (t : TargetExpr) → TargetLayerFine (out-TargetExpr t) → (inner : Inner) → Sound inner → (layers : ℕ) (around : Around) → Fine (in_target_to file inner layers around t)
@@ -146,7 +146,7 @@ module _ (file : FileParts) where
 
   abbrev pub StmtLayerFine : Stmt-F Stmt Branch → Type 0
   StmtLayerFine l =
-      ((inner : Bool → Stmt → List (Fault FaultKind)) → ((looping : Bool) (x : Stmt) → StmtFine x → Fine (inner looping x)) → (around : Around) (looping : Bool) → Fine (in_stmt_by file inner around looping l))
+      ((inner : Bool → Stmt → List (Fault NameFault)) → ((looping : Bool) (x : Stmt) → StmtFine x → Fine (inner looping x)) → (around : Around) (looping : Bool) → Fine (in_stmt_by file inner around looping l))
       × TopFine l
 
   stmt_in : (x : Stmt) → StmtLayerFine (out-Stmt x) → (layers : ℕ) (around : Around) (looping : Bool) → Fine (in_stmt_to file layers around looping x)
@@ -158,7 +158,7 @@ module _ (file : FileParts) where
   stmt_of_layer x h = (stmt_in x h, h.1)
 
   abbrev pub BranchFine : Branch → Type 0
-  BranchFine b = (inner : Stmt → List (Fault FaultKind)) → ((x : Stmt) → StmtFine x → Fine (inner x)) → (around : Around) → Fine (in_branch file inner around b)
+  BranchFine b = (inner : Stmt → List (Fault NameFault)) → ((x : Stmt) → StmtFine x → Fine (inner x)) → (around : Around) → Fine (in_branch file inner around b)
 
   -- ---- parts
 

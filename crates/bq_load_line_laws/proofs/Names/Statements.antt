@@ -1,7 +1,7 @@
 -- The faults of a statement name lines, where those of its parts do.
 use Rattle.std.proofs.Common.{ℕ, ◌≤◌, List, [], ◌∷◌, Bool, true, false, Option, Some, None, inl}
 use Rattle.std.specs.List.{AllByRecursion, flat_map}
-use Rattle.bq_base.specs.declared.fault.FaultKind.TheVariants as f
+use Rattle.bq_base.specs.declared.fault.NameFault.TheVariants as f
 use Rattle.bq_base.specs.Fault.{fault_at}
 use Rattle.bq_base.proofs.Choices.{by_test}
 use Rattle.bq_source.specs.declared.token.TokenKind.TheVariants as k
