@@ -6,6 +6,7 @@ use Rattle.std.proofs.Crossing.{crosses}
 use Rattle.bq_value_seed.proofs.seed.Seed.TheSendSync as Seed
 use Rattle.bq_value_seed.proofs.hasher.KeyHasher.TheSendSync as KeyHasher
 use Rattle.bq_base.proofs.fault.Fault.TheSendSync as Fault
+use Rattle.bq_base.proofs.fault.FaultKind.TheSendSync as FaultKind
 use Rattle.bq_base_names.proofs.name_set.NameSet.TheSendSync as Names
 use Rattle.bq_package_schema.specs.contracts.schema.Schema as Schema
 use Rattle.bq_package_host.specs.contracts.built_ins.BuiltIns as BuiltIns
@@ -40,7 +41,7 @@ pub front_sync : IsSync (Front.the_field).row
 front_sync = let n = named_files_sync in let r = resolved_sync in search (crosses, sendable) depth 60 fits 20000
 
 pub module_sync : IsSync (Module.the_field).row
-module_sync = let l = label_sync in let f = front_sync in search (Fault.the_sync, crosses, sendable) depth 60 fits 20000
+module_sync = let l = label_sync in let f = front_sync in search (Fault.the_sync, FaultKind.the_sync, crosses, sendable) depth 60 fits 20000
 
 pub loading_sync : (a : NamedLft) → IsSync (Loading.the_row a)
 loading_sync a =
