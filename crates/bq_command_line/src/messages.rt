@@ -1,7 +1,7 @@
 //! What is printed where there is no run.
 
 use bq_run::{ANSWERED, DEVICE_FAILED, NO_MEMORY, REFUSED, RunErr};
-use bq_run_explain::Explanation;
+use bq_run_explain::{Explanation, Subject};
 use clap::Error;
 use clap::error::ErrorKind;
 use std::io;
@@ -46,10 +46,16 @@ pub fn show<R: Print + Eprint>(rt: &R, error: &Error) -> u8 {
 
 /// Prints the explanation of a number.
 pub fn show_explanation(rt: &impl Print, explanation: &Explanation) -> u8 {
-    let number = explanation.number;
-    let name = explanation.name;
     let text = explanation.text;
-    match print!(rt; "{number} {name}\n\n{text}") {
+    let printed = match explanation.subject {
+        Subject::Fault(kind) => {
+            let number = kind.number();
+            let name = kind.name();
+            print!(rt; "F{number} {name}\n\n{text}")
+        }
+        Subject::Error(number, name) => print!(rt; "{number} {name}\n\n{text}"),
+    };
+    match printed {
         Ok(()) => ANSWERED,
         Err(_) => DEVICE_FAILED,
     }

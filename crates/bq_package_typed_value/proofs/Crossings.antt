@@ -6,6 +6,7 @@ use Rattle.bq_label.specs.declared.packages.BuildFile.{BuildFile}
 use Rattle.bq_label.specs.Label.{PackageParts, LabelParts, label_in, label_at, package_of}
 use Rattle.bq_label.specs.Packages.{label_path, owner_of}
 use Rattle.bq_label.specs.Paths.{HasNoSlash, is_path}
+use Rattle.bq_label.proofs.ShortNames.{short_names}
 use Rattle.bq_package_target.specs.Target.{is_of}
 use Rattle.bq_package_typed_value.specs.Scope.{crosses, own_label_crosses, ShortNamesCross}
 use Rattle.bq_package_typed_value.proofs.Cases.{is_owned_by_other}
@@ -56,11 +57,7 @@ pub build_is_path : (name : List ℕ) → name ≡ codes "BUILD" → is_path nam
 unfolding is_path
 build_is_path name is = rw is refl
 
--- as `short_names_have_one_owner` says
-abbrev OneOwner : Type 0
-OneOwner = (packages : List BuildFile) (own : PackageParts) (n m : List ℕ) → HasNoSlash n → HasNoSlash m → owner_of packages (label_path (label_in own n)) ≡ owner_of packages (label_path (label_in own m))
-
-pub short_by_build : OneOwner → (packages : List BuildFile) (own : PackageParts) (name : List ℕ) (l : LabelParts) (b : Bool) → name ≡ codes "BUILD" → l ≡ label_in own name → b ≡ crosses packages l
+pub short_by_build : (packages : List BuildFile) (own : PackageParts) (name : List ℕ) (l : LabelParts) (b : Bool) → name ≡ codes "BUILD" → l ≡ label_in own name → b ≡ crosses packages l
     → ShortNamesCross own packages b
-short_by_build one packages own name l b is at found n plain =
-    cross_alike packages own n (codes "BUILD") (one packages own n (codes "BUILD") plain refl) ∙ sym (found ∙ ap (crosses packages) (at ∙ ap (label_in own) is))
+short_by_build packages own name l b is at found n plain =
+    cross_alike packages own n (codes "BUILD") (short_names packages own n (codes "BUILD") plain refl) ∙ sym (found ∙ ap (crosses packages) (at ∙ ap (label_in own) is))

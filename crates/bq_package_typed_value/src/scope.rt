@@ -8,7 +8,6 @@ ghost use Rattle.bq_label.specs.Paths.{is_slash};
 ghost use Rattle.bq_package_typed_value.specs.Scope.{crosses, own_label_crosses, ShortNamesCross};
 
 use bq_base::Bytes;
-use bq_label::laws::short_names_have_one_owner;
 use bq_label::{Label, PackageId, Packages, label_path};
 use bq_package_target::is_of;
 use std::alloc::{AllocError, Global};
@@ -60,7 +59,6 @@ impl<'a> Scope<'a> {
         ensures own { IfOk result (λ s. s.own.now ≡ own.now) }
         ensures packages { IfOk result (λ s. s.packages.now ≡ packages.now) }
     {
-        short_names_have_one_owner();
         let name = Bytes::from_slice(alloc, b"BUILD")?;
         let label = Label::new(own.share()?, name);
         let short_cross = crosses(alloc, packages, &label)?;

@@ -1,82 +1,29 @@
 -- The tables of numbers against the faults and errors.
-use Rattle.std.proofs.Common.{◌≡◌, ◌≢◌, ℕ, Bool, true, false, List, [], ◌∷◌, map, Option, Some, None, refl, sym, ap, subst, codes, bytes_eq, cond}
+use Rattle.std.proofs.Common.{◌≡◌, ◌≢◌, ℕ, Bool, true, false, List, [], ◌∷◌, Option, Some, None, refl, sym, ap, subst, codes, bytes_eq, cond}
+use Rattle.std.specs.Prelude.{option_map}
 use Rattle.std.specs.Option.{option_or}
-use Rattle.std.specs.List.{AllByRecursion}
+use Rattle.std.specs.List.{AllByRecursion, find}
 use Rattle.std.specs.Fmt.{digits}
 use Rattle.std.proofs.lemmas.Slice.Eq.{bytes_eq-Decides}
 use Rattle.bq_base.specs.declared.fault.FaultKind.{FaultKind}
-use Rattle.bq_base.specs.declared.fault.FaultKind.TheVariants as f
-use Rattle.bq_base.specs.Fault.{fault_name}
+use Rattle.bq_base_fault_line.specs.Kinds.{fault_word, kinds, first_called, fault_called, each_is_called}
 use Rattle.bq_query_lex.specs.declared.query_error.QueryErr.{QueryErr}
 use Rattle.bq_query_lex.specs.declared.query_error.QueryErr.TheVariants as query
 use Rattle.bq_run_write.specs.declared.error.RunErr.{RunErr}
 use Rattle.bq_run_write.specs.declared.error.RunErr.TheVariants as run
-use Rattle.bq_run_explain.specs.Numbers.{lexis, grammar, names, loads, values, programs, results, calls, whole, queries, runs, tables, first_entry, found_in, entry_numbered}
-use Rattle.bq_run_explain.specs.Laws.{fault_word, IsPrinted, of_fault, of_error, EachFaultIsExplained, EachErrorIsExplained, NothingElseIsExplained}
+use Rattle.bq_run_explain.specs.Numbers.{fault_entry, queries, runs, first_entry, entry_numbered}
+use Rattle.bq_run_explain.specs.Laws.{IsPrinted, of_fault, of_error, EachFaultIsExplained, EachErrorIsExplained, NothingElseIsExplained}
+
+-- what is said of a number where it is known which fault it names
+abbrev of_kind : List ℕ → Option FaultKind → Option (List ℕ × List ℕ)
+of_kind number kind = option_or (option_map fault_entry kind) (option_or (first_entry number queries) (first_entry number runs))
 
 pub each_fault : EachFaultIsExplained
-unfolding entry_numbered found_in first_entry digits
-each_fault f.BadByte = refl
-each_fault f.Indent = refl
-each_fault f.Tab = refl
-each_fault f.OpenString = refl
-each_fault f.Escape = refl
-each_fault f.BadInt = refl
-each_fault f.Bracket = refl
-each_fault f.FileTooLong = refl
-each_fault f.Syntax = refl
-each_fault f.Nesting = refl
-each_fault f.LeftOut = refl
-each_fault f.NotInBuild = refl
-each_fault f.UnknownName = refl
-each_fault f.Rebound = refl
-each_fault f.BoundTwice = refl
-each_fault f.BadFlow = refl
-each_fault f.DoubleParameter = refl
-each_fault f.BadLoadLabel = refl
-each_fault f.NoSuchFile = refl
-each_fault f.NoPackage = refl
-each_fault f.NoSymbol = refl
-each_fault f.PrivateSymbol = refl
-each_fault f.CycleReached = refl
-each_fault f.LoadFailed = refl
-each_fault f.CrossesPackage = refl
-each_fault f.LoadDepth = refl
-each_fault f.WrongType = refl
-each_fault f.Overflow = refl
-each_fault f.DivZero = refl
-each_fault f.Index = refl
-each_fault f.NoKey = refl
-each_fault f.Unhashable = refl
-each_fault f.DoubleKey = refl
-each_fault f.Frozen = refl
-each_fault f.Iterating = refl
-each_fault f.Unbound = refl
-each_fault f.Recursion = refl
-each_fault f.CallDepth = refl
-each_fault f.Args = refl
-each_fault f.StepLimit = refl
-each_fault f.TooLong = refl
-each_fault f.TooDeep = refl
-each_fault f.Fail = refl
-each_fault f.BadValue = refl
-each_fault f.NoMethod = refl
-each_fault f.Format = refl
-each_fault f.Select = refl
-each_fault f.NotInPackage = refl
-each_fault f.NoAttribute = refl
-each_fault f.MissingAttribute = refl
-each_fault f.AttributeType = refl
-each_fault f.DoubleTarget = refl
-each_fault f.BadName = refl
-each_fault f.GlobEmpty = refl
-each_fault f.GlobPattern = refl
-each_fault f.BadLabel = refl
-each_fault f.DanglingLabel = refl
-each_fault f.Schema = refl
+unfolding entry_numbered
+each_fault kind = ap (of_kind (fault_word kind)) (each_is_called kind)
 
 pub each_error : EachErrorIsExplained
-unfolding entry_numbered found_in first_entry digits
+unfolding entry_numbered first_entry first_called digits
 each_error run.Memory known = (codes "E1", codes "Memory", refl, refl)
 each_error run.Read known = (codes "E2", codes "Read", refl, refl)
 each_error run.Write known = (codes "E3", codes "Write", refl, refl)
@@ -123,57 +70,26 @@ explained_or : (first second : Option (List ℕ × List ℕ)) (word : List ℕ) 
 explained_or None second word found f g h = g h
 explained_or (Some x) second word found f g h = f h
 
-kinds_printed : (kinds : List FaultKind)
-    → ArePrinted (map (λ kind. (fault_word kind, fault_name kind)) kinds)
-kinds_printed [] = tt
-kinds_printed (kind ∷ kinds) = (of_fault kind, kinds_printed kinds)
+-- ---- a word that names a fault is that fault's
 
-lexis_printed : ArePrinted lexis
-unfolding digits
-lexis_printed = kinds_printed
-    (f.BadByte ∷ f.Indent ∷ f.Tab ∷ f.OpenString ∷ f.Escape ∷ f.BadInt ∷ f.Bracket ∷ f.FileTooLong ∷ [])
+called_by : (b : Bool) (kind found : FaultKind) (rest : Option FaultKind) (word : List ℕ) → bytes_eq word (fault_word kind) ≡ b → (rest ≡ Some found → fault_word found ≡ word)
+    → cond b (Some kind) rest ≡ Some found → fault_word found ≡ word
+called_by true kind found rest word t inner h =
+    let same : kind ≡ found = cc in
+    subst (λ (k : FaultKind). fault_word k ≡ word) same (sym ((bytes_eq-Decides word (fault_word kind)).0 t))
+called_by false kind found rest word t inner h = inner h
 
-grammar_printed : ArePrinted grammar
-unfolding digits
-grammar_printed = kinds_printed
-    (f.Syntax ∷ f.Nesting ∷ f.LeftOut ∷ f.NotInBuild ∷ [])
+called_in : (ks : List FaultKind) (word : List ℕ) (found : FaultKind) → first_called word ks ≡ Some found → fault_word found ≡ word
+unfolding first_called
+called_in [] word found h = cc
+called_in (kind ∷ ks) word found h = called_by (bytes_eq word (fault_word kind)) kind found (first_called word ks) word refl (called_in ks word found) h
 
-names_printed : ArePrinted names
-unfolding digits
-names_printed = kinds_printed
-    (f.UnknownName ∷ f.Rebound ∷ f.BoundTwice ∷ f.BadFlow ∷ f.DoubleParameter ∷ [])
-
-loads_printed : ArePrinted loads
-unfolding digits
-loads_printed = kinds_printed
-    (f.BadLoadLabel ∷ f.NoSuchFile ∷ f.NoPackage ∷ f.NoSymbol ∷ f.PrivateSymbol ∷ f.CycleReached ∷ f.LoadFailed
-    ∷ f.CrossesPackage ∷ f.LoadDepth ∷ [])
-
-values_printed : ArePrinted values
-unfolding digits
-values_printed = kinds_printed
-    (f.WrongType ∷ f.Overflow ∷ f.DivZero ∷ f.Index ∷ f.NoKey ∷ f.Unhashable ∷ f.DoubleKey ∷ [])
-
-programs_printed : ArePrinted programs
-unfolding digits
-programs_printed = kinds_printed
-    (f.Frozen ∷ f.Iterating ∷ f.Unbound ∷ f.Recursion ∷ f.CallDepth ∷ f.Args ∷ f.StepLimit ∷ [])
-
-results_printed : ArePrinted results
-unfolding digits
-results_printed = kinds_printed
-    (f.TooLong ∷ f.TooDeep ∷ f.Fail ∷ f.BadValue ∷ f.NoMethod ∷ f.Format ∷ f.Select ∷ [])
-
-calls_printed : ArePrinted calls
-unfolding digits
-calls_printed = kinds_printed
-    (f.NotInPackage ∷ f.NoAttribute ∷ f.MissingAttribute ∷ f.AttributeType ∷ f.DoubleTarget ∷ f.BadName
-    ∷ f.GlobEmpty ∷ f.GlobPattern ∷ f.BadLabel ∷ [])
-
-whole_printed : ArePrinted whole
-unfolding digits
-whole_printed = kinds_printed
-    (f.DanglingLabel ∷ f.Schema ∷ [])
+explained_fault : (kind : Option FaultKind) (word : List ℕ) (found : List ℕ × List ℕ) → ((k : FaultKind) → kind ≡ Some k → fault_word k ≡ word)
+    → option_map fault_entry kind ≡ Some found → IsExplained word found
+explained_fault None word found named h = cc
+explained_fault (Some k) word found named h =
+    let same : fault_entry k ≡ found = cc in
+    subst (λ (f : List ℕ × List ℕ). IsExplained word f) same (named k refl, of_fault k)
 
 queries_printed : ArePrinted queries
 queries_printed = (
@@ -217,31 +133,9 @@ runs_printed = (
   ),
 )
 
-tables_printed : AllByRecursion ArePrinted tables
-tables_printed = (
-  lexis_printed,
-  (
-    grammar_printed,
-    (
-      names_printed,
-      (
-        loads_printed,
-        (values_printed, (programs_printed, (results_printed, (calls_printed, (whole_printed, (queries_printed, (runs_printed, tt))))))),
-      ),
-    ),
-  ),
-)
-
-explained_from : (tables : List (List (List ℕ × List ℕ)))
-    → AllByRecursion ArePrinted tables
-    → (word : List ℕ) (before : Option (List ℕ × List ℕ)) (found : List ℕ × List ℕ) → (before ≡ Some found → IsExplained word found)
-    → found_in word before tables ≡ Some found → IsExplained word found
-unfolding found_in
-explained_from [] all word before found f h = f h
-explained_from (table ∷ tables) all word before found f h =
-    explained_from tables all.1 word (option_or before (first_entry word table)) found
-    (explained_or before (first_entry word table) word found f (explained_in table all.0 word found)) h
-
 pub nothing_else : NothingElseIsExplained
 unfolding entry_numbered
-nothing_else word number name h = explained_from tables tables_printed word None (number, name) (λ e. cc) h
+nothing_else word number name h =
+    explained_or (option_map fault_entry (fault_called word)) (option_or (first_entry word queries) (first_entry word runs)) word (number, name)
+    (explained_fault (fault_called word) word (number, name) (called_in kinds word))
+    (explained_or (first_entry word queries) (first_entry word runs) word (number, name) (explained_in queries queries_printed word (number, name)) (explained_in runs runs_printed word (number, name))) h

@@ -1,17 +1,13 @@
 -- The numbers that are explained are those that a run can print: of faults (bq_base) and of errors (bq_run_write, bq_query_lex).
 use Rattle.std.specs.Prelude.{◌≡◌, ◌≢◌, ℕ, List, ◌∷◌, ◌++◌, Some, codes}
-use Rattle.std.specs.Fmt.{decimal}
 use Rattle.bq_base.specs.declared.fault.FaultKind.{FaultKind}
-use Rattle.bq_base.specs.Fault.{fault_number, fault_name}
+use Rattle.bq_base.specs.Fault.{fault_name}
+use Rattle.bq_base_fault_line.specs.Kinds.{fault_word}
 use Rattle.bq_query_lex.specs.declared.query_error.QueryErr.TheVariants as query
 use Rattle.bq_run_write.specs.declared.error.RunErr.{RunErr}
 use Rattle.bq_run_write.specs.declared.error.RunErr.TheVariants as run
 use Rattle.bq_run_write.specs.Error.{run_title}
 use Rattle.bq_run_explain.specs.Numbers.{entry_numbered}
-
--- as `F47`, by which a fault line names a fault
-abbrev pub fault_word : FaultKind → List ℕ
-fault_word kind = codes "F" ++ decimal (fault_number kind)
 
 -- as `Q5 NoSuchTarget`, by which an error line names an error
 abbrev pub titled : List ℕ → List ℕ → List ℕ

@@ -1,16 +1,109 @@
-//! The faults of files, F1 to F80 (docs/LANGUAGE.md, docs/BUILD_RULES.md): a table for each group of them, and the look-up in it.
+//! The faults of files, F1 to F80 (docs/LANGUAGE.md, docs/BUILD_RULES.md): which fault a word names, and what is printed for each.
 
-ghost use Rattle.std.specs.Prelude.{◌≡◌, option_map};
-ghost use Rattle.bq_run_explain.specs.Numbers.{lexis, grammar, names, loads, values, programs, results, calls, whole, entry_of, first_entry};
+ghost use Rattle.std.specs.Prelude.{◌≡◌, bytes_eq};
+ghost use Rattle.bq_base_fault_line.specs.Kinds.{fault_called, fault_word, first_called};
 
-use crate::explanation::{Explanation, first_numbered};
+use bq_base::FaultKind;
+use itoa::Buffer;
 
-/// Faults of tokens.
-const LEXIS: [Explanation; 8] = [
-    Explanation {
-        number: "F1",
-        name: "BadByte",
-        text: r#"A byte that begins no token. Outside strings and comments a file holds printable
+const KINDS: [FaultKind; 58] = [
+    FaultKind::BadByte,
+    FaultKind::Indent,
+    FaultKind::Tab,
+    FaultKind::OpenString,
+    FaultKind::Escape,
+    FaultKind::BadInt,
+    FaultKind::Bracket,
+    FaultKind::FileTooLong,
+    FaultKind::Syntax,
+    FaultKind::Nesting,
+    FaultKind::LeftOut,
+    FaultKind::NotInBuild,
+    FaultKind::UnknownName,
+    FaultKind::Rebound,
+    FaultKind::BoundTwice,
+    FaultKind::BadFlow,
+    FaultKind::DoubleParameter,
+    FaultKind::BadLoadLabel,
+    FaultKind::NoSuchFile,
+    FaultKind::NoPackage,
+    FaultKind::NoSymbol,
+    FaultKind::PrivateSymbol,
+    FaultKind::CycleReached,
+    FaultKind::LoadFailed,
+    FaultKind::CrossesPackage,
+    FaultKind::LoadDepth,
+    FaultKind::WrongType,
+    FaultKind::Overflow,
+    FaultKind::DivZero,
+    FaultKind::Index,
+    FaultKind::NoKey,
+    FaultKind::Unhashable,
+    FaultKind::DoubleKey,
+    FaultKind::Frozen,
+    FaultKind::Iterating,
+    FaultKind::Unbound,
+    FaultKind::Recursion,
+    FaultKind::CallDepth,
+    FaultKind::Args,
+    FaultKind::StepLimit,
+    FaultKind::TooLong,
+    FaultKind::TooDeep,
+    FaultKind::Fail,
+    FaultKind::BadValue,
+    FaultKind::NoMethod,
+    FaultKind::Format,
+    FaultKind::Select,
+    FaultKind::NotInPackage,
+    FaultKind::NoAttribute,
+    FaultKind::MissingAttribute,
+    FaultKind::AttributeType,
+    FaultKind::DoubleTarget,
+    FaultKind::BadName,
+    FaultKind::GlobEmpty,
+    FaultKind::GlobPattern,
+    FaultKind::BadLabel,
+    FaultKind::DanglingLabel,
+    FaultKind::Schema,
+];
+
+/// Returns whether the word names the fault.
+fn is_word_of(word: &[u8], kind: FaultKind) -> bool
+    ensures { result ≡ bytes_eq word.now (fault_word kind) }
+{
+    let mut digits = Buffer::new();
+    match word {
+        [b'F', number @ ..] => number == digits.format(kind.number()).as_bytes(),
+        _ => false,
+    }
+}
+
+/// Returns the first of these faults that the word names.
+#[tactic(auto, unfolding(bq_base_fault_line::specs::Kinds::first_called))]
+fn first_called(word: &[u8], mut kinds: &[FaultKind]) -> Option<FaultKind>
+    ensures { result ≡ first_called word.now kinds.entry.now }
+{
+    while let [kind, rest @ ..] = kinds {
+        if is_word_of(word, *kind) {
+            return Some(*kind);
+        }
+        kinds = rest;
+    }
+    None
+}
+
+/// Returns the fault that a word names, as `F47`.
+pub fn fault_called(word: &[u8]) -> Option<FaultKind>
+    ensures { result ≡ fault_called word.now }
+{
+    first_called(word, &KINDS)
+}
+
+/// Returns what a fault means, the smallest example that has it, and what to do.
+pub fn text_of(kind: FaultKind) -> &'static str {
+    match kind {
+        FaultKind::BadByte => {
+            r#"A byte that begins no token. Outside strings and comments a file holds printable
 ASCII, spaces, tabs and line ends; there `$`, `?`, `@`, a backquote, a lone `!`
 and a backslash that does not end its line are no tokens either.
 
@@ -22,12 +115,10 @@ and a backslash that does not end its line are no tokens either.
 
 Take the byte out, or put it into a string or a comment. Quotes and spaces that
 were copied from a web page are often not ASCII.
-"#,
-    },
-    Explanation {
-        number: "F2",
-        name: "Indent",
-        text: r#"A line is indented by a width that no line around it has. A line may be indented
+"#
+        }
+        FaultKind::Indent => {
+            r#"A line is indented by a width that no line around it has. A line may be indented
 further than the one before it, or exactly as far as one of those that it is
 nested in.
 
@@ -43,12 +134,10 @@ nested in.
     //:f.bzl:3: F2 Indent
 
 Indent the lines of a block by the same number of spaces.
-"#,
-    },
-    Explanation {
-        number: "F3",
-        name: "Tab",
-        text: r#"A tab stands in the indentation of a line. Indentation is spaces alone.
+"#
+        }
+        FaultKind::Tab => {
+            r#"A tab stands in the indentation of a line. Indentation is spaces alone.
 
     $ printf '=== f.bzl\ndef f():\n\tpass\n=== BUILD\nload(":f.bzl", "f")\n' | bq //...
     //:BUILD:1: F36 LoadFailed //:f.bzl
@@ -56,12 +145,10 @@ Indent the lines of a block by the same number of spaces.
 
 Put spaces in place of the tab. Inside brackets, and on blank and comment lines,
 tabs are allowed.
-"#,
-    },
-    Explanation {
-        number: "F4",
-        name: "OpenString",
-        text: r#"A string does not end: a line end comes before its closing quote, or the end of
+"#
+        }
+        FaultKind::OpenString => {
+            r#"A string does not end: a line end comes before its closing quote, or the end of
 the file before the three closing quotes of a triple-quoted one. The line is
 that of the opening quote.
 
@@ -73,12 +160,10 @@ that of the opening quote.
     //:BUILD:1: F4 OpenString
 
 Close the string. For text of several lines use triple quotes.
-"#,
-    },
-    Explanation {
-        number: "F5",
-        name: "Escape",
-        text: r#"A backslash in a string stands before a byte that makes no escape. There are
+"#
+        }
+        FaultKind::Escape => {
+            r#"A backslash in a string stands before a byte that makes no escape. There are
 `\n`, `\r`, `\t`, `\\`, `\'`, `\"`, and a backslash at the end of a line.
 
     === BUILD
@@ -89,12 +174,10 @@ Close the string. For text of several lines use triple quotes.
 
 Double the backslash, or make the string raw: `r"\.c$"`. Escapes such as `\x41`
 and `\u0041` are left out.
-"#,
-    },
-    Explanation {
-        number: "F6",
-        name: "BadInt",
-        text: r#"Something begins like a number and is none, or is greater than
+"#
+        }
+        FaultKind::BadInt => {
+            r#"Something begins like a number and is none, or is greater than
 9223372036854775807. Numbers are decimal without leading zeros, hexadecimal
 after `0x`, or octal after `0o`. There are no floats.
 
@@ -106,12 +189,10 @@ after `0x`, or octal after `0o`. There are no floats.
 
 Write `0o10` for an octal number and `10` for a decimal one; put a version such
 as `1.2` into a string.
-"#,
-    },
-    Explanation {
-        number: "F7",
-        name: "Bracket",
-        text: r#"A closing bracket closes none, or one of another kind; or an opening bracket is
+"#
+        }
+        FaultKind::Bracket => {
+            r#"A closing bracket closes none, or one of another kind; or an opening bracket is
 never closed. The line is that of the closing bracket, or of the innermost one
 that stays open.
 
@@ -123,28 +204,20 @@ that stays open.
 
 Pair the brackets. If the named bracket looks right, look for one that is
 missing before it.
-"#,
-    },
-    Explanation {
-        number: "F8",
-        name: "FileTooLong",
-        text: r#"A file has more than 1,048,576 bytes. The line is that of the first byte past
+"#
+        }
+        FaultKind::FileTooLong => {
+            r#"A file has more than 1,048,576 bytes. The line is that of the first byte past
 the limit.
 
     $ (echo '=== BUILD'; yes '# abcde' | head -n 131073) | bq //...
     //:BUILD:131073: F8 FileTooLong
 
 Split the file, and move generated lists into .bzl files of their own.
-"#,
-    },
-];
-
-/// Faults of statements.
-const GRAMMAR: [Explanation; 4] = [
-    Explanation {
-        number: "F10",
-        name: "Syntax",
-        text: r#"A statement that the grammar does not have (docs/LANGUAGE.md, "Grammar"). The
+"#
+        }
+        FaultKind::Syntax => {
+            r#"A statement that the grammar does not have (docs/LANGUAGE.md, "Grammar"). The
 line is the first of the top-level statement that the error is in, which may
 stand further down.
 
@@ -160,23 +233,19 @@ stand further down.
 Look through the statement for a missing comma, colon or operand (here the comma
 after `"x"`). Words that Python has and Starlark hasn't, such as `import`,
 `class`, `while`, `try` and `is`, are reserved.
-"#,
-    },
-    Explanation {
-        number: "F11",
-        name: "Nesting",
-        text: r#"In a statement more than 64 brackets and indents are open in one another.
+"#
+        }
+        FaultKind::Nesting => {
+            r#"In a statement more than 64 brackets and indents are open in one another.
 
     $ (echo '=== BUILD'; echo "x = $(printf '[%.0s' $(seq 65))$(printf ']%.0s' $(seq 65))") | bq //...
     //:BUILD:1: F11 Nesting
 
 Give inner parts names of their own.
-"#,
-    },
-    Explanation {
-        number: "F12",
-        name: "LeftOut",
-        text: r#"A statement uses a part of Starlark that bq leaves out: `lambda`, a `def` inside
+"#
+        }
+        FaultKind::LeftOut => {
+            r#"A statement uses a part of Starlark that bq leaves out: `lambda`, a `def` inside
 a `def`, `/` and `/=`, a member `x.y` that is not called, or `native` elsewhere
 than in `native.rule(..)`.
 
@@ -192,12 +261,10 @@ than in `native.rule(..)`.
 Use `//` for `/`, and a function at the top of the file for an inner one. A file
 that defines rules, as by `ctx.attr.srcs`, can't be loaded; a stub in its place
 can (docs/REAL_WORKSPACES.md).
-"#,
-    },
-    Explanation {
-        number: "F13",
-        name: "NotInBuild",
-        text: r#"A BUILD file has a `def`, `if` or `for` statement, or a call with a `*` or `**`
+"#
+        }
+        FaultKind::NotInBuild => {
+            r#"A BUILD file has a `def`, `if` or `for` statement, or a call with a `*` or `**`
 argument. As in Bazel, these belong into .bzl files.
 
     === BUILD
@@ -209,16 +276,10 @@ argument. As in Bazel, these belong into .bzl files.
 
 Use a comprehension, as `[filegroup(name = n) for n in ["a", "b"]]`, or move the
 code into a macro in a .bzl file.
-"#,
-    },
-];
-
-/// Faults of names.
-const NAMES: [Explanation; 5] = [
-    Explanation {
-        number: "F20",
-        name: "UnknownName",
-        text: r#"A name that nothing binds: no assignment, `def` or `load` of the file, no
+"#
+        }
+        FaultKind::UnknownName => {
+            r#"A name that nothing binds: no assignment, `def` or `load` of the file, no
 function of the language, and in a BUILD file no rule of the schema. In a .bzl
 file rules are `native.NAME`, and `attr` is no value: its functions are called as
 `attr.int(..)`. `rule` and `attr` are in .bzl files alone.
@@ -233,12 +294,10 @@ For a rule: load it, or declare it in the file `rules.schema` at the root of the
 workspace, as `rule cc_library` and `attr srcs label_list`. Without that file
 only filegroup, genrule, alias and test_suite are known. tools/stubs writes a
 schema for a workspace (docs/REAL_WORKSPACES.md).
-"#,
-    },
-    Explanation {
-        number: "F21",
-        name: "Rebound",
-        text: r#"A .bzl file binds a global name twice, also by `+=`, or binds a name that it has
+"#
+        }
+        FaultKind::Rebound => {
+            r#"A .bzl file binds a global name twice, also by `+=`, or binds a name that it has
 loaded. The line is that of the second binding.
 
     === f.bzl
@@ -253,12 +312,10 @@ loaded. The line is that of the second binding.
 
 Give the second value another name. In BUILD files, and for the variables of a
 function, a second binding is allowed.
-"#,
-    },
-    Explanation {
-        number: "F22",
-        name: "BoundTwice",
-        text: r#"Two load clauses of a file bind the same name.
+"#
+        }
+        FaultKind::BoundTwice => {
+            r#"Two load clauses of a file bind the same name.
 
     === f.bzl
     a = 1
@@ -272,12 +329,10 @@ function, a second binding is allowed.
     //:BUILD:2: F22 BoundTwice a
 
 Load it once, or under another name: `load(":g.bzl", b = "a")`.
-"#,
-    },
-    Explanation {
-        number: "F23",
-        name: "BadFlow",
-        text: r#"A statement stands where it may not: `return` outside a function, `break` or
+"#
+        }
+        FaultKind::BadFlow => {
+            r#"A statement stands where it may not: `return` outside a function, `break` or
 `continue` outside a loop of the same function, `load` inside a function, or an
 `if` or `for` statement at the top of a .bzl file.
 
@@ -293,12 +348,10 @@ Load it once, or under another name: `load(":g.bzl", b = "a")`.
 
 At the top of a file use a conditional, as `x = 1 if True else 0`, or a
 comprehension; or put the statements into a function and call it.
-"#,
-    },
-    Explanation {
-        number: "F24",
-        name: "DoubleParameter",
-        text: r#"Two parameters of a function have the same name.
+"#
+        }
+        FaultKind::DoubleParameter => {
+            r#"Two parameters of a function have the same name.
 
     === f.bzl
     def f(a, a):
@@ -311,16 +364,10 @@ comprehension; or put the statements into a function and call it.
     //:f.bzl:1: F24 DoubleParameter a
 
 Rename one of them.
-"#,
-    },
-];
-
-/// Faults of loads.
-const LOADS: [Explanation; 9] = [
-    Explanation {
-        number: "F30",
-        name: "BadLoadLabel",
-        text: r#"The text of a load is no label of a .bzl file. It begins with `//`, `:` or `@`,
+"#
+        }
+        FaultKind::BadLoadLabel => {
+            r#"The text of a load is no label of a .bzl file. It begins with `//`, `:` or `@`,
 and its name ends in `.bzl`.
 
     === BUILD
@@ -331,12 +378,10 @@ and its name ends in `.bzl`.
 
 Write `":f.bzl"` for a file of the same package, and `"//package:f.bzl"` for one
 of another. Labels that begin with `@@` are left out.
-"#,
-    },
-    Explanation {
-        number: "F31",
-        name: "NoSuchFile",
-        text: r#"The package that a load names is there, and the file is not.
+"#
+        }
+        FaultKind::NoSuchFile => {
+            r#"The package that a load names is there, and the file is not.
 
     === BUILD
     load(":f.bzl", "f")
@@ -346,12 +391,10 @@ of another. Labels that begin with `@@` are left out.
 
 Correct the label, or add the file. A file of repository `r` lies below
 `external/r/`.
-"#,
-    },
-    Explanation {
-        number: "F32",
-        name: "NoPackage",
-        text: r#"A load names a package that is not there: its directory has no BUILD file, or
+"#
+        }
+        FaultKind::NoPackage => {
+            r#"A load names a package that is not there: its directory has no BUILD file, or
 the repository is not in the workspace.
 
     === BUILD
@@ -363,12 +406,10 @@ the repository is not in the workspace.
 For another repository: bq fetches nothing; tools/stubs writes files that stand
 in for it below `external/` (docs/REAL_WORKSPACES.md). For a directory of your
 own: add a BUILD file to it, which may be empty.
-"#,
-    },
-    Explanation {
-        number: "F33",
-        name: "NoSymbol",
-        text: r#"A load asks for a name that the loaded file does not bind. What a file has
+"#
+        }
+        FaultKind::NoSymbol => {
+            r#"A load asks for a name that the loaded file does not bind. What a file has
 itself loaded is not passed on.
 
     === f.bzl
@@ -381,12 +422,10 @@ itself loaded is not passed on.
 
 Correct the name, or bind it in the loaded file: `b = _b` passes on what was
 loaded as `_b`.
-"#,
-    },
-    Explanation {
-        number: "F34",
-        name: "PrivateSymbol",
-        text: r#"A load asks for a name that begins with `_`. Such names are private to their
+"#
+        }
+        FaultKind::PrivateSymbol => {
+            r#"A load asks for a name that begins with `_`. Such names are private to their
 file.
 
     === f.bzl
@@ -398,12 +437,10 @@ file.
     //:BUILD:1: F34 PrivateSymbol _a
 
 Take the underscore off the name in the file that binds it.
-"#,
-    },
-    Explanation {
-        number: "F35",
-        name: "CycleReached",
-        text: r#"Loads lead from this file into a cycle: a file that loads itself, directly or by
+"#
+        }
+        FaultKind::CycleReached => {
+            r#"Loads lead from this file into a cycle: a file that loads itself, directly or by
 way of others. The detail is the load that leads there.
 
     === a.bzl
@@ -422,12 +459,10 @@ way of others. The detail is the load that leads there.
 
 Follow the details round the cycle, and move what both sides need into a file
 that loads neither.
-"#,
-    },
-    Explanation {
-        number: "F36",
-        name: "LoadFailed",
-        text: r#"The file that is loaded has a fault of its own, which has its own line.
+"#
+        }
+        FaultKind::LoadFailed => {
+            r#"The file that is loaded has a fault of its own, which has its own line.
 
     === f.bzl
     x = 1 // 0
@@ -439,12 +474,10 @@ that loads neither.
     //:f.bzl:1: F42 DivZero
 
 Mend the fault of the loaded file; this one then goes away by itself.
-"#,
-    },
-    Explanation {
-        number: "F37",
-        name: "CrossesPackage",
-        text: r#"A label names a file by way of a package that does not own it: a package further
+"#
+        }
+        FaultKind::CrossesPackage => {
+            r#"A label names a file by way of a package that does not own it: a package further
 down, nearer to the file, does. It comes with loads, where the detail is the
 label, with labels of the own package, and with the names of targets and
 outputs.
@@ -458,28 +491,20 @@ outputs.
     //:BUILD:1: F37 CrossesPackage
 
 Name the file in its own package: `//a:s.txt`.
-"#,
-    },
-    Explanation {
-        number: "F38",
-        name: "LoadDepth",
-        text: r#"From this file more than 1,000 loads lead on, one after another.
+"#
+        }
+        FaultKind::LoadDepth => {
+            r#"From this file more than 1,000 loads lead on, one after another.
 
     $ (echo '=== BUILD'; echo 'load(":1.bzl")'; for n in $(seq 1001); do echo "=== $n.bzl"; [ $n = 1001 ] || echo "load(\":$((n + 1)).bzl\")"; done) | bq //...
     //:BUILD:1: F38 LoadDepth //:1.bzl
 
 Load the files that are needed side by side in place of each through the one
 before it.
-"#,
-    },
-];
-
-/// Faults of operations on values.
-const VALUES: [Explanation; 7] = [
-    Explanation {
-        number: "F40",
-        name: "Type",
-        text: r#"A value has a type that the operator, function, method or statement does not
+"#
+        }
+        FaultKind::WrongType => {
+            r#"A value has a type that the operator, function, method or statement does not
 take. Nothing is converted: `"a" + 1` and `True + 1` are faults, and so is a
 `for` over a string.
 
@@ -492,12 +517,10 @@ take. Nothing is converted: `"a" + 1` and `True + 1` are faults, and so is a
 Convert by `str(..)` or `int(..)`. The line is that of the statement at the top
 of the file; if it calls a function, the place is in there. What `sorted`, `max`
 and `min` compare is integers alone or strings alone, and `key =` is left out.
-"#,
-    },
-    Explanation {
-        number: "F41",
-        name: "Overflow",
-        text: r#"The result is an integer that does not fit into 64 bits: less than
+"#
+        }
+        FaultKind::Overflow => {
+            r#"The result is an integer that does not fit into 64 bits: less than
 -9223372036854775808 or greater than 9223372036854775807.
 
     === BUILD
@@ -507,12 +530,10 @@ and `min` compare is integers alone or strings alone, and `key =` is left out.
     //:BUILD:1: F41 Overflow
 
 Keep such numbers in strings. In Bazel integers have no bound.
-"#,
-    },
-    Explanation {
-        number: "F42",
-        name: "DivZero",
-        text: r#"A division `//` or a remainder `%` by zero.
+"#
+        }
+        FaultKind::DivZero => {
+            r#"A division `//` or a remainder `%` by zero.
 
     === BUILD
     x = 1 // 0
@@ -521,12 +542,10 @@ Keep such numbers in strings. In Bazel integers have no bound.
     //:BUILD:1: F42 DivZero
 
 Test the divisor first: `a // b if b else 0`.
-"#,
-    },
-    Explanation {
-        number: "F43",
-        name: "Index",
-        text: r#"An index past the end of a string, list, tuple or range, also one that counts
+"#
+        }
+        FaultKind::Index => {
+            r#"An index past the end of a string, list, tuple or range, also one that counts
 from the end; or `pop` of an empty list.
 
     === BUILD
@@ -537,12 +556,10 @@ from the end; or `pop` of an empty list.
 
 The first index is 0, and the last -1. Compare with `len(..)` first; slices
 never have this fault.
-"#,
-    },
-    Explanation {
-        number: "F44",
-        name: "NoKey",
-        text: r#"A dict does not have the key; or `popitem` is called on an empty one.
+"#
+        }
+        FaultKind::NoKey => {
+            r#"A dict does not have the key; or `popitem` is called on an empty one.
 
     === BUILD
     x = {"a": 1}["b"]
@@ -551,12 +568,10 @@ never have this fault.
     //:BUILD:1: F44 NoKey
 
 Use `d.get("b", default)`, or ask `"b" in d` first.
-"#,
-    },
-    Explanation {
-        number: "F45",
-        name: "Unhashable",
-        text: r#"A value that can't be a key of a dict. Keys are `None`, bools, integers,
+"#
+        }
+        FaultKind::Unhashable => {
+            r#"A value that can't be a key of a dict. Keys are `None`, bools, integers,
 strings, and tuples of these.
 
     === BUILD
@@ -567,12 +582,10 @@ strings, and tuples of these.
 
 Make a tuple of the list: `tuple(x)`. Functions and ranges are no keys here
 either.
-"#,
-    },
-    Explanation {
-        number: "F46",
-        name: "DoubleKey",
-        text: r#"A dict that is written out has the same key twice.
+"#
+        }
+        FaultKind::DoubleKey => {
+            r#"A dict that is written out has the same key twice.
 
     === BUILD
     x = {"a": 1, "a": 2}
@@ -582,16 +595,10 @@ either.
 
 Take one of the two out. In a comprehension a key may come again and gets the
 last value.
-"#,
-    },
-];
-
-/// Faults of programs that run.
-const PROGRAMS: [Explanation; 7] = [
-    Explanation {
-        number: "F47",
-        name: "Frozen",
-        text: r#"A list or dict is changed that another file has made. Once a file has been
+"#
+        }
+        FaultKind::Frozen => {
+            r#"A list or dict is changed that another file has made. Once a file has been
 evaluated, nothing changes what it made.
 
     === f.bzl
@@ -607,12 +614,10 @@ evaluated, nothing changes what it made.
 
 Change a copy: `list(l)`, `dict(d)`, `l + [1]`. A list that a function makes
 while it runs may be changed by the file that called it.
-"#,
-    },
-    Explanation {
-        number: "F48",
-        name: "Iterating",
-        text: r#"A list or dict is changed while a `for` or a comprehension goes over it.
+"#
+        }
+        FaultKind::Iterating => {
+            r#"A list or dict is changed while a `for` or a comprehension goes over it.
 
     === f.bzl
     def f(l):
@@ -627,12 +632,10 @@ while it runs may be changed by the file that called it.
     //:f.bzl:4: F48 Iterating
 
 Go over a copy: `for x in list(l)`.
-"#,
-    },
-    Explanation {
-        number: "F49",
-        name: "Unbound",
-        text: r#"A variable is used before it has a value. A name that a function binds anywhere
+"#
+        }
+        FaultKind::Unbound => {
+            r#"A variable is used before it has a value. A name that a function binds anywhere
 is its own in all of it, also where the file has a global of that name.
 
     === BUILD
@@ -644,12 +647,10 @@ is its own in all of it, also where the file has a global of that name.
 
 Give it a value before its first use. In a function that should read the global,
 give its own variable another name.
-"#,
-    },
-    Explanation {
-        number: "F50",
-        name: "Recursion",
-        text: r#"A function is called while it is already running, directly or by way of others.
+"#
+        }
+        FaultKind::Recursion => {
+            r#"A function is called while it is already running, directly or by way of others.
 Starlark has no recursion.
 
     === f.bzl
@@ -664,24 +665,20 @@ Starlark has no recursion.
     //:f.bzl:3: F50 Recursion
 
 Write a loop over a range or over a list of what is left to do.
-"#,
-    },
-    Explanation {
-        number: "F51",
-        name: "CallDepth",
-        text: r#"More than 100 functions run at one time, each called by the one before it.
+"#
+        }
+        FaultKind::CallDepth => {
+            r#"More than 100 functions run at one time, each called by the one before it.
 
     $ (echo '=== f.bzl'; echo 'def f0(): pass'; for n in $(seq 100); do echo "def f$n(): f$((n - 1))()"; done; echo 'f100()'; echo '=== BUILD'; echo 'load(":f.bzl")') | bq //...
     //:BUILD:1: F36 LoadFailed //:f.bzl
     //:f.bzl:102: F51 CallDepth
 
 Let functions return values in place of calling on.
-"#,
-    },
-    Explanation {
-        number: "F52",
-        name: "Args",
-        text: r#"The arguments of a call don't fit its parameters: one is missing, given twice or
+"#
+        }
+        FaultKind::Args => {
+            r#"The arguments of a call don't fit its parameters: one is missing, given twice or
 too many, or has a name that the function lacks. Rules take named arguments
 alone.
 
@@ -693,12 +690,10 @@ alone.
 
 Compare the call with the `def`; for built-in functions and methods see
 docs/LANGUAGE.md, for rules and `glob` docs/BUILD_RULES.md.
-"#,
-    },
-    Explanation {
-        number: "F53",
-        name: "StepLimit",
-        text: r#"The evaluation of a file takes more steps than `--max-steps` allows, by default
+"#
+        }
+        FaultKind::StepLimit => {
+            r#"The evaluation of a file takes more steps than `--max-steps` allows, by default
 1,000,000 (docs/LANGUAGE.md, "Steps"). The steps of the functions that it calls
 count, those of the files that it loads don't.
 
@@ -710,16 +705,10 @@ count, those of the files that it loads don't.
 
 Give more steps: `--max-steps 100000000`. If that is too few as well, a loop may
 be longer than was meant.
-"#,
-    },
-];
-
-/// Faults of results, methods and formats.
-const RESULTS: [Explanation; 7] = [
-    Explanation {
-        number: "F54",
-        name: "TooLong",
-        text: r#"A string, list, tuple or dict would have more than 1,048,576 bytes or elements.
+"#
+        }
+        FaultKind::TooLong => {
+            r#"A string, list, tuple or dict would have more than 1,048,576 bytes or elements.
 So would a text that `print`, `str` or `fail` makes.
 
     === BUILD
@@ -729,12 +718,10 @@ So would a text that `print`, `str` or `fail` makes.
     //:BUILD:1: F54 TooLong
 
 Make it in parts, or keep what is long in a range, which takes no room.
-"#,
-    },
-    Explanation {
-        number: "F55",
-        name: "TooDeep",
-        text: r#"A value that is printed, compared or made a key has values in it that are nested
+"#
+        }
+        FaultKind::TooDeep => {
+            r#"A value that is printed, compared or made a key has values in it that are nested
 more than 64 deep. A list that holds itself is one.
 
     === BUILD
@@ -746,12 +733,10 @@ more than 64 deep. A list that holds itself is one.
     //:BUILD:3: F55 TooDeep
 
 Keep values flat, and don't put a list into itself.
-"#,
-    },
-    Explanation {
-        number: "F56",
-        name: "Fail",
-        text: r#"The file calls `fail`. The detail is its message, in quotes.
+"#
+        }
+        FaultKind::Fail => {
+            r#"The file calls `fail`. The detail is its message, in quotes.
 
     === f.bzl
     def check(size):
@@ -765,12 +750,10 @@ Keep values flat, and don't put a list into itself.
     //:BUILD:2: F56 Fail "size must be positive, not 0"
 
 The message says what the macro wants.
-"#,
-    },
-    Explanation {
-        number: "F57",
-        name: "BadValue",
-        text: r#"A value has the right type and can't be used: `int("x")`, a step of 0 in a range
+"#
+        }
+        FaultKind::BadValue => {
+            r#"A value has the right type and can't be used: `int("x")`, a step of 0 in a range
 or slice, a shift by more than 63, an empty separator, `index` or `remove` of
 what is not there, `min` or `max` of nothing, or an assignment to more or fewer
 names than there are elements. Of rules: an attribute of `rule` whose name no
@@ -785,12 +768,10 @@ the call of a rule that no name of its own .bzl file stands for.
 
 Test the value first. docs/LANGUAGE.md has the faults of each function and
 method.
-"#,
-    },
-    Explanation {
-        number: "F58",
-        name: "NoMethod",
-        text: r#"The type of the value has no method of this name. Calls of members of what
+"#
+        }
+        FaultKind::NoMethod => {
+            r#"The type of the value has no method of this name. Calls of members of what
 another repository gives, as `selects.with_or(..)`, end so too, since stubs give
 plain values.
 
@@ -802,12 +783,10 @@ plain values.
 
 Look the method up in docs/LANGUAGE.md; strings are joined by `+`, and never
 changed.
-"#,
-    },
-    Explanation {
-        number: "F59",
-        name: "Format",
-        text: r#"A format does not fit its values: too few or too many, `%d` of something else
+"#
+        }
+        FaultKind::Format => {
+            r#"A format does not fit its values: too few or too many, `%d` of something else
 than an integer, a conversion other than `%s`, `%r`, `%d` and `%%`; or in
 `format` a lone brace, a field that no argument has, or fields with and without
 numbers.
@@ -820,12 +799,10 @@ numbers.
 
 Give a tuple with a value for each field, as `"%s-%s" % ("a", "b")`; write `%%`,
 `{{` and `}}` for the signs themselves.
-"#,
-    },
-    Explanation {
-        number: "F60",
-        name: "Select",
-        text: r#"`select` is called. Its value depends on a configuration, and bq loads packages
+"#
+        }
+        FaultKind::Select => {
+            r#"`select` is called. Its value depends on a configuration, and bq loads packages
 without one.
 
     === BUILD
@@ -837,16 +814,10 @@ without one.
 The package stays without targets. To ask about it, write one branch of the
 `select` in a copy of the file that is laid over the tree (tools/bundle TREE
 OVERLAY).
-"#,
-    },
-];
-
-/// Faults of calls of the build functions.
-const CALLS: [Explanation; 9] = [
-    Explanation {
-        number: "F70",
-        name: "NotInPackage",
-        text: r#"A rule, `glob` or another function of BUILD files is called while no BUILD file
+"#
+        }
+        FaultKind::NotInPackage => {
+            r#"A rule, `glob` or another function of BUILD files is called while no BUILD file
 is evaluated: at the top of a .bzl file, and not in a function that a BUILD file
 calls.
 
@@ -860,12 +831,10 @@ calls.
     //:f.bzl:1: F70 NotInPackage
 
 Put the call into a function, and call that from a BUILD file.
-"#,
-    },
-    Explanation {
-        number: "F71",
-        name: "NoAttribute",
-        text: r#"A call of a rule gives an attribute that the rule does not have.
+"#
+        }
+        FaultKind::NoAttribute => {
+            r#"A call of a rule gives an attribute that the rule does not have.
 
     === BUILD
     filegroup(name = "x", deps = [":y"])
@@ -876,12 +845,10 @@ Put the call into a function, and call that from a BUILD file.
 Correct the name, or declare the attribute in `rules.schema`, as `attr deps
 label_list` after the line of its rule. A schema has to name filegroup and the
 other three too, if they are used.
-"#,
-    },
-    Explanation {
-        number: "F72",
-        name: "MissingAttribute",
-        text: r#"A call of a rule leaves out `name`, or an attribute that the schema calls
+"#
+        }
+        FaultKind::MissingAttribute => {
+            r#"A call of a rule leaves out `name`, or an attribute that the schema calls
 mandatory.
 
     === BUILD
@@ -891,12 +858,10 @@ mandatory.
     //:BUILD:1: F72 MissingAttribute
 
 Give the attribute. `None` counts as not given.
-"#,
-    },
-    Explanation {
-        number: "F73",
-        name: "AttributeType",
-        text: r#"The value of an attribute, or of an argument of `glob`, `exports_files` or
+"#
+        }
+        FaultKind::AttributeType => {
+            r#"The value of an attribute, or of an argument of `glob`, `exports_files` or
 `package_group`, has another type than is declared.
 
     === BUILD
@@ -907,12 +872,10 @@ Give the attribute. `None` counts as not given.
 
 Give a list where a list is declared: `["s.txt"]`. If the schema is wrong, mend
 the type there; attributes that are dicts can't be declared.
-"#,
-    },
-    Explanation {
-        number: "F74",
-        name: "DoubleTarget",
-        text: r#"A package declares two targets of one name: rules, groups or outputs; or exports
+"#
+        }
+        FaultKind::DoubleTarget => {
+            r#"A package declares two targets of one name: rules, groups or outputs; or exports
 a file that has the name of one.
 
     === BUILD
@@ -924,12 +887,10 @@ a file that has the name of one.
 
 Rename one. The line is that of the second call; if it is a macro, it may
 declare more than its own name.
-"#,
-    },
-    Explanation {
-        number: "F75",
-        name: "BadName",
-        text: r#"The name of a target or an output can't be one: it is empty, begins or ends with
+"#
+        }
+        FaultKind::BadName => {
+            r#"The name of a target or an output can't be one: it is empty, begins or ends with
 a slash, has an empty segment or one that is `.` or `..`, or a byte that is `:`,
 `\` or not printable ASCII.
 
@@ -940,12 +901,10 @@ a slash, has an empty segment or one that is `.` or `..`, or a byte that is `:`,
     //:BUILD:1: F75 BadName
 
 Use letters, digits and `_ - . + /`.
-"#,
-    },
-    Explanation {
-        number: "F76",
-        name: "GlobEmpty",
-        text: r#"A `glob` with `allow_empty = False` finds nothing, or one of its include
+"#
+        }
+        FaultKind::GlobEmpty => {
+            r#"A `glob` with `allow_empty = False` finds nothing, or one of its include
 patterns matches no file.
 
     === BUILD
@@ -956,12 +915,10 @@ patterns matches no file.
 
 Correct the pattern, or take `allow_empty` out. In a bundle a file counts by its
 path, so an empty one serves; files of packages further down are never found.
-"#,
-    },
-    Explanation {
-        number: "F77",
-        name: "GlobPattern",
-        text: r#"A pattern of `glob` is none: it is empty, has an empty segment or one that is
+"#
+        }
+        FaultKind::GlobPattern => {
+            r#"A pattern of `glob` is none: it is empty, has an empty segment or one that is
 `.` or `..`, or has `**` in a longer segment.
 
     === BUILD
@@ -972,12 +929,10 @@ path, so an empty one serves; files of packages further down are never found.
 
 Write `**/*.c` for all C files below the package. Patterns are relative to it
 and begin with no slash.
-"#,
-    },
-    Explanation {
-        number: "F78",
-        name: "BadLabel",
-        text: r#"A text that should be a label reads as none (docs/BUILD_RULES.md, "Labels").
+"#
+        }
+        FaultKind::BadLabel => {
+            r#"A text that should be a label reads as none (docs/BUILD_RULES.md, "Labels").
 
     === BUILD
     filegroup(name = "x", srcs = ["a:b"])
@@ -988,16 +943,10 @@ and begin with no slash.
 Write `//a:b` for a target of another package, `:b` or `b` for one of the own,
 and `@r//a:b` for one of another repository. Labels that begin with `@@` are
 left out.
-"#,
-    },
-];
-
-/// Faults of the target graph and the schema.
-const WHOLE: [Explanation; 2] = [
-    Explanation {
-        number: "F79",
-        name: "DanglingLabel",
-        text: r#"A target depends on a label of another package that names no target there: the
+"#
+        }
+        FaultKind::DanglingLabel => {
+            r#"A target depends on a label of another package that names no target there: the
 package is missing or failed, or has no such target. The target stays, without
 that dependency.
 
@@ -1012,12 +961,10 @@ that dependency.
 If the other package has a fault of its own, mend that first. A source file of
 another package has to be exported there by `exports_files`, or be named by one
 of its targets.
-"#,
-    },
-    Explanation {
-        number: "F80",
-        name: "Schema",
-        text: r#"A line of `rules.schema` is wrong. The run ends with E6, which has the line.
+"#
+        }
+        FaultKind::Schema => {
+            r#"A line of `rules.schema` is wrong. The run ends with E6, which has the line.
 Lines are `rule NAME`, then `attr NAME TYPE` for each of its attributes, with
 `mandatory` after it if each call has to give it; comments begin with `#`. Types
 are string, int, bool, string_list, label, label_list, output and output_list.
@@ -1032,69 +979,7 @@ are string, int, bool, string_list, label, label_list, output and output_list.
 Mend the line: words are parted by single spaces, no name comes twice, and the
 six attributes that all rules have (name, visibility, tags, features, testonly,
 deprecation) are not declared.
-"#,
-    },
-];
-
-/// Looks up F1 to F8: faults of tokens.
-pub fn in_lexis(number: &[u8]) -> Option<Explanation>
-    ensures { option_map entry_of result ≡ first_entry number.now lexis }
-{
-    first_numbered(&LEXIS, number)
-}
-
-/// Looks up F10 to F13: faults of statements.
-pub fn in_grammar(number: &[u8]) -> Option<Explanation>
-    ensures { option_map entry_of result ≡ first_entry number.now grammar }
-{
-    first_numbered(&GRAMMAR, number)
-}
-
-/// Looks up F20 to F24: faults of names.
-pub fn in_names(number: &[u8]) -> Option<Explanation>
-    ensures { option_map entry_of result ≡ first_entry number.now names }
-{
-    first_numbered(&NAMES, number)
-}
-
-/// Looks up F30 to F38: faults of loads.
-pub fn in_loads(number: &[u8]) -> Option<Explanation>
-    ensures { option_map entry_of result ≡ first_entry number.now loads }
-{
-    first_numbered(&LOADS, number)
-}
-
-/// Looks up F40 to F46: faults of operations on values.
-pub fn in_values(number: &[u8]) -> Option<Explanation>
-    ensures { option_map entry_of result ≡ first_entry number.now values }
-{
-    first_numbered(&VALUES, number)
-}
-
-/// Looks up F47 to F53: faults of programs that run.
-pub fn in_programs(number: &[u8]) -> Option<Explanation>
-    ensures { option_map entry_of result ≡ first_entry number.now programs }
-{
-    first_numbered(&PROGRAMS, number)
-}
-
-/// Looks up F54 to F60: faults of results, methods and formats.
-pub fn in_results(number: &[u8]) -> Option<Explanation>
-    ensures { option_map entry_of result ≡ first_entry number.now results }
-{
-    first_numbered(&RESULTS, number)
-}
-
-/// Looks up F70 to F78: faults of calls of the build functions.
-pub fn in_calls(number: &[u8]) -> Option<Explanation>
-    ensures { option_map entry_of result ≡ first_entry number.now calls }
-{
-    first_numbered(&CALLS, number)
-}
-
-/// Looks up F79 and F80: faults of the target graph and the schema.
-pub fn in_whole(number: &[u8]) -> Option<Explanation>
-    ensures { option_map entry_of result ≡ first_entry number.now whole }
-{
-    first_numbered(&WHOLE, number)
+"#
+        }
+    }
 }

@@ -5,8 +5,8 @@
 //!
 //! The texts are this crate's tables, from which tools/faults makes docs/FAULTS.md; bench/faults runs their examples.
 //!
-//! - `explanation`: an entry, and the look-up in a table;
-//! - `faults`, `queries`, `runs`: the tables;
+//! - `explanation`: what is printed for a number, and the look-up in a table of errors;
+//! - `faults`: the faults and their texts; `queries`, `runs`: the tables of errors;
 //! - `look_up`: the look-up by number;
 //! - `laws`: that the tables have the numbers and names of bq_base, bq_query_lex and bq_run_write.
 #![tactic(auto)]
@@ -18,6 +18,6 @@ mod look_up;
 mod queries;
 mod runs;
 
-pub use explanation::Explanation;
+pub use explanation::{Explanation, Subject};
 pub use laws::{each_error_is_explained, each_fault_is_explained, nothing_else_is_explained};
 pub use look_up::explain;

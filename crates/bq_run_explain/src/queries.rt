@@ -3,10 +3,10 @@
 ghost use Rattle.std.specs.Prelude.{◌≡◌, option_map};
 ghost use Rattle.bq_run_explain.specs.Numbers.{queries, entry_of, first_entry};
 
-use crate::explanation::{Explanation, first_numbered};
+use crate::explanation::{ErrorEntry, Explanation, first_numbered};
 
-const QUERIES: [Explanation; 8] = [
-    Explanation {
+const QUERIES: [ErrorEntry; 8] = [
+    ErrorEntry {
         number: "Q1",
         name: "Syntax",
         text: r#"The text is no query: a bracket or an operand is missing, or more than 64
@@ -20,7 +20,7 @@ query with parentheses; a word with other signs than `* / @ . - _ : $ ~ [ ]`
 needs quotes of its own inside it.
 "#,
     },
-    Explanation {
+    ErrorEntry {
         number: "Q2",
         name: "UnknownFunction",
         text: r#"There is no function of this name.
@@ -31,7 +31,7 @@ needs quotes of its own inside it.
 The functions are deps, rdeps, allpaths, kind, filter, attr and labels.
 "#,
     },
-    Explanation {
+    ErrorEntry {
         number: "Q3",
         name: "LeftOut",
         text: r#"A function of Bazel's query language, or a form of words, that bq leaves out:
@@ -46,7 +46,7 @@ Write labels in full, as `//package:x`. `allpaths` serves for somepath, and
 `rdeps(//..., x)` for allrdeps; `kind("_test rule", x)` finds tests.
 "#,
     },
-    Explanation {
+    ErrorEntry {
         number: "Q4",
         name: "BadRegex",
         text: r#"The pattern of a `kind`, `filter` or `attr` is no regular expression.
@@ -58,7 +58,7 @@ Put a backslash before a sign that means itself: `\(`. Look-around and back
 references are left out.
 "#,
     },
-    Explanation {
+    ErrorEntry {
         number: "Q5",
         name: "NoSuchTarget",
         text: r#"The query names a target that its package does not have.
@@ -74,7 +74,7 @@ this line, it has no targets: mend that first. A source file is a target if a
 target of its package names it.
 "#,
     },
-    Explanation {
+    ErrorEntry {
         number: "Q6",
         name: "NoSuchPackage",
         text: r#"The query names a package that is not there.
@@ -89,7 +89,7 @@ count from DIR, and directories that `.bazelignore` names are left out. A
 package of repository `r` lies below `external/r/`.
 "#,
     },
-    Explanation {
+    ErrorEntry {
         number: "Q7",
         name: "UnboundVariable",
         text: r#"A variable `$v` that no `let` around it binds.
@@ -101,7 +101,7 @@ Bind it: `let v = //... in deps($v)`. In double quotes the shell replaces `$v`
 itself: use single ones.
 "#,
     },
-    Explanation {
+    ErrorEntry {
         number: "Q8",
         name: "Arguments",
         text: r#"A function has too few or too many arguments, or one of another kind: a number

@@ -3,10 +3,10 @@
 ghost use Rattle.std.specs.Prelude.{◌≡◌, option_map};
 ghost use Rattle.bq_run_explain.specs.Numbers.{runs, entry_of, first_entry};
 
-use crate::explanation::{Explanation, first_numbered};
+use crate::explanation::{ErrorEntry, Explanation, first_numbered};
 
-const RUNS: [Explanation; 6] = [
-    Explanation {
+const RUNS: [ErrorEntry; 6] = [
+    ErrorEntry {
         number: "E1",
         name: "Memory",
         text: r#"The system refused memory. Nothing has been written, and the exit status is 4.
@@ -19,7 +19,7 @@ Give the process more memory, or the workspace in parts (docs/SCALE.md). With
 empty.
 "#,
     },
-    Explanation {
+    ErrorEntry {
         number: "E2",
         name: "Read",
         text: r#"Reading failed: of standard input, or with `--dir` of the directory, of one in
@@ -33,7 +33,7 @@ Look whether the directory is there and may be read. A directory that is of no
 use can be left out by a line in `.bazelignore` at its root.
 "#,
     },
-    Explanation {
+    ErrorEntry {
         number: "E3",
         name: "Write",
         text: r#"Writing the answer or the faults failed: the disk is full, or the reader of a
@@ -48,7 +48,7 @@ pipe has ended. The exit status is 5.
 What was written is a beginning of the text. Make room, and run it again.
 "#,
     },
-    Explanation {
+    ErrorEntry {
         number: "E4",
         name: "Bundle",
         text: r#"Standard input is no bundle. A bundle has for each file a line `=== PATH`, and
@@ -65,7 +65,7 @@ tools/bundle TREE writes the bundle of a directory. Leave directories that don't
 matter out by `.bazelignore`.
 "#,
     },
-    Explanation {
+    ErrorEntry {
         number: "E6",
         name: "Schema",
         text: r#"A line of `rules.schema` is wrong; the line follows. Nothing has been loaded.
@@ -80,7 +80,7 @@ matter out by `.bazelignore`.
 rule.
 "#,
     },
-    Explanation {
+    ErrorEntry {
         number: "E7",
         name: "TooManyModules",
         text: r#"The workspace has more than 16,384 BUILD files and loaded .bzl files, or more
