@@ -8,8 +8,7 @@ import shutil
 import subprocess
 from collections import defaultdict
 
-from asked import Refused
-from workspace import Unreadable, has_content, ignored_in, is_left_out
+from workspace import Refused, Unreadable, has_content, ignored_in, is_left_out
 
 LINK, MODULE = "120000", "160000"
 # how many links may lead on to one another

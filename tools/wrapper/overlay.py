@@ -5,10 +5,12 @@ import re
 import subprocess
 import sys
 
+from workspace import Refused
+
 TOOLS = os.path.dirname(os.path.dirname(os.path.realpath(__file__)))
 
 
-class Failed(Exception):
+class Failed(Refused):
     """The overlay or the bundle could not be made; the message says why."""
 
 

@@ -6,6 +6,7 @@ target there, as `lib/x.c`. Patterns, numbers and names of attributes, functions
 import posixpath
 import re
 
+from workspace import Refused
 from wrapper.place import build_file
 
 TOKEN = re.compile(r"""\s+|"[^"]*"|'[^']*'|[A-Za-z0-9*/@._:$~\[\]-]+|.""", re.S)
@@ -15,7 +16,7 @@ OPERATORS = ("except", "in", "intersect", "union", "+", "^", "-", "=")
 OTHERS = {"kind": {0}, "filter": {0}, "attr": {0, 1}, "labels": {0}, "deps": {1}, "rdeps": {2}, "allrdeps": {1}, "some": {1}}
 
 
-class BadWord(Exception):
+class BadWord(Refused):
     """A word that leads out of the workspace."""
 
 
