@@ -4,6 +4,8 @@ What goes wrong is said in one sentence. A signal that ends the process runs wha
 written as `\\x1b` where output is a terminal, so that no file or label of a workspace moves the cursor there.
 """
 import contextlib
+import importlib.machinery
+import importlib.util
 import os
 import re
 import signal
@@ -25,6 +27,16 @@ class Unwritten(Exception):
 
 class Signalled(BaseException):
     """A signal that ends the process."""
+
+
+def module_of(name):
+    """The module of a script of this folder, which has no .py in its name."""
+    if name not in sys.modules:
+        loader = importlib.machinery.SourceFileLoader(name, os.path.join(os.path.dirname(os.path.realpath(__file__)), name))
+        module = importlib.util.module_from_spec(importlib.util.spec_from_loader(name, loader))
+        loader.exec_module(module)
+        sys.modules[name] = module
+    return sys.modules[name]
 
 
 def plain(text):

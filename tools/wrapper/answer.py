@@ -105,7 +105,7 @@ class Answer:
     def tell(lines, warnings):
         """Writes what is to be said of a run, and what its answer lacks."""
         if warnings:
-            lines = lines + [f"bzlq: targets may be missing: {warnings[0].removeprefix('stubs: WARNING: ')}" +
+            lines = lines + [f"bzlq: targets may be missing: {warnings[0]}" +
                              (f"; and {len(warnings) - 1} more (tools/stubs lists them)" if len(warnings) > 1 else "")]
         write(lines, sys.stderr)
 

@@ -48,7 +48,7 @@ class Kept:
             if {key: before.get(key) for key in now} != now or before.get("bundle") != self.size():
                 self.make(now, before)
                 before = self.state()
-            return open_own(self.path("bundle"), "rb"), before.get("warnings", [])
+            return open_own(self.path("bundle"), "rb"), before["warnings"] + before["said"]
 
     def size(self):
         """How many bytes the bundle has; nothing where there is none."""
@@ -102,20 +102,20 @@ class Kept:
         remove_gone(os.path.dirname(self.folder))
 
     def make_in(self, new, now, before):
-        warnings = before.get("warnings", [])
+        warnings, said = before.get("warnings", []), []
         is_same = all(before.get(key) == now[key] for key in ("contents", "version")) and os.path.isdir(self.overlay)
         if os.path.isfile(os.path.join(self.root, SCHEMA)):
             os.makedirs(f"{new}/overlay")
             warnings = []
-            make_bundle([self.root], f"{new}/bundle")
+            said = make_bundle([self.root], f"{new}/bundle")
         elif is_same:
             shutil.copytree(self.overlay, f"{new}/overlay")
-            make_bundle([self.root, f"{new}/overlay"], f"{new}/bundle")
+            said = make_bundle([self.root, f"{new}/overlay"], f"{new}/bundle")
         else:
             print("bzlq: reading the workspace", file=sys.stderr, flush=True)
-            warnings = make_overlay(self.root, self.program, new)
+            warnings, said = make_overlay(self.root, self.program, new)
         with open(f"{new}/state", "w", encoding="utf-8") as file:
-            json.dump({**now, "bundle": os.path.getsize(f"{new}/bundle"), "warnings": warnings}, file)
+            json.dump({**now, "bundle": os.path.getsize(f"{new}/bundle"), "warnings": warnings, "said": said}, file)
         # (the state goes first and comes last: a run that is ended in between leaves none, and the next one makes all anew)
         for name in ("state", "said"):
             with contextlib.suppress(FileNotFoundError):

@@ -34,7 +34,7 @@ def make(bundle, program, folder, place):
     with room(folder, "new-") as around:
         new = f"{around}/{os.path.basename(place)}"
         os.mkdir(new, 0o700)
-        warnings = make_overlay(bundle, program, new)
+        warnings = [line for lines in make_overlay(bundle, program, new) for line in lines]
         with open(f"{new}/warnings", "w", encoding="utf-8") as file:
             file.write("".join(f"{it}\n" for it in warnings))
         shutil.rmtree(f"{new}/overlay")
