@@ -89,7 +89,14 @@ def program_of(given: str = "") -> str:
     for path in [named] if named else PROGRAMS:
         if os.path.isfile(path) and os.access(path, os.X_OK) and (named or is_program(path)):
             return os.path.abspath(path)
-    raise NoProgram(f"no program {named}" if named else "there is no bq: the variable BZLQ_BQ can name it")
+    if named or not os.path.isfile(f"{HERE}/../dist/SHA256SUMS"):
+        raise NoProgram(f"no program {named}" if named else "there is no bq: the variable BZLQ_BQ can name it")
+    # (in a clone, whose dist/ has the program)
+    import unpacked
+    try:
+        return unpacked.unpacked()
+    except (unpacked.NotUnpacked, OSError) as error:
+        raise NoProgram(f"{error}") from None
 
 
 def is_program(path: str) -> bool:

@@ -86,6 +86,8 @@ class Kept:
 
     def keep_said(self, key, lines):
         with locked(self.folder):
+            with contextlib.suppress(FileNotFoundError):
+                os.remove(self.path("said.new"))
             with open_own(self.path("said.new"), "w") as file:
                 json.dump({"key": key, "lines": lines}, file)
             os.rename(self.path("said.new"), self.path("said"))
