@@ -151,7 +151,32 @@ def words(bench):
                   "and allpaths(a, b) all targets on the ways from a to b\n", 2))
 
 
+def clones(bench):
+    """A clone in which nothing was built: a tool unpacks the program of dist/, also where the clone can't be written to, or says why not."""
+    bench.lay_out("ws", {"WORKSPACE": "", "a/BUILD": 'filegroup(name = "a")\n'})
+    bench.lay_out("clone", {"crates.txt": ""})
+    for name in ("tools", "dist"):
+        shutil.copytree(f"{ROOT}/{name}", f"{bench.room}/clone/{name}")
+    for path, text in (("tools/sources", "#!/bin/sh\necho '1 2 crates/bq/src/main.rt'\n"), ("dist/SOURCES", "1 2 crates/bq/src/main.rt\n")):
+        with open(f"{bench.room}/clone/{path}", "w", encoding="utf-8") as file:
+            file.write(text)
+    bench.run("bzlq --clean", "ws")
+    run = lambda: bench.run("unset BZLQ_BQ; XDG_CACHE_HOME=$PWD/../other python3 ../clone/tools/bzlq //a", "ws")  # noqa: E731
+    bench.compare("a fresh clone", run(), ("//a:a\n", "bzlq: reading the workspace\n", 0))
+    bench.compare("where the program is then", os.listdir(f"{bench.room}/clone/crates/bq/out/dist"), ["bq"])
+    bench.run("rm -r clone/crates; touch clone/crates")
+    bench.compare("a clone that can't be written to", run(), ("//a:a\n", "", 0))
+    bench.run("echo '1 2 other.rt' > clone/dist/SOURCES")
+    said = ("bzlq: no bq was built of these source files, and the program in dist/ is of others (crates/bq/src/main.rt differs): `./bq` builds one, which takes "
+            "the toolchain; or `xz -dc dist/bq-x86_64-linux.xz > /tmp/bq; chmod +x /tmp/bq` unpacks that one, and BZLQ_BQ=/tmp/bq names it\n")
+    bench.compare("other source files", run(), ("", said, 2))
+    bench.run("echo x >> clone/dist/bq-x86_64-linux.xz")
+    bench.compare("another file in dist", run(), ("", "bzlq: dist/bq-x86_64-linux.xz isn't what dist/SHA256SUMS says (`git checkout dist` restores it)\n", 2))
+    bench.run("rm -r clone/dist")
+    bench.compare("no dist", run(), ("", "bzlq: there is no bq: the variable BZLQ_BQ can name it\n", 2))
+
+
 def check(bench):
     """Tries all of it."""
-    for part in (too_many, places, others, kept, signals, devices, words):
+    for part in (too_many, places, others, kept, signals, devices, words, clones):
         part(bench)
