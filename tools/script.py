@@ -73,7 +73,10 @@ def signals():
     def end(number, _):
         raise Signalled(number)
 
-    before = {it: signal.signal(it, end) for it in ENDING} | {signal.SIGINT: signal.signal(signal.SIGINT, signal.default_int_handler)}
+    # (one that is ignored, as in a shell's background, stays so)
+    before = {it: signal.getsignal(it) for it in (*ENDING, signal.SIGINT) if signal.getsignal(it) is not signal.SIG_IGN}
+    for number in before:
+        signal.signal(number, signal.default_int_handler if number == signal.SIGINT else end)
     try:
         yield
     finally:
