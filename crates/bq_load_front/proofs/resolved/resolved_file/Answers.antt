@@ -1,17 +1,37 @@
-use Rattle.std.proofs.Common.{arith}
+use Rattle.std.proofs.Common.{refl, arith}
 use Rattle.std.proofs.lemmas.Grind.{common_steps}
+use Rattle.std.proofs.lemmas.Result.{err_from_is_err_and}
+use Rattle.bq_base.specs.Fault.{kind_of_token, kind_of_statement, kind_of_name}
+use Rattle.bq_base.proofs.Joined.{bad_as}
+use Rattle.bq_source_lexer.specs.Tokens.{tokens_of}
+use Rattle.bq_source_lexer.proofs.Reached.{every_text}
 use Rattle.bq_load_front.specs.Resolved.{resolved_file}
 use Rattle.bq_load_front.proofs.Tokens.{lexed}
 use Rattle.bq_load_front.proofs.resolved.resolved_file.Goals as goal
 
 pub returns-in_err-tokens : goal.returns-in_err-tokens
 unfolding resolved_file
-returns-in_err-tokens c = let found = lexed c.args.text.now c.lex.result c.lex.ensures.only in grind (arith, common_steps, found)
+returns-in_err-tokens c =
+    let p = err_from_is_err_and c.from_residual-in_err-tokens.result c.from_residual-in_err-tokens.ensures.1 in
+    let text = c.args.text.now in
+    rw p.1 (λ why same.
+    let bad = bad_as kind_of_token c.in_err-tokens.field-0.0 p.0 p.2 (tokens_of text) (c.in_err-tokens.ensures.only (tokens_of text) (every_text text)) why same in
+    rw bad refl)
 
 pub returns-in_err-file : goal.returns-in_err-file
 unfolding resolved_file
-returns-in_err-file c = let found = lexed c.args.text.now c.lex.result c.lex.ensures.only in grind (arith, common_steps, found)
+returns-in_err-file c =
+    let p = err_from_is_err_and c.from_residual-in_err-file.result c.from_residual-in_err-file.ensures.1 in
+    let found = lexed c.args.text.now c.lex.result c.lex.ensures.only in
+    rw p.1 (λ why same. let bad = bad_as kind_of_statement c.in_err-file.field-0.0 p.0 p.2 _ c.in_err-file.ensures.gives why same in grind (arith, common_steps, found, bad))
 
-pub returns : goal.returns
+pub returns-in_err-resolve : goal.returns-in_err-resolve
 unfolding resolved_file
-returns c = let found = lexed c.args.text.now c.lex.result c.lex.ensures.only in grind (arith, common_steps, found)
+returns-in_err-resolve c =
+    let p = err_from_is_err_and c.from_residual-in_err-resolve.result c.from_residual-in_err-resolve.ensures.1 in
+    let found = lexed c.args.text.now c.lex.result c.lex.ensures.only in
+    rw p.1 (λ why same. let bad = bad_as kind_of_name c.in_err-resolve.field-0.0 p.0 p.2 _ c.in_err-resolve.ensures why same in grind (arith, common_steps, found, bad))
+
+pub returns-in_ok-resolve : goal.returns-in_ok-resolve
+unfolding resolved_file
+returns-in_ok-resolve c = let found = lexed c.args.text.now c.lex.result c.lex.ensures.only in grind (arith, common_steps, found)
