@@ -20,9 +20,9 @@ BY_NAME = {
         "string": """size timeout importpath importmap cmd cmd_bash cmd_bat cmd_ps message strip_include_prefix include_prefix
             strip_import_prefix import_prefix main_class test_class python_version srcs_version package_dir extension strip_prefix mode
             nocopts toolchain_identifier prefix output_group resource_strip_prefix""",
-        "bool": """linkstatic alwayslink flaky local neverlink linkshared executable output_to_bindir is_executable stamp
-            legacy_create_init use_testrunner""",
-        "int": "shard_count",
+        "bool": """linkstatic alwayslink flaky local neverlink linkshared executable output_to_bindir is_executable
+            use_testrunner""",
+        "int": "shard_count stamp legacy_create_init",
         "output_list": "outs",
         "output": "out",
     }.items()

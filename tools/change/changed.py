@@ -4,12 +4,11 @@ import os
 from collections import namedtuple
 
 from change.hidden import hidden
+from change.settings import settings_of
 from change.unseen import unseen
 from paths import users_of
-from workspace import ROOT_FILES, SCHEMA
+from workspace import SCHEMA
 
-# files that say which other repositories there are, and how all is built
-SETTINGS = (*ROOT_FILES, "MODULE.bazel.lock", "WORKSPACE.bzlmod", ".bazelrc", ".bazelversion")
 SOURCE = "source file"
 
 Change = namedtuple("Change", "targets deleted others notes")
@@ -31,12 +30,14 @@ def compare(base, head):
         targets.setdefault(label, reason)
     changed = changed_files(base.tree, head.tree)
     notes = []
-    if settings := [path for path in SETTINGS if path in changed]:
+    settings = settings_of(base.tree) | settings_of(head.tree)
+    if odd := [path for path in changed if path in settings]:
         found = outward(head.facts)
         for label in found:
-            targets.setdefault(label, f"{settings[0]}, and it depends on another repository")
-        notes.append(f"{' and '.join(settings)}: what depends on another repository counts as changed ({len(found)} targets), and no other target")
-    return Change(targets, deleted, in_no_target(changed, base, head), notes)
+            targets.setdefault(label, f"{odd[0]}, and it depends on another repository")
+        count = f"{len(found)} target{'s' * (len(found) != 1)}"
+        notes.append(f"{' and '.join(odd)}: what depends on another repository counts as changed ({count}), and no other target")
+    return Change(targets, deleted, in_no_target(changed, base, head, settings), notes)
 
 
 def users_in(side):
@@ -91,9 +92,9 @@ def changed_files(base, head):
     return sorted(path for path in paths if any(tree.entries.get(path, ("040000",))[0] != "040000" for tree in (base, head)))
 
 
-def in_no_target(changed, base, head):
+def in_no_target(changed, base, head, settings):
     """Changed files that neither a target nor a module is made of."""
-    known = {SCHEMA, ".bazelignore", *SETTINGS}
+    known = {SCHEMA, ".bazelignore", *settings}
     for side in (base, head):
         files = {it.file for it in side.facts.targets.values() if it.kind == SOURCE} | {it.file for it in side.facts.modules.values()}
         known |= files | {side.tree.real(path) for path in files}
