@@ -64,7 +64,70 @@ def further(bench):
          "source file //a:x.sh\n", [dangling], 3)
 
 
+NAMES = {"c/BUILD": 'filegroup(name = "g", srcs = glob(["*.txt"]))\nfilegroup(name = "h", srcs = ["a b.txt"])\n', "c/ünï.txt": "", "c/日本.txt": "", "c/a b.txt": ""}
+
+
+def names(bench):
+    """Files whose names bq can't have."""
+    bench.lay_out("ws", {"WORKSPACE": "", **NAMES})
+    line = "bzlq: 1 of 2 targets of this answer is an approximation: files left out 1\n"
+    told(bench, "a file with such a name", bench.run("bzlq 'deps(//c:g)'", "ws"), "//c:a b.txt\n//c:g\n", [line], 3)
+    told(bench, "what has no such file", bench.run("bzlq 'deps(//c:h)'", "ws"), "//c:a b.txt\n//c:h\n", [""], 0)
+    found = changed(bench, "names", NAMES, "c/ünï.txt", "x")
+    told(bench, "a change of such a file", found, "", ["affected: targets may be missing: c/ünï.txt: bq takes no file of such a name\n"], 3)
+
+
+def unreadable(bench):
+    """BUILD files that can't be read: a fault of their package."""
+    bench.lay_out("ws", {"WORKSPACE": "", "x/BUILD": "", "y/BUILD": b'filegroup(name = "a")\n\0\n', "z/BUILD": 'filegroup(name = "z")\n'})
+    bench.run("rm x/BUILD; ln -s nowhere x/BUILD", "ws")
+    lines = ["x/BUILD:1:1: F56 Fail: \"x/BUILD can't be read: No such file or directory\"\n", "y/BUILD:2:1: F1 BadByte"]
+    told(bench, "files that can't be read", bench.run("bzlq //...", "ws"), "//z:z\n", lines, 3)
+    found = changed(bench, "unreadable", {"z/BUILD": 'filegroup(name = "z", srcs = ["z.c"])\n', "x/BUILD": ""}, "z/z.c", "", "--kind", "rule")
+    told(bench, "a change beside", found, "//z:z\n", ["1 affected\n"], 0)
+
+
+# what is lost: files, a query, its answer, the line that tells it, and the status
+LOSSES = {
+    "kind": ({"a/BUILD": R + 'junit_tests(name = "t", srcs = ["T.java"])\n'}, "//a:t", "//a:t\n", "kind made up 1", 0),
+    "kind, where kinds are asked for": ({"a/BUILD": R + 'junit_tests(name = "t", srcs = ["T.java"])\n'}, 'kind("test", //a:t)', "//a:t\n", "kind made up 1", 3),
+    "targets": ({"a/BUILD": 'load(":m.bzl", "m")\nm(name = "t", srcs = ["a.c"])\n', "a/m.bzl": 'def m(name, srcs):\n    x = lambda: 0\n    native.filegroup(name = name)\n'},
+                "//a:t", "//a:t\n", "one target for a macro 1", 3),
+    "value": ({"a/BUILD": 'load("@r//:m.bzl", "files")\nfilegroup(name = "t", srcs = files("a", ["b.c"]))\n'}, "deps(//a:t)", "//a:b.c\n//a:t\n", "value that isn't there 1", 3),
+    "value, in a macro": ({"a/BUILD": 'load(":m.bzl", "m")\nm(name = "t")\n', "a/m.bzl": 'load("@r//:m.bzl", "MORE")\ndef m(name):\n    native.filegroup(name = name, srcs = MORE)\n'},
+                          "//a:t", "//a:t\n", "value that isn't there 1", 3),
+    "value, under a query of users": ({"a/BUILD": 'load("@r//:m.bzl", "files")\nfilegroup(name = "t", srcs = files("a"))\nfilegroup(name = "u")\n'}, "rdeps(//..., //a:u)",
+                                      "//a:u\n", "1 of the targets that this query looks through may lack edges", 3),
+    "edges": ({"a/BUILD": 'load("@r//:m.bzl", "pack")\npack(name = "t", odd_of = ["a.txt"])\n'}, "//a:t", "//a:t\n", "kind made up 1, edges by a type that was guessed 1", 3),
+    "dict": ({"a/BUILD": 'config_setting(name = "t", values = {"cpu": "arm"})\n'}, "//a:t", "//a:t\n", "dict left out 1", 0),
+    "dict, with labels": ({"a/BUILD": 'config_setting(name = "t", flag_values = {":f": "arm"})\nfilegroup(name = "f")\n'}, "deps(//a:t)", "//a:f\n//a:t\n", "dict left out 1", 0),
+    "select": ({"a/BUILD": 'alias(name = "t", actual = select({":c": ":x", "//conditions:default": ":y"}))\nfilegroup(name = "c")\nfilegroup(name = "x")\nfilegroup(name = "y")\n'},
+               "deps(//a:t)", "//a:c\n//a:t\n//a:x\n//a:y\n", "one branch of a select 1", 0),
+    "test_suite": ({"a/BUILD": 'test_suite(name = "t")\n'}, "//a:t", "//a:t\n", "edges by a type that was guessed 1", 3),
+}
+
+
+def losses(bench):
+    """What was made up or left out of targets."""
+    for what, (files, query, output, line, status) in LOSSES.items():
+        bench.lay_out("ws", {"WORKSPACE": "", **files})
+        told(bench, f"lost, {what}", bench.run(f"bzlq '{query}'", "ws"), output, [line], status)
+    bench.compare("lost, by --strict", bench.run("bzlq --strict //...", "ws")[2], 3)
+    bench.lay_out("ws", {"WORKSPACE": "", **LOSSES["dict"][0]})
+    bench.compare("lost, a dict by --strict", [bench.run(f"bzlq {word} //...", "ws")[2] for word in ("", "--strict")], [0, 3])
+    bench.compare("lost, in facts", bench.run("bzlq --facts //...", "ws")[0].splitlines()[0],
+                  '{"target":"//a:t","kind":"config_setting rule","file":"a/BUILD","line":1,"attributes":{"name":"t","bzlq_lost":["dict: values"]},"deps":[]}')
+
+
+GUESSED = {"a/BUILD": 'load("@r//:m.bzl", "pack")\npack(name = "t", odd_of = ["a.txt"])\n', "a/a.txt": ""}
+
+
+def guessed(bench):
+    """A file that is named where no label is looked for."""
+    told(bench, "a file in an attribute of a guessed type", changed(bench, "guessed", GUESSED, "a/a.txt", "x"), "//a:t\n", ["1 affected\n"], 0)
+
+
 def check(bench):
     """Tries all of it."""
-    for part in (tests, settings, further):
+    for part in (tests, settings, further, names, unreadable, losses, guessed):
         part(bench)

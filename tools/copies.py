@@ -368,7 +368,8 @@ class Copy:
 
 def has_unknown_values(facts, file):
     """Whether a BUILD file names values that it doesn't show."""
-    names = {name for name, _, _ in file.uses if name in file.globals}
+    names = {name for name, _, _ in file.uses} | {call.name for call in file.calls if not call.is_statement and not call.is_native}
+    names &= file.globals
     return bool(facts.workspace.left_out_of(file)) or any(not facts.is_plain_global(file, name) for name in names)
 
 
