@@ -49,7 +49,7 @@ def _select(branches, nothing):
     if found == None and given:
         found = given[-1]
     if type(found) == "string":
-        return found + "".join([_MARK + it + _END for it in conditions] + [_BRANCH + it + _END for it in given if type(it) == "string" and it != found])
+        return found + "".join([_MARK + it + _END for it in conditions or [""]] + [_BRANCH + it + _END for it in given if type(it) == "string" and it != found])
     return (_MARK, found, conditions)
 
 def bzlq_select(branches, no_match_error = ""):
@@ -67,7 +67,7 @@ def _of_text(rule, key, value, edges, lost):
         before, mark, condition = piece.partition(_MARK)
         before, is_branch, branch = before.partition(_BRANCH)
         plain += before
-        edges += [condition] if mark else [branch] if is_branch and key in _LABELS.get(rule, []) else []
+        edges += [condition] if mark and condition else [] if mark else [branch] if is_branch and key in _LABELS.get(rule, []) else []
     lost.append("select: " + key)
     return plain
 
@@ -82,6 +82,8 @@ def _is_left_out(rule, key, value, edges, lost):
 
 def _value(rule, key, value, edges, lost):
     if type(value) == "list":
+        if [it for it in value if type(it) == "string" and it.find(_MARK) > 0]:
+            fail("a select in a list: write [..] + select(..)")
         edges += [it[len(_MARK):] for it in value if type(it) == "string" and it.startswith(_MARK)]
         return [it for it in value if type(it) != "string" or not it.startswith(_MARK)]
     if type(value) == "string" and _MARK in value:

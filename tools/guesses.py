@@ -1,7 +1,7 @@
 """Which type an attribute has: by the documents of its rule set, else told from its name and from the values that it is given."""
 from collections import Counter
 
-from rule_sets import TYPES
+from rule_sets import OF_BAZEL, TYPES
 
 COMMON = set("name visibility tags features testonly deprecation".split())
 
@@ -59,6 +59,8 @@ FAMILIES = {
 
 def attributes_of(rule, given):
     """The attributes of a rule: those that it is given, and those that such rules have."""
+    if rule in OF_BAZEL:
+        return sorted({*given, *TYPES[rule]} - COMMON)
     known = [name for family, names in FAMILIES.items() if rule.startswith(family) for name in names.split()]
     known += TYPES.get(rule, ())
     return sorted({*given, *BASE, *known} - COMMON)

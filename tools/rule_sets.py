@@ -1,7 +1,9 @@
 """The types of the attributes of well-known rules, by the documents of their rule sets. A line names rules, and then a type's attributes.
 
-Attributes with dicts aren't here: no type of a schema takes them (guesses.py).
+Attributes with dicts aren't here: no type of a schema takes them (guesses.py). What Bazel 4.2.3 says of its own rules is in bazel_rules.py.
 """
+import bazel_rules
+
 TABLE = """
 # Bazel's own rules and rules_cc
 cc_library cc_binary cc_test cc_shared_library cc_import: label_list srcs hdrs textual_hdrs deps data implementation_deps additional_linker_inputs interface_deps module_interfaces
@@ -200,7 +202,18 @@ def types_of(table):
     return found
 
 
-TYPES = types_of(TABLE)
+OF_BAZEL = types_of(bazel_rules.TABLE)
+TYPES = {rule: {name: kind for name, kind in {**types, **OF_BAZEL.get(rule, {})}.items() if kind != "dict"} for rule, types in {**OF_BAZEL, **types_of(TABLE)}.items()}
+# the attributes of Bazel's own rules that take dicts
+DICTS_OF = {rule: [name for name, kind in types.items() if kind == "dict"] for rule, types in OF_BAZEL.items()}
+# rules that no release has changed much: a name that isn't known is none of their attributes
+CLOSED = frozenset("""alias config_setting constraint_setting constraint_value environment filegroup genquery genrule label_flag label_setting platform
+    test_suite toolchain toolchain_type""".split())
+# attributes of later releases
+LATER = frozenset("""additional_compiler_inputs aspect_hints compatible_with config_settings distribs exec_compatible_with exec_group_compatible_with
+    exec_properties env_inherit interpreter_args licenses package_metadata precompile precompile_invalidation_mode precompile_optimize_level
+    precompile_source_retention pyc_collection required_settings restricted_to target_compatible_with toolchains transitive_configs
+    use_target_platform_constraints missing_toolchain_error flags check_types""".split())
 # Bazel's own rules, of 4.2.3 and of later releases: a file may call them without a load
 BAZEL = frozenset("""action_listener alias android_binary android_device android_device_script_fixture android_host_service_fixture
     android_instrumentation_test android_library android_local_test android_sdk aar_import apple_binary apple_cc_toolchain apple_static_library

@@ -7,8 +7,10 @@ from definitions import RESERVED, rule_of
 from given import ATTRIBUTES
 from guesses import BASE, COMMON, DICTS, FAMILIES, attributes_of, type_of
 from reading import BUILD_FUNCTIONS, BUILT_INS
-from rule_sets import BAZEL, MANDATORY, TESTS, TEST_TYPES, TYPES
+from rule_sets import BAZEL, CLOSED, DICTS_OF, LATER, MANDATORY, OF_BAZEL, TESTS, TEST_TYPES, TYPES
 
+# how near a name is to one that it may have been meant for: `sources` to `srcs` is
+NEAR = 0.72
 STANDARD = ("alias", "filegroup", "genrule", "test_suite")
 IDENTIFIER = re.compile(r"[A-Za-z_]\w*")
 
@@ -43,7 +45,8 @@ class Schema:
     def type_of(self, rule, name, everywhere):
         given = self.given[rule]
         kind, source = type_of(name, given.get(name, Counter()), everywhere, rule)
-        if said := self.said[rule].get(name) or rule in self.tests and TEST_TYPES.get(name):
+        said = self.said[rule].get(name) or rule in self.tests and TEST_TYPES.get(name) or rule in BAZEL and TYPES.get(rule, {}).get(name)
+        if said:
             kind, source = said, "name"
         if name in given and source != "name":
             self.guesses.append((rule, name, kind, source))
@@ -52,11 +55,13 @@ class Schema:
         return kind
 
     def is_misspelt(self, rule, name):
-        """Whether a rule that its documents tell of lacks this attribute, and has one nearly of this name."""
-        if rule not in TYPES and rule not in FAMILIES or name in self.said[rule]:
+        """Whether a rule that its documents tell of lacks this attribute: one that is closed by them, or that has one nearly of this name."""
+        if rule not in TYPES or name in self.said[rule]:
             return False
-        known = {*TYPES.get(rule, ()), *BASE, *COMMON, *DICTS, *TEST_TYPES, *(it for family, names in FAMILIES.items() if rule.startswith(family) for it in names.split())}
-        return name not in known and bool(difflib.get_close_matches(name, known, 1, 0.74))
+        known = {*TYPES[rule], *OF_BAZEL.get(rule, ()), *COMMON, *DICTS, *LATER}
+        if rule not in OF_BAZEL:
+            known |= {*BASE, *TEST_TYPES, *(it for family, names in FAMILIES.items() if rule.startswith(family) for it in names.split())}
+        return name not in known and (rule in CLOSED or bool(difflib.get_close_matches(name, known, 1, NEAR)))
 
     def text(self):
         lines = ["# Written by tools/stubs: the types are guessed."]
@@ -74,7 +79,7 @@ class Schema:
                 guessed[rule].append(name)
         return {
             "_LABELS": {rule: [name for name, kind in types.items() if kind == "label"] for rule, types in self.types.items()},
-            "_DICTS": {rule: sorted({*DICTS, *(name for name, kind in self.said[rule].items() if not kind)}) for rule in sorted(closed)},
+            "_DICTS": {rule: sorted({*DICTS, *DICTS_OF.get(rule, ()), *(name for name, kind in self.said[rule].items() if not kind)}) for rule in sorted(closed)},
             "_GUESSED": dict(guessed),
             "_TESTS": dict.fromkeys(sorted(self.tests & {*self.types})),
         }
