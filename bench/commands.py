@@ -34,7 +34,7 @@ def answers(bench):
     workspace(bench)
     for folder, words, output, status in ASKED:
         bench.compare(f"{folder}$ bzlq {words}", bench.run(f"bzlq {words}", f"ws/{folder}")[::2], (output, status))
-    for query, count in (("", 8), ("//a:*", 3)):  # (one is the BUILD file of the repository that isn't there)
+    for query, count in (("", 9), ("//a:*", 3)):  # (two are the BUILD files of repositories of the overlay)
         found = bench.run(f"bzlq --facts {query}", "ws")
         kinds = [next(iter(json.loads(line))) for line in found[0].splitlines()]
         bench.compare(f"facts {query}", (kinds.count("fault"), kinds.count("target"), found[1:]), (1, count, (FAULT, 3)))

@@ -312,7 +312,7 @@ def one_by_one(bench, project, check):
     project.write("tools/defs.bzl", MACRO)
     project.write("WORKSPACE", "x = 1\n")
     check("another repository", ["--base", "HEAD"], "//app:other\n", told(1, "", 0, 1) +
-          "affected: WORKSPACE: what depends on another repository counts as changed (1 targets), and no other target\n")
+          "affected: WORKSPACE: what depends on another repository counts as changed (1 target), and no other target\n")
     project.write("WORKSPACE", "")
     project.write("lib/BUILD", 'load("//tools:defs.bzl", "service")\npackage(features = ["x"])\nservice("lib")\n')
     check("a package", ["--base", "HEAD", "--kind", "'lib_test rule'"], "//app:app_test\n//lib:lib_test\n", told(3, "s", 0, 2))
@@ -328,7 +328,7 @@ def one_by_one(bench, project, check):
 
 LOSSY = {
     "WORKSPACE": "", "defs.bzl": 'load("@r//:r.bzl", "x_test")\ndef made(name, env = {}):\n    x_test(name = name, env = env)\n',
-    "other.bzl": 'load("@r//:r.bzl", "x_test")\ndef plain(name, size = "small"):\n    x_test(name = name, size = size)\n', "BUILD": "",
+    "other.bzl": 'load("@r//:r.bzl", "x_test")\ndef plain(name, size = "small"):\n    x_test(name = name, size = size)\n', "BUILD": 'config_setting(name = "a")\nconfig_setting(name = "b")\n',
     "a/BUILD": 'load("//:defs.bzl", "made")\nload("@r//:r.bzl", "x_test")\nENV = {"A": "1"}\nmade("one", env = ENV)\nmade(name = "two", env = {"B": "2"})\n'
                'x_test(name = "three", size = select({"//:a": "small", "//conditions:default": "large"}))\nx_test(name = "four", srcs = ["x.c"])\n',
     "b/BUILD": 'load("//:other.bzl", "plain")\nplain("five")\nplain("six")\n',
@@ -379,7 +379,7 @@ def overlays(bench):
     bench.compare("a macro without targets", (output, "targets may be missing: head: 2 calls of plain (other.bzl:2" in errors, status), ("", True, 3))
     found = project.affected("--base", "HEAD", "--kind", "rule", "--all-on-fault")
     bench.compare("all, for a macro without targets", (found[0].split(), found[2]),
-                  ("//a:four //a:one //a:three //a:two //b:five //b:six //c:seven //d:eight //e:eleven //e:nine //e:ten "
+                  ("//:a //:b //a:four //a:one //a:three //a:two //b:five //b:six //c:seven //d:eight //e:eleven //e:nine //e:ten "
                    "//f:c //f:thirteen //f:twelve //g:fifteen //g:fourteen //h:sixteen".split(), 0))
 
 

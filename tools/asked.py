@@ -13,6 +13,7 @@ from hint import labels
 from hint.near import did_you_mean
 from wrapper import words as relative
 from wrapper.kept import Kept
+from wrapper.overlay import MAX_STEPS
 from wrapper.place import folder_of, root_of
 from script import ended, write
 from workspace import Refused
@@ -51,7 +52,7 @@ class Asked:
         else:
             bundle, self.warnings = self.kept.open()
             with bundle:
-                found = facts(bundle, query, program=self.program)
+                found = facts(bundle, query, program=self.program, max_steps=MAX_STEPS)
         self.faults = found.faults
         return found
 

@@ -3,21 +3,24 @@ import ast
 import re
 from collections import Counter, defaultdict
 
-from definitions import taken, value_for
+from definitions import quoted, value_for
 from facts import VALUE_METHODS
-from guesses import BY_NAME, DICTS, type_of
+from given import LABEL as GIVEN, PREFIX
+from guesses import BY_NAME, type_of
 from reading import BUILD_FUNCTIONS, has_name, kind_of, makers_of, names_bound, parsed
 from replacements import NAMES, NATIVE_VALUES, label_in, labels_bound, replacement
+from rule_sets import BAZEL, TESTS
 
+# attributes that are numbers, and may be given True and False
+TRISTATES = ("stamp", "legacy_create_init")
 LISTS = ("labels", "strings", "list")
-DEFAULT = "//conditions:default"
 # what the language takes of escapes, beside a backslash before a line end
 ESCAPES = set("nrt\\'\"\n\r")
 
 # a line that can't be in a bundle: mostly one of a docstring or a comment
 HEADER = re.compile(rb"^=== ", re.M)
 # what a BUILD file has where something in it is replaced
-MAY_CHANGE = re.compile(rb"select\b|[{\\]|^=== |\b(?:%s|to_list|exclude_directories)\b| / |load\(\s*[\"'][^/@:]" % "|".join(NAMES).encode(), re.M)
+MAY_CHANGE = re.compile(rb"select\b|_test\(|test_suite\(|[{\\]|^=== |\b(?:%s|to_list|exclude|exclude_directories)\b|\b(?:stamp|legacy_create_init)\s*=| / |load\(\s*[\"'][^/@:]" % "|".join(NAMES).encode(), re.M)
 
 
 class Copy:
@@ -30,11 +33,13 @@ class Copy:
             self.starts.append(self.starts[-1] + len(line) + 1)
         self.parts = []  # (start, end, text)
         self.counts = Counter()
-        self.has_dicts = False  # whether the function around may pass a dict on
+        self.uses_given = set()  # what the copy loads of `given`
+        self.lost = []  # what the values are, in the function around, that aren't there
         self.makers = set()  # parameters of the function around whose members declare targets
         self.locals, self.labels = set(), set()  # the names that it binds, and those of them that are labels
         self.loads_more = defaultdict(set)  # a loaded name -> members that stand as symbols of their own
         self.empty_texts = empty_texts(facts, file)
+        self.more = ""  # a line at the end
 
     def span(self, node):
         """The place of a node in the text: where it begins and ends."""
@@ -53,6 +58,10 @@ class Copy:
                 self.statement(node)
         for node in parsed(self.text).body if self.loads_more else []:
             self.load_more(node)
+        if self.uses_given:
+            names = "".join(f', "{name}"' for name in sorted(self.uses_given))
+            # (a load counts wherever it stands, and here no line is moved)
+            self.more = f'load("{GIVEN}"{names})\n'
         for found in HEADER.finditer(self.text):
             self.parts.append((found.start(), found.start(), b" "))
             self.counts["a line like a bundle's header"] += 1
@@ -63,7 +72,7 @@ class Copy:
         for start, after, part in sorted(self.parts, key=lambda it: it[:2]):
             found += self.text[end:start] + part
             end = after
-        return found + self.text[end:]
+        return found + self.text[end:] + (b"" if self.text.endswith(b"\n") else b"\n") + self.more.encode()
 
     def stand_in(self, node, statement):
         """What stands for a statement that the language leaves out."""
@@ -108,20 +117,28 @@ class Copy:
         match node:
             case ast.Call():
                 self.call(node, wanted)
-            case ast.Attribute(value=ast.Name(id=name), attr=member):
-                self.member(node, name, member, wanted)
+            case ast.Attribute(value=ast.Name(id="native"), attr=name) if self.is_rule(name, True):
+                self.given(node, PREFIX + name)
+            case ast.Attribute(value=ast.Name(id=name), attr=member) if self.member(node, name, member, wanted):
+                pass
+            case ast.Attribute() if self.file.is_build:
+                self.empty(node, wanted)
             case ast.BinOp(op=ast.Add(), left=left, right=right):
                 wanted = "list" if self.kind(left) in LISTS or self.kind(right) in LISTS else wanted
                 self.visit(left, wanted)
                 self.visit(right, wanted)
             case ast.FunctionDef():
-                self.has_dicts, self.makers = self.may_pass_dicts(node), makers_of(node)
-                self.locals, self.labels = names_bound(node), labels_bound(node)
+                self.makers, self.locals, self.labels = makers_of(node), names_bound(node), labels_bound(node)
+                self.lost = self.values_lost(node)
                 for part in ast.iter_child_nodes(node):
                     self.visit(part)
-                self.has_dicts, self.makers, self.locals, self.labels = False, set(), set(), set()
+                self.makers, self.locals, self.labels, self.lost = set(), set(), set(), []
+            case ast.ListComp(elt=ast.Attribute()) if self.file.is_build:
+                self.around(node, "[part for part in ", " if part]")
+                for part in ast.iter_child_nodes(node):
+                    self.visit(part, "text")
             case ast.List(elts=parts):
-                if any(isinstance(part, ast.Name) and part.id in self.empty_texts - self.locals for part in parts):
+                if any(self.is_empty_text(part) for part in parts):
                     self.around(node, "[part for part in ", " if part]")
                 for part in parts:
                     self.visit(part, "text")
@@ -132,6 +149,10 @@ class Copy:
             case _:
                 for part in ast.iter_child_nodes(node):
                     self.visit(part, wanted if isinstance(node, ast.IfExp) else "")
+
+    def is_empty_text(self, node):
+        """Whether an empty text stands for an element of a list, or may."""
+        return isinstance(node, ast.Name) and node.id in self.empty_texts - self.locals or isinstance(node, ast.Attribute) and self.file.is_build
 
     def put(self, node, found):
         """Puts a replacement's texts in the place of a node, around those of its parts that stay."""
@@ -152,8 +173,15 @@ class Copy:
         match node.func:
             case ast.Name(id="select"):
                 self.select(node, wanted)
+            case ast.Name(id=name) if self.file.is_build and self.is_rule(name, False) and self.may_lose(node):
+                self.rule(node, name)
+            case ast.Attribute(value=ast.Name(id="native"), attr=name) if self.is_rule(name, True):
+                self.rule(node, name)
             case _ if label_in(node):
                 self.label(node, label_in(node))
+            case ast.Name(id=name) if name not in self.locals and self.facts.makes_targets(self.file, name):
+                self.tell_lost(node)
+                self.arguments(node)
             case ast.Attribute(value=ast.Name(id="native"), attr=member) if member in NATIVE_VALUES:
                 self.replace(*self.span(node), "", NATIVE_VALUES[member])
                 self.counts["a member"] += 1
@@ -163,6 +191,13 @@ class Copy:
                 self.select(node, wanted)
             case ast.Attribute(value=ast.Name(id=name), attr=member) if self.is_empty_member(name, member):
                 self.member(node, name, member, wanted)
+            case ast.Attribute(value=ast.Name(id=name) as of, attr=member):
+                if not self.member(node.func, name, member, wanted):
+                    self.visit(of)
+                self.arguments(node)
+            case ast.Attribute(value=of):
+                self.visit(of)
+                self.arguments(node)
             case _:
                 self.visit(node.func)
                 self.arguments(node)
@@ -182,13 +217,20 @@ class Copy:
         return self.file.is_build and not is_value and self.facts.is_stub(self.file, name)
 
     def member(self, node, name, member, wanted):
+        """Puts something in the place of a member of a stub; gives whether it was one."""
         if self.facts.known_member(self.file, name, member):
             self.replace(*self.span(node), f"{name}__{member}")
             self.loads_more[name].add(member)
+            self.counts["a member"] += 1
         elif self.is_empty_member(name, member):
-            self.replace(*self.span(node), "", {"list": "[]", "text": '""'}.get(wanted, "None"))
+            self.empty(node, wanted)
         else:
-            return
+            return False
+        return True
+
+    def empty(self, node, wanted):
+        """An empty value for a member."""
+        self.replace(*self.span(node), "", {"list": "[]", "text": '""'}.get(wanted, "None"))
         self.counts["a member"] += 1
 
     def made(self, call, called, wanted):
@@ -197,7 +239,9 @@ class Copy:
             self.select(call, wanted)
             return
         self.counts["a member"] += 1
-        if has_name(call) or called.attr in BUILD_FUNCTIONS:
+        if self.is_rule(called.attr, True) and has_name(call):
+            self.rule(call, called.attr)
+        elif has_name(call) or called.attr in BUILD_FUNCTIONS:
             self.replace(*self.span(called.value), "native")
             self.arguments(call)
         else:
@@ -211,14 +255,14 @@ class Copy:
                 if keyword.value.value not in (1, True):
                     self.replace(*self.span(keyword.value), "", "1")
                     self.counts["directories in a glob"] += 1
-            elif self.is_dropped(call, keyword):
-                self.replace(*self.span(keyword.value), "", "None")
-                self.counts["a dict"] += 1
-            elif not keyword.arg and self.has_dicts and self.facts.goes_to_rule(self.file, call, None):
+            elif keyword.arg == "exclude" and any(isinstance(it, ast.Constant) and isinstance(it.value, str) and not is_pattern(it.value) for it in ast.walk(keyword.value)):
                 start, end = self.span(keyword.value)
-                before, _, after = taken("(..)").partition("..")
-                self.parts += [(start, start, before.encode()), (end, end, after.encode())]
-                self.counts["a dict"] += 1
+                self.uses_given.add("bzlq_patterns")
+                self.parts += [(start, start, b"bzlq_patterns("), (end, end, b")")]
+                self.counts["a pattern"] += 1
+            elif keyword.arg in TRISTATES and isinstance(keyword.value, ast.Constant) and isinstance(keyword.value.value, bool):
+                self.replace(*self.span(keyword.value), "", str(int(keyword.value.value)))
+                self.counts["a bool"] += 1
             else:
                 name = keyword.value.id if isinstance(keyword.value, ast.Name) else ""
                 if name in self.empty_texts - self.locals and BY_NAME.get(keyword.arg) == "label":
@@ -231,19 +275,57 @@ class Copy:
         self.parts += [(start, start, before.encode()), (end, end, after.encode())]
         self.counts["an empty text"] += 1
 
-    def may_pass_dicts(self, function):
-        """Whether a macro may pass a dict on by `**`: one that it is given, or that it names."""
-        given = self.facts.given["def", self.file.path, function.name]
-        names = [part.value for part in ast.walk(function) if isinstance(part, ast.Constant) and isinstance(part.value, str)]
-        names += [part.arg for part in ast.walk(function) if isinstance(part, ast.keyword | ast.arg)]
-        return any(kinds["dict"] or self.facts.is_dict(keyword) for keyword, kinds in given.items()) or any(name in DICTS for name in names)
+    def is_rule(self, name, is_native):
+        return name not in self.locals and self.facts.callee(self.file, name, is_native) == ("rule", name) and name in BAZEL
 
-    def is_dropped(self, call, keyword):
-        """Whether a dict is given where a rule takes it: no type of a schema does."""
-        kind = self.kind(keyword.value)
-        if not keyword.arg or kind != "dict" and not (kind == "other" and self.facts.is_dict(keyword.arg)):
-            return False
-        return self.facts.goes_to_rule(self.file, call, keyword.arg)
+    def may_lose(self, call):
+        """Whether what stands for a rule is to be called in its place: it is a test, or some argument may be a dict or have a `select`."""
+        is_odd = call.func.id in TESTS or call.func.id == "test_suite" and not any(key.arg == "tests" for key in call.keywords)
+        return is_odd or bool(self.facts.workspace.left_out_of(self.file)) or any(not self.is_plain(key.value) for key in call.keywords if key.arg != "name")
+
+    def is_plain(self, node):
+        """Whether a value is shown, and is neither a dict nor has a `select`."""
+        match node:
+            case ast.Dict() | ast.DictComp():
+                return False
+            case ast.Name(id=name):
+                return name in self.locals or self.facts.is_plain_global(self.file, name)
+            case ast.Call(func=ast.Name(id="glob")):
+                return True
+            case ast.Call():
+                return False
+            case _:
+                return all(self.is_plain(part) for part in ast.iter_child_nodes(node) if isinstance(part, ast.expr))
+
+    def rule(self, call, name):
+        """Calls what stands for a rule, which takes dicts and marks out of what it is given."""
+        self.given(call.func, PREFIX + name)
+        self.counts["a call of a rule"] += 1
+        self.tell_lost(call)
+        self.arguments(call)
+
+    def tell_lost(self, call):
+        """Gives a call what was made up of what it is given."""
+        lost = self.lost or self.values_lost(call)
+        if self.facts.workspace.left_out_of(self.file) and any(isinstance(it, ast.Name) and it.id == "glob" for it in ast.walk(call)):
+            lost = [*lost, "files: " + self.facts.workspace.left_out_of(self.file)]
+        if lost:
+            _, end = self.span(call.func)
+            at = self.text.index(b"(", end) + 1
+            self.parts.append((at, at, f"bzlq_lost = [{', '.join(quoted(it) for it in lost)}], ".encode("utf-8", "surrogateescape")))
+
+    def values_lost(self, node):
+        """What values a statement or expression names that aren't there."""
+        found = {}
+        for part in ast.walk(node):
+            if isinstance(part, ast.Name) and part.id not in self.locals and part.id in self.file.globals:
+                if told := self.facts.lost_value(self.file, part.id):
+                    found[told] = None
+        return list(found)
+
+    def given(self, node, name):
+        self.replace(*self.span(node), name)
+        self.uses_given.add(name)
 
     def kind(self, node):
         """What a value is like, also where it is a global of this file, or of one that it loads."""
@@ -257,47 +339,18 @@ class Copy:
         return "unknown" if source == "nothing" else "list" if kind.endswith("_list") else "text"
 
     def select(self, node, wanted):
-        """All branches of a list, one after another, as `bazel query` follows them all; of another value the default one."""
+        """What takes a `select`'s dict: all branches of lists, else the default one, with marks for the conditions."""
+        of = node.args[0] if node.args else None
+        values = of.values if isinstance(of, ast.Dict) else [of.value] if isinstance(of, ast.DictComp) else []
+        is_list = wanted == "list" or any(self.kind(value) in LISTS for value in values)
+        self.given(node.func, "bzlq_select_list" if is_list else "bzlq_select")
         self.counts["a select"] += 1
-        of = node.args[0] if node.args else ast.Dict([], [])
-        if not isinstance(of, ast.Dict):
-            self.select_any(node, of, wanted)
-            return
-        kinds = [self.kind(value) for value in of.values]
-        if any(kind in LISTS for kind in kinds) or wanted == "list":
-            chosen = [value for value, kind in zip(of.values, kinds) if kind != "none"]
+        if isinstance(of, ast.Dict):
+            for key, value in zip(of.keys, of.values):
+                self.visit(key, "text") if key else None
+                self.visit(value, "list" if is_list else wanted)
         else:
-            default = [value for key, value in zip(of.keys, of.values) if isinstance(key, ast.Constant) and key.value == DEFAULT]
-            chosen = (default or of.values)[-1:]
-        self.keep(node, chosen)
-        for value in chosen:
-            self.visit(value, wanted)
-
-    def select_any(self, node, of, wanted):
-        """The same where the dict isn't shown: all branches of a list, the last of another value; where neither is known, nothing is given."""
-        start, end = self.span(node)
-        inner, after = self.span(of)
-        kind = self.kind(of.value) if isinstance(of, ast.DictComp) else "other"
-        if kind == "dict" or kind == "other" and wanted == "unknown":
-            self.replace(start, end, "", "None")
-            return
-        is_text = kind in ("string", "label") or wanted == "text" and kind not in LISTS
-        self.replace(start, inner, "(" if is_text else "[part for branch in (")
-        self.replace(after, end, "", ").values()[-1]" if is_text else ").values() for part in branch]")
-        self.visit(of)
-
-    def keep(self, node, chosen):
-        """Keeps of a node these parts alone, joined by `+`."""
-        start, end = self.span(node)
-        if not chosen:
-            self.replace(start, end, "([", "])")
-            return
-        before = "(("
-        for value in chosen:
-            inner, after = self.span(value)
-            self.replace(start, inner, before)
-            start, before = after, ") + ("
-        self.replace(start, end, "", "))")
+            self.arguments(node)
 
     def escapes(self, node):
         """Writes out what an escape stands for that the language leaves out."""
@@ -311,6 +364,18 @@ class Copy:
             value = node.value.replace("\\", "\\\\").replace(quote, f"\\{quote}").replace("\n", "\\n").replace("\r", "\\r")
             self.parts.append((start, end, f"{quote}{value}{quote}".encode("utf-8", "surrogateescape")))
             self.counts["an escape"] += 1
+
+
+def has_unknown_values(facts, file):
+    """Whether a BUILD file names values that it doesn't show."""
+    names = {name for name, _, _ in file.uses} | {call.name for call in file.calls if not call.is_statement and not call.is_native}
+    names &= file.globals
+    return bool(facts.workspace.left_out_of(file)) or any(not facts.is_plain_global(file, name) for name in names)
+
+
+def is_pattern(text):
+    """Whether `glob` takes a pattern; Bazel takes any where it excludes."""
+    return not any(part in ("", ".", "..") or "**" in part and part != "**" for part in text.split("/"))
 
 
 def empty_texts(facts, file):
@@ -332,7 +397,7 @@ def copies(facts, content):
         if file.broken or path not in facts.reached:
             continue
         text = content(path)
-        if file.is_build and not file.members and not MAY_CHANGE.search(text) and not empty_texts(facts, file):
+        if file.is_build and not file.members and not MAY_CHANGE.search(text) and not has_unknown_values(facts, file):
             continue
         copy = Copy(facts, file, text)
         if copied := copy.result():

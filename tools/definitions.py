@@ -9,15 +9,6 @@ RESERVED = set("""and break continue def elif else for if in lambda load not or 
     global import is nonlocal raise try while with yield native""".split()) | BUILT_INS | BUILD_FUNCTIONS
 
 
-# the entries of a dict that some type of a schema takes: no dicts, and no lists of anything but strings
-TAKEN = 'type(value) != "dict" and (type(value) != "list" or not [part for part in value if type(part) != "string"])'
-
-
-def taken(entries):
-    """The expression for what a rule may be given of these entries."""
-    return f"{{key: value for key, value in {entries}.items() if {TAKEN}}}"
-
-
 def rule_of(symbol):
     """The rule that a symbol is forwarded to. (`selects__config_setting_group` stands for a member.)"""
     name = symbol.partition("__")[2] if "__" in symbol.strip("_") else symbol
@@ -47,17 +38,33 @@ def value_for(stub):
     return "None" if not shapes["list"] and any(stub.wanted) else "[]"
 
 
-def definition(repository, symbol, stub, given):
-    """The text that defines a symbol, in one line but for members of skylib's. `given` is what its calls give it."""
+# functions of rules_python and rules_jvm_external that give labels
+LABELS_OF = {
+    "requirement": '"@{repository}//" + name.lower().partition("[")[0].replace("-", "_").replace(".", "_")',
+    "artifact": '"@maven//:" + "_".join(name.split(":")[:2]).replace("-", "_").replace(".", "_")',
+}
+
+
+def quoted(text):
+    return '"' + text.replace("\\", "\\\\").replace('"', '\\"') + '"'
+
+
+def definition(repository, symbol, stub, lost=()):
+    """The text that defines a symbol, in one line but for members of skylib's. `lost` says what is made up."""
     if symbol in MEMBERS and repository:
         return f"def {symbol}{MEMBERS[symbol]}"
     if stub.makes_targets:
-        may_have_dicts = any(kinds["dict"] or kinds["other"] for kinds in given.values())
-        passed = taken("kwargs") if may_have_dicts else "kwargs"
-        return f"def {symbol}(name, *args, **kwargs): native.{rule_of(symbol)}(name = name, **{passed})"
+        rule = rule_of(symbol)
+        texts = ", ".join(quoted(it) for it in lost)
+        return f"def {symbol}(name, *args, **given): native.{rule}(**bzlq_given(\"{rule}\", [{texts}], dict({{\"name\": name}}, **given)))"
+    if repository and symbol in LABELS_OF:
+        return f"def {symbol}(name, *args, **kwargs): return {LABELS_OF[symbol].format(repository=repository)}"
     if not stub.is_called:
         return f"{symbol} = {value_for(stub)}"
     value = value_for(stub)
+    if value == "[]":
+        # (of what mostly is a choice between lists)
+        value = "[part for value in list(args) + list(kwargs.values()) if type(value) == \"list\" for part in value]"
     if value == '""':
         # a label, so that it may stand where a label is wanted
         value = f'"@{repository}//:{symbol}"' if repository else f'":{symbol}"'

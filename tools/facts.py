@@ -5,13 +5,15 @@ import re
 from collections import Counter, defaultdict
 
 from definitions import definition
-from guesses import DICTS
 from reading import BUILD_FUNCTIONS, BUILT_INS, LEFT_OUT, read
 from replacements import NATIVE_VALUES
+from rule_sets import BAZEL, TYPES
 from skylib import MEMBERS, REPOSITORY as SKYLIB
 from workspace import SCHEMA, content, files, has_content, is_path
 
 REPOSITORY = re.compile(r"@([\w.+~-]+)(?://([^:]*)(?::(.*))?)?")
+# how many bytes a file may have
+MAX_SIZE = 1_048_576
 # methods of values that a stub may be, and of values that bq has
 VALUE_METHODS = set("get items keys values format".split())
 
@@ -20,10 +22,14 @@ class Workspace:
     """A tree's files, what each of those that count says, and where its labels lead."""
 
     def __init__(self, root):
-        self.paths = set(files(root))
+        odd = []
+        self.paths = set(files(root, odd))
         self.directories = {os.path.dirname(path) for path in self.paths if os.path.basename(path) in ("BUILD", "BUILD.bazel")}
         self.files = {path: read(path, content(root, path)) for path in sorted(self.paths) if has_content(path) and path != SCHEMA}
         self.files = {path: file for path, file in self.files.items() if not self.is_hidden(path)}
+        self.left_out = {}  # a package -> a file in it whose name bq can't have
+        for path in sorted(odd):
+            self.left_out.setdefault(self.package_of(path), path)
         self.repositories = {path.split("/")[1] for path in self.paths if path.startswith("external/") and path.count("/") > 1}
         self.name = self.own_name(root)
 
@@ -39,6 +45,14 @@ class Workspace:
                 if found:
                     return found[1].decode()
         return ""
+
+    def left_out_of(self, file):
+        """A file of the package of a BUILD file whose name bq can't have."""
+        return self.left_out.get(os.path.dirname(file.path), "") if file.is_build else ""
+
+    def build_file(self, package):
+        """The BUILD file of a package; nothing where it has none."""
+        return next((self.files[path] for path in (self.joined(package, name) for name in ("BUILD.bazel", "BUILD")) if path in self.files), None)
 
     def package_of(self, path):
         directory = os.path.dirname(path)
@@ -140,6 +154,10 @@ class Facts:
 
     def find_stand_ins(self):
         """Finds the statements of .bzl files that `bq` can't read, and those that ask for a member of what such a statement binds."""
+        for path in self.reached:
+            for call in self.workspace.files[path].calls:
+                if call.is_statement and "name" in call.keywords and not call.is_native:
+                    self.replace_rule(self.workspace.files[path], call.name)
         pending = []  # (file, statement, names whose members it asks for)
         for path in self.reached:
             file = self.workspace.files[path]
@@ -148,7 +166,10 @@ class Facts:
             faulty = self.faulty_lines(file)
             for statement in file.statements:
                 lines = range(statement.first, statement.last + 1)
-                if not faulty.isdisjoint(lines):
+                is_large = file.size > MAX_SIZE and any(file.kinds.get(name) == "dict" for name in statement.names)
+                if statement in self.replaced[path]:
+                    continue
+                if is_large or not faulty.isdisjoint(lines):
                     self.replace(file, statement)
                 elif statement.names:
                     asked = {name for name, member, line, _ in file.members
@@ -163,6 +184,24 @@ class Facts:
                 else:
                     left.append((file, statement, asked))
             pending = left
+
+    def replace_rule(self, file, name):
+        """Has what a call makes, and what is called as a rule, stand for a rule: `x_test = make_test(..)`."""
+        found = self.binding(file, name)
+        if found and self.origin(*found) == ("value",) and not found[0].is_build and found[1] in found[0].called:
+            for statement in found[0].statements:
+                if found[1] in statement.names and statement not in self.replaced[found[0].path]:
+                    self.replace(found[0], statement)
+
+    def binding(self, file, name, depth=8):
+        """The file and the name in it that a global stands for, through loads."""
+        if name not in file.globals or not depth:
+            return None
+        for label, _, clauses in file.loads:
+            if name in clauses:
+                loaded = self.workspace.files.get(self.workspace.resolve(label, file.path)[0])
+                return self.binding(loaded, clauses[name], depth - 1) if loaded else None
+        return file, name
 
     def replace(self, file, statement):
         self.replaced[file.path].append(statement)
@@ -195,6 +234,10 @@ class Facts:
 
     def origin(self, file, name, seen=()):
         """What a global name of a file stands for: ("def", path, name), ("stub", place, symbol), ("value",), or nothing."""
+        if name in file.natives:
+            return "rule", file.natives[name]
+        if name in file.macros and (file.path, name) not in seen:
+            return self.origin(file, file.macros[name][0], (*seen, (file.path, name)))
         if name in self.stand_ins[file.path]:
             return "stub", (None, file.path, ""), name
         if name in file.aliases and (file.path, name) not in seen:
@@ -222,7 +265,7 @@ class Facts:
 
     def look_at(self, file):
         if file.broken:
-            self.cannot("a file that isn't read here", file, file.broken.split(":")[0].replace("?", "0"))
+            self.cannot("a file that isn't read here", file, file.broken.split(":")[0])
             return
         for label, _, clauses in file.loads:
             path, place = self.workspace.resolve(label, file.path)
@@ -325,35 +368,57 @@ class Facts:
         found = self.origin(file, name) if name in file.globals else None
         return self.stubs[found[1]].get(f"{found[2]}__{member}") if found and found[0] == "stub" else None
 
-    def goes_to_rule(self, file, call, keyword):
-        """Whether what a call gives this keyword goes to a rule, or to what stands for one: at once, or by a macro's `**`."""
-        match call.func:
-            case ast.Name(id=name):
-                callee = self.callee(file, name, False)
-            case ast.Attribute(value=ast.Name(id="native"), attr=name):
-                callee = self.callee(file, name, True)
-            case _:
-                return file.is_build and isinstance(call.func, ast.Attribute)
-        if callee and callee[0] == "def":
-            macro = self.workspace.files[callee[1]].defs[callee[2]]
-            return bool(macro.rest) and bool(keyword) and keyword not in macro.parameters
-        return bool(callee)
-
-    def is_dict(self, keyword):
-        """Whether an attribute of this name takes a dict: none of a schema's types."""
-        kinds = self.everywhere[keyword]
-        return keyword in DICTS or kinds["dict"] > sum(n for kind, n in kinds.items() if kind not in ("dict", "other", "none"))
+    def is_plain_global(self, file, name, depth=8):
+        """Whether the text that binds a global shows its value, which is neither a dict nor has a `select`."""
+        if name in file.plain or not depth:
+            return name in file.plain
+        for label, _, clauses in file.loads:
+            loaded = self.workspace.files.get(self.workspace.resolve(label, file.path)[0])
+            if name in clauses and loaded:
+                return self.is_plain_global(loaded, clauses[name], depth - 1)
+        return False
 
     def stand_in(self, path, name):
         """The text that stands for what the statement of a name binds."""
-        place = (None, path, "")
-        return definition("", name, self.stub(place, name), self.given["stub", place, name])
+        place, file = (None, path, ""), self.workspace.files[path]
+        if name in file.macros:
+            function, defaults = file.macros[name]
+            return f"def {name}(name, visibility = None, **given): {function}(name = name, visibility = visibility, **dict({defaults}, **given))"
+        if file.size > MAX_SIZE and file.kinds.get(name) == "dict":
+            return f"{name} = {{}}"
+        return definition("", name, self.stub(place, name), self.lost_of(place, name))
+
+    def makes_targets(self, file, name):
+        """Whether a name stands for a macro or rule that isn't there."""
+        found = self.origin(file, name) if name in file.globals else None
+        return bool(found) and found[0] == "stub" and self.stub(*found[1:]).makes_targets
+
+    def lost_value(self, file, name):
+        """What is said of a name that a value stands for; nothing of another."""
+        found = self.origin(file, name)
+        if not found or found[0] != "stub" or found[1][0] == SKYLIB or self.stub(*found[1:]).makes_targets:
+            return ""
+        repository, package, base = found[1]
+        place = package if repository is None else (f"@{repository}" if repository else "") + f"//{package}:{base}"
+        return f"value: {found[2]} of {place}"
 
     def members_of(self, path):
         """The texts that stand for members of what a file binds."""
         place = (None, path, "")
         known = self.stand_ins[path]
-        return [definition("", name, stub, self.given["stub", place, name]) for name, stub in sorted(self.stubs.get(place, {}).items()) if name not in known]
+        return [definition("", name, stub, self.lost_of(place, name)) for name, stub in sorted(self.stubs.get(place, {}).items()) if name not in known]
+
+    def lost_of(self, place, symbol):
+        """What is made up of the targets that a stub declares."""
+        repository, package, name = place
+        if repository is not None:
+            label = (f"@{repository}" if repository else "") + f"//{package}:{name}"
+            return [] if symbol.rpartition("__")[2] in TYPES else [f"kind: {symbol} of {label}, which isn't there"]
+        file = self.workspace.files[package]
+        if symbol in file.made:
+            return []
+        line = next((it.first for it in self.replaced[package] if symbol.partition("__")[0] in it.names), 1)
+        return [f"targets: {symbol} of {package}:{line}, in which bq leaves something out, may declare more"]
 
     def pass_on(self):
         """Has each macro pass what its callers give it on to what it gives its `**`, and its parameters."""

@@ -1,7 +1,7 @@
 """Which type an attribute has: by the documents of its rule set, else told from its name and from the values that it is given."""
 from collections import Counter
 
-from rule_sets import TYPES
+from rule_sets import OF_BAZEL, TYPES
 
 COMMON = set("name visibility tags features testonly deprecation".split())
 
@@ -20,9 +20,9 @@ BY_NAME = {
         "string": """size timeout importpath importmap cmd cmd_bash cmd_bat cmd_ps message strip_include_prefix include_prefix
             strip_import_prefix import_prefix main_class test_class python_version srcs_version package_dir extension strip_prefix mode
             nocopts toolchain_identifier prefix output_group resource_strip_prefix""",
-        "bool": """linkstatic alwayslink flaky local neverlink linkshared executable output_to_bindir is_executable stamp
-            legacy_create_init use_testrunner""",
-        "int": "shard_count",
+        "bool": """linkstatic alwayslink flaky local neverlink linkshared executable output_to_bindir is_executable
+            use_testrunner""",
+        "int": "shard_count stamp legacy_create_init",
         "output_list": "outs",
         "output": "out",
     }.items()
@@ -59,6 +59,8 @@ FAMILIES = {
 
 def attributes_of(rule, given):
     """The attributes of a rule: those that it is given, and those that such rules have."""
+    if rule in OF_BAZEL:
+        return sorted({*given, *TYPES[rule]} - COMMON)
     known = [name for family, names in FAMILIES.items() if rule.startswith(family) for name in names.split()]
     known += TYPES.get(rule, ())
     return sorted({*given, *BASE, *known} - COMMON)

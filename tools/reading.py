@@ -7,6 +7,7 @@ import warnings
 from dataclasses import dataclass, field
 
 from replacements import label_in, labels_bound, replacement
+from rule_sets import BAZEL
 
 # names that every file knows, besides the rules
 BUILT_INS = set("""None True False all any bool dict enumerate fail int len list max min print range repr reversed select sorted str tuple
@@ -14,7 +15,7 @@ BUILT_INS = set("""None True False all any bool dict enumerate fail int len list
 BUILD_FUNCTIONS = set("glob package_name package licenses exports_files package_group".split())
 # what Bazel knows and `bq` leaves out
 LEFT_OUT = set("""abs analysis_test_transition apple_common apple_support aspect attr bytes cc_common config configuration_field coverage_common
-    DefaultInfo depset distribs CcInfo environment_group exec_group existing_rule existing_rules float getattr hasattr hash InstrumentedFilesInfo
+    DefaultInfo depset distribs CcInfo exec_group existing_rule existing_rules float getattr hasattr hash InstrumentedFilesInfo
     JavaInfo java_common json Label module_extension native OutputGroupInfo platform_common proto provider ProtoInfo PyInfo PyRuntimeInfo
     repository_name repository_rule rule RunEnvironmentInfo set struct subpackages tag_class testing transition workspace dir
     CcToolchainConfigInfo CcSharedLibraryInfo DebugPackageInfo ErlangInfo macro module_name module_version repo_name symbolic_macro visibility""".split())
@@ -41,6 +42,7 @@ class Call:
     is_statement: bool
     wanted: str  # what the place takes: a kind, or empty
     passed: dict  # each keyword that is given a name as it is
+    target: str  # the text that it gives as `name`
 
 
 @dataclass
@@ -68,8 +70,14 @@ class File:
     loads: list = field(default_factory=list)  # (label, line, {local: symbol})
     defs: dict = field(default_factory=dict)
     aliases: dict = field(default_factory=dict)  # a global that is another name
+    natives: dict = field(default_factory=dict)  # a global that is a member of `native`: a rule of Bazel's own
     made: dict = field(default_factory=dict)  # a global that a call of `rule` gives: the types that it says, by attribute
+    macros: dict = field(default_factory=dict)  # a global that a call of `macro` gives: its function, and the text of its attributes' defaults
+    size: int = 0
+    tests: set = field(default_factory=set)  # those of them that say `test = True`
     kinds: dict = field(default_factory=dict)  # what the value of a global is like
+    called: set = field(default_factory=set)  # globals whose values are calls
+    plain: set = field(default_factory=set)  # globals whose values have neither a name nor a call but of `glob`
     statements: list = field(default_factory=list)
     globals: set = field(default_factory=set)
     calls: list = field(default_factory=list)
@@ -147,6 +155,7 @@ class Reader(ast.NodeVisitor):
         self.file = file
         self.inside = ""
         self.locals = set()
+        self.bound = {}
         self.makers = set()  # parameters whose members declare targets
         self.labels = set()  # names that the function around binds to labels
         self.wanted = ""
@@ -179,9 +188,15 @@ class Reader(ast.NodeVisitor):
             if default is not None:
                 self.visit(default)
         self.inside, self.locals, self.makers, self.labels = node.name, names_bound(node), makers_of(node), labels_bound(node)
+        parameters = {it.arg for it in ast.walk(node.args) if isinstance(it, ast.arg)}
+        self.bound = {}
+        for it in ast.walk(node):
+            match it:
+                case ast.Assign(targets=[ast.Name(id=target)], value=value) if target not in parameters:
+                    self.bound.setdefault(target, kind_of(value))
         for part in node.body:
             self.visit(part)
-        self.inside, self.locals, self.makers, self.labels = "", set(), set(), set()
+        self.inside, self.locals, self.makers, self.labels, self.bound = "", set(), set(), set(), {}
 
     def visit_Lambda(self, node):
         self.left_out(node, "lambda")
@@ -227,10 +242,16 @@ class Reader(ast.NodeVisitor):
         for keyword in node.keywords:
             self.wanting(keyword.arg or "", keyword.value)
 
+    def kind_here(self, node):
+        """What a value is like; of a variable that this function binds, what it binds it to first."""
+        if isinstance(node, ast.BinOp) and isinstance(node.op, ast.Add):
+            return first_known({self.kind_here(node.left), self.kind_here(node.right)})
+        return self.bound.get(node.id, "other") if isinstance(node, ast.Name) else kind_of(node)
+
     def named_call(self, node, name, is_native, is_statement):
         if name in self.locals and not is_native:
             return
-        keywords = {key.arg: kind_of(key.value) for key in node.keywords if key.arg}
+        keywords = {key.arg: self.kind_here(key.value) for key in node.keywords if key.arg}
         splats = []
         for key in node.keywords:
             if key.arg is None:
@@ -239,7 +260,7 @@ class Reader(ast.NodeVisitor):
         starred = [part for part in node.args if isinstance(part, ast.Starred)]
         positional = [kind_of(part) for part in node.args if part not in starred]
         names = {key.arg: key.value.id for key in node.keywords if key.arg and isinstance(key.value, ast.Name)}
-        self.file.calls.append(Call(name, is_native, node.lineno, self.inside, keywords, splats, positional, is_statement, self.wanted, names))
+        self.file.calls.append(Call(name, is_native, node.lineno, self.inside, keywords, splats, positional, is_statement, self.wanted, names, target_of(node)))
 
     def member(self, node, name, member, is_called):
         if name == "native":
@@ -250,6 +271,9 @@ class Reader(ast.NodeVisitor):
             self.file.members.append((name, member, node.lineno, is_called))
 
     def visit_Attribute(self, node):
+        if isinstance(node.value, ast.Name) and node.value.id == "native" and not self.known("native") and node.attr in BAZEL:
+            self.file.calls.append(Call(node.attr, True, node.lineno, self.inside, {}, [], [], False, "", {}, ""))
+            return
         self.left_out(node, "a member that isn't called")
         if isinstance(node.value, ast.Name):
             self.member(node, node.value.id, node.attr, False)
@@ -304,6 +328,12 @@ class Reader(ast.NodeVisitor):
             self.wanting("string", part)
 
     visit_Tuple = visit_List
+
+
+def target_of(call):
+    """The text that a call gives as `name`; empty where it gives none, or another value."""
+    given = [key.value for key in call.keywords if key.arg == "name"]
+    return given[0].value if given and isinstance(given[0], ast.Constant) and isinstance(given[0].value, str) else ""
 
 
 def has_name(call):
@@ -398,6 +428,35 @@ def rule_attributes(value, dicts):
     return found
 
 
+# what attributes of a symbolic macro have where neither a call nor their definition says it
+NOTHING = {"bool": "False", "int": "0", "string": '""', "label": "None", "output": "None", "label_list": "[]", "string_list": "[]", "int_list": "[]", "output_list": "[]"}
+
+
+def symbolic(value, dicts):
+    """The function of a symbolic macro, and the text of a dict of its attributes' defaults; nothing for another value."""
+    match value:
+        case ast.Call(func=ast.Name(id="macro"), keywords=keywords):
+            given = {key.arg: key.value for key in keywords}
+        case _:
+            return None
+    function, attributes = given.get("implementation"), given.get("attrs")
+    if isinstance(attributes, ast.Name):
+        attributes = dicts.get(attributes.id)
+    if not isinstance(function, ast.Name):
+        return None
+    pairs = zip(attributes.keys, attributes.values) if isinstance(attributes, ast.Dict) else ()
+    texts = [f"{key.value!r}: {default_of(kind)}" for key, kind in pairs if isinstance(key, ast.Constant) and isinstance(key.value, str)]
+    return function.id, "{" + ", ".join(texts) + "}"
+
+
+def default_of(kind):
+    """The text of the default of an attribute of a symbolic macro."""
+    said = [key.value for key in getattr(kind, "keywords", ()) if key.arg == "default"]
+    if said and is_plain(said[0]):
+        return ast.unparse(said[0])
+    return NOTHING.get(getattr(getattr(kind, "func", None), "attr", ""), "{}")
+
+
 def defaults_of(arguments):
     """What the defaults of a function's parameters are like."""
     positional = [*arguments.posonlyargs, *arguments.args]
@@ -418,6 +477,11 @@ def bound_by(node):
             return []
 
 
+def is_plain(node):
+    """Whether a value is shown, and is no dict."""
+    return not any(isinstance(it, ast.Dict | ast.DictComp | ast.Call | ast.Name) and getattr(getattr(it, "func", it), "id", "") != "glob" for it in ast.walk(node))
+
+
 def top_level(file, tree):
     dicts = {}
     for node in tree.body:
@@ -435,12 +499,22 @@ def top_level(file, tree):
                 for part in (part for target in targets for part in ast.walk(target) if isinstance(part, ast.Name)):
                     file.globals.add(part.id)
                     file.kinds[part.id] = kind_of(value)
+                    if is_plain(value):
+                        file.plain.add(part.id)
+                    if isinstance(value, ast.Call):
+                        file.called.add(part.id)
                     if isinstance(value, ast.Name):
                         file.aliases[part.id] = value.id
+                    if isinstance(value, ast.Attribute) and isinstance(value.value, ast.Name) and value.value.id == "native":
+                        file.natives[part.id] = value.attr
                     dicts[part.id] = value
+                    if found := symbolic(value, dicts):
+                        file.macros[part.id] = found
                     attributes = rule_attributes(value, dicts)
                     if attributes is not None:
                         file.made[part.id] = attributes
+                        if any(key.arg == "test" and getattr(key.value, "value", False) is True for key in value.keywords):
+                            file.tests.add(part.id)
             case _:
                 for part in ast.walk(node):
                     if isinstance(part, ast.Name) and isinstance(part.ctx, ast.Store):
@@ -457,11 +531,11 @@ def parsed(text):
 def read(path, text):
     """What a file says."""
     name = path.rpartition("/")[2]
-    file = File(path, not name.endswith(".bzl"))
+    file = File(path, not name.endswith(".bzl"), size=len(text))
     try:
         tree = parsed(text)
     except (SyntaxError, ValueError, RecursionError) as error:
-        file.broken = f"{getattr(error, 'lineno', '?')}: {getattr(error, 'msg', error)}"
+        file.broken = f"{getattr(error, 'lineno', 0) or 0}: {getattr(error, 'msg', error)}"
         return file
     top_level(file, tree)
     reader = Reader(file)

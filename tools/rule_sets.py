@@ -1,13 +1,17 @@
 """The types of the attributes of well-known rules, by the documents of their rule sets. A line names rules, and then a type's attributes.
 
-Attributes with dicts aren't here: no type of a schema takes them (guesses.py).
+Attributes with dicts aren't here: no type of a schema takes them (guesses.py). What Bazel 4.2.3 says of its own rules is in bazel_rules.py.
 """
+import bazel_rules
+
 TABLE = """
 # Bazel's own rules and rules_cc
 cc_library cc_binary cc_test cc_shared_library cc_import: label_list srcs hdrs textual_hdrs deps data implementation_deps additional_linker_inputs interface_deps module_interfaces
 cc_library cc_binary cc_test cc_shared_library cc_import: string_list copts conlyopts cxxopts defines local_defines includes linkopts
 cc_library cc_binary cc_test cc_shared_library: label malloc link_extra_lib win_def_file linkstamp
-cc_library cc_binary cc_test: bool linkstatic alwayslink linkshared reexport_deps
+cc_library cc_binary cc_test: bool linkstatic alwayslink linkshared
+cc_library cc_binary cc_test: label_list reexport_deps
+cc_library cc_binary cc_test cc_shared_library: int stamp
 cc_library cc_binary cc_test: string include_prefix strip_include_prefix nocopts
 cc_import: label_list objects pic_objects
 cc_import: label static_library shared_library interface_library pic_static_library
@@ -26,14 +30,17 @@ cc_test java_test py_test sh_test go_test rust_test: int shard_count
 genrule: label_list srcs tools exec_tools toolchains
 genrule: output_list outs
 genrule: string cmd cmd_bash cmd_bat cmd_ps message
-genrule: bool executable local output_to_bindir output_licenses_only
+genrule: bool executable local output_to_bindir
+genrule: string_list output_licenses
 test_suite: label_list tests
 sh_library sh_binary sh_test: label_list srcs deps data
 toolchain: label_list exec_compatible_with target_compatible_with target_settings
-toolchain: label toolchain toolchain_type
+toolchain: label toolchain_type
+# (labels that make no edges)
+toolchain: string toolchain
 platform: label_list constraint_values parents
 platform: string remote_execution_properties
-constraint_setting: label default_constraint_value
+constraint_setting: string default_constraint_value
 constraint_value: label constraint_setting
 # rules_go and gazelle
 go_library go_binary go_test go_source go_tool_library: label_list srcs deps data embed embedsrcs cdeps
@@ -77,7 +84,10 @@ java_library java_binary java_test java_plugin: string_list javacopts jvm_flags 
 java_binary java_test: label launcher main
 java_binary java_test java_plugin: string main_class test_class processor_class bootclasspath
 java_library java_binary java_test: string resource_strip_prefix
-java_library java_binary java_test java_import java_plugin: bool neverlink create_executable use_testrunner use_launcher stamp generates_api
+java_library java_binary java_test java_import java_plugin: bool neverlink create_executable use_testrunner use_launcher generates_api
+java_binary java_test: int stamp
+java_package_configuration: label_list packages data
+java_package_configuration: string_list javacopts
 java_import: label srcjar
 java_import: bool constraints_checked
 java_toolchain: label_list bootclasspath javac extclasspath tools package_configuration javabuilder_data turbine_data android_lint_data compatible_javacopts_data
@@ -91,8 +101,7 @@ py_library py_binary py_test: label_list srcs deps data pyi_srcs pyi_deps
 py_library py_binary py_test: string_list imports
 py_library py_binary py_test: string srcs_version python_version main_module
 py_binary py_test: label main
-py_binary py_test: string legacy_create_init
-py_binary py_test: bool stamp
+py_binary py_test: int legacy_create_init stamp
 py_runtime: label interpreter bootstrap_template coverage_tool
 py_runtime: label_list files
 py_runtime: string interpreter_path python_version stub_shebang
@@ -174,7 +183,7 @@ string_flag string_setting: string build_setting_default
 string_flag string_setting: string_list values
 bool_flag bool_setting: bool build_setting_default
 int_flag int_setting: int build_setting_default
-label_flag label_setting: label build_setting_default
+label_flag label_setting: string build_setting_default
 config_setting: label_list constraint_values
 config_setting_group: label_list match_all match_any
 """
@@ -193,4 +202,30 @@ def types_of(table):
     return found
 
 
-TYPES = types_of(TABLE)
+OF_BAZEL = types_of(bazel_rules.TABLE)
+TYPES = {rule: {name: kind for name, kind in {**types, **OF_BAZEL.get(rule, {})}.items() if kind != "dict"} for rule, types in {**OF_BAZEL, **types_of(TABLE)}.items()}
+# the attributes of Bazel's own rules that take dicts
+DICTS_OF = {rule: [name for name, kind in types.items() if kind == "dict"] for rule, types in OF_BAZEL.items()}
+# rules that no release has changed much: a name that isn't known is none of their attributes
+CLOSED = frozenset("""alias config_setting constraint_setting constraint_value environment filegroup genquery genrule label_flag label_setting platform
+    test_suite toolchain toolchain_type""".split())
+# attributes of later releases
+LATER = frozenset("""additional_compiler_inputs aspect_hints compatible_with config_settings distribs exec_compatible_with exec_group_compatible_with
+    exec_properties env_inherit interpreter_args licenses package_metadata precompile precompile_invalidation_mode precompile_optimize_level
+    precompile_source_retention pyc_collection required_settings restricted_to target_compatible_with toolchains transitive_configs
+    use_target_platform_constraints missing_toolchain_error flags check_types""".split())
+# Bazel's own rules, of 4.2.3 and of later releases: a file may call them without a load
+BAZEL = frozenset("""action_listener alias android_binary android_device android_device_script_fixture android_host_service_fixture
+    android_instrumentation_test android_library android_local_test android_sdk aar_import apple_binary apple_cc_toolchain apple_static_library
+    available_xcodes cc_binary cc_host_toolchain_alias cc_import cc_libc_top_alias cc_library cc_proto_library cc_shared_library cc_static_library
+    cc_test cc_toolchain cc_toolchain_alias cc_toolchain_config cc_toolchain_suite config_feature_flag config_setting constraint_setting
+    constraint_value environment environment_group extra_action fdo_prefetch_hints fdo_profile filegroup genquery genrule j2objc_library java_binary
+    java_import java_library java_lite_proto_library java_package_configuration java_plugin java_proto_library java_runtime java_runtime_alias
+    java_test java_toolchain java_toolchain_alias label_flag label_setting license memprof_profile objc_import objc_library platform propeller_optimize
+    proto_lang_toolchain proto_library py_binary py_library py_proto_library py_runtime py_test sh_binary sh_library sh_test starlark_doc_extract
+    test_suite toolchain toolchain_type xcode_config xcode_config_alias xcode_version""".split())
+# those that take what a test takes, with Bazel's defaults
+TESTS = frozenset(rule for rule in TYPES if rule.endswith("_test"))
+TEST_TYPES = {"size": "string", "timeout": "string", "flaky": "bool", "shard_count": "int", "args": "string_list", "local": "bool", "env_inherit": "string_list"}
+# attributes without which a call is refused
+MANDATORY = {"genrule": ("outs",), "alias": ("actual",), "toolchain": ("toolchain", "toolchain_type"), "constraint_value": ("constraint_setting",)}

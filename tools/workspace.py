@@ -74,13 +74,18 @@ def name_of(entry):
 
 
 def what_is(place, path):
-    """What an entry is, links followed; nothing where it is a link that can't be followed, and no file that is needed."""
+    """What an entry is, links followed; nothing where it is a link that can't be followed, but for one in the place of a file that counts."""
     try:
         return os.stat(place)
     except OSError as error:
-        if has_content(path) or not os.path.islink(place):
+        if path == SCHEMA or not os.path.islink(place):
             raise Unreadable(f"{path}: {error.strerror}") from error
-        return None
+        return os.lstat(place) if has_content(path) else None
+
+
+def unreadable(path, why):
+    """What stands in a bundle for a BUILD or .bzl file that can't be read: a file with a fault."""
+    return f'fail("{path} can\'t be read: {why}")\n'.encode("utf-8", "surrogateescape")
 
 
 def is_left_out(path, name, is_link):
@@ -104,8 +109,9 @@ def parts_then(path, *_):
     return {name.decode("utf-8", "replace"): text for name, text in zip(found[1::2], found[2::2])}
 
 
-def files(root):
-    """The paths of the files in a directory and below it, in the order in which they are found; or of those in a bundle."""
+def files(root, odd=None):
+    """The paths of the files in a directory and below it, in the order in which they are found; or of those in a bundle. Those that are left out
+    since bq can't have their names are put into `odd`."""
     if os.path.isfile(root):
         yield from parts(root)
         return
@@ -130,6 +136,8 @@ def files(root):
             path = f"{directory}/{name}" if directory else name
             place = os.path.join(root, path)
             if is_left_out(path, name, lambda: os.path.islink(place)):
+                if odd is not None and not is_path(path):
+                    odd.append(path)
                 continue
             found = what_is(place, path)
             if found is None:
@@ -137,7 +145,7 @@ def files(root):
             identity = (found.st_dev, found.st_ino)
             if stat.S_ISDIR(found.st_mode) and path not in without and identity not in around:
                 pending.append((path, (*around, identity)))
-            if stat.S_ISREG(found.st_mode):
+            if stat.S_ISREG(found.st_mode) or stat.S_ISLNK(found.st_mode):
                 yield path
 
 
@@ -149,4 +157,6 @@ def content(root, path):
         with open(os.path.join(root, path), "rb") as file:
             return file.read()
     except OSError as error:
+        if path != SCHEMA and has_content(path):
+            return unreadable(path, error.strerror)
         raise Unreadable(f"{path}: {error.strerror}") from error

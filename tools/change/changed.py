@@ -3,16 +3,18 @@ files that are in no target."""
 import os
 from collections import namedtuple
 
+import lost
 from change.hidden import hidden
+from change.settings import settings_of
 from change.unseen import unseen
+from given import LABEL as GIVEN
 from paths import users_of
-from workspace import ROOT_FILES, SCHEMA
+from workspace import SCHEMA, is_path
 
-# files that say which other repositories there are, and how all is built
-SETTINGS = (*ROOT_FILES, "MODULE.bazel.lock", "WORKSPACE.bzlmod", ".bazelrc", ".bazelversion")
 SOURCE = "source file"
 
-Change = namedtuple("Change", "targets deleted others notes")
+# `left_out` are changed files of packages whose names bq can't have
+Change = namedtuple("Change", "targets deleted others notes left_out")
 
 
 def compare(base, head):
@@ -31,12 +33,37 @@ def compare(base, head):
         targets.setdefault(label, reason)
     changed = changed_files(base.tree, head.tree)
     notes = []
-    if settings := [path for path in SETTINGS if path in changed]:
+    settings = settings_of(base.tree) | settings_of(head.tree)
+    if odd := [path for path in changed if path in settings]:
         found = outward(head.facts)
         for label in found:
-            targets.setdefault(label, f"{settings[0]}, and it depends on another repository")
-        notes.append(f"{' and '.join(settings)}: what depends on another repository counts as changed ({len(found)} targets), and no other target")
-    return Change(targets, deleted, in_no_target(changed, base, head), notes)
+            targets.setdefault(label, f"{odd[0]}, and it depends on another repository")
+        count = f"{len(found)} target{'s' * (len(found) != 1)}"
+        notes.append(f"{' and '.join(odd)}: what depends on another repository counts as changed ({count}), and no other target")
+    others = in_no_target(changed, base, head, settings)
+    for label, reason in by_text(others, head).items():
+        targets.setdefault(label, reason)
+    return Change(targets, deleted, others, notes, [path for path in others if not is_path(path) and package_of(path, base, head) is not None])
+
+
+def by_text(paths, side):
+    """The targets that name one of these files in an attribute whose type was guessed, each with the reason."""
+    found, by_place = {}, {(package_of(path, side, side), path): path for path in paths}
+    for target in side.facts.targets.values():
+        for text in lost.of_target(target):
+            word, _, name = text.partition(": ")
+            value = target.attributes.get(name, ())
+            package = os.path.dirname(target.file)
+            for part in (value if isinstance(value, list) else [value]) if word == "edges" else ():
+                if isinstance(part, str) and (path := by_place.get((package, os.path.join(package, part)))):
+                    found[target.label] = f"{name} has {path}"
+    return found
+
+
+def package_of(path, *sides):
+    """The nearest directory above with a BUILD file, in one of the sides; nothing where there is none."""
+    packages = {os.path.dirname(it) for side in sides for it in side.packages}
+    return next((it for it in ways(os.path.dirname(path)) if it in packages), "" if "" in packages else None)
 
 
 def users_in(side):
@@ -73,7 +100,7 @@ def outward(facts):
     loading, count = set(), -1
     while count != len(loading):
         count = len(loading)
-        loading |= {it.label for it in facts.modules.values() if any(load.label.startswith("@") or load.label in loading for load in it.loads)}
+        loading |= {it.label for it in facts.modules.values() if any(load.label.startswith("@") and load.label != GIVEN or load.label in loading for load in it.loads)}
     files = {facts.modules[label].file for label in loading}
     return [label for label, it in facts.targets.items() if not label.startswith("@") and it.kind != SOURCE
             and (it.file in files or any(dep.startswith("@") for dep in [*it.deps, *named(it)]))]
@@ -91,9 +118,9 @@ def changed_files(base, head):
     return sorted(path for path in paths if any(tree.entries.get(path, ("040000",))[0] != "040000" for tree in (base, head)))
 
 
-def in_no_target(changed, base, head):
+def in_no_target(changed, base, head, settings):
     """Changed files that neither a target nor a module is made of."""
-    known = {SCHEMA, ".bazelignore", *SETTINGS}
+    known = {SCHEMA, ".bazelignore", *settings}
     for side in (base, head):
         files = {it.file for it in side.facts.targets.values() if it.kind == SOURCE} | {it.file for it in side.facts.modules.values()}
         known |= files | {side.tree.real(path) for path in files}

@@ -8,12 +8,13 @@ import shutil
 import subprocess
 from collections import defaultdict
 
-from workspace import Refused, Unreadable, has_content, ignored_in, is_left_out
+from workspace import SCHEMA, Refused, Unreadable, has_content, ignored_in, is_left_out, unreadable
 
 LINK, MODULE = "120000", "160000"
 # how many links may lead on to one another
 MOST_LINKS = 40
 WORK_TREE = ""
+NOWHERE = "a link that leads out of the workspace, or to nothing"
 
 
 class NoRevision(Refused):
@@ -157,8 +158,10 @@ class Tree:
                     continue
                 real = self.real(at) if at in self.links else at
                 mode = "" if real is None else self.entries[real][0] if real else "040000"
+                if path == SCHEMA and mode in ("", LINK):
+                    raise Unreadable(f"{path}: {NOWHERE}")
                 if has_content(path) and mode in ("", LINK):
-                    raise Unreadable(f"{path}: a link that leads out of the workspace, or to nothing")
+                    found[path] = at
                 if mode == "040000" and path not in without and real not in around:
                     pending.append((path, real, (*around, real)))
                 if mode.startswith("100") or mode == LINK:
@@ -167,9 +170,10 @@ class Tree:
 
     def texts(self, paths):
         """The bytes of files."""
-        names = {path: self.entries[self.reals[path]][1] for path in paths}
+        links = {path for path in paths if self.entries[self.reals[path]][0] == LINK}
+        names = {path: self.entries[self.reals[path]][1] for path in paths if path not in links}
         found = self.git.contents(names.values())
-        return {path: found[name] for path, name in names.items()}
+        return {path: unreadable(path, NOWHERE) if path in links else found[names[path]] for path in paths}
 
     def identity(self, path, seen=()):
         """What a file or folder holds: equal where it is the same in two trees. None where there is nothing."""

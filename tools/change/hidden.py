@@ -10,10 +10,10 @@ import ast
 import os
 import re
 
-from definitions import TAKEN
+from given import PREFIX
 from reading import bound_by, parsed
 
-STUB = TAKEN.encode()
+STUB = b"bzlq_given("
 # a stub that drops what it is given
 DROPPING = re.compile(rb"^def (\w+)\(\*args, \*\*kwargs\)", re.M)
 

@@ -5,13 +5,12 @@ import re
 from bq import facts
 from workspace import ROOT_FILES, SCHEMA, has_content, parts
 from wrapper.made import with_overlay
-from wrapper.overlay import make_bundle
+from wrapper.overlay import MAX_STEPS, make_bundle
 
 # a line that can't be in a bundle; in a copy too a space stands before it
 HEADER = re.compile(rb"^=== ", re.M)
 # what is said of a workspace without a WORKSPACE, and is no calls that declare nothing
 NO_ROOT = " has no WORKSPACE or MODULE.bazel"
-
 
 class Side:
     """`overlay` is what lies over the tree's files, by their paths; `warnings` tell of calls that declare nothing over it."""
@@ -37,4 +36,4 @@ class Side:
         laid = parts(f"{room}/both")
         self.overlay = {path: text for path, text in laid.items() if text.rstrip(b"\n") != HEADER.sub(b" === ", self.texts.get(path, b"")).rstrip(b"\n")}
         with open(f"{room}/both", "rb") as given:
-            self.facts = facts(given, program=program)
+            self.facts = facts(given, program=program, max_steps=MAX_STEPS)

@@ -3,6 +3,7 @@ import ast
 import time
 from dataclasses import dataclass, field
 
+from given import DIRECTORY, PREFIX
 from hint import labels, names, queries, scan
 from hint.machine import Machine
 from hint.near import did_you_mean
@@ -90,13 +91,14 @@ class Hints:
         statement = names.statement_of(tree, fault.line)
         if not wrong or wrong.number != fault.number or statement is None:
             return fault.line, statement.col_offset + 1 if statement else 1, fault.detail
-        at, node = wrong.place
-        node = place_in(node, wrong)
-        stack = [(at, node.lineno, node.col_offset + 1)] + [(of, call.lineno, call.col_offset + 1) for of, call, _ in wrong.calls]
+        nodes, functions = [wrong.place, *((of, call) for of, call, _ in wrong.calls)], [name for *_, name in wrong.calls]
+        while len(nodes) > 1 and nodes[0][0].startswith(DIRECTORY):  # (what stands for a rule in an overlay)
+            del nodes[0], functions[0]
+        nodes[0] = (nodes[0][0], place_in(nodes[0][1], wrong))
+        stack = [(of, node.lineno, node.col_offset + 1) for of, node in nodes]
         of, line, column = stack[-1]
         if of != path or not statement.lineno <= line <= statement.end_lineno:
             return fault.line, statement.col_offset + 1, fault.detail
-        functions = [name for *_, name in wrong.calls]
         inner = [(self.sources.place(of), line, column, functions[at]) for at, (of, line, column) in enumerate(stack[:-1])]
         return Hint(fault, shown, line, column, wrong.reason, inner)
 
@@ -130,4 +132,4 @@ class Hints:
             return False
 
     def is_rule(self, statement):
-        return isinstance(statement.value, ast.Call) and isinstance(statement.value.func, ast.Name) and statement.value.func.id in self.sources.schema
+        return isinstance(statement.value, ast.Call) and isinstance(statement.value.func, ast.Name) and statement.value.func.id.removeprefix(PREFIX) in self.sources.schema

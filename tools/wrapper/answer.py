@@ -5,10 +5,12 @@ import os
 import subprocess
 import sys
 
+import lost
 from bq import Facts
 from script import write, write_bytes
 from wrapper.forms import FORMS
 from wrapper.kept import Kept
+from wrapper.overlay import MAX_STEPS
 from wrapper.place import folder_of, root_of
 from wrapper.words import BadWord, absolute
 
@@ -37,22 +39,34 @@ class Answer:
 
     def one(self, bundle, warnings):
         """Answers the query."""
-        form = FORMS.get(self.call.values.get("--output", ""))
+        form, found = FORMS.get(self.call.values.get("--output", "")), None
+        options = self.options()
         if form or "--facts" in self.call.flags:
-            words = [*self.call.of_bq("--jobs", "--max-steps"), "--facts", *(["--", self.query] if self.query else [])]
+            words = [*options, "--facts", *(["--", self.query] if self.query else [])]
+            ended = subprocess.run([self.program, *words], stdin=bundle, capture_output=True, check=False)
+            if form and ended.returncode in (0, 3):
+                targets = Facts.of_lines(ended.stdout.splitlines()).targets
+                found = lost.of_targets(self.query, targets.values())
+                write(form(targets, ended.stdout, self.path), sys.stdout)
+            else:
+                write_bytes(ended.stdout, sys.stdout)
         else:
-            words = [*self.call.of_bq("--jobs", "--max-steps", "--output"), "--", self.query]
-        ended = subprocess.run([self.program, *words], stdin=bundle, capture_output=True, check=False)
-        if form and ended.returncode in (0, 3):
-            write(form(Facts.of_lines(ended.stdout.splitlines()).targets, ended.stdout, self.path), sys.stdout)
-        else:
+            ended, found = lost.ask(self.program, [*options, *self.call.of_bq("--output")], bundle, self.query)
             write_bytes(ended.stdout, sys.stdout)
-        self.tell(self.explained(ended), warnings)
-        return ended.returncode
+        self.tell(self.explained(ended), warnings, found)
+        return self.status(ended.returncode, warnings, found)
+
+    def status(self, status, warnings, found):
+        """The status: 3 also where the answer may lack a target, or with --strict is an approximation in any way."""
+        is_lacking = bool(warnings) or found is not None and (found.may_lack() or "--strict" in self.call.flags and found.some)
+        return 3 if status == 0 and is_lacking else status
+
+    def options(self):
+        return self.call.of_bq("--jobs", "--max-steps") + ([] if "--max-steps" in self.call.values else [f"--max-steps={MAX_STEPS}"])
 
     def many(self, bundle, name):
         """Answers the queries of a file, or those of standard input, each as soon as it is there."""
-        words = [self.program, *self.call.of_bq("--jobs", "--max-steps", "--output"), "--bundle", f"/dev/fd/{bundle.fileno()}", "--queries", "-"]
+        words = [self.program, *self.options(), *self.call.of_bq("--output"), "--bundle", f"/dev/fd/{bundle.fileno()}", "--queries", "-"]
         with open(sys.stdin.fileno() if name == "-" else name, "rb", closefd=name != "-") as lines:
             run = subprocess.Popen(words, stdin=subprocess.PIPE, pass_fds=[bundle.fileno()])
             try:
@@ -102,11 +116,13 @@ class Answer:
         return lines + ([f"bzlq: nothing matches{empty(sources, self.query)}"] if is_empty else [])
 
     @staticmethod
-    def tell(lines, warnings):
+    def tell(lines, warnings, found=None):
         """Writes what is to be said of a run, and what its answer lacks."""
         if warnings:
             lines = lines + [f"bzlq: targets may be missing: {warnings[0]}" +
                              (f"; and {len(warnings) - 1} more (tools/stubs lists them)" if len(warnings) > 1 else "")]
+        if found:
+            lines = lines + [f"bzlq: {it}" for it in found.lines()]
         write(lines, sys.stderr)
 
 

@@ -3,7 +3,7 @@ from hint.near import did_you_mean
 from workspace import Refused
 
 WITH_VALUE = ("--jobs", "--output", "--max-steps", "--explain", "--queries", "--program")
-FLAGS = ("--facts", "--bundle-path", "--all", "--clean", "--raw", "--version")
+FLAGS = ("--facts", "--bundle-path", "--all", "--clean", "--raw", "--strict", "--version")
 # words of Bazel's that say what bq does anyway
 IGNORED = ("-k", "--keep_going", "--noimplicit_deps", "--noimplicit_deps=true", "--implicit_deps=false", "--notool_deps", "--noshow_progress",
            "--show_progress=false", "--noshow_loading_progress", "--color=no", "--order_output=full", "--order_output=auto")
@@ -12,6 +12,7 @@ OWN = """  --output FORM      label, label_kind; package, location, graph, or js
   --queries FILE     answer each line of a file (- is standard input) over one load; words are relative as in a query
   --bundle-path      make the bundle fresh, and say which file it is
   --raw              run bq with the other words as they are
+  --strict           status 3 where the answer is an approximation in any way (docs/REAL_WORKSPACES.md)
   --all              list also the faults that follow from others
   --program PROGRAM  the program bq (else $BZLQ_BQ, else the one of this repository)
   --clean            remove what is kept of this workspace

@@ -7,8 +7,11 @@ import re
 import subprocess
 
 from bundles import fewer, merged, write_bundle
+from further import phantoms
 from script import module_of
 
+# Bazel bounds no file's evaluation, and there are files that take some millions of steps
+MAX_STEPS = 100_000_000
 TOOLS = os.path.dirname(os.path.dirname(os.path.realpath(__file__)))
 
 
@@ -20,8 +23,9 @@ def make_overlay(root, program, new):
     warnings = write_overlay(stubs, root, facts, new, b"")
     said = make_bundle([root, f"{new}/overlay"], f"{new}/bundle")
     with open(f"{new}/bundle", "rb") as bundle:
-        faults = subprocess.run([program, "//..."], stdin=bundle, stdout=subprocess.DEVNULL, stderr=subprocess.PIPE, check=False).stderr
-    if re.search(rb" F79 DanglingLabel @", faults):
+        ended = subprocess.run([program, f"--max-steps={MAX_STEPS}", "--output", "label_kind", "//...:*"], stdin=bundle, capture_output=True, check=False)
+    faults = ended.stderr + phantoms(ended.stdout, facts.workspace.paths)
+    if re.search(rb" F79 DanglingLabel ", faults):
         write_overlay(stubs, root, facts, new, faults)
         make_bundle([root, f"{new}/overlay"], f"{new}/bundle")
     return warnings, said

@@ -1,0 +1,133 @@
+"""What bench/tools tries of docs/REAL_WORKSPACES.md, "What can be missing, and what says so": a case for each row of its table.
+
+Each has a small workspace in which something is made up, left out or can't be read, a command, and what the command has to write to both
+outputs (of standard error: lines that have to be there), with its status.
+"""
+from histories import Project
+
+R = 'load("@r//:m.bzl", "junit_tests")\n'
+
+
+def changed(bench, name, files, path, text, *words):
+    """What tools/affected says after a change of one file."""
+    project = Project(bench, name, {"WORKSPACE": "", **files})
+    project.write(path, text)
+    return project.affected("--base", "HEAD", *words)
+
+
+def told(bench, what, found, output, errors, status):
+    """Compares what a command wrote with what it has to write."""
+    lacking = [line for line in errors if line not in found[1]]
+    bench.compare(what, (found[0], found[1] if lacking else "", found[2]), (output, "", status))
+
+
+JUNIT = {"a/BUILD": R + 'junit_tests(name = "t", srcs = ["T.java"])\n', "a/T.java": ""}
+UNLISTED = "affected: targets may be missing: 1 target of a kind that was made up (junit_tests) may be a test, and isn't listed: --tests lists it\n"
+SETTINGS = {
+    "MODULE.bazel": 'pip.parse(hub_name = "pip", requirements_lock = "//third_party:requirements_lock.txt")\ngo_deps.from_file(go_mod = "//:go.mod")\n',
+    ".bazelrc": "import %workspace%/tools/other.bazelrc\ntry-import none.bazelrc\n", "tools/other.bazelrc": "", "go.mod": "", "go.sum": "",
+    "third_party/requirements_lock.txt": "", "third_party/BUILD": "", "WORKSPACE": 'load("//tools:deps.bzl", "deps")\ndeps()\n',
+    "tools/BUILD": "", "tools/deps.bzl": 'load(":more.bzl", "more")\ndef deps():\n    maven_install(lock = "@//:maven_install.json")\n', "tools/more.bzl": "more = 1\n",
+    "maven_install.json": "", "a/BUILD": 'filegroup(name = "x", srcs = ["@pip//numpy"])\nfilegroup(name = "y")\n', "README": "",
+}
+SETTING = "affected: {0}: what depends on another repository counts as changed (1 target), and no other target\n".format
+
+
+def tests(bench):
+    """Tests that a macro of another repository declares."""
+    run = lambda *words: changed(bench, "junit", JUNIT, "a/T.java", "x", *words)  # noqa: E731
+    told(bench, "tests of a made-up kind, by kind", run("--kind", "'_test rule'"), "", [UNLISTED], 3)
+    told(bench, "tests of a made-up kind, by --tests", run("--tests"), "//a:t\n", ["1 affected\n"], 0)
+    told(bench, "tests of a made-up kind, where all are listed", run("--kind", "'_test rule'", "--all-on-fault"), "//a:t\n", ["1 affected\n"], 0)
+
+
+def settings(bench):
+    """Files that the workspace's own name: lists of dependencies, and what those load."""
+    for path in ("third_party/requirements_lock.txt", "go.mod", "go.sum", "maven_install.json", "tools/deps.bzl", "tools/more.bzl", "tools/other.bazelrc", "MODULE.bazel"):
+        told(bench, f"a dependency, by {path}", changed(bench, "settings", SETTINGS, path, "# x\n", "--kind", "rule"), "//a:x\n", [SETTING(path)], 0)
+    told(bench, "a file that none names", changed(bench, "settings", SETTINGS, "README", "x"), "", ["affected: in no target: README\n"], 0)
+
+
+FURTHER = {
+    "WORKSPACE": "", "a/BUILD": 'load("@r//:m.bzl", "release")\nrelease(name = "x", srcs = ["x.sh"])\nfilegroup(name = "all", srcs = [":x-and-hashes"])\n', "a/x.sh": "",
+    "BUILD": 'load("@npm//:defs.bzl", "npm_link_all_packages")\nnpm_link_all_packages(name = "node_modules")\n',
+    "b/BUILD": 'filegroup(name = "b", srcs = ["//a:x-and-hashes", "//:node_modules/lodash"])\nfilegroup(name = "c", srcs = ["//a:y"])\n',
+}
+
+
+def further(bench):
+    """Further targets of a macro that isn't there: a label that begins with the name of one of its calls."""
+    bench.lay_out("ws", FURTHER)
+    dangling = "b/BUILD:2:31: F79 DanglingLabel: package 'a' has no target 'y'\n"
+    told(bench, "a further target of a macro", bench.run("bzlq --output label_kind 'deps(//b) - //b'", "ws"),
+         "npm_link_all_packages rule //:node_modules\nfilegroup rule //:node_modules/lodash\nrelease rule //a:x\nfilegroup rule //a:x-and-hashes\n"
+         "source file //a:x.sh\n", [dangling], 3)
+
+
+NAMES = {"c/BUILD": 'filegroup(name = "g", srcs = glob(["*.txt"]))\nfilegroup(name = "h", srcs = ["a b.txt"])\n', "c/ünï.txt": "", "c/日本.txt": "", "c/a b.txt": ""}
+
+
+def names(bench):
+    """Files whose names bq can't have."""
+    bench.lay_out("ws", {"WORKSPACE": "", **NAMES})
+    line = "bzlq: 1 of 2 targets of this answer is an approximation: files left out 1\n"
+    told(bench, "a file with such a name", bench.run("bzlq 'deps(//c:g)'", "ws"), "//c:a b.txt\n//c:g\n", [line], 3)
+    told(bench, "what has no such file", bench.run("bzlq 'deps(//c:h)'", "ws"), "//c:a b.txt\n//c:h\n", [""], 0)
+    found = changed(bench, "names", NAMES, "c/ünï.txt", "x")
+    told(bench, "a change of such a file", found, "", ["affected: targets may be missing: c/ünï.txt: bq takes no file of such a name\n"], 3)
+
+
+def unreadable(bench):
+    """BUILD files that can't be read: a fault of their package."""
+    bench.lay_out("ws", {"WORKSPACE": "", "x/BUILD": "", "y/BUILD": b'filegroup(name = "a")\n\0\n', "z/BUILD": 'filegroup(name = "z")\n'})
+    bench.run("rm x/BUILD; ln -s nowhere x/BUILD", "ws")
+    lines = ["x/BUILD:1:1: F56 Fail: \"x/BUILD can't be read: No such file or directory\"\n", "y/BUILD:2:1: F1 BadByte"]
+    told(bench, "files that can't be read", bench.run("bzlq //...", "ws"), "//z:z\n", lines, 3)
+    found = changed(bench, "unreadable", {"z/BUILD": 'filegroup(name = "z", srcs = ["z.c"])\n', "x/BUILD": ""}, "z/z.c", "", "--kind", "rule")
+    told(bench, "a change beside", found, "//z:z\n", ["1 affected\n"], 0)
+
+
+# what is lost: files, a query, its answer, the line that tells it, and the status
+LOSSES = {
+    "kind": ({"a/BUILD": R + 'junit_tests(name = "t", srcs = ["T.java"])\n'}, "//a:t", "//a:t\n", "kind made up 1", 0),
+    "kind, where kinds are asked for": ({"a/BUILD": R + 'junit_tests(name = "t", srcs = ["T.java"])\n'}, 'kind("test", //a:t)', "//a:t\n", "kind made up 1", 3),
+    "targets": ({"a/BUILD": 'load(":m.bzl", "m")\nm(name = "t", srcs = ["a.c"])\n', "a/m.bzl": 'def m(name, srcs):\n    x = lambda: 0\n    native.filegroup(name = name)\n'},
+                "//a:t", "//a:t\n", "one target for a macro 1", 3),
+    "value": ({"a/BUILD": 'load("@r//:m.bzl", "files")\nfilegroup(name = "t", srcs = files("a", ["b.c"]))\n'}, "deps(//a:t)", "//a:b.c\n//a:t\n", "value that isn't there 1", 3),
+    "value, in a macro": ({"a/BUILD": 'load(":m.bzl", "m")\nm(name = "t")\n', "a/m.bzl": 'load("@r//:m.bzl", "MORE")\ndef m(name):\n    native.filegroup(name = name, srcs = MORE)\n'},
+                          "//a:t", "//a:t\n", "value that isn't there 1", 3),
+    "value, under a query of users": ({"a/BUILD": 'load("@r//:m.bzl", "files")\nfilegroup(name = "t", srcs = files("a"))\nfilegroup(name = "u")\n'}, "rdeps(//..., //a:u)",
+                                      "//a:u\n", "1 of the targets that this query looks through may lack edges", 3),
+    "edges": ({"a/BUILD": 'load("@r//:m.bzl", "pack")\npack(name = "t", odd_of = ["a.txt"])\n'}, "//a:t", "//a:t\n", "kind made up 1, edges by a type that was guessed 1", 3),
+    "dict": ({"a/BUILD": 'config_setting(name = "t", values = {"cpu": "arm"})\n'}, "//a:t", "//a:t\n", "dict left out 1", 0),
+    "dict, with labels": ({"a/BUILD": 'config_setting(name = "t", flag_values = {":f": "arm"})\nfilegroup(name = "f")\n'}, "deps(//a:t)", "//a:f\n//a:t\n", "dict left out 1", 0),
+    "select": ({"a/BUILD": 'alias(name = "t", actual = select({":c": ":x", "//conditions:default": ":y"}))\nfilegroup(name = "c")\nfilegroup(name = "x")\nfilegroup(name = "y")\n'},
+               "deps(//a:t)", "//a:c\n//a:t\n//a:x\n//a:y\n", "one branch of a select 1", 0),
+    "test_suite": ({"a/BUILD": 'test_suite(name = "t")\n'}, "//a:t", "//a:t\n", "edges by a type that was guessed 1", 3),
+}
+
+
+def losses(bench):
+    """What was made up or left out of targets."""
+    for what, (files, query, output, line, status) in LOSSES.items():
+        bench.lay_out("ws", {"WORKSPACE": "", **files})
+        told(bench, f"lost, {what}", bench.run(f"bzlq '{query}'", "ws"), output, [line], status)
+    bench.compare("lost, by --strict", bench.run("bzlq --strict //...", "ws")[2], 3)
+    bench.lay_out("ws", {"WORKSPACE": "", **LOSSES["dict"][0]})
+    bench.compare("lost, a dict by --strict", [bench.run(f"bzlq {word} //...", "ws")[2] for word in ("", "--strict")], [0, 3])
+    bench.compare("lost, in facts", bench.run("bzlq --facts //...", "ws")[0].splitlines()[0],
+                  '{"target":"//a:t","kind":"config_setting rule","file":"a/BUILD","line":1,"attributes":{"name":"t","bzlq_lost":["dict: values"]},"deps":[]}')
+
+
+GUESSED = {"a/BUILD": 'load("@r//:m.bzl", "pack")\npack(name = "t", odd_of = ["a.txt"])\n', "a/a.txt": ""}
+
+
+def guessed(bench):
+    """A file that is named where no label is looked for."""
+    told(bench, "a file in an attribute of a guessed type", changed(bench, "guessed", GUESSED, "a/a.txt", "x"), "//a:t\n", ["1 affected\n"], 0)
+
+
+def check(bench):
+    """Tries all of it."""
+    for part in (tests, settings, further, names, unreadable, losses, guessed):
+        part(bench)

@@ -1,0 +1,142 @@
+"""What stands between the calls of an overlay's files and the rules of its schema: the text of `@bzlq//:given.bzl`.
+
+For each rule `x` it has a function `bzlq__x`, which declares the target, and puts into two attributes of their own what the rule can't be given:
+
+- `bzlq_edges`: what Bazel's query makes edges of, and no other attribute has: conditions of a `select`, the branches of one value that aren't
+  taken, labels among the keys of a dict;
+- `bzlq_lost`: what was made up or left out, as texts, each with one of the words of LOST and a colon before it.
+
+A `select` is a list of all of its branches with marks in it, or the default branch with marks in it. Nothing that Bazel loads looks into a
+`select`, so the marks come to the calls as they are, and are taken out there.
+"""
+import json
+
+from rule_sets import BAZEL
+
+# what may be lost, by its word; whether an answer may then lack a target
+LOST = {
+    "kind": False,  # the kind, for a rule or macro that isn't there
+    "targets": True,  # what else a macro declares, which one target stands for
+    "value": True,  # what a name of another repository, or one that bq leaves out, stands for
+    "edges": True,  # the type of an attribute was guessed, and what it is given may name files
+    "files": True,  # files whose names bq can't have, which a glob may match in Bazel
+    "dict": False,  # an attribute with a dict, or with a list of other things than texts
+    "select": False,  # the other branches of an attribute with one value
+}
+LOST_ATTRIBUTE = "bzlq_lost"
+ATTRIBUTES = {"bzlq_edges": "label_list", LOST_ATTRIBUTE: "string_list"}
+# attributes whose dicts have texts as keys
+TEXTS = ("define_values", "env", "exec_properties", "rustc_env", "substitutions", "values")
+DIRECTORY = "external/bzlq"
+LABEL = "@bzlq//:given.bzl"
+PREFIX = "bzlq__"
+
+TEXT = '''\
+_DEFAULT = "//conditions:default"
+_MARK = "=select= "
+_BRANCH = "=branch= "
+_END = "=end="
+
+def _select(branches, nothing):
+    if type(branches) != "dict":
+        return branches if type(branches) == type(nothing) else nothing
+    given = [value for value in branches.values() if value != None]
+    conditions = [part for key in branches.keys() for part in (key if type(key) == "tuple" else [key]) if type(part) == "string" and part != _DEFAULT]
+    kinds = [type(value) for value in given]
+    if "list" in kinds or not given and nothing != None:
+        return [_MARK + it for it in conditions] + [part for value in given if type(value) == "list" for part in value]
+    found = branches.get(_DEFAULT)
+    if found == None and given:
+        found = given[-1]
+    if type(found) == "string":
+        return found + "".join([_MARK + it + _END for it in conditions or [""]] + [_BRANCH + it + _END for it in given if type(it) == "string" and it != found])
+    return (_MARK, found, conditions)
+
+def bzlq_select(branches, no_match_error = ""):
+    return _select(branches, None)
+
+def bzlq_select_list(branches, no_match_error = ""):
+    return _select(branches, [])
+
+def bzlq_patterns(patterns):
+    return [it for it in patterns if type(it) == "string" and it and not [part for part in it.split("/") if part in ("", ".", "..") or "**" in part and part != "**"]]
+
+def _of_text(rule, key, value, edges, lost):
+    plain = ""
+    for piece in value.split(_END):
+        before, mark, condition = piece.partition(_MARK)
+        before, is_branch, branch = before.partition(_BRANCH)
+        plain += before
+        edges += [condition] if mark and condition else [] if mark else [branch] if is_branch and key in _LABELS.get(rule, []) else []
+    lost.append("select: " + key)
+    return plain
+
+def _is_left_out(rule, key, value, edges, lost):
+    is_open = rule not in _DICTS
+    if type(value) == "dict" and (is_open or key in _DICTS[rule]):
+        edges += [it for it in value.keys() if type(it) == "string" and it[:1] in ("/", ":", "@") and key not in _TEXTS]
+    elif not (type(value) == "list" and is_open and [it for it in value if type(it) != "string"]):
+        return False
+    lost.append("dict: " + key)
+    return True
+
+def _value(rule, key, value, edges, lost):
+    if type(value) == "list":
+        if [it for it in value if type(it) == "string" and it.find(_MARK) > 0]:
+            fail("a select in a list: write [..] + select(..)")
+        edges += [it[len(_MARK):] for it in value if type(it) == "string" and it.startswith(_MARK)]
+        return [it for it in value if type(it) != "string" or not it.startswith(_MARK)]
+    if type(value) == "string" and _MARK in value:
+        return _of_text(rule, key, value, edges, lost)
+    return value
+
+def _guesses(rule, given, lost):
+    for key in _GUESSED.get(rule, []):
+        value = given.get(key)
+        parts = value if type(value) == "list" else [value]
+        if [it for it in parts if type(it) == "string" and ("." in it or "/" in it) and " " not in it and it[:1] != "-"]:
+            lost.append("edges: " + key)
+
+def bzlq_given(rule, lost, given):
+    text = str(given)
+    is_test = rule in _TESTS
+    if not lost and not is_test and "=select= " not in text and "{" not in text and rule not in _GUESSED and (rule != "test_suite" or given.get("tests")) and "bzlq_lost" not in given:
+        return given
+    found, edges, lost = {}, [], lost + (given.get("bzlq_lost") or [])
+    for key, value in given.items():
+        if type(value) == "tuple" and value[:1] == (_MARK,):
+            edges += value[2]
+            lost.append("select: " + key)
+            value = value[1]
+        if key != "bzlq_lost" and not _is_left_out(rule, key, value, edges, lost):
+            found[key] = _value(rule, key, value, edges, lost)
+    _guesses(rule, found, lost)
+    if rule == "test_suite" and not found.get("tests"):
+        lost.append("edges: tests")
+    if is_test:
+        _test(found)
+    if edges:
+        found["bzlq_edges"] = {it: None for it in edges}.keys()
+    if lost:
+        found["bzlq_lost"] = {it: None for it in lost}.keys()
+    return found
+
+def _test(given):
+    """What Bazel takes where a test gives none."""
+    if given.get("size") == None:
+        given["size"] = "medium"
+    if given.get("timeout") == None:
+        given["timeout"] = {"small": "short", "large": "long", "enormous": "eternal"}.get(given["size"], "moderate")
+    if given.get("flaky") == None:
+        given["flaky"] = False
+    if given.get("shard_count") == None:
+        given["shard_count"] = -1
+'''
+
+
+def given_files(schema, mark):
+    """The files of the repository `@bzlq`, by their paths."""
+    tables = {**schema.tables(), "_TEXTS": dict.fromkeys(TEXTS)}
+    lines = [f"{name} = {json.dumps(value).replace('null', 'None')}\n" for name, value in tables.items()]
+    functions = [f"\ndef {PREFIX}{rule}(*args, **given):\n    native.{rule}(*args, **bzlq_given(\"{rule}\", [], given))\n" for rule in schema.types if rule in BAZEL]
+    return {f"{DIRECTORY}/BUILD": mark, f"{DIRECTORY}/given.bzl": mark + "".join(lines) + TEXT + "".join(functions)}
