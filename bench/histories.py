@@ -261,9 +261,12 @@ def by_hand(bench):
         bench.compare(f"affected, {what}", run(*words), (output, errors, status))
 
     check("nothing", ["--base", "HEAD"], "", told(0, "s", 0, 0))
-    check("no origin", [], "", "affected: there is no origin/HEAD to compare with: name a revision, as --base HEAD\n", 2)
+    check("no origin", [], "", "affected: there is no origin/HEAD to compare with: name a revision, as `affected HEAD`\n", 2)
     check("a revision that isn't there", ["--base", "none"], "", "affected: there is no revision none\n", 2)
-    check("a folder that isn't there", ["none"], "", "affected: there is no directory none\n", 2)
+    check("a folder that isn't there", ["--base", "HEAD", "none"], "", "affected: there is no directory none\n", 2)
+    check("a word that is neither", ["none"], "", "affected: there is no revision none\n", 2)
+    check("too many words", ["HEAD", "HEAD", "HEAD"], "", "affected: the words are TREE, and at most two revisions, BASE and HEAD\n", 2)
+    check("two words", ["HEAD", "HEAD", "."], "", told(0, "s", 0, 0))
     check("an overlay that isn't there", ["--base", "HEAD", "--overlay", "none"], "", "affected: there is no directory none\n", 2)
     check("a wrong pattern", ["--kind", "'['"], "", "affected: '[' is no regular expression: unterminated character set at position 0\n", 2)
     check("no BUILD file", ["--base", "HEAD", "docs"], "", "affected: there is no BUILD file in docs\n", 2)
@@ -286,6 +289,15 @@ def by_hand(bench):
           '{"target":"//lib:lib_test","distance":2,"because":{"target":"//lib:lib.c","change":"contents"}}\n',
           told(1, "", 0, 2) + "affected: in no target: docs/a b.md\naffected: in no target: docs/\udcff\n")
     check("two revisions", ["--base", "HEAD~1", "--head", "HEAD~1"], "", told(0, "s", 0, 0))
+    project.git("branch", "old")
+    project.git("symbolic-ref", "-d", "refs/remotes/origin/HEAD")
+    check("no origin, and branches", [], "", "affected: there is no origin/HEAD to compare with: name a revision, as `affected HEAD` "
+          "(main, old, origin/main are there)\n", 2)
+    project.remove("app/BUILD")
+    gone = "".join(f'{{"deleted":"//app:{name}","kind":"{kind}"}}\n' for name, kind in (("app", "lib rule"), ("app_test", "lib_test rule"), ("other", "lib rule")))
+    check("deleted targets", ["HEAD", "--kind", "lib", "--json"], gone, told(0, "s", 6, 0) + "affected: deleted: //app:app\naffected: deleted: //app:app_test\n"
+          "affected: deleted: //app:other\n")
+    project.git("checkout", "-q", "app/BUILD")
     one_by_one(bench, project, check)
 
 

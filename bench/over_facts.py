@@ -35,6 +35,7 @@ WHY = ("w/a/BUILD:3: //a:a_test -> //a:a (deps)\nw/a/BUILD:3: //a:a -> //b:b (de
 CYCLES = ("3 targets depend on one another: //d/e:e //d:d //d:f\n  w/d/e/BUILD:1: //d/e:e -> //d:d (deps)\n  w/d/BUILD:2: //d:d -> //d/e:e (deps)\n"
           "2 targets depend on one another: //d/e:one //d/e:two\n  w/d/e/BUILD:2: //d/e:one -> //d/e:two (main)\n  w/d/e/BUILD:3: //d/e:two -> //d/e:one (deps)\n")
 # the words, and what is written to both outputs, and the status
+BOTH = ["a/BUILD:3: both: //a:a", "a/BUILD:3: both: //a:a_test", *(f"a/BUILD:5: both: //a:{it}" for it in ("x", "x_test", "y", "y_test"))]
 ASKED = (
     ("why --dir w //a:a_test '//c:c in.txt'", WHY, "", 0),
     ("why --dir w //c:us //d:us", "w/c/BUILD:10: //c:us -> //d:us (includes)\n", "", 0),
@@ -49,10 +50,12 @@ ASKED = (
      "w/b/BUILD:2: //b:BUILD loads //tools:b.bzl, which loads //tools:a.bzl\nw/tools/b.bzl:1: //tools:b.bzl loads //tools:a.bzl\n", "", 0),
     ("loads --dir w --direct //tools:b.bzl", "w/b/BUILD:2: //b:BUILD loads //tools:b.bzl\n", "", 0),
     ("loads --dir w //tools:c.bzl", "", "loads: no BUILD file loads //tools:c.bzl (did you mean '//tools:b.bzl'?)\n", 2),
-    ("users --dir w both", "w/a/BUILD:3: both: //a:a //a:a_test\nw/a/BUILD:5: both: //a:x //a:x_test //a:y //a:y_test\n"
-     "w/b/BUILD:4: both, by outer: //b:b //b:b_test\nw/b/BUILD:6: both, by outer: //b:b2 //b:b2_test\n", "", 0),
-    ("users --dir w --direct tools/a.bzl%both", "w/a/BUILD:3: both: //a:a //a:a_test\nw/a/BUILD:5: both: //a:x //a:x_test //a:y //a:y_test\n", "", 0),
-    ("users --dir w genrule", "w/c/BUILD:3: genrule: //c:gen //c:made.c\n", "", 0),
+    ("users --dir w both", "".join(f"w/{it}\n" for it in (*BOTH, "b/BUILD:4: both, by outer: //b:b", "b/BUILD:4: both, by outer: //b:b_test",
+                                                          "b/BUILD:6: both, by outer: //b:b2", "b/BUILD:6: both, by outer: //b:b2_test")), "", 0),
+    ("users --dir w --direct tools/a.bzl%both", "".join(f"w/{it}\n" for it in BOTH), "", 0),
+    ("users --dir w genrule", "w/c/BUILD:3: genrule: //c:gen\nw/c/BUILD:3: genrule: //c:made.c\n", "", 0),
+    ("users --dir w //d:us", "w/c/BUILD:10: //c:us -> //d:us (includes)\n", "", 0),
+    ("users --dir w //d:none", "", "users: there is no target //d:none\n", 2),
     ("users --dir w boht", "", "users: no file has a function 'boht' (did you mean 'both'?)\n", 2),
     ("users --dir w //tools:b.bzl%both", "", "users: //tools:b.bzl has no function 'both'\n", 2),
     ("cycles --dir w", CYCLES, "", 0),
@@ -121,7 +124,7 @@ def places(bench):
     fault = "why: targets may be missing: {0}BUILD:1: F79 DanglingLabel //b:b\nwhy: targets may be missing: {0}e/BUILD:1: F42 DivZero\n".format("")
     bench.compare("faults", bench.run("tools/why --dir f //:a //:d"),
                   ("f/BUILD:1: //:a -> //:c (srcs)\nf/BUILD:2: //:c -> //:d (srcs)\n", fault, 3))
-    bench.compare("a bundle", bench.run("tools/bundle w > w.bundle; tools/users --bundle w.bundle genrule"), ("c/BUILD:3: genrule: //c:gen //c:made.c\n", "", 0))
+    bench.compare("a bundle", bench.run("tools/bundle w > w.bundle; tools/users --bundle w.bundle genrule"), ("c/BUILD:3: genrule: //c:gen\nc/BUILD:3: genrule: //c:made.c\n", "", 0))
     bench.lay_out("ws", {"WORKSPACE": "", "x y/BUILD": 'load("@r//:d.bzl", "lib")\nlib(name = "x", srcs = ["a b.c"], deps = ["@r//e:f"])\n'})
     bench.compare("a workspace with other repositories", bench.run("../../tools/why x 'a b.c'", "ws/x y"),
                   ("BUILD:2: //x y:x -> //x y:a b.c (srcs)\n", "bzlq: reading the workspace\n", 0))

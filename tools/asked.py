@@ -1,4 +1,4 @@
-"""What the scripts over facts share: the words that say which workspace is asked, its facts, and how a script ends.
+"""What the scripts over facts share: the words that say which workspace is asked, its facts
 
 A script makes its words by `parser_of`, and has `run` call a function that takes an `Asked` and gives the lines to write. A directory or
 bundle is read as it is; without one it is the workspace that one stands in, with the overlay that tools/bzlq keeps of it.
@@ -8,22 +8,17 @@ import os
 import re
 import sys
 
-from bq import BqError, RunError, facts, program_of
+from bq import facts, program_of
 from hint import labels
 from hint.near import did_you_mean
 from wrapper import words as relative
 from wrapper.kept import Kept
-from wrapper.overlay import Failed
-from wrapper.place import NoRoot, root_of
-from workspace import Unreadable
+from wrapper.place import folder_of, root_of
+from script import ended, write
+from workspace import Refused
 
 # how many faults are told
 SHOWN = 3
-STATUSES = {"E1": 4, "E2": 5, "E3": 5}
-
-
-class Refused(Exception):
-    """A word that can't be answered; the message says why."""
 
 
 def parser_of(about):
@@ -45,7 +40,7 @@ class Asked:
         self.faults, self.warnings = [], []
         if not words.dir and not words.bundle:
             self.root = root_of(os.getcwd())
-            self.folder = os.path.relpath(os.path.realpath(os.getcwd()), self.root).removeprefix(".")
+            self.folder = folder_of(self.root)
             self.kept = Kept(self.root, self.program)
             self.bundle, self.overlay = self.kept.path("bundle"), self.kept.overlay
 
@@ -108,11 +103,6 @@ def pattern(text):
         raise Refused(f"'{text}' is no regular expression: {error}") from None
 
 
-def write(lines, to):
-    to.buffer.write("".join(f"{line}\n" for line in lines).encode("utf-8", "surrogateescape"))
-    to.flush()
-
-
 def run(main, words):
     """Runs a script, which is a function of what is asked, and writes the lines that it gives; gives the status."""
     def script(name):
@@ -122,24 +112,3 @@ def run(main, words):
         return 3 if asked.faults else 0
 
     return ended(script)
-
-
-def ended(script):
-    """Runs a script, and says in a sentence what it can't do; gives the status."""
-    name = os.path.basename(sys.argv[0])
-    sys.setrecursionlimit(8000)
-    try:
-        return script(name)
-    except (BqError, Refused, NoRoot, relative.BadWord, Failed, Unreadable) as error:
-        write([f"{name}: {error}"], sys.stderr)
-        return STATUSES.get(error.number, 2) if isinstance(error, RunError) else 2
-    except BrokenPipeError:
-        os._exit(5)
-    except OSError as error:
-        write([f"{name}: " + ": ".join(filter(None, (error.filename and os.fsdecode(error.filename), error.strerror or str(error))))], sys.stderr)
-        return 2
-    except RecursionError:
-        write([f"{name}: a file nests too deep to be read here"], sys.stderr)
-        return 2
-    except KeyboardInterrupt:
-        return 130

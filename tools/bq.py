@@ -8,16 +8,19 @@
 
 A workspace is a directory or the file of a bundle. Its process is `bq --queries -`, which ends with the block, with `close`, or after a
 ProcessError. Several threads may ask; they are answered in turn. `workspace.facts()`, or `facts(PLACE)` without such a process, has the
-targets with their attributes and direct dependencies, the modules with their loads, and the faults. This file needs Python 3.10 or later,
-and no other file: copy it to where you want it. docs/TOOLS.md says more.
+targets with their attributes and direct dependencies, the modules with their loads, and the faults. With `overlay=True` the directory is that
+of a workspace with other repositories, which is read as bzlq reads it; bzlq has to be beside this file then, or on the PATH. Else this file
+needs Python 3.10 or later, and no other file: copy it to where you want it. docs/TOOLS.md says more.
 """
 import io
 import json
 import os
 import re
 import select
+import shutil
 import signal
 import subprocess
+import sys
 import threading
 import time
 from collections.abc import Iterable, Mapping, Sequence
@@ -86,7 +89,14 @@ def program_of(given: str = "") -> str:
     for path in [named] if named else PROGRAMS:
         if os.path.isfile(path) and os.access(path, os.X_OK) and (named or is_program(path)):
             return os.path.abspath(path)
-    raise NoProgram(f"no program {named}" if named else "there is no bq: the variable BZLQ_BQ can name it")
+    if named or not os.path.isfile(f"{HERE}/../dist/SHA256SUMS"):
+        raise NoProgram(f"no program {named}" if named else "there is no bq: the variable BZLQ_BQ can name it")
+    # (in a clone, whose dist/ has the program)
+    import unpacked
+    try:
+        return unpacked.unpacked()
+    except (unpacked.NotUnpacked, OSError) as error:
+        raise NoProgram(f"{error}") from None
 
 
 def is_program(path: str) -> bool:
@@ -153,6 +163,22 @@ def where_of(place: str) -> tuple[list[str], str | None]:
     return (["--dir", "."], place) if os.path.isdir(place) else (["--bundle", os.path.abspath(place)], None)
 
 
+def with_overlay(root: str, program: str) -> tuple[str, list[str]]:
+    """The bundle that bzlq keeps of a workspace, made fresh, and what it says of that."""
+    beside = f"{HERE}/bzlq"
+    bzlq = [sys.executable, beside] if os.path.isfile(beside) else [shutil.which("bzlq") or ""]
+    if not bzlq[0]:
+        raise ProcessError("there is no bzlq, which makes overlays, beside bq.py or on the PATH")
+    try:
+        ended = subprocess.run([*bzlq, "--bundle-path", "--program", os.path.abspath(program)], cwd=root, capture_output=True, check=False)
+    except OSError as error:
+        raise ProcessError(f"{error.filename or bzlq[-1]}: {error.strerror}") from error
+    lines = text_of(ended.stderr).splitlines()
+    if ended.returncode:
+        raise ProcessError(lines[-1] if lines else f"bzlq has ended with status {ended.returncode}")
+    return text_of(ended.stdout).removesuffix("\n"), lines
+
+
 def options_of(jobs: int | None, max_steps: int | None) -> list[str]:
     given = {"--jobs": jobs, "--max-steps": max_steps}
     return [f"{word}={value}" for word, value in given.items() if value is not None]
@@ -215,12 +241,17 @@ class Workspace:
     """A workspace that a process of bq has loaded: a directory, or the file of a bundle.
 
     Options: the program (else program_of says which), those of bq, and how many seconds the loading and each query may take; without a
-    number they may take any time. `faults` are the fault lines, and `printed` the lines that files print.
+    number they may take any time. `faults` are the fault lines, `printed` the lines that files print, and `warnings` what bzlq says of an
+    overlay: of calls that declare nothing over it.
     """
 
-    def __init__(self, place: str | os.PathLike[str], *, program: str = "", output: str = "label", jobs: int | None = None,
-                 max_steps: int | None = None, load_timeout: float | None = None, timeout: float | None = None) -> None:
+    def __init__(self, place: str | os.PathLike[str], *, overlay: bool = False, program: str = "", output: str = "label",
+                 jobs: int | None = None, max_steps: int | None = None, load_timeout: float | None = None,
+                 timeout: float | None = None) -> None:
         self.program, self.timeout = program_of(program), timeout
+        self.warnings: list[str] = []
+        if overlay:
+            place, self.warnings = with_overlay(os.fspath(place), self.program)
         self._lock, self._rest = threading.Lock(), b""
         self._gone: ProcessError | None = None
         self._place, self._options = os.fspath(place), options_of(jobs, max_steps)
@@ -423,9 +454,12 @@ class Facts:
             self.faults.append(Fault(told["fault"], told["name"], told["label"], told["file"], told["line"], told["detail"]))
 
 
-def facts(place: str | os.PathLike[str] | io.BufferedReader, query: str = "", *, program: str = "", jobs: int | None = None,
-          max_steps: int | None = None, timeout: float | None = None) -> Facts:
-    """The facts behind a query, or behind all of the workspace: a directory, the file of a bundle, or a bundle that is open."""
+def facts(place: str | os.PathLike[str] | io.BufferedReader, query: str = "", *, overlay: bool = False, program: str = "",
+          jobs: int | None = None, max_steps: int | None = None, timeout: float | None = None) -> Facts:
+    """The facts behind a query, or behind all of the workspace: a directory, the file of a bundle, or a bundle that is open; with `overlay`
+    a directory as bzlq reads it."""
+    if overlay and not isinstance(place, io.BufferedReader):
+        place, _ = with_overlay(os.fspath(place), program_of(program))
     return run_facts(program_of(program), place if isinstance(place, io.BufferedReader) else os.fspath(place), query,
                      options_of(jobs, max_steps), timeout)
 

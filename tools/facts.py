@@ -108,6 +108,7 @@ class Facts:
         self.stand_ins = defaultdict(set)  # a path -> the names that are bound by what stands in the place of a statement
         self.replaced = defaultdict(list)  # a path -> those statements
         self.everywhere = defaultdict(Counter)  # keyword -> kinds
+        self.copies = None  # once they are made
         self.reached = self.files_reached()
         self.find_stand_ins()
         for path in sorted(self.reached):

@@ -18,8 +18,6 @@ from program import ROOT, Refused, bytes_of, text_of
 SCRIPTS = ("bzlq", "hints", "affected", "why", "graph", "loads", "users", "cycles", "unused", "stubs", "bundle", "bq.py")
 IMPORT = re.compile(r"^\s*from ([\w.]+) import ([\w, ]+)", re.M)
 PAGE_HEAD = re.compile(r'^(\.TH \w+ 1) "" "bq"', re.M)
-# the day of a release is noon in UTC
-NOON = datetime.timedelta(hours=12)
 MAINTAINER = "The developers of bq <bq@users.noreply.invalid>"
 
 CONTROL = """\
@@ -79,7 +77,8 @@ bq: unstripped-binary-or-object [usr/lib/bq/bq]
 
 
 def moment_of(day):
-    return datetime.datetime.fromisoformat(f"{day}T00:00:00+00:00") + NOON
+    """The day of a release begins at midnight in UTC: a file of an hour to come would be told of by tar."""
+    return datetime.datetime.fromisoformat(f"{day}T00:00:00+00:00")
 
 
 def tree(folder):

@@ -12,7 +12,11 @@ ROOT_FILES = ("MODULE.bazel", "REPO.bazel", "WORKSPACE", "WORKSPACE.bazel")
 VALID = re.compile(r"[ -9;-\[\]-~]+")
 
 
-class Unreadable(Exception):
+class Refused(Exception):
+    """What can't be asked or made; the message says why."""
+
+
+class Unreadable(Refused):
     """What `bq` calls E2, a name that is not UTF-8, or a file or directory that is needed and can't be read; or too many directories, E4."""
 
 

@@ -8,8 +8,7 @@ import shutil
 import subprocess
 from collections import defaultdict
 
-from asked import Refused
-from workspace import Unreadable, has_content, ignored_in, is_left_out
+from workspace import Refused, Unreadable, has_content, ignored_in, is_left_out
 
 LINK, MODULE = "120000", "160000"
 # how many links may lead on to one another
@@ -61,7 +60,9 @@ class Git:
         try:
             return self.text("merge-base", "origin/HEAD", "HEAD")
         except NoRevision:
-            raise NoRevision("there is no origin/HEAD to compare with: name a revision, as --base HEAD") from None
+            there = self.text("for-each-ref", "--format=%(refname:short)", "--count=4", "--sort=-creatordate", "refs/heads", "refs/remotes", "refs/tags").split("\n")
+            known = f" ({', '.join(it for it in there if it)} are there)" if there[1:] else ""
+            raise NoRevision(f"there is no origin/HEAD to compare with: name a revision, as `affected HEAD`{known}") from None
 
     def tree(self, revision):
         """The tree of a revision, or of what lies in the folder."""

@@ -9,7 +9,6 @@ from wrapper.overlay import make_bundle
 
 # a line that can't be in a bundle; in a copy too a space stands before it
 HEADER = re.compile(rb"^=== ", re.M)
-WARNING = "stubs: WARNING: "
 # what is said of a workspace without a WORKSPACE, and is no calls that declare nothing
 NO_ROOT = " has no WORKSPACE or MODULE.bazel"
 
@@ -34,7 +33,7 @@ class Side:
             os.rename(bundle, f"{room}/both")
         else:
             said = with_overlay(bundle, program, f"{room}/both")
-            self.warnings = [it.removeprefix(WARNING) for it in said if it.startswith(WARNING) and NO_ROOT not in it]
+            self.warnings = [it for it in said if NO_ROOT not in it]
         laid = parts(f"{room}/both")
         self.overlay = {path: text for path, text in laid.items() if text.rstrip(b"\n") != HEADER.sub(b" === ", self.texts.get(path, b"")).rstrip(b"\n")}
         with open(f"{room}/both", "rb") as given:

@@ -6,6 +6,7 @@ from hint import labels
 from hint.machine import Machine
 from hint.names import package_missing
 from hint.near import did_you_mean, nearest
+from query_text import TOKEN, UNQUOTED
 
 FUNCTIONS = {
     "deps": "deps(x) or deps(x, depth)", "rdeps": "rdeps(universe, x) or rdeps(universe, x, depth)", "allpaths": "allpaths(from, to)",
@@ -13,12 +14,11 @@ FUNCTIONS = {
 }
 COUNTS = {"deps": (1, 2), "rdeps": (2, 3), "allpaths": (2, 2), "kind": (2, 2), "filter": (2, 2), "attr": (3, 3), "labels": (2, 2)}
 LEFT_OUT = {
-    "somepath": "allpaths(a, b) has all targets on the ways from a to b", "some": "take a line of the answer: | head -1",
+    "somepath": "`bzlq why a b` has a shortest path, and allpaths(a, b) all targets on the ways from a to b", "some": "take a line of the answer: | head -1",
     "allrdeps": "write rdeps(//..., x)", "tests": 'write kind("_test rule", x)', "buildfiles": "no query has the files that are loaded",
     "loadfiles": "no query has the files that are loaded", "rbuildfiles": "no query has the files that are loaded", "siblings": "write //package:*",
     "visible": "visibility is left out", "executables": "kinds alone are known", "same_pkg_direct_rdeps": "write rdeps(//package:all, x, 1)",
 }
-TOKEN = re.compile(r"""\s+|"[^"]*"|'[^']*'|[A-Za-z0-9*/@._:$~\[\]-]+|.""", re.S)
 KEYWORDS = "except in intersect let set union + ^ -".split()
 
 
@@ -48,7 +48,7 @@ def syntax(query):
         elif text == "=" or text == ",":
             if not before or before in "(,":
                 return pointed(query, at, "something is missing before this sign")
-        elif not re.fullmatch(r"""["'].*["']|[A-Za-z0-9*/@._:$~\[\]-]+|[+^]""", text, re.S):
+        elif text not in ("+", "^", "-") and not is_word(text):
             return pointed(query, at, f"'{text}' is no part of a query: put words with it in quotes")
         elif is_value(text) and (is_value(before) or before == ")") and "set" not in query[:at]:
             hint = ": bq takes no word 'query'" if before == "query" else ""
@@ -60,7 +60,11 @@ def syntax(query):
 
 
 def is_value(text):
-    return bool(re.fullmatch(r"""["'].*["']|[A-Za-z0-9*/@._:$~\[\]-]+""", text, re.S)) and text not in (*KEYWORDS, "")
+    return is_word(text) and text not in KEYWORDS
+
+
+def is_word(text):
+    return bool(UNQUOTED.fullmatch(text) or re.fullmatch(r"""["'].*["']""", text, re.S))
 
 
 def place_of(query, word):

@@ -10,15 +10,15 @@ import json
 import os
 import shutil
 import sys
+import time
 
-from workspace import SCHEMA
+from workspace import SCHEMA, Refused
+from wrapper.cache import cache, is_at, locked, open_own, own
 from wrapper.fresh import print_of
 from wrapper.overlay import TOOLS, make_bundle, make_overlay
 
-
-def cache():
-    base = os.environ.get("XDG_CACHE_HOME") or os.path.join(os.path.expanduser("~"), ".cache")
-    return os.path.join(base, "bzlq")
+# after how many seconds a folder goes in which nothing was ever made
+EMPTY = 24 * 3600
 
 
 def cache_of(root):
@@ -35,15 +35,6 @@ def version():
     return found.hexdigest()
 
 
-@contextlib.contextmanager
-def locked(folder):
-    """Holds the lock of a folder of the cache."""
-    os.makedirs(folder, mode=0o700, exist_ok=True)
-    with open(os.path.join(folder, "lock"), "a", encoding="utf-8") as file:
-        fcntl.flock(file, fcntl.LOCK_EX)
-        yield
-
-
 class Kept:
     def __init__(self, root, program):
         self.root, self.program, self.folder = root, program, cache_of(root)
@@ -54,10 +45,17 @@ class Kept:
         with locked(self.folder):
             now = {**print_of(self.root), "root": self.root, "version": version()}
             before = self.state()
-            if {key: before.get(key) for key in now} != now or not os.path.exists(self.path("bundle")):
+            if {key: before.get(key) for key in now} != now or before.get("bundle") != self.size():
                 self.make(now, before)
                 before = self.state()
-            return open(self.path("bundle"), "rb"), before.get("warnings", [])
+            return open_own(self.path("bundle"), "rb"), before["warnings"] + before["said"]
+
+    def size(self):
+        """How many bytes the bundle has; nothing where there is none."""
+        try:
+            return os.lstat(self.path("bundle")).st_size
+        except FileNotFoundError:
+            return None
 
     def remove(self):
         """Removes all that is kept, but for the lock."""
@@ -72,7 +70,7 @@ class Kept:
 
     def state(self):
         try:
-            with open(self.path("state"), encoding="utf-8") as file:
+            with open_own(self.path("state"), "r") as file:
                 return json.load(file)
         except (OSError, ValueError):
             return {}
@@ -80,7 +78,7 @@ class Kept:
     def said(self, key):
         """What was said of this text of a run before; nothing where it wasn't kept. (Most runs have the fault lines of the one before.)"""
         try:
-            with open(self.path("said"), encoding="utf-8") as file:
+            with open_own(self.path("said"), "r") as file:
                 found = json.load(file)
         except (OSError, ValueError):
             return None
@@ -88,7 +86,9 @@ class Kept:
 
     def keep_said(self, key, lines):
         with locked(self.folder):
-            with open(self.path("said.new"), "w", encoding="utf-8") as file:
+            with contextlib.suppress(FileNotFoundError):
+                os.remove(self.path("said.new"))
+            with open_own(self.path("said.new"), "w") as file:
                 json.dump({"key": key, "lines": lines}, file)
             os.rename(self.path("said.new"), self.path("said"))
 
@@ -97,20 +97,27 @@ class Kept:
         new = self.path("new")
         shutil.rmtree(new, ignore_errors=True)
         os.makedirs(new)
-        warnings = before.get("warnings", [])
+        try:
+            self.make_in(new, now, before)
+        finally:
+            shutil.rmtree(new, ignore_errors=True)
+        remove_gone(os.path.dirname(self.folder))
+
+    def make_in(self, new, now, before):
+        warnings, said = before.get("warnings", []), []
         is_same = all(before.get(key) == now[key] for key in ("contents", "version")) and os.path.isdir(self.overlay)
         if os.path.isfile(os.path.join(self.root, SCHEMA)):
             os.makedirs(f"{new}/overlay")
             warnings = []
-            make_bundle([self.root], f"{new}/bundle")
+            said = make_bundle([self.root], f"{new}/bundle")
         elif is_same:
             shutil.copytree(self.overlay, f"{new}/overlay")
-            make_bundle([self.root, f"{new}/overlay"], f"{new}/bundle")
+            said = make_bundle([self.root, f"{new}/overlay"], f"{new}/bundle")
         else:
             print("bzlq: reading the workspace", file=sys.stderr, flush=True)
-            warnings = make_overlay(self.root, self.program, new)
+            warnings, said = make_overlay(self.root, self.program, new)
         with open(f"{new}/state", "w", encoding="utf-8") as file:
-            json.dump({**now, "warnings": warnings}, file)
+            json.dump({**now, "bundle": os.path.getsize(f"{new}/bundle"), "warnings": warnings, "said": said}, file)
         # (the state goes first and comes last: a run that is ended in between leaves none, and the next one makes all anew)
         for name in ("state", "said"):
             with contextlib.suppress(FileNotFoundError):
@@ -118,4 +125,25 @@ class Kept:
         shutil.rmtree(self.overlay, ignore_errors=True)
         for name in ("overlay", "bundle", "state"):
             os.rename(f"{new}/{name}", self.path(name))
-        os.rmdir(new)
+
+
+def remove_gone(cache):
+    """Removes what is kept of workspaces that aren't there any more."""
+    for name in os.listdir(cache):
+        folder = os.path.join(cache, name)
+        if len(name) == 16 and is_gone(folder):
+            with contextlib.suppress(OSError, Refused), open_own(os.path.join(own(folder), "lock"), "a") as file:
+                fcntl.flock(file, fcntl.LOCK_EX | fcntl.LOCK_NB)
+                if is_at(file, file.name) and is_gone(folder):
+                    shutil.rmtree(folder)
+
+
+def is_gone(folder):
+    """Whether the workspace of a folder of the cache isn't there; or, where nothing says which that is, whether nothing has happened there for long."""
+    try:
+        with open_own(os.path.join(folder, "state"), "r") as file:
+            return not os.path.lexists(json.load(file)["root"])
+    except (OSError, ValueError, KeyError, TypeError):
+        with contextlib.suppress(OSError):
+            return time.time() - os.lstat(folder).st_mtime > EMPTY
+        return False

@@ -7,9 +7,9 @@ import contextlib
 import hashlib
 import os
 import shutil
-import tempfile
 
-from wrapper.kept import cache, version
+from wrapper.cache import cache, open_own, own, room
+from wrapper.kept import version
 from wrapper.overlay import make_overlay
 
 MOST = 8
@@ -19,29 +19,28 @@ def with_overlay(bundle, program, to):
     """Writes the bundle with its overlay to a path, and gives the warnings."""
     with open(bundle, "rb") as file:
         key = hashlib.sha256(file.read() + version().encode()).hexdigest()[:32]
-    folder = os.path.join(cache(), "bundles")
+    folder = own(os.path.join(cache(), "bundles"))
     place = os.path.join(folder, key)
-    os.makedirs(folder, mode=0o700, exist_ok=True)
     if not os.path.isdir(place):
         make(bundle, program, folder, place)
     os.utime(place)
-    shutil.copy(f"{place}/bundle", to)
-    with open(f"{place}/warnings", encoding="utf-8") as file:
+    with open_own(f"{place}/bundle", "rb") as file, open(to, "wb") as copy:
+        shutil.copyfileobj(file, copy)
+    with open_own(f"{place}/warnings", "r") as file:
         return file.read().splitlines()
 
 
 def make(bundle, program, folder, place):
-    new = tempfile.mkdtemp(prefix="new-", dir=folder)
-    try:
-        warnings = make_overlay(bundle, program, new)
+    with room(folder, "new-") as around:
+        new = f"{around}/{os.path.basename(place)}"
+        os.mkdir(new, 0o700)
+        warnings = [line for lines in make_overlay(bundle, program, new) for line in lines]
         with open(f"{new}/warnings", "w", encoding="utf-8") as file:
             file.write("".join(f"{it}\n" for it in warnings))
         shutil.rmtree(f"{new}/overlay")
         # (another run may have been quicker)
         with contextlib.suppress(OSError):
             os.rename(new, place)
-    finally:
-        shutil.rmtree(new, ignore_errors=True)
     remove_old(folder)
 
 

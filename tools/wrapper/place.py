@@ -1,10 +1,10 @@
 """Where the workspace is: takes the folder that one stands in, gives the root, and the folder's path from there."""
 import os
 
-from workspace import ROOT_FILES, SCHEMA
+from workspace import ROOT_FILES, SCHEMA, Refused
 
 
-class NoRoot(Exception):
+class NoRoot(Refused):
     """There is no workspace here; the message says so."""
 
 
@@ -22,6 +22,12 @@ def root_of(folder):
     if os.path.isfile(os.path.join(folder, SCHEMA)):
         return folder
     raise NoRoot(f"no WORKSPACE or MODULE.bazel in {folder} or above it{below(folder)}")
+
+
+def folder_of(root):
+    """The path of the folder that one stands in, from the root."""
+    found = os.path.relpath(os.path.realpath(os.getcwd()), root)
+    return "" if found == "." else found
 
 
 def below(folder):

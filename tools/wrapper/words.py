@@ -4,18 +4,17 @@
 target there, as `lib/x.c`. Patterns, numbers and names of attributes, functions and variables stay as they are.
 """
 import posixpath
-import re
 
+from query_text import TOKEN, UNQUOTED
+from workspace import Refused
 from wrapper.place import build_file
 
-TOKEN = re.compile(r"""\s+|"[^"]*"|'[^']*'|[A-Za-z0-9*/@._:$~\[\]-]+|.""", re.S)
-UNQUOTED = re.compile(r"[A-Za-z0-9*/@._:$~\[\]-]+")
 OPERATORS = ("except", "in", "intersect", "union", "+", "^", "-", "=")
 # which arguments of a function are no targets
 OTHERS = {"kind": {0}, "filter": {0}, "attr": {0, 1}, "labels": {0}, "deps": {1}, "rdeps": {2}, "allrdeps": {1}, "some": {1}}
 
 
-class BadWord(Exception):
+class BadWord(Refused):
     """A word that leads out of the workspace."""
 
 

@@ -30,7 +30,7 @@ pub trait Host {
 
     /// Returns the value of a default, with its labels read in the package of the module that is evaluated.
     fn read_default(&self, alloc: Global, written: Written) -> Result<AttributeValue, EvalErr>
-        ensures says { Gives (λ v. v) Bad result (means.read_default (seen self.now) written) };
+        ensures { Gives (λ v. v) Bad result (means.read_default (seen self.now) written) };
 
     /// Calls a build function, or a rule of the schema.
     fn call(
