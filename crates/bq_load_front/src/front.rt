@@ -2,6 +2,7 @@
 
 ghost use Rattle.std.specs.Prelude.{◌≡◌, []};
 ghost use Rattle.bq_base.specs.Gives.{Gives};
+ghost use Rattle.bq_base.specs.Fault.{or_fault_as, kind_of_load};
 ghost use Rattle.bq_base.specs.declared.fault.SourceErr.TheVariants.{Bad};
 ghost use Rattle.bq_load_front.specs.Resolved.{itself};
 ghost use Rattle.bq_load_front.specs.Front.{front_of, load_of};
@@ -49,6 +50,18 @@ fn named_files(
     Ok(NamedFiles::of(alloc, labels.as_slice())?)
 }
 
+/// Returns the same, with the load's fault as one of the file.
+fn files_loaded(
+    alloc: Global,
+    inputs: &Inputs<'_>,
+    own: &PackageId,
+    loads: &[LoadStmt],
+) -> Result<NamedFiles, SourceErr<FaultKind>>
+    ensures { Gives itself Bad result (or_fault_as kind_of_load (labels_of (load_of inputs.now own.now) [] loads.now)) }
+{
+    Ok(named_files(alloc, inputs, own, loads)?)
+}
+
 /// Returns the kind of the file of this label: a .bzl file if its name ends so, a BUILD file otherwise.
 #[tactic(auto, unfolding(crate::specs::Parsed::kind_of))]
 pub fn kind_of(label: &Label) -> FileKind
@@ -76,14 +89,14 @@ pub fn front_of(
     };
     let universe = inputs.universe(kind_of(label));
     let resolved = resolved_file(alloc, universe, file.content.as_slice())?;
-    match named_files(alloc, inputs, label.package_id(), resolved.loads.as_slice()) {
+    match files_loaded(alloc, inputs, label.package_id(), resolved.loads.as_slice()) {
         Ok(loads) => Ok(Front {
             file: resolved,
             loads,
         }),
         Err(why) => {
             drop(resolved); // PROOF: one call lets the file go
-            Err(SourceErr::from(why))
+            Err(why)
         }
     }
 }
