@@ -28,6 +28,16 @@ files_ascend (p ∷ ps) o = (each p ps o.0, files_ascend ps o.1)
     each p [] a = tt
     each p (q ∷ qs) a = (a.0, each p qs a.1)
 
+-- the packages of BUILD files ascend as these do
+pub packages_ascend : (files : List LabelParts) → FilesAscend files → IsStrictlySortedBy id_cmp (map package_of files)
+unfolding IsStrictlySortedBy
+packages_ascend [] s = tt
+packages_ascend (b ∷ bs) s = (each b bs s.0, packages_ascend bs s.1)
+  where
+    each : (b : LabelParts) (bs : List LabelParts) → AllByRecursion (λ d. id_cmp (package_of b) (package_of d) ≡ Less) bs → AllByRecursion (λ q. id_cmp (package_of b) q ≡ Less) (map package_of bs)
+    each b [] a = tt
+    each b (d ∷ ds) a = (a.0, each b ds a.1)
+
 pub ids_are : (ps : List PackageTargets) → map package_of (build_files ps) ≡ map id_of ps
 ids_are [] = refl
 ids_are (p ∷ ps) = ap (λ (z : List PackageParts). id_of p ∷ z) (ids_are ps)

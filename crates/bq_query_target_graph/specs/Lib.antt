@@ -4,3 +4,4 @@ pub mod Edges
 pub mod BuildFiles
 pub mod Dangling
 pub mod Parts
+pub mod Nodes

@@ -1,6 +1,7 @@
 //! The BUILD files of packages.
 
 ghost use Rattle.std.specs.Prelude.{◌≡◌, map, IfOk};
+ghost use Rattle.std.specs.List.Sorted.{IsStrictlySortedBy};
 ghost use Rattle.bq_label.specs.Label.{package_of};
 ghost use Rattle.bq_label.specs.Packages.{id_cmp};
 ghost use Rattle.bq_package_list.specs.Order.{PackagesAscend};
@@ -53,7 +54,8 @@ impl BuildFiles {
 
     /// Returns the packages.
     pub fn packages(&self, alloc: Global) -> Result<Items<PackageId>, AllocError>
-        ensures { IfOk result (λ ids. ids ≡ map package_of self.now) }
+        ensures packages { IfOk result (λ ids. ids ≡ map package_of self.now) }
+        ensures ascending { IfOk result (λ ids. IsStrictlySortedBy id_cmp ids) }
     {
         let mut ids = Items::new(alloc);
         let files = self.files.as_slice();

@@ -173,9 +173,23 @@ fn joined(alloc: Global, parts: Vec<Result<Part, AllocError>>) -> Result<Found, 
     Ok(found)
 }
 
-/// Returns the edges between targets, by their numbers, and the lines of the labels that name no target. They are found by at most
-/// `threads` threads, each along a part of the targets.
-pub fn edges<R: Threads + Sync>(
+/// Returns the edges between targets, by their numbers, and the lines of the labels that name no target.
+pub fn edges(alloc: Global, files: &BuildFiles, targets: &[Target]) -> Result<Found, AllocError>
+    requires { IsStrictlySortedBy target_cmp targets.now }
+    ensures edges { IfOk result (λ f. f.edges.items ≡ edges_from (labels_of targets.now) 0 targets.now) }
+    ensures lines { IfOk result (λ f. f.dangling ≡ sorted_lines (dangling_from (labels_of targets.now) files.now targets.now)) }
+{
+    let Part { edges, dangling } = found_in(alloc, files, targets, 0, targets)?;
+    let mut lines = FaultLines::new(alloc);
+    add_lines(dangling, &mut lines)?;
+    Ok(Found {
+        edges,
+        dangling: lines,
+    })
+}
+
+/// Returns what [`edges`] does. It is found by at most `threads` threads, each along a part of the targets.
+pub fn edges_by<R: Threads + Sync>(
     rt: &R,
     alloc: Global,
     files: &BuildFiles,

@@ -1,16 +1,19 @@
 //! The graph of the targets of a workspace.
 
-ghost use Rattle.std.specs.Prelude.{◌≡◌, length, map, IfOk};
+ghost use Rattle.std.specs.Prelude.{◌≡◌, List, length, map, IfOk};
 ghost use Rattle.std.specs.List.Sorted.{IsStrictlySortedBy};
 ghost use Rattle.bq_label.specs.Label.{package_of};
+ghost use Rattle.bq_label.specs.Packages.{id_cmp};
 ghost use Rattle.bq_base_fault_line.specs.FaultLine.{sorted_lines};
+ghost use Rattle.bq_package_target.specs.Package.{PackageTargets};
 ghost use Rattle.bq_query_graph.specs.Edges.{HasPairsOf};
 ghost use Rattle.bq_query_target_graph.specs.Dangling.{dangling_from, dangling_lines};
 ghost use Rattle.bq_query_target_graph.specs.Edges.{edges_from, IsGraphOf};
+ghost use Rattle.bq_query_target_graph.specs.Nodes.{AreNodesOf};
 ghost use Rattle.bq_query_target_graph.specs.Order.{labels_of, target_cmp};
 
 use crate::build_files::BuildFiles;
-use crate::edges::edges;
+use crate::edges::{Found, edges, edges_by};
 use crate::order::in_order;
 use bq_base_fault_line::FaultLines;
 use bq_label::PackageId;
@@ -82,46 +85,16 @@ impl TargetGraph {
     }
 }
 
-/// What there is beside the targets of packages.
+/// The targets of packages in order, and the BUILD files of these packages.
 #[derive(Drop)]
-struct Linked {
-    packages: Items<PackageId>,
-    graph: DependencyGraph,
-    dangling: FaultLines,
+pub(crate) struct Nodes {
+    targets: Vec<Target>,
+    files: BuildFiles,
 }
 
-/// Links the targets of packages that have these BUILD files, by at most `threads` threads.
-fn link<R: Threads + Sync>(
-    rt: &R,
-    alloc: Global,
-    files: &BuildFiles,
-    targets: &[Target],
-    threads: usize,
-) -> Result<Linked, AllocError>
-    requires { IsStrictlySortedBy target_cmp targets.now }
-    ensures packages { IfOk result (λ l. l.packages ≡ map package_of files.now) }
-    ensures graph { IfOk result (λ l. HasPairsOf (length targets.now) (edges_from (labels_of targets.now) 0 targets.now) l.graph) }
-    ensures dangling { IfOk result (λ l. l.dangling ≡ sorted_lines (dangling_from (labels_of targets.now) files.now targets.now)) }
-{
-    let found = edges(rt, alloc, files, targets, threads)?;
-    Ok(Linked {
-        packages: files.packages(alloc)?,
-        graph: DependencyGraph::new(alloc, targets.len(), &found.edges)?,
-        dangling: found.dangling,
-    })
-}
-
-/// Makes the graph of the targets of packages, and a line for each label of another package that names no target (F79).
-/// The graph takes the targets over if nobody else owns the packages, else it has shares of them. At most `threads` threads look for
-/// edges.
-pub fn build_graph<R: Threads + Sync>(
-    rt: &R,
-    alloc: Global,
-    packages: PackageList,
-    threads: usize,
-) -> Result<(TargetGraph, FaultLines), AllocError>
-    ensures graph { IfOk result (λ made. IsGraphOf packages made.0) }
-    ensures lines { IfOk result (λ made. made.1 ≡ dangling_lines packages) }
+/// Takes the targets out of packages.
+fn nodes_of(alloc: Global, packages: PackageList) -> Result<Nodes, AllocError>
+    ensures { IfOk result (AreNodesOf packages) }
 {
     let Ok(files) = BuildFiles::of(alloc, packages.as_slice()) else {
         drop(packages); // PROOF: one call lets the packages go
@@ -131,10 +104,57 @@ pub fn build_graph<R: Threads + Sync>(
         drop(files); // PROOF: and the files
         return Err(AllocError);
     };
-    let linked = link(rt, alloc, &files, &targets, threads);
+    Ok(Nodes { targets, files })
+}
+
+/// What there is beside the targets of packages.
+#[derive(Drop)]
+struct Linked {
+    packages: Items<PackageId>,
+    graph: DependencyGraph,
+    dangling: FaultLines,
+}
+
+/// Links the targets of packages that have these BUILD files by what was found along them.
+fn link(
+    alloc: Global,
+    files: &BuildFiles,
+    targets: &[Target],
+    found: Result<Found, AllocError>,
+) -> Result<Linked, AllocError>
+    requires ascending { IsStrictlySortedBy target_cmp targets.now }
+    requires edges { IfOk found (λ f. f.edges.items ≡ edges_from (labels_of targets.now) 0 targets.now) }
+    requires lines { IfOk found (λ f. f.dangling ≡ sorted_lines (dangling_from (labels_of targets.now) files.now targets.now)) }
+    ensures packages { IfOk result (λ l. l.packages ≡ map package_of files.now) }
+    ensures ascending { IfOk result (λ l. IsStrictlySortedBy id_cmp l.packages) }
+    ensures graph { IfOk result (λ l. HasPairsOf (length targets.now) (edges_from (labels_of targets.now) 0 targets.now) l.graph) }
+    ensures dangling { IfOk result (λ l. l.dangling ≡ sorted_lines (dangling_from (labels_of targets.now) files.now targets.now)) }
+{
+    let found = found?;
+    Ok(Linked {
+        packages: files.packages(alloc)?,
+        graph: DependencyGraph::new(alloc, targets.len(), &found.edges)?,
+        dangling: found.dangling,
+    })
+}
+
+/// Makes the graph of the targets of packages, and the lines of the labels that name none, by what was found along the targets.
+fn graph_by(
+    alloc: Global,
+    nodes: Nodes,
+    found: Result<Found, AllocError>,
+) -> Result<(TargetGraph, FaultLines), AllocError>
+    requires ascending { IsStrictlySortedBy target_cmp nodes.targets.items }
+    requires edges { IfOk found (λ f. f.edges.items ≡ edges_from (labels_of nodes.targets.items) 0 nodes.targets.items) }
+    requires lines { IfOk found (λ f. f.dangling ≡ sorted_lines (dangling_from (labels_of nodes.targets.items) nodes.files nodes.targets.items)) }
+    ensures graph { (ps : List PackageTargets) → AreNodesOf ps nodes → IfOk result (λ made. IsGraphOf ps made.0) }
+    ensures lines { (ps : List PackageTargets) → AreNodesOf ps nodes → IfOk result (λ made. made.1 ≡ dangling_lines ps) }
+{
+    let Nodes { targets, files } = nodes;
+    let linked = link(alloc, &files, &targets, found);
     drop(files);
     let Ok(linked) = linked else {
-        drop(targets); // PROOF: and the targets
+        drop(targets); // PROOF: one call lets the targets go
         return Err(AllocError);
     };
     let graph = TargetGraph {
@@ -143,4 +163,33 @@ pub fn build_graph<R: Threads + Sync>(
         graph: linked.graph,
     };
     Ok((graph, linked.dangling))
+}
+
+/// Makes the graph of the targets of packages, and a line for each label of another package that names no target (F79).
+/// The graph takes the targets over if nobody else owns the packages, else it has shares of them.
+pub fn build_graph(
+    alloc: Global,
+    packages: PackageList,
+) -> Result<(TargetGraph, FaultLines), AllocError>
+    ensures graph { IfOk result (λ made. IsGraphOf packages made.0) }
+    ensures lines { IfOk result (λ made. made.1 ≡ dangling_lines packages) }
+{
+    let nodes = nodes_of(alloc, packages)?;
+    let found = edges(alloc, &nodes.files, &nodes.targets);
+    graph_by(alloc, nodes, found)
+}
+
+/// Makes what [`build_graph`] does. At most `threads` threads look for edges.
+pub fn build_graph_by<R: Threads + Sync>(
+    rt: &R,
+    alloc: Global,
+    packages: PackageList,
+    threads: usize,
+) -> Result<(TargetGraph, FaultLines), AllocError>
+    ensures graph { IfOk result (λ made. IsGraphOf packages made.0) }
+    ensures lines { IfOk result (λ made. made.1 ≡ dangling_lines packages) }
+{
+    let nodes = nodes_of(alloc, packages)?;
+    let found = edges_by(rt, alloc, &nodes.files, &nodes.targets, threads);
+    graph_by(alloc, nodes, found)
 }

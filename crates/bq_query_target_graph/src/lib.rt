@@ -2,8 +2,8 @@
 //!
 //! The promise: the targets are those of all packages in the order of their labels, so that a target's number orders it; an edge leads
 //! from one to another exactly where the first depends on the second (`specs/Edges.antt`). A label of another package that names no
-//! target there is fault F79 (`specs/Dangling.antt`). It takes time n log n in the targets and in the labels that they name. Edges
-//! are found by several threads, each along a part of the targets.
+//! target there is fault F79 (`specs/Dangling.antt`). It takes time n log n in the targets and in the labels that they name.
+//! `build_graph` returns for every input; `build_graph_by` has several threads find edges, each along a part of the targets.
 //!
 //! In reading order:
 //!
@@ -12,7 +12,7 @@
 //! - `named`: the labels that a value names;
 //! - `build_files`: the BUILD files of packages;
 //! - `dangling`: the line of a label of another package that names no target;
-//! - `edges`: which targets depend on which, and which labels name none, found by several threads;
+//! - `edges`: which targets depend on which, and which labels name none, found by one thread or by several;
 //! - `graph`: the graph, and how it is made of packages.
 #![tactic(auto)]
 
@@ -25,4 +25,4 @@ mod numbers;
 mod order;
 
 pub use dangling::dangling_in_words;
-pub use graph::{TargetGraph, build_graph};
+pub use graph::{TargetGraph, build_graph, build_graph_by};

@@ -24,7 +24,7 @@ use bq_label::{Packages, Workspace};
 use bq_load_discover::{LoadErr, LoadGraph, Module, discover_by_workers, schema_of};
 use bq_package_schema::Schema;
 use bq_query_check::{CheckedQuery, parse_query};
-use bq_query_target_graph::{TargetGraph, build_graph};
+use bq_query_target_graph::{TargetGraph, build_graph_by};
 use bq_run::{Loaded, Options, load_graph, refused_report};
 use bq_run_report::{NoAnswer, Report, drop_aside, refusal_of, status_by};
 use std::alloc::{AllocError, Global};
@@ -117,7 +117,7 @@ fn report_loaded<R: Threads + Sync>(
         prints,
     } = loaded;
     drop(modules); // so that the graph gets the memory of their values
-    let (graph, dangling) = build_graph(rt, alloc, packages, threads)?;
+    let (graph, dangling) = build_graph_by(rt, alloc, packages, threads)?;
     let told = Told {
         prints,
         faults,

@@ -10,7 +10,7 @@ ghost use Rattle.bq_run_report.specs.Report.{IsOver, inside};
 use bq_base_fault_line::FaultLines;
 use bq_base_rope::Rope;
 use bq_load::Loaded;
-use bq_query_target_graph::{TargetGraph, build_graph};
+use bq_query_target_graph::{TargetGraph, build_graph_by};
 use bq_run_write::Status;
 use std::alloc::{AllocError, Global};
 use std::thread::Threads;
@@ -70,7 +70,7 @@ pub fn session_over<R: Threads + Sync>(
         prints,
     } = loaded;
     drop(modules); // so that the graph gets the memory of their values
-    let (graph, dangling) = build_graph(rt, alloc, packages, threads)?;
+    let (graph, dangling) = build_graph_by(rt, alloc, packages, threads)?;
     let Ok((text, status)) = fault_text(alloc, prints, faults, dangling) else {
         drop(graph); // PROOF: one call lets the graph go
         return Err(AllocError);

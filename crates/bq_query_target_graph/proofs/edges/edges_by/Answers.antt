@@ -10,7 +10,7 @@ use Rattle.bq_query_target_graph.specs.declared.edges.Part.{Part}
 use Rattle.bq_package_target.proofs.Crossing.Targets.{target_sync}
 use Rattle.bq_query_target_graph.proofs.Crossing.{part_send}
 use Rattle.bq_query_target_graph.proofs.Parts.{joined_edges, joined_lines}
-use Rattle.bq_query_target_graph.proofs.edges.edges.Goals as goal
+use Rattle.bq_query_target_graph.proofs.edges.edges_by.Goals as goal
 
 pub map_chunks-requires-sync-T : goal.map_chunks-requires-sync-T
 map_chunks-requires-sync-T g c κs = let t = target_sync in search sendable depth 60 fits 20000
