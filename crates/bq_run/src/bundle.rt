@@ -19,7 +19,7 @@ const MARKER: &[u8] = b"=== ";
 const NEXT_HEADER: &[u8] = b"\n=== ";
 
 /// The most bytes that a bundle has.
-const MAX_BUNDLE_BYTES: usize = 1 << 30;
+pub const MAX_BUNDLE_BYTES: usize = 1 << 30;
 
 /// Returns the length of the first line, with its newline.
 fn line_len(text: &[u8]) -> usize

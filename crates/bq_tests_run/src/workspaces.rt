@@ -19,7 +19,7 @@ use std::thread::Threads;
 
 /// What is said of a workspace that has no faults. A function that starts threads is no method of a trait, so this stands for subjects.
 #[derive(Clone, Copy)]
-enum Property {
+pub enum Property {
     /// Of these lines of queries, over a reader and a writer that fail at these calls, this is written.
     Session(&'static [u8], u64, u64, &'static [u8]),
     /// Of its facts, over a writer that fails at this call, this is written.
@@ -179,7 +179,7 @@ fn holds<R: Threads + Wait + RandomSource + Sync>(
 }
 
 /// Whether this holds of the workspace of a bundle.
-fn has<R: Threads + Wait + RandomSource + Sync>(
+pub fn has<R: Threads + Wait + RandomSource + Sync>(
     rt: &R,
     alloc: Global,
     bundle: &[u8],
