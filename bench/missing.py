@@ -3,7 +3,14 @@
 Each has a small workspace in which something is made up, left out or can't be read, a command, and what the command has to write to both
 outputs (of standard error: lines that have to be there), with its status.
 """
+import os
+import re
+
+from given import LOST
 from histories import Project
+from mistakes import MISTAKES, WORKSPACE
+
+PAGE = os.path.join(os.path.dirname(os.path.dirname(os.path.realpath(__file__))), "docs/REAL_WORKSPACES.md")
 
 R = 'load("@r//:m.bzl", "junit_tests")\n'
 
@@ -119,6 +126,56 @@ def losses(bench):
                   '{"target":"//a:t","kind":"config_setting rule","file":"a/BUILD","line":1,"attributes":{"name":"t","bzlq_lost":["dict: values"]},"deps":[]}')
 
 
+def packages(bench):
+    """What package(..) says, in facts."""
+    bench.lay_out("ws", {"WORKSPACE": "", "a/BUILD": '"""A package."""\npackage(\n    default_visibility = ["//b:__pkg__"],\n    default_testonly = True,\n)\nfilegroup(name = "x")\n',
+                         "b/BUILD": 'package(default_visibility = V)\nV = []\n'})
+    bench.compare("package(..) in facts", bench.run("bzlq --facts //a:x", "ws")[0].splitlines()[-1],
+                  '{"package":"//a","file":"a/BUILD","line":2,"default_visibility":["//b:__pkg__"],"default_testonly":true}')
+
+
+SUITE = {"a/BUILD": 'test_suite(name = "all_tests")\nsh_test(name = "x_test", srcs = ["x.sh"])\nsh_test(name = "y_test", srcs = ["y.sh"], tags = ["manual"])\n'}
+SIZES = {"a/BUILD": 'load("@rules_cc//cc:defs.bzl", "cc_test")\ncc_test(name = "a", srcs = ["a.c"])\nsh_test(name = "b", srcs = ["b.sh"], size = "small")\n'
+                    'load(":m.bzl", "m")\nm("c")\n', "a/m.bzl": 'def m(name):\n    native.sh_test(name = name, srcs = ["c.sh"], timeout = "long")\n'}
+
+
+def defaults(bench):
+    """What Bazel takes where a test, or a suite of tests, says nothing."""
+    bench.lay_out("ws", {"WORKSPACE": "", **SUITE})
+    told(bench, "a suite of all tests", bench.run("bzlq 'deps(//a:all_tests)'", "ws"), "//a:all_tests\n//a:x.sh\n//a:x_test\n", [""], 0)
+    bench.lay_out("ws", {"WORKSPACE": "", **SIZES})
+    for query, output in (("attr(size, medium, //...)", "//a:a\n//a:c\n"), ("attr(timeout, moderate, //...)", "//a:a\n"), ("attr(timeout, short, //...)", "//a:b\n"),
+                          ("attr(shard_count, \"-1\", //...)", "//a:a\n//a:b\n//a:c\n"), ("attr(flaky, 0, //...)", "//a:a\n//a:b\n//a:c\n")):
+        told(bench, query, bench.run(f"bzlq '{query}'", "ws"), output, [""], 0)
+
+
+def mistakes(bench):
+    """Mistakes that are said over an overlay as they are without one; and that no stub is made for a file of a package that is there."""
+    for what in ("a typo in a rule's name", "a wrong attribute", "a wrong attribute in a macro", "a value of a wrong type", "a .bzl file that isn't there"):
+        files, query, _ = MISTAKES[what]
+        bench.lay_out("w", {**WORKSPACE, **files})
+        wanted = bench.run(f"bq --dir w '{query}' 2>&1 >/dev/null | tools/hints w")[0].replace("w/", "").splitlines()[0]
+        told(bench, f"bzlq, {what}", bench.run(f"bzlq '{query}' 2>&1 >/dev/null | grep '{wanted[:12]}'", "w"), f"{wanted}\n", [""], 0)
+    for what, text, line in OTHERS:
+        bench.lay_out("w", {**WORKSPACE, "app/BUILD": text})
+        told(bench, f"bzlq, {what}", bench.run("bzlq //app:all 2>&1 >/dev/null | grep app/BUILD", "w"), f"{line}\n", [""], 0)
+
+
+OTHERS = (
+    ("a mandatory attribute", 'genrule(name = "g", cmd = "x")\n', "app/BUILD:1:1: F72 MissingAttribute: the rule genrule misses the attribute 'outs'"),
+    ("a select in a list", 'filegroup(name = "x", srcs = ["a", select({"//conditions:default": "b"})])\n', 'app/BUILD:1:1: F56 Fail: "a select in a list: write [..] + select(..)"'),
+    ("a wrong attribute beside a select", 'filegroup(name = "x", dta = select({"//conditions:default": ["b"]}))\n',
+     "app/BUILD:1:23: F71 NoAttribute: no attribute 'dta' in rule 'filegroup' (did you mean 'data'?)"),
+)
+
+
+def rows(bench):
+    """The page has a row for each word."""
+    with open(PAGE, encoding="utf-8") as file:
+        table = file.read().partition("### What can be missing, and what says so")[2].partition("\n## ")[0]
+    bench.compare("the words of the page", re.findall(r"^\| `(\w+)` \|", table, re.M), [*LOST])
+
+
 GUESSED = {"a/BUILD": 'load("@r//:m.bzl", "pack")\npack(name = "t", odd_of = ["a.txt"])\n', "a/a.txt": ""}
 
 
@@ -129,5 +186,5 @@ def guessed(bench):
 
 def check(bench):
     """Tries all of it."""
-    for part in (tests, settings, further, names, unreadable, losses, guessed):
+    for part in (tests, settings, further, names, unreadable, losses, guessed, packages, defaults, mistakes, rows):
         part(bench)

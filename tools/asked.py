@@ -8,6 +8,7 @@ import os
 import re
 import sys
 
+import lost
 from bq import facts, program_of
 from hint import labels
 from hint.near import did_you_mean
@@ -38,7 +39,7 @@ class Asked:
     def __init__(self, words):
         self.words, self.program = words, program_of(words.program)
         self.root, self.folder, self.bundle, self.overlay = words.dir, "", words.bundle, ""
-        self.faults, self.warnings = [], []
+        self.faults, self.warnings, self.lost = [], [], None
         if not words.dir and not words.bundle:
             self.root = root_of(os.getcwd())
             self.folder = folder_of(self.root)
@@ -53,7 +54,7 @@ class Asked:
             bundle, self.warnings = self.kept.open()
             with bundle:
                 found = facts(bundle, query, program=self.program, max_steps=MAX_STEPS)
-        self.faults = found.faults
+        self.faults, self.lost = found.faults, lost.of_targets(query, found.targets.values())
         return found
 
     def sources(self):
@@ -93,7 +94,12 @@ class Asked:
     def told(self):
         """What there is to say of the workspace, beside the answer."""
         more = len(self.faults) - SHOWN
-        return [f"targets may be missing: {it}" for it in [*self.faults[:SHOWN], *self.warnings]] + ([f"and {more} faults more"] if more > 0 else [])
+        said = [f"targets may be missing: {it}" for it in [*self.faults[:SHOWN], *self.warnings]] + ([f"and {more} faults more"] if more > 0 else [])
+        return said + list(self.lost.lines() if self.lost else [])
+
+    def may_lack(self):
+        """Whether the answer may lack something."""
+        return bool(self.faults or self.warnings or self.lost and self.lost.may_lack())
 
 
 def pattern(text):
@@ -110,6 +116,6 @@ def run(main, words):
         asked = Asked(words)
         write(main(asked), sys.stdout)
         write([f"{name}: {line}" for line in asked.told()], sys.stderr)
-        return 3 if asked.faults else 0
+        return 3 if asked.may_lack() else 0
 
     return ended(script)

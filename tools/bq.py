@@ -285,6 +285,10 @@ class Workspace:
         """The facts behind a query, or behind all of the workspace, as it is now: they come from a run of their own."""
         return run_facts(self.program, self._place, query, self._options, self.timeout if timeout is None else timeout)
 
+    def approximations(self, query: str, timeout: float | None = None) -> list[str]:
+        """The targets of an answer of which something was made up or left out, where the workspace is read with an overlay."""
+        return self.query(f'attr(bzlq_lost, "[a-z]", {query})', timeout)
+
     def close(self) -> None:
         """Ends the process. A query that another thread waits for ends with an error."""
         why = self._gone or ProcessError("the workspace is closed")
@@ -392,6 +396,12 @@ class Target:
     attributes: Mapping[str, str | int | bool | list[str]] = field(default_factory=dict)
     deps: Sequence[str] = ()
 
+    @property
+    def lost(self) -> Sequence[str]:
+        """What was made up or left out of it in an overlay, each text with a word and a colon before it."""
+        found = self.attributes.get("bzlq_lost")
+        return found if isinstance(found, list) else []
+
 
 @dataclass(frozen=True)
 class Load:
@@ -434,6 +444,7 @@ class Facts:
     targets: dict[str, Target] = field(default_factory=dict)
     modules: dict[str, Module] = field(default_factory=dict)
     faults: list[Fault] = field(default_factory=list)
+    packages: dict[str, dict] = field(default_factory=dict)  # what calls of package(..) say, of bzlq --facts
 
     @staticmethod
     def of_lines(lines: Iterable[bytes]) -> "Facts":
@@ -447,6 +458,8 @@ class Facts:
         if "target" in told:
             more = (told["line"], told["attributes"], told["deps"]) if "line" in told else ()
             self.targets[told["target"]] = Target(told["target"], told["kind"], told["file"], *more)
+        elif "package" in told:
+            self.packages[told["package"]] = told
         elif "module" in told:
             loads = [Load(it["label"], it["file"], it["line"], it["symbols"]) for it in told["loads"]]
             self.modules[told["module"]] = Module(told["module"], told["file"], loads)

@@ -33,7 +33,7 @@ class Copy:
             self.starts.append(self.starts[-1] + len(line) + 1)
         self.parts = []  # (start, end, text)
         self.counts = Counter()
-        self.uses_given = set()  # what the copy loads of `given`
+        self.uses_given = {}  # what the copy loads of `given`: names, and those that they have there
         self.lost = []  # what the values are, in the function around, that aren't there
         self.makers = set()  # parameters of the function around whose members declare targets
         self.locals, self.labels = set(), set()  # the names that it binds, and those of them that are labels
@@ -59,13 +59,13 @@ class Copy:
         for node in parsed(self.text).body if self.loads_more else []:
             self.load_more(node)
         if self.uses_given:
-            names = "".join(f', "{name}"' for name in sorted(self.uses_given))
+            names = "".join(f', {name} = "{symbol}"' for name, symbol in sorted(self.uses_given.items()))
             # (a load counts wherever it stands, and here no line is moved)
             self.more = f'load("{GIVEN}"{names})\n'
         for found in HEADER.finditer(self.text):
             self.parts.append((found.start(), found.start(), b" "))
             self.counts["a line like a bundle's header"] += 1
-        if not self.parts:
+        if not self.parts and not self.uses_given:
             return None
         found, end = b"", 0
         # (of parts at one place the outer one was put there first)
@@ -257,7 +257,7 @@ class Copy:
                     self.counts["directories in a glob"] += 1
             elif keyword.arg == "exclude" and any(isinstance(it, ast.Constant) and isinstance(it.value, str) and not is_pattern(it.value) for it in ast.walk(keyword.value)):
                 start, end = self.span(keyword.value)
-                self.uses_given.add("bzlq_patterns")
+                self.uses_given["bzlq_patterns"] = "bzlq_patterns"
                 self.parts += [(start, start, b"bzlq_patterns("), (end, end, b")")]
                 self.counts["a pattern"] += 1
             elif keyword.arg in TRISTATES and isinstance(keyword.value, ast.Constant) and isinstance(keyword.value.value, bool):
@@ -298,8 +298,11 @@ class Copy:
                 return all(self.is_plain(part) for part in ast.iter_child_nodes(node) if isinstance(part, ast.expr))
 
     def rule(self, call, name):
-        """Calls what stands for a rule, which takes dicts and marks out of what it is given."""
-        self.given(call.func, PREFIX + name)
+        """Calls what stands for a rule, which takes dicts and marks out of what it is given: in a BUILD file by the rule's own name."""
+        if isinstance(call.func, ast.Name):
+            self.uses_given[name] = PREFIX + name
+        else:
+            self.given(call.func, PREFIX + name)
         self.counts["a call of a rule"] += 1
         self.tell_lost(call)
         self.arguments(call)
@@ -325,7 +328,7 @@ class Copy:
 
     def given(self, node, name):
         self.replace(*self.span(node), name)
-        self.uses_given.add(name)
+        self.uses_given[name] = name
 
     def kind(self, node):
         """What a value is like, also where it is a global of this file, or of one that it loads."""

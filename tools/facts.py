@@ -123,6 +123,7 @@ class Facts:
         self.replaced = defaultdict(list)  # a path -> those statements
         self.everywhere = defaultdict(Counter)  # keyword -> kinds
         self.copies = None  # once they are made
+        self.tests_in = {}  # the tests of packages that have a `test_suite` without `tests`, once they are known
         self.reached = self.files_reached()
         self.find_stand_ins()
         for path in sorted(self.reached):
@@ -144,6 +145,11 @@ class Facts:
                     found.add(loaded)
                     pending.append(loaded)
         return found
+
+    def suites(self):
+        """The packages that have a `test_suite` without `tests`."""
+        files = [file for file in self.workspace.files.values() if file.is_build]
+        return {os.path.dirname(file.path) for file in files for call in file.calls if call.name == "test_suite" and "tests" not in call.keywords and not call.splats}
 
     def known_member(self, file, name, member):
         """The symbol that stands for a member of one of skylib's structs, where the file loads the struct from skylib's own file."""

@@ -1,6 +1,6 @@
 """What stands between the calls of an overlay's files and the rules of its schema: the text of `@bzlq//:given.bzl`.
 
-For each rule `x` it has a function `bzlq__x`, which declares the target, and puts into two attributes of their own what the rule can't be given:
+For each rule `x` it has a function `bzlq_r_x`, which declares the target, and puts into two attributes of their own what the rule can't be given:
 
 - `bzlq_edges`: what Bazel's query makes edges of, and no other attribute has: conditions of a `select`, the branches of one value that aren't
   taken, labels among the keys of a dict;
@@ -29,7 +29,8 @@ ATTRIBUTES = {"bzlq_edges": "label_list", LOST_ATTRIBUTE: "string_list"}
 TEXTS = ("define_values", "env", "exec_properties", "rustc_env", "substitutions", "values")
 DIRECTORY = "external/bzlq"
 LABEL = "@bzlq//:given.bzl"
-PREFIX = "bzlq__"
+# (as long as `native.`, so that columns stay)
+PREFIX = "bzlq_r_"
 
 TEXT = '''\
 _DEFAULT = "//conditions:default"
@@ -112,7 +113,7 @@ def bzlq_given(rule, lost, given):
             found[key] = _value(rule, key, value, edges, lost)
     _guesses(rule, found, lost)
     if rule == "test_suite" and not found.get("tests"):
-        lost.append("edges: tests")
+        _suite(found, lost)
     if is_test:
         _test(found)
     if edges:
@@ -120,6 +121,13 @@ def bzlq_given(rule, lost, given):
     if lost:
         found["bzlq_lost"] = {it: None for it in lost}.keys()
     return found
+
+def _suite(given, lost):
+    """All tests of the package."""
+    if native.package_name() in _TESTS_IN:
+        given["tests"] = [":" + it for it in _TESTS_IN[native.package_name()] if it != given.get("name")]
+    else:
+        lost.append("edges: tests")
 
 def _test(given):
     """What Bazel takes where a test gives none."""
@@ -134,9 +142,9 @@ def _test(given):
 '''
 
 
-def given_files(schema, mark):
-    """The files of the repository `@bzlq`, by their paths."""
-    tables = {**schema.tables(), "_TEXTS": dict.fromkeys(TEXTS)}
+def given_files(schema, tests_in, mark):
+    """The files of the repository `@bzlq`, by their paths. `tests_in` has the tests of packages."""
+    tables = {**schema.tables(), "_TEXTS": dict.fromkeys(TEXTS), "_TESTS_IN": tests_in}
     lines = [f"{name} = {json.dumps(value).replace('null', 'None')}\n" for name, value in tables.items()]
     functions = [f"\ndef {PREFIX}{rule}(*args, **given):\n    native.{rule}(*args, **bzlq_given(\"{rule}\", [], given))\n" for rule in schema.types if rule in BAZEL]
     return {f"{DIRECTORY}/BUILD": mark, f"{DIRECTORY}/given.bzl": mark + "".join(lines) + TEXT + "".join(functions)}

@@ -36,14 +36,9 @@ class Lost:
             yield f"{self.inner} of the targets that this query looks through may lack edges"
 
 
-def of_target(target):
-    """What was made up or left out of a target of facts."""
-    return target.attributes.get(LOST_ATTRIBUTE, ())
-
-
 def of_targets(query, targets):
     """The same for targets of facts."""
-    found = [{it.partition(":")[0] for it in of_target(target)} for target in targets]
+    found = [{it.partition(":")[0] for it in target.lost} for target in targets]
     return Lost(query, len(found), sum(map(bool, found)), Counter(word for words in found for word in words), 0)
 
 

@@ -3,7 +3,6 @@ files that are in no target."""
 import os
 from collections import namedtuple
 
-import lost
 from change.hidden import hidden
 from change.settings import settings_of
 from change.unseen import unseen
@@ -50,7 +49,7 @@ def by_text(paths, side):
     """The targets that name one of these files in an attribute whose type was guessed, each with the reason."""
     found, by_place = {}, {(package_of(path, side, side), path): path for path in paths}
     for target in side.facts.targets.values():
-        for text in lost.of_target(target):
+        for text in target.lost:
             word, _, name = text.partition(": ")
             value = target.attributes.get(name, ())
             package = os.path.dirname(target.file)

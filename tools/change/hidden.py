@@ -14,6 +14,7 @@ from given import PREFIX
 from reading import bound_by, parsed
 
 STUB = b"bzlq_given("
+CALL = re.compile(rb"\b" + PREFIX.encode() + rb"(\w+)")
 # a stub that drops what it is given
 DROPPING = re.compile(rb"^def (\w+)\(\*args, \*\*kwargs\)", re.M)
 
@@ -27,7 +28,12 @@ class Statement:
         self.has_dict = any(is_no_attribute(it) for it in ast.walk(node))
         self.names = {it.id for it in ast.walk(node) if isinstance(it, ast.Name)}
         is_dropped = any(drops(it, stubs) for it in ast.walk(node))
-        self.is_copied = not self.is_load and (is_dropped or copied is not None and text[lines] != copied[lines])
+        self.is_copied = not self.is_load and (is_dropped or copied is not None and not is_same(text[lines], copied[lines]))
+
+
+def is_same(lines, copied):
+    """Whether a copy has these lines, but for calls of what stands for a rule in the place of calls of the rule."""
+    return lines == copied or any(lines == [CALL.sub(rule, it) for it in copied] for rule in (rb"\1", rb"native.\1"))
 
 
 def without_comments(node):

@@ -1,5 +1,6 @@
 """What is said of each fault: takes the sources and a run's faults, gives `Hint`s, causes first."""
 import ast
+import re
 import time
 from dataclasses import dataclass, field
 
@@ -23,6 +24,10 @@ class Hint:
     reason: str
     inner: list = field(default_factory=list)  # where in macros it is: (path, line, column, function), the innermost first
     follows: bool = False  # whether another fault is its cause
+
+    def __post_init__(self):
+        # (the files are read as bytes, a character each)
+        self.reason = re.sub("[\x80-\xff]+", lambda found: found[0].encode("latin-1").decode("utf-8", "replace"), self.reason)
 
     def text(self):
         where = "".join(f", {'called ' if at else ''}at {path}:{line}:{column} in {function}"

@@ -3,6 +3,8 @@ import re
 
 REPOSITORY = re.compile(r"[\w.+~-]+")
 SEGMENT = re.compile(r"[ -9;-\[\]-~]+")
+# what no segment has: a character, or the bytes of some
+ODD = re.compile(r"[\x80-\xff]+|[^ -9;-\[\]-~]")
 
 
 class BadLabel(Exception):
@@ -18,7 +20,7 @@ def check(path, what, may_be_empty=False):
         if segment in (".", ".."):
             raise BadLabel(f"the {what} '{path}' has a segment '{segment}'")
         if not SEGMENT.fullmatch(segment):
-            odd = next(it for it in segment if not SEGMENT.fullmatch(it))
+            odd = ODD.search(segment)[0]
             raise BadLabel(f"the {what} '{path}' has the character {odd!r}")
 
 

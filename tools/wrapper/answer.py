@@ -6,6 +6,7 @@ import subprocess
 import sys
 
 import lost
+import package_defaults
 from bq import Facts
 from script import write, write_bytes
 from wrapper.forms import FORMS
@@ -50,6 +51,8 @@ class Answer:
                 write(form(targets, ended.stdout, self.path), sys.stdout)
             else:
                 write_bytes(ended.stdout, sys.stdout)
+                if ended.returncode in (0, 3):
+                    write(package_defaults.lines_of(self.kept.path("bundle"), ended.stdout), sys.stdout)
         else:
             ended, found = lost.ask(self.program, [*options, *self.call.of_bq("--output")], bundle, self.query)
             write_bytes(ended.stdout, sys.stdout)

@@ -6,12 +6,16 @@ import os
 import re
 import subprocess
 
+import lost
 from bundles import fewer, merged, write_bundle
 from further import phantoms
 from script import module_of
 
 # Bazel bounds no file's evaluation, and there are files that take some millions of steps
 MAX_STEPS = 100_000_000
+# a test, as a line with its kind, and the query for those that a suite leaves out
+TEST = re.compile(rb"\w+_test rule //")
+MANUAL = b'attr(tags, "[\\[ ]manual[,\\]]", //...)\n'
 TOOLS = os.path.dirname(os.path.dirname(os.path.realpath(__file__)))
 
 
@@ -22,13 +26,24 @@ def make_overlay(root, program, new):
     facts = stubs.Facts(stubs.Workspace(root))
     warnings = write_overlay(stubs, root, facts, new, b"")
     said = make_bundle([root, f"{new}/overlay"], f"{new}/bundle")
-    with open(f"{new}/bundle", "rb") as bundle:
-        ended = subprocess.run([program, f"--max-steps={MAX_STEPS}", "--output", "label_kind", "//...:*"], stdin=bundle, capture_output=True, check=False)
-    faults = ended.stderr + phantoms(ended.stdout, facts.workspace.paths)
-    if re.search(rb" F79 DanglingLabel ", faults):
+    faults, suites = found_in(program, f"{new}/bundle", facts), facts.suites()
+    if suites or re.search(rb" F79 DanglingLabel ", faults):
         write_overlay(stubs, root, facts, new, faults)
         make_bundle([root, f"{new}/overlay"], f"{new}/bundle")
     return warnings, said
+
+
+def found_in(program, bundle, facts):
+    """The fault lines of a first round, with those for labels that only seem to be files; notes the tests of packages that have a suite of all."""
+    words = [program, f"--max-steps={MAX_STEPS}", "--output", "label_kind", "--bundle", bundle, "--queries", "-"]
+    ended = subprocess.run(words, input=b"//...:*\n" + MANUAL, capture_output=True, check=False)
+    blocks = [lines for status, lines in lost.blocks_of(ended.stdout) if status != 2]
+    if len(blocks) != 2:
+        return ended.stderr
+    tests = [it.partition(b" rule ")[2].decode("utf-8", "surrogateescape").rstrip("\n") for it in blocks[0] if TEST.match(it) and it not in blocks[1]]
+    for package in facts.suites():
+        facts.tests_in[package] = [it.partition(":")[2] for it in tests if it.startswith(f"//{package}:")]
+    return ended.stderr + phantoms(b"".join(blocks[0]), facts.workspace.paths)
 
 
 def write_overlay(stubs, root, facts, new, faults):
