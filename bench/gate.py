@@ -1,4 +1,5 @@
-"""What a run of the gate takes, by crate and by kind of check: its processes are read in Linux's /proc while it runs."""
+"""A run of the gate: what it takes, by crate and by kind of check (its processes are read in Linux's /proc while it runs), and which of the
+must-fail edits it did not refuse."""
 import collections
 import hashlib
 import json
@@ -6,6 +7,8 @@ import os
 import re
 import statistics
 import subprocess
+import sys
+import threading
 import time
 
 import kit
@@ -13,6 +16,10 @@ import kit
 TICKS = os.sysconf("SC_CLK_TCK")
 # in the order of the table's columns
 KINDS = {"crate": "the crate", "tests": "its tests", "edit": "edits", "program": "programs"}
+# what the gate says of a file in must-fail/, whether it tried it in this run or in an earlier one
+SAID = re.compile(r"^rt: (?:must-fail |crates/)(\w+)/(?:must-fail/)?([^\s:]+): (.*)$", re.M)
+# of an edit that is refused only for a name that it took away, or by a limit of the prover, it says so
+REFUSED = re.compile(r"refused, as it must be(?! \(only )")
 
 
 def process(number):
@@ -54,11 +61,21 @@ def check_of(number):
     return crate, "program" if "--crate-checked" in words else "crate"
 
 
+def copied(pipe, lines):
+    """Writes what the gate says to the output, and keeps it."""
+    for line in pipe:
+        sys.__stdout__.buffer.write(line)
+        sys.__stdout__.buffer.flush()
+        lines.append(line.decode(errors="replace"))
+
+
 def watch(command, folder):
-    """Runs the gate. Gives its status, its seconds by the clock, those of a processor that it took itself, and each check with its
-    seconds."""
-    begun = time.monotonic()
-    ran = subprocess.Popen(command, cwd=folder)
+    """Runs the gate. Gives its status, what it said, its seconds by the clock, those of a processor that it took itself, and each check with
+    its seconds."""
+    begun, said = time.monotonic(), []
+    ran = subprocess.Popen(command, cwd=folder, stdout=subprocess.PIPE)
+    copier = threading.Thread(target=copied, args=(ran.stdout, said))
+    copier.start()
     taken, checks = {}, {}
     while ran.poll() is None:
         for key, seconds in below(ran.pid).items():
@@ -67,9 +84,10 @@ def watch(command, folder):
             if checks.get(key, (None,))[0] is None:
                 checks[key] = check_of(key[0])
         time.sleep(0.3)
+    copier.join()
     whole = kit.processor_seconds()
     rows = [(*checks[key], seconds) for key, seconds in taken.items() if checks[key][0]]
-    return ran.returncode, time.monotonic() - begun, whole - sum(seconds for _, _, seconds in rows), rows
+    return ran.returncode, "".join(said), time.monotonic() - begun, whole - sum(seconds for _, _, seconds in rows), rows
 
 
 def remember(rows, path):
@@ -120,8 +138,18 @@ def beside(before, after):
 
 
 def edits(crate):
+    """The crate's must-fail edits. Whatever lies there is one, also under a name that the gate doesn't read, but for pages that are only read."""
     folder = f"{kit.ROOT}/crates/{crate}/must-fail"
-    return sum(name.endswith(".edit") for name in os.listdir(folder)) if os.path.isdir(folder) else 0
+    found = [os.path.relpath(f"{at}/{name}", folder) for at, _, names in os.walk(folder) for name in names]
+    return sorted(name for name in found if not name.endswith(".md"))
+
+
+def not_refused(said, crates):
+    """The must-fail edits of these crates that a run did not refuse for what they mean, each with what it said. To the gate an edit that can't be
+    applied, or can't be read, is no failure."""
+    told = {(crate, os.path.basename(file)): what for crate, file, what in SAID.findall(said)}
+    of_each = [(crate, edit, told.get((crate, os.path.basename(edit)), "it was not tried")) for crate in crates for edit in edits(crate)]
+    return [(f"{crate}/{edit}", what) for crate, edit, what in of_each if not REFUSED.match(what)]
 
 
 def table(rows, crates, lines_of):
@@ -135,7 +163,7 @@ def table(rows, crates, lines_of):
     yield "--- | ---: | " + "---: | " * len(KINDS) + "---: | ---:"
     for crate in order:
         lines, of = lines_of(crate), seconds[crate]
-        count = edits(crate)
+        count = len(edits(crate))
         each = [f"{of[kind]:.0f}" + (f" ({count})" if kind == "edit" and count else "") if of[kind] else "" for kind in KINDS]
         yield " | ".join([crate, f"{lines:,}", *each, f"{of.total():.0f}", f"{of['crate'] / 60 * 1000 / max(lines, 1):.1f}"])
     sums = {kind: sum(of[kind] for of in seconds.values()) / 60 for kind in KINDS}

@@ -1,0 +1,59 @@
+"""What bench/tools tries of .ci/run: it has to fail where the gate passes over a must-fail edit that it could not try, or that it did not refuse for
+what it means. A script that writes a log stands for rt, in a repository of two crates."""
+import os
+import shutil
+
+ROOT = os.path.dirname(os.path.dirname(os.path.realpath(__file__)))
+EDITS = ("crates/low/must-fail/one.edit", "crates/low/must-fail/two.edit", "crates/high/must-fail/three.edit")
+END = "rt: ok; handles allowed: none\n2 passed, 0 failed\n"
+ONE = "rt: must-fail low/one.edit: refused, as it must be: src/lib.rt:3:5: error: this goal is open\n"
+TWO = "rt: must-fail low/two.edit: refused, as it must be\n"
+THREE = "rt: must-fail high/three.edit: refused, as it must be: note: src/lib.rt:9:1: no proof\n"
+EARLIER = "rt: low: 2 of its 2 must-fail edits were tried by an earlier run on this machine, and nothing that they stand on has changed\n"
+STALE = "BAD EDIT: an 'old:' text is in src/lib.rt 0 times, and not once"
+ODD = "BAD EDIT: an edit stands right in must-fail/, and its name is of letters, digits, _, - and . and ends in .edit (or .md, if it is only to be read)"
+NAMED = ("refused, as it must be (only because a proof file names what the edit took away, so this says little of the contract: change a value and keep "
+         "the names): proofs/run/Answers.antt:3:1: error: x is not in scope")
+LIMIT = "refused, as it must be (only by a limit of the prover, which gave no verdict, so this says less of the contract: choose a change that it refuses sooner): x"
+# what the gate says: (its log, what .ci/run writes last, its status)
+LOGS = {
+    "each edit is refused": (ONE + TWO + THREE, "2 passed, 0 failed", 0),
+    "some were in an earlier run": (EARLIER + ONE + TWO + THREE, "2 passed, 0 failed", 0),
+    "a text to replace that isn't there": (ONE + f"rt: must-fail low/two.edit: {STALE}\n" + THREE,
+                                           f"low/two.edit is not refused for what it means: {STALE}\n2 of the 3 must-fail edits are refused.", 1),
+    "an edit that the prover can't read": (ONE + TWO + "rt: must-fail high/three.edit: BAD EDIT: it did not reach the prover; the first lines of what it said:\nno\n",
+                                           "high/three.edit is not refused for what it means: BAD EDIT: it did not reach the prover; the first lines of "
+                                           "what it said:\n2 of the 3 must-fail edits are refused.", 1),
+    "an edit that takes a name away": (f"rt: must-fail low/one.edit: {NAMED}\n" + TWO + THREE,
+                                       f"low/one.edit is not refused for what it means: {NAMED}\n2 of the 3 must-fail edits are refused.", 1),
+    "an edit that the prover gives no verdict on": (ONE + TWO + f"rt: must-fail high/three.edit: {LIMIT}\n",
+                                                    f"high/three.edit is not refused for what it means: {LIMIT}\n2 of the 3 must-fail edits are refused.", 1),
+    "edits that the gate says nothing of": (THREE, "low/one.edit is not refused for what it means: it was not tried\nlow/two.edit is not refused for what it "
+                                            "means: it was not tried\n1 of the 3 must-fail edits are refused.", 1),
+}
+
+
+def run(bench, log, *files, status=0):
+    """What .ci/run writes last, and its status, where the gate writes this log and ends with that status."""
+    bench.lay_out("gate", {"crates.txt": "low:\nhigh: low\n", "log": log, "rt": f"#!/bin/sh\ncat log; exit {status}\n", "tools/rows": "#!/bin/sh\n",
+                           "tools/release": "#!/bin/sh\n", **{path: "" for path in (*EDITS, *files)}})
+    for path in (".ci/run", "bench/proofs", "bench/gate.py", "bench/kit.py"):
+        os.makedirs(os.path.dirname(f"{bench.room}/gate/{path}"), exist_ok=True)
+        shutil.copy(f"{ROOT}/{path}", f"{bench.room}/gate/{path}")
+    for path in ("rt", "tools/rows", "tools/release"):
+        os.chmod(f"{bench.room}/gate/{path}", 0o755)
+    written, errors, ended = bench.run("RT=./rt .ci/run", "gate")
+    # (what the run took is before that)
+    return written.rpartition(" more of a processor.\n")[2].removesuffix("\n"), errors, ended
+
+
+def check(bench):
+    for what, (log, last, status) in LOGS.items():
+        found, *rest = run(bench, log + END)
+        bench.compare(f".ci/run: {what}", (found if status else found.rpartition("\n")[2], *rest), (last, "", status))
+    bench.compare(".ci/run: the gate's own failure", run(bench, ONE + TWO + THREE + "1 passed, 1 failed\n", status=1),
+                  ("3 of the 3 must-fail edits are refused.", "", 1))
+    bench.compare(".ci/run: a page beside the edits", run(bench, ONE + TWO + THREE + END, "crates/low/must-fail/README.md")[1:], ("", 0))
+    odd = "crates/high/must-fail/four.edit~"
+    bench.compare(".ci/run: an edit under another name", run(bench, ONE + TWO + THREE + f"rt: {odd}: {ODD}\n" + END, odd),
+                  (f"high/four.edit~ is not refused for what it means: {ODD}\n3 of the 4 must-fail edits are refused.", "", 1))
