@@ -55,6 +55,9 @@ class Kept:
         # (the gate's keys have what HANDLES allows)
         rt.Crate.allowed = rt.handles_of(root)
         self.gate = rt.Kept([]) if hasattr(rt, "Kept") and os.path.isdir(rt.STORE) else None
+        if self.gate:
+            # where an entry can't be taken (two clones take it at once, say), it stays the gate's
+            self.gate.drop = lambda path: None
         # (its first call sets a signal's handler, which only the main thread may)
         self.lib.guarded()
         self.crates = {it.name: it for it in self.lib.crates_below(root)}
