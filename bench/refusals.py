@@ -1,7 +1,12 @@
-"""What bench/tools tries of .ci/run: it has to fail where the gate passes over a must-fail edit that it could not try, or that it did not refuse for
-what it means. A script that writes a log stands for rt, in a repository of two crates."""
+"""What bench/tools tries of .ci/run and bench/trials: the first has to fail where the gate passes over a must-fail edit that it could not try, or
+that it did not refuse for what it means, the second to read which functions the prover did not prove, and why. A script that writes a log stands
+for rt, in a repository of two crates; what the prover says of a crate is written here."""
+import contextlib
+import io
 import os
 import shutil
+
+import kit
 
 ROOT = os.path.dirname(os.path.dirname(os.path.realpath(__file__)))
 EDITS = ("crates/low/must-fail/one.edit", "crates/low/must-fail/two.edit", "crates/high/must-fail/three.edit")
@@ -47,7 +52,65 @@ def run(bench, log, *files, status=0):
     return written.rpartition(" more of a processor.\n")[2].removesuffix("\n"), errors, ended
 
 
+SOURCE = """//! A crate.
+pub fn alone(x: u32) -> u32
+    ensures { result ≡ x }
+{
+    x
+}
+
+impl<T: Copy> Pair<T> {
+    /// Returns the first.
+    pub fn first(&self) -> T
+        ensures { result ≡ self.now.0 }
+    {
+        self.one
+    }
+}
+
+impl<T> fmt::Debug for Pair<T> {
+    fn fmt(&self) -> bool
+        ensures { result ≡ true }
+    {
+        true
+    }
+}
+"""
+OPEN = "note: src/pair.rt:10:5: it is not proved that what the function ensures holds when it returns (`returns`)"
+GONE = "./proofs/pair/Pair/first/Answers.antt:3:9: error: `returns`: `c.len` is not in scope"
+MISFIT = "./proofs/pair/Pair/first/Answers.antt:3:9: error: `returns`: as printed, the two types first differ"
+NONE = "fn low::pair::Pair::first: not proved"
+# what the prover says of an edit of `first`: (its lines, what bench/trials says)
+SAID = {
+    "an open goal": ([OPEN, NONE], f"refused: {OPEN}"),
+    "a proof that no longer fits": ([MISFIT, NONE], f"refused: {MISFIT}"),
+    "a name that is gone": ([GONE, NONE], f"REFUSED ONLY FOR A NAME that a proof has and the edit takes away: {GONE}"),
+    "a name that is gone, and an open goal": ([GONE, OPEN], f"refused: {OPEN}"),
+    "only that it isn't proved": ([NONE], f"refused: {NONE}"),
+    "another function": (["note: src/pair.rt:3:5: it is not proved that ..", "fn low::pair::alone: no proof"], None),
+    "a warning": (["src/pair.rt:10:5: warning: unused", "fn low::pair::Pair::first: proved"], None),
+}
+
+
+def trials(bench):
+    """What bench/trials reads of the prover's lines, and how it names functions to the prover."""
+    script = kit.module_of(f"{ROOT}/bench/trials")
+    bench.lay_out("crate", {"src/pair.rt": SOURCE})
+    folder = f"{bench.room}/crate"
+    trial = script.Trial.__new__(script.Trial)
+    trial.name, trial.pairs, trial.why = "low/first_is_second", [("src/pair.rt", old, "") for old in ("    x\n", "self.one", "true\n")], ""
+    trial.functions = trial.places(folder)
+    bench.compare("bench/trials: names of functions", [*script.paths_of(folder, trial)], ["pair::alone", "Pair::first", "PairDebug::fmt"])
+    for what, (lines, said) in SAID.items():
+        found, written = script.failed_in("\n".join(lines), folder).get(("src/pair.rt", 1)), io.StringIO()
+        with contextlib.redirect_stdout(written):
+            verdict = script.told(trial, found) if found else None
+        wanted = (f"trials: low/first_is_second: {said}\n", said.startswith("refused")) if said else ("", None)
+        bench.compare(f"bench/trials: {what}", (written.getvalue(), verdict), wanted)
+
+
 def check(bench):
+    trials(bench)
     for what, (log, last, status) in LOGS.items():
         found, *rest = run(bench, log + END)
         bench.compare(f".ci/run: {what}", (found if status else found.rpartition("\n")[2], *rest), (last, "", status))
