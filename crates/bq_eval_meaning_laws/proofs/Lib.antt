@@ -17,6 +17,9 @@ pub mod InOrder
 pub mod Passing
 pub mod Deciding
 pub mod Updating
+-- the laws of a comprehension's turns and of targets
+pub mod Collecting
+pub mod Assigning
 -- the laws of steps and of flow
 pub mod Stepping
 pub mod Flowing

@@ -4,6 +4,8 @@ pub mod Frames
 pub mod Order
 pub mod Arguments
 pub mod Decides
+pub mod Turns
+pub mod Targets
 pub mod Updates
 pub mod Steps
 pub mod Flows

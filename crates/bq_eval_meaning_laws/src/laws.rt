@@ -9,6 +9,8 @@ ghost use Rattle.bq_eval_meaning_laws.specs.Frames.{ExpressionsBindNothing, Func
 ghost use Rattle.bq_eval_meaning_laws.specs.Order.{DisplaysInOrder, DisplaysStop, PairsInOrder, DictDisplaysInOrder, MadePairsInOrder, ChainsInOrder, OperatorsInOrder, OperandsInOrder, ComparesInOrder, IndexedInOrder, SlicedInOrder, ConditionsFirst, RightSidesFirst, PlacesInOrder, IterablesFirst};
 ghost use Rattle.bq_eval_meaning_laws.specs.Arguments.{ArgumentsInOrder, ArgumentsStop, OperandsOfSuffixesFirst, MembersInOrder, SuffixesInOrder};
 ghost use Rattle.bq_eval_meaning_laws.specs.Decides.{LeftSidesDecide, BranchConditionsFirst, FiltersFirst, VariablesFirst, ClausesFirst};
+ghost use Rattle.bq_eval_meaning_laws.specs.Turns.{ElementsInOrder, ClausesNest};
+ghost use Rattle.bq_eval_meaning_laws.specs.Targets.{AssignmentsInOrder, VariablesInOrder};
 ghost use Rattle.bq_eval_meaning_laws.specs.Updates.{NamesAugmentedInOrder, PlacesAugmentedInOrder};
 ghost use Rattle.bq_eval_meaning_laws.specs.Steps.{ExpressionsStepFirst, SmallStatementsStepFirst, StatementsStepFirst, TurnsStepFirst, DefsStepFirst, NamesAreRead, LiteralsAreValues};
 ghost use Rattle.bq_eval_meaning_laws.specs.Flows.{SmallStatementsDo, LinesRunInOrder, BlocksRunInOrder, FilesRunInOrder, TurnsRunTheBody, LoopsTurn, LoopsEndNoOther, IfsRunABranch, ForsRunALoop, FunctionsGiveWhatTheyReturn, DefaultsFirst, FileLinesRunThere};
@@ -73,6 +75,21 @@ pub fn what_decides_is_evaluated_first<S, R, V>()
     ensures clauses { (m : Primitives S) (scoping : Scoping R V) → ClausesFirst m scoping }
     ensures variables { (m : Primitives S) (scoping : Scoping R V) → VariablesFirst m scoping }
     ensures filters { (m : Primitives S) (scoping : Scoping R V) → FiltersFirst m scoping }
+{}
+
+/// A `for` clause of a comprehension has a turn for each element of what it goes over, from the first on, and each turn begins with
+/// what the one before it leaves. A clause has all clauses after it inside, and the last one the element.
+pub fn comprehensions_take_elements_in_order<S, R, V>()
+    ensures elements { (m : Primitives S) (scoping : Scoping R V) → ElementsInOrder m scoping }
+    ensures clauses { (m : Primitives S) (scoping : Scoping R V) → ClausesNest m scoping }
+{}
+
+/// An assignment evaluates the operands of all targets `x[i]` in its target, in the order in which they are written, and then the
+/// parts of its target take their values from the left, as do the variables of a `for`. A tuple or list takes an iterable of as
+/// many elements as it has parts, which take one each.
+pub fn parts_of_targets_take_values_in_order<S, R, V>()
+    ensures assignments { (m : Primitives S) (scoping : Scoping R V) → AssignmentsInOrder m scoping }
+    ensures variables { (m : Primitives S) (scoping : Scoping R V) → VariablesInOrder m scoping }
 {}
 
 /// An augmented assignment reads what its target holds, and then evaluates its right side; the operands of a target `x[i]` are

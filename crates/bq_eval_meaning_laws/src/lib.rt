@@ -17,8 +17,9 @@ mod laws;
 
 pub use laws::{
     arguments_are_evaluated_from_left_to_right, break_and_continue_are_of_the_innermost_loop,
-    depth_changes_nothing, evaluation_is_from_left_to_right, expressions_bind_nothing,
-    functions_begin_with_parameters, functions_give_what_they_return,
-    names_and_literals_take_one_step, statements_run_until_one_ends_the_block, steps_come_first,
+    comprehensions_take_elements_in_order, depth_changes_nothing, evaluation_is_from_left_to_right,
+    expressions_bind_nothing, functions_begin_with_parameters, functions_give_what_they_return,
+    names_and_literals_take_one_step, parts_of_targets_take_values_in_order,
+    statements_run_until_one_ends_the_block, steps_come_first,
     targets_are_read_before_they_are_augmented, what_decides_is_evaluated_first,
 };
