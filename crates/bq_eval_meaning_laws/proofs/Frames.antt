@@ -22,7 +22,7 @@ use Rattle.bq_eval_language_spec.specs.Environment.{Scoping}
 use Rattle.bq_eval_meaning_laws.specs.Frames.{goes_into, ExpressionsBindNothing, FunctionsBeginWithParameters}
 
 -- runs that end well with a value of which this holds
-abbrev GivesOnly : {S A : Type 0} → (A → Type 0) → Run S A → Type 0
+abbrev pub GivesOnly : {S A : Type 0} → (A → Type 0) → Run S A → Type 0
 GivesOnly P (done x s) = P x
 GivesOnly P (stopped why) = Unit {0}
 
@@ -38,7 +38,7 @@ gives_any : {S A : Type 0} (r : Run S A) → GivesOnly Any r
 gives_any (done x s) = tt
 gives_any (stopped why) = tt
 
-is_given : {S A : Type 0} (P : A → Type 0) (r : Run S A) (x : A) (t : S) → GivesOnly P r → r ≡ done x t → P x
+pub is_given : {S A : Type 0} (P : A → Type 0) (r : Run S A) (x : A) (t : S) → GivesOnly P r → r ≡ done x t → P x
 is_given P r x t h e = subst (GivesOnly P) e h
 
 -- ---- expressions that are statements
@@ -57,51 +57,53 @@ expressions m scoping eval line x env s t r h =
 
 -- ---- a function's begin
 
-module _ {S : Type 0} (m : Primitives S) (slot : ℕ) where
-  abbrev IsFree : Filling Frame → Type 0
-  IsFree x = x.env slot ≡ None
+module _ {S : Type 0} (m : Primitives S) (slot : ℕ) (held : Option Datum) where
+  -- the slot holds that
+  abbrev pub IsHeld : Filling Frame → Type 0
+  IsHeld x = x.env slot ≡ held
 
-  still_free : (env : Frame) (own : Identifier) (v : Datum) → (slot == slot_of own.referent) ≡ false → env slot ≡ None → fill env (slot_of own.referent) v slot ≡ None
+  still_held : (env : Frame) (own : Identifier) (v : Datum) → (slot == slot_of own.referent) ≡ false → env slot ≡ held → fill env (slot_of own.referent) v slot ≡ held
   unfolding fill
-  still_free env own v apart free = ap (λ b. if b then Some v else env slot) apart ∙ free
+  still_held env own v apart free = ap (λ b. if b then Some v else env slot) apart ∙ free
 
-  value_free : (own : Identifier) (vs : List (Option Datum)) (x : Filling Frame) (s : S) → (slot == slot_of own.referent) ≡ false → IsFree x → GivesOnly IsFree (with_value m by_slots own vs x s)
-  value_free own [] x s apart free = tt
-  value_free own (None ∷ vs) x s apart free = tt
-  value_free own (Some v ∷ vs) x s apart free = still_free x.env own v apart free
+  value_held : (own : Identifier) (vs : List (Option Datum)) (x : Filling Frame) (s : S) → (slot == slot_of own.referent) ≡ false → IsHeld x → GivesOnly IsHeld (with_value m by_slots own vs x s)
+  value_held own [] x s apart free = tt
+  value_held own (None ∷ vs) x s apart free = tt
+  value_held own (Some v ∷ vs) x s apart free = still_held x.env own v apart free
 
-  default_free : (own : Identifier) (vs : List (Option Datum)) (ds : List Datum) (x : Filling Frame) (s : S) → (slot == slot_of own.referent) ≡ false → IsFree x → GivesOnly IsFree (with_default m by_slots own vs ds x s)
-  default_free own [] ds x s apart free = tt
-  default_free own (None ∷ vs) [] x s apart free = tt
-  default_free own (Some v ∷ vs) [] x s apart free = tt
-  default_free own (None ∷ vs) (d ∷ ds) x s apart free = still_free x.env own d apart free
-  default_free own (Some v ∷ vs) (d ∷ ds) x s apart free = still_free x.env own v apart free
+  default_held : (own : Identifier) (vs : List (Option Datum)) (ds : List Datum) (x : Filling Frame) (s : S) → (slot == slot_of own.referent) ≡ false → IsHeld x → GivesOnly IsHeld (with_default m by_slots own vs ds x s)
+  default_held own [] ds x s apart free = tt
+  default_held own (None ∷ vs) [] x s apart free = tt
+  default_held own (Some v ∷ vs) [] x s apart free = tt
+  default_held own (None ∷ vs) (d ∷ ds) x s apart free = still_held x.env own d apart free
+  default_held own (Some v ∷ vs) (d ∷ ds) x s apart free = still_held x.env own v apart free
 
-  by_free : (q : Formal) (x : Filling Frame) (s : S) → goes_into slot q ≡ false → IsFree x → GivesOnly IsFree (fill_by m by_slots q x s)
-  by_free (formal.Plain own) x s apart free = value_free own x.values x s apart free
-  by_free (formal.Default own) x s apart free = default_free own x.values x.defaults x s apart free
-  by_free formal.BareStar x s apart free = free
-  by_free (formal.Star own) x s apart free = still_free x.env own x.rest apart free
-  by_free (formal.StarStar own) x s apart free = still_free x.env own x.keywords apart free
+  by_held : (q : Formal) (x : Filling Frame) (s : S) → goes_into slot q ≡ false → IsHeld x → GivesOnly IsHeld (fill_by m by_slots q x s)
+  by_held (formal.Plain own) x s apart free = value_held own x.values x s apart free
+  by_held (formal.Default own) x s apart free = default_held own x.values x.defaults x s apart free
+  by_held formal.BareStar x s apart free = free
+  by_held (formal.Star own) x s apart free = still_held x.env own x.rest apart free
+  by_held (formal.StarStar own) x s apart free = still_held x.env own x.keywords apart free
 
-  one_free : (q : Formal) (x : Filling Frame) (s : S) → goes_into slot q ≡ false → IsFree x → GivesOnly IsFree (fill_parameter m by_slots q x s)
+  one_held : (q : Formal) (x : Filling Frame) (s : S) → goes_into slot q ≡ false → IsHeld x → GivesOnly IsHeld (fill_parameter m by_slots q x s)
   unfolding fill_parameter
-  one_free q x s apart free = by_free q x s apart free
+  one_held q x s apart free = by_held q x s apart free
 
-  all_free : (ps : List Formal) (x : Filling Frame) (s : S) → AllByRecursion (λ q. goes_into slot q ≡ false) ps → IsFree x → GivesOnly IsFree (fill_parameters m by_slots ps x s)
+  pub all_held : (ps : List Formal) (x : Filling Frame) (s : S) → AllByRecursion (λ q. goes_into slot q ≡ false) ps → IsHeld x → GivesOnly IsHeld (fill_parameters m by_slots ps x s)
   unfolding fill_parameters
-  all_free [] x s apart free = free
-  all_free (q ∷ ps) x s apart free = gives_after IsFree IsFree (fill_parameter m by_slots q x s) (fill_parameters m by_slots ps) (one_free q x s apart.0 free) (λ y t h. all_free ps y t apart.1 h)
+  all_held [] x s apart free = free
+  all_held (q ∷ ps) x s apart free = gives_after IsHeld IsHeld (fill_parameter m by_slots q x s) (fill_parameters m by_slots ps) (one_held q x s apart.0 free) (λ y t h. all_held ps y t apart.1 h)
 
+module _ {S : Type 0} (m : Primitives S) (slot : ℕ) where
   entry_free : (d : Function) (ds : List Datum) (p : Passed) (s : S) → AllByRecursion (λ q. goes_into slot q ≡ false) d.parameters → GivesOnly (λ (env : Frame). env slot ≡ None) (entry m by_slots d ds p s)
   unfolding entry empty
   entry_free d ds p s apart =
       let free : Frame → Type 0 = λ env. env slot ≡ None in
       gives_after Any free (given_by m (bind (signature d.parameters) p) s) _ (gives_any (given_by m (bind (signature d.parameters) p) s))
       (λ b t _. gives_after Any free (keywords_of m (has_star_star d.parameters) b.keywords t) _ (gives_any (keywords_of m (has_star_star d.parameters) b.keywords t))
-      (λ k u _. gives_after IsFree free
+      (λ k u _. gives_after (IsHeld m slot None) free
       (fill_parameters m by_slots d.parameters (record { values = b.values; defaults = ds; rest = tuple (data_of b.rest); keywords = k; env = empty }) u) (λ x. pure x.env)
-      (all_free d.parameters (record { values = b.values; defaults = ds; rest = tuple (data_of b.rest); keywords = k; env = empty }) u apart refl) (λ x w h. h)))
+      (all_held m slot None d.parameters (record { values = b.values; defaults = ds; rest = tuple (data_of b.rest); keywords = k; env = empty }) u apart refl) (λ x w h. h)))
 
 pub functions : {S : Type 0} (m : Primitives S) → FunctionsBeginWithParameters m
 functions m d defaults p s t env slot h apart = is_given (λ e. e slot ≡ None) (entry m by_slots d defaults p s) env t (entry_free m slot d defaults p s apart) h

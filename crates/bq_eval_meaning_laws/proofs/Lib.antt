@@ -23,3 +23,5 @@ pub mod Assigning
 -- the laws of steps and of flow
 pub mod Stepping
 pub mod Flowing
+-- the law of loaded names
+pub mod Loading

@@ -9,3 +9,4 @@ pub mod Targets
 pub mod Updates
 pub mod Steps
 pub mod Flows
+pub mod LoadedGlobals

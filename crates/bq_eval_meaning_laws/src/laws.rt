@@ -13,6 +13,7 @@ ghost use Rattle.bq_eval_meaning_laws.specs.Turns.{ElementsInOrder, ClausesNest}
 ghost use Rattle.bq_eval_meaning_laws.specs.Targets.{AssignmentsInOrder, VariablesInOrder};
 ghost use Rattle.bq_eval_meaning_laws.specs.Updates.{NamesAugmentedInOrder, PlacesAugmentedInOrder};
 ghost use Rattle.bq_eval_meaning_laws.specs.Steps.{ExpressionsStepFirst, SmallStatementsStepFirst, StatementsStepFirst, TurnsStepFirst, DefsStepFirst, NamesAreRead, LiteralsAreValues};
+ghost use Rattle.bq_eval_meaning_laws.specs.LoadedGlobals.{LoadedGlobalsBegin};
 ghost use Rattle.bq_eval_meaning_laws.specs.Flows.{SmallStatementsDo, LinesRunInOrder, BlocksRunInOrder, FilesRunInOrder, TurnsRunTheBody, LoopsTurn, LoopsEndNoOther, IfsRunABranch, ForsRunALoop, FunctionsGiveWhatTheyReturn, DefaultsFirst, FileLinesRunThere};
 
 /// Where a depth suffices for an expression, a statement or a target, a greater one changes nothing, whatever names mean. Of an
@@ -141,4 +142,10 @@ pub fn break_and_continue_are_of_the_innermost_loop<S, R, V>()
 pub fn functions_give_what_they_return<S, R, V>()
     ensures results { (m : Primitives S) (scoping : Scoping R V) → FunctionsGiveWhatTheyReturn m scoping }
     ensures defaults { (m : Primitives S) (scoping : Scoping R V) → DefaultsFirst m scoping }
+{}
+
+/// A name that a file loads and binds too is one of its globals, and begins with the loaded value; its other globals begin without
+/// a value.
+pub fn names_that_are_loaded_and_bound_begin_loaded<S>()
+    ensures { (m : Primitives S) → LoadedGlobalsBegin m }
 {}
