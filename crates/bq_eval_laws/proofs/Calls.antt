@@ -4,3 +4,5 @@ pub mod Entering
 pub mod Misfits
 -- arguments that are refused don't fit
 pub mod Refused
+-- what parameters begin with
+pub mod Parameters

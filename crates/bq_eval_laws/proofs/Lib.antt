@@ -2,3 +2,5 @@
 pub mod Evaluations
 -- calls
 pub mod Calls
+-- unpacking
+pub mod Parts

@@ -1,3 +1,4 @@
 pub mod Misfits
+pub mod Parameters
 pub mod Orders
 pub mod Entered

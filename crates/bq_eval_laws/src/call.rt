@@ -1,20 +1,23 @@
 //! What holds of calls. The functions do nothing: their contracts are the laws.
 
-ghost use Rattle.std.specs.Prelude.{◌≡◌, ℕ, Err};
+ghost use Rattle.std.specs.Prelude.{◌≡◌, ◌<◌, ℕ, Err, [], ◌∷◌, ◌++◌, length};
 ghost use Rattle.bq_base.specs.declared.fault.FaultKind.{FaultKind};
-ghost use Rattle.bq_base.specs.declared.fault.FaultKind.TheVariants.{Args};
+ghost use Rattle.bq_base.specs.declared.fault.FaultKind.TheVariants.{Args, Recursion};
 ghost use Rattle.bq_builtin_machine.specs.Action.{done, stopped};
 ghost use Rattle.bq_builtin_machine.specs.Args.{Passed};
 ghost use Rattle.bq_builtin_machine.specs.Binding.{bind};
 ghost use Rattle.bq_builtin_machine.specs.Calls as machine;
 ghost use Rattle.bq_builtin_machine.specs.Calls.{enter};
 ghost use Rattle.bq_builtin_machine.specs.Parameters.{SignatureView};
-ghost use Rattle.bq_builtin_machine.specs.State.{State, Stop};
+ghost use Rattle.bq_builtin_machine.specs.State.{State, Stop, stop_at};
 ghost use Rattle.bq_eval_language_spec.specs.Calls as meaning;
+ghost use Rattle.bq_eval_language_spec.specs.Environment.{Scoping};
+ghost use Rattle.bq_eval_meaning_spec.specs.Primitives.{Primitives};
 ghost use Rattle.bq_builtin_refusal_laws.specs.Refusals.{IsRefusedForFirst};
 ghost use Rattle.bq_eval_laws.specs.Calls.Entered.{FunctionCall, entered, activated, whole_call};
 ghost use Rattle.bq_eval_laws.specs.Calls.Misfits.{IsMisfit};
-ghost use Rattle.bq_eval_laws.specs.Calls.Orders.{entering};
+ghost use Rattle.bq_eval_laws.specs.Calls.Orders.{entering, IsActive};
+ghost use Rattle.bq_eval_laws.specs.Calls.Parameters.{ParametersBegin, KeywordsBegin, BareStarsEndThem};
 
 /// Arguments are refused, F52, exactly where they don't fit the parameters: one is left over and there is no `*`, a
 /// name is no parameter's and there is no `**`, a parameter has two arguments, a name is passed twice, or a required
@@ -22,6 +25,26 @@ ghost use Rattle.bq_eval_laws.specs.Calls.Orders.{entering};
 pub fn misfits_are_refused()
     ensures refused { (s : SignatureView) (p : Passed) → IsMisfit s p → bind s p ≡ Err Args }
     ensures only { (s : SignatureView) (p : Passed) (why : FaultKind) → bind s p ≡ Err why → IsMisfit s p }
+{}
+
+/// A parameter begins with its argument, the positional one at its place or the one of its name, else with its default; `*args` with
+/// a tuple of the positional arguments that are left, and `**kwargs` with a new dict of the named ones that are left.
+pub fn parameters_begin_with_their_arguments<S>()
+    ensures arguments { (m : Primitives S) → ParametersBegin m }
+    ensures keywords { (m : Primitives S) → KeywordsBegin m }
+{}
+
+/// A parameter after a bare `*` takes no positional argument: where there are more of them than parameters before it, the call is
+/// refused (F52).
+pub fn a_bare_star_ends_the_positional_parameters<S, R, V>()
+    ensures { (m : Primitives S) (scoping : Scoping R V) → BareStarsEndThem m scoping }
+{}
+
+/// A function is active, F50, where that function of that module is: one of another module at the same place is another function.
+/// Elsewhere it becomes active while fewer than 100 functions are.
+pub fn functions_are_active_by_module_and_place()
+    ensures active { (home place : ℕ) (s : State) → IsActive home place s → enter home place s ≡ stopped (stop_at Recursion s) }
+    ensures other { (home place : ℕ) (s : State) → ¬ IsActive home place s → length s.active < 100 → enter home place s ≡ done tt (record s { active = s.active ++ (home, place) ∷ [] }) }
 {}
 
 /// The check that a function isn't active (F50) comes before the check that fewer than 100 are (F51).

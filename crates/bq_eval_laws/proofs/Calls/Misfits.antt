@@ -228,7 +228,7 @@ before_taken s name v b c (by_parameter j at f) i w has = elim (same_place j i) 
 ]
 before_taken s name v b c (by_rest at takes k) i w has = inl (ap (λ (d : BoundView). slice_get d.values i) (sym k.after) ∙ has)
 
-came : (s : SignatureView) (named : Named) (b c : BoundView) → take_all_named s named b ≡ Ok c → (i : ℕ) (w : Datum) → slice_get c.values i ≡ Some (Some w) → (slice_get b.values i ≡ Some (Some w)) ⊎ Came s named i
+pub came : (s : SignatureView) (named : Named) (b c : BoundView) → take_all_named s named b ≡ Ok c → (i : ℕ) (w : Datum) → slice_get c.values i ≡ Some (Some w) → (slice_get b.values i ≡ Some (Some w)) ⊎ Came s named i
 unfolding take_all_named
 came s [] b c h i w has = inl (ap (λ (d : BoundView). slice_get d.values i) (same_bound b c h) ∙ has)
 came s (a ∷ named) b c h i w has =
@@ -270,10 +270,10 @@ required j (p ∷ ps) vs h (suc i) q at must =
 -- ---- a call
 
 -- the steps of a call whose arguments are bound
-record Steps (s : SignatureView) (p : Passed) (b : BoundView) : Type 0 where
-  fits : too_many s p.positional ≡ false
-  named : take_all_named s p.named (placed s p.positional) ≡ Ok b
-  whole : is_complete s.parameters b.values ≡ true
+pub record Steps (s : SignatureView) (p : Passed) (b : BoundView) : Type 0 where
+  pub fits : too_many s p.positional ≡ false
+  pub named : take_all_named s p.named (placed s p.positional) ≡ Ok b
+  pub whole : is_complete s.parameters b.values ≡ true
 
 whole_by : (t : Bool) (d b : BoundView) → cond t (Ok d) (Err Args) ≡ Ok b → (t ≡ true) × (d ≡ b)
 whole_by true d b h = (refl, same_bound d b h)
@@ -290,7 +290,7 @@ steps_by false s p b e h =
       whole = ap (λ (d : BoundView). is_complete s.parameters d.values) (sym w.1) ∙ w.0;
     }
 
-steps : (s : SignatureView) (p : Passed) (b : BoundView) → bind s p ≡ Ok b → Steps s p b
+pub steps : (s : SignatureView) (p : Passed) (b : BoundView) → bind s p ≡ Ok b → Steps s p b
 unfolding bind
 steps s p b h = steps_by (too_many s p.positional) s p b refl h
 

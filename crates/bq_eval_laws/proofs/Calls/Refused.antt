@@ -36,7 +36,7 @@ length_set [] i x = refl
 length_set (y ∷ ys) zero x = refl
 length_set (y ∷ ys) (suc i) x = ap suc (length_set ys i x)
 
-length_placed : (p n : ℕ) (xs : List Datum) → length (placed_values p n xs) ≡ n
+pub length_placed : (p n : ℕ) (xs : List Datum) → length (placed_values p n xs) ≡ n
 length_placed p zero xs = refl
 length_placed zero (suc n) xs = ap suc (length_placed zero n xs)
 length_placed (suc p) (suc n) [] = ap suc (length_placed p n [])
@@ -45,12 +45,12 @@ length_placed (suc p) (suc n) (x ∷ xs) = ap suc (length_placed p n xs)
 -- ---- places of parameters
 
 -- the parameter at a place that is found has the name
-record IsCalled (name : List ℕ) (ps : List ParameterView) (i : ℕ) : Type 0 where
-  parameter : ParameterView
-  there : slice_get ps i ≡ Some parameter
-  named : is_called name parameter ≡ true
+pub record IsCalled (name : List ℕ) (ps : List ParameterView) (i : ℕ) : Type 0 where
+  pub parameter : ParameterView
+  pub there : slice_get ps i ≡ Some parameter
+  pub named : is_called name parameter ≡ true
 
-called_from : (name : List ℕ) (j : ℕ) (ps : List ParameterView) (i : ℕ) → position_from (is_called name) j ps ≡ Some (j + i) → IsCalled name ps i
+pub called_from : (name : List ℕ) (j : ℕ) (ps : List ParameterView) (i : ℕ) → position_from (is_called name) j ps ≡ Some (j + i) → IsCalled name ps i
 called_from name j [] i h = absurd (cc)
 called_from name j (p ∷ ps) zero h = elim (by_bool (is_called name p)) [
   | inl t ↦ record { parameter = p; there = refl; named = t }
