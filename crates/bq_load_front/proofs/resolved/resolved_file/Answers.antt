@@ -11,7 +11,7 @@ use Rattle.bq_load_front.proofs.resolved.resolved_file.Goals as goal
 
 pub returns-in_err-tokens : goal.returns-in_err-tokens
 returns-in_err-tokens c =
-    let p = err_from_is_err_and c.from_residual-in_err-tokens.result c.from_residual-in_err-tokens.ensures.1 in
+    let p = err_from_is_err_and c.from_residual.result c.from_residual.ensures.1 in
     let text = c.args.text.now in
     rw p.1 (λ why same.
     no_tokens c.args.universe.now text why (bad_as kind_of_token c.in_err-tokens.field-0.0 p.0 p.2 (tokens_of text) (c.in_err-tokens.ensures.only (tokens_of text) (every_text text)) why same))
@@ -30,6 +30,6 @@ returns-in_err-resolve c =
     let found = lexed c.args.text.now c.lex.result c.lex.ensures.only in
     rw p.1 (λ why same. let bad = bad_as kind_of_name c.in_err-resolve.field-0.0 p.0 p.2 _ c.in_err-resolve.ensures why same in grind (arith, common_steps, found, bad))
 
-pub returns-in_ok-resolve : goal.returns-in_ok-resolve
+pub returns : goal.returns
 unfolding resolved_file
-returns-in_ok-resolve c = let found = lexed c.args.text.now c.lex.result c.lex.ensures.only in grind (arith, common_steps, found)
+returns c = let found = lexed c.args.text.now c.lex.result c.lex.ensures.only in grind (arith, common_steps, found)
