@@ -173,7 +173,7 @@ class Copy:
         match node.func:
             case ast.Name(id="select"):
                 self.select(node, wanted)
-            case ast.Name(id=name) if self.file.is_build and self.is_rule(name, False) and self.may_lose(node):
+            case ast.Name(id=name) if self.file.is_build and name not in self.file.globals and self.is_rule(name, False) and self.may_lose(node):
                 self.rule(node, name)
             case ast.Attribute(value=ast.Name(id="native"), attr=name) if self.is_rule(name, True):
                 self.rule(node, name)
