@@ -18,17 +18,19 @@ PAUSE = 2
 
 
 class Readings:
-    """`kept` is what each path said before: the identity of its file, and the parts of the `File`."""
+    """`kept` is what each path said before: the identity of its file, and the parts of the `File`. Another version of the scripts reads all
+    anew."""
 
-    def __init__(self, root, path=None):
-        self.root, self.path, self.kept, self.now = root, path, {}, {}
+    def __init__(self, root, path="", version=""):
+        self.root, self.path, self.version, self.kept, self.now = root, path, version, {}, {}
         self.next, self.is_shown = time.monotonic() + PAUSE, sys.stderr.isatty()
         if path:
             try:
                 with open_own(path, "rb") as file:
-                    self.kept = marshal.load(file)
+                    before, kept = marshal.load(file)
+                self.kept = kept if before == version else {}
             except (OSError, ValueError, EOFError, TypeError):
-                self.kept = {}
+                pass
 
     def all(self, paths):
         """The files of these paths."""
@@ -57,7 +59,7 @@ class Readings:
         if self.path and self.now != self.kept:
             new = f"{self.path}.new"
             try:
-                text = marshal.dumps(self.now)
+                text = marshal.dumps((self.version, self.now))
             except ValueError:
                 return
             if os.path.lexists(new):
