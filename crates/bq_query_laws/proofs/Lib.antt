@@ -2,3 +2,5 @@
 pub mod Queries
 -- labels that name no target
 pub mod DanglingLabels
+-- how kinds and values are written
+pub mod Texts

@@ -1,12 +1,13 @@
 //! What holds of the targets that queries stand for. The functions do nothing: their contracts are the laws.
 
 ghost use Rattle.std.specs.Prelude.{◌≡◌, ◌∷◌, ◌++◌, [], ℕ, List};
+ghost use Rattle.bq_label.specs.Label.{LabelParts};
 ghost use Rattle.bq_query_check.specs.Formula.{Formula, Step, chained, combined};
 ghost use Rattle.bq_query.specs.Stands.{Bound};
 ghost use Rattle.bq_query_target_graph.specs.Graph.{GraphParts};
 ghost use Rattle.bq_query_laws.specs.Queries.Edges.{FunctionsByEdges};
 ghost use Rattle.bq_query_laws.specs.Queries.Chosen.{Choose};
-ghost use Rattle.bq_query_laws.specs.Queries.Missing.{FailsForFirstMissing};
+ghost use Rattle.bq_query_laws.specs.Queries.Missing.{FailsForFirstMissing, MissingPackageFirst};
 ghost use Rattle.bq_query_laws.specs.Queries.Numbers.{NumbersAreDecimal};
 ghost use Rattle.bq_query_laws.specs.Queries.InText.{WordsInTextOrder};
 
@@ -26,6 +27,12 @@ pub fn functions_look_at_targets()
 /// A query fails for the first of its words that names what isn't there (Q5, Q6), and is answered if there is none.
 pub fn queries_fail_for_the_first_missing_word()
     ensures { (w : GraphParts) (x : Formula) → FailsForFirstMissing w x }
+{}
+
+/// A label is Q6 where its package isn't there, whatever targets there are; Q5 where its package is there, and no target has the label; and
+/// no fault where both are there.
+pub fn a_missing_package_is_named_before_a_missing_target()
+    ensures { (w : GraphParts) (l : LabelParts) → MissingPackageFirst w l }
 {}
 
 /// The target patterns of a query are read from words of its text, in the text's order.

@@ -1,14 +1,25 @@
 -- The fault of a query is that of the first of its patterns of which something is missing.
-use Rattle.std.proofs.Common.{◌≡◌, ◌∙◌, List, [], ◌∷◌, ◌++◌, Option, Some, None, refl, sym, ap}
+use Rattle.std.proofs.Common.{◌≡◌, ◌∙◌, Bool, true, false, List, [], ◌∷◌, ◌++◌, Option, Some, None, cond, if◌then◌else◌, is_some, inl, inr, refl, sym, ap, subst}
+use Rattle.std.specs.List.{Contains, find}
 use Rattle.std.specs.Option.{option_or}
+use Rattle.std.proofs.lemmas.Bool.{false≢true}
+use Rattle.std.proofs.lemmas.Slice.Eq.{bytes_eq-Decides}
+use Rattle.bq_label.specs.Label.{LabelParts, PackageParts, package_at, package_of, full_form}
+use Rattle.bq_label.proofs.Above.{equal_bytes, same_bytes}
+use Rattle.bq_label.proofs.Orders.{at_head, in_tail, head_or_tail}
+use Rattle.bq_label.proofs.Readings.{first_of_two, second_of_two}
+use Rattle.bq_label.proofs.Segments.{two_true}
+use Rattle.bq_package_target_laws.proofs.Writing.{none_in}
 use Rattle.bq_query_lex.specs.declared.query_error.QueryErr.{QueryErr}
+use Rattle.bq_query_lex.specs.declared.query_error.QueryErr.TheVariants as e
 use Rattle.bq_query_target_pattern.specs.declared.pattern.TargetPattern.{TargetPattern}
 use Rattle.bq_query_verdict.specs.Verdict.{Fault}
 use Rattle.bq_query_check.specs.Formula.{Formula, named, variable, let_in, combined, one, two}
 use Rattle.bq_query.specs.Faults.{fault_in}
-use Rattle.bq_query_target_sets.specs.Missing.{first_missing}
+use Rattle.bq_query_target_sets.specs.Missing.{first_missing, has_package}
+use Rattle.bq_query_target_sets.specs.Words.{has_label, is_package}
 use Rattle.bq_query_target_graph.specs.Graph.{GraphParts}
-use Rattle.bq_query_laws.specs.Queries.Missing.{target_patterns, missing_of, AreThere, FailsForFirstMissing}
+use Rattle.bq_query_laws.specs.Queries.Missing.{target_patterns, missing_of, AreThere, FailsForFirstMissing, MissingPackageFirst}
 
 none_some : {A : Type 0} (x : A) → None ≡ Some x → ⊥
 none_some x e = cc
@@ -83,3 +94,59 @@ fails_for_first w x = record {
   answers = λ e. all_there w (target_patterns x) (sym (of_patterns w x) ∙ e);
   all_there = λ h. of_patterns w x ∙ none_missing w (target_patterns x) h;
 }
+
+-- ---- a label
+
+module _ {X : Type 0} (test : X → Bool) where
+  finds_by : (b : Bool) (x : X) (rest : Option X) → b ≡ true → is_some (cond b (Some x) rest) ≡ true
+  finds_by true x rest h = refl
+  finds_by false x rest h = absurd (false≢true h)
+
+  finds_later : (b : Bool) (x : X) (rest : Option X) → is_some rest ≡ true → is_some (cond b (Some x) rest) ≡ true
+  finds_later true x rest h = refl
+  finds_later false x rest h = h
+
+  -- what passes a test is found
+  finds : (xs : List X) (z : X) → Contains xs z → test z ≡ true → is_some (find test xs) ≡ true
+  finds [] z c h = absurd (none_in z c)
+  finds (x ∷ xs) z c h = elim (head_or_tail x xs z c) [
+    | inl same ↦ finds_by (test x) x (find test xs) (ap test same ∙ h)
+    | inr later ↦ finds_later (test x) x (find test xs) (finds xs z later h)
+  ]
+
+  not_by : (b : Bool) (x : X) (rest : Option X) → (b ≡ true → ⊥) → is_some rest ≡ false → is_some (cond b (Some x) rest) ≡ false
+  not_by true x rest h e = absurd (h refl)
+  not_by false x rest h e = e
+
+  -- where nothing passes, nothing is
+  finds_not : (xs : List X) → ((z : X) → Contains xs z → test z ≡ true → ⊥) → is_some (find test xs) ≡ false
+  finds_not [] h = refl
+  finds_not (x ∷ xs) h = not_by (test x) x (find test xs) (h x (at_head x xs)) (finds_not xs (λ z c. h z (in_tail x xs z c)))
+
+same_package : (p q : PackageParts) → is_package p q ≡ true → q ≡ p
+same_package p q h =
+    let repo : q.repo ≡ p.repo = same_bytes q.repo p.repo (first_of_two _ _ h) in
+    let path : q.package ≡ p.package = same_bytes q.package p.package (second_of_two _ _ h) in
+    λ i. package_at (repo i) (path i)
+
+is_itself : (p : PackageParts) → is_package p p ≡ true
+is_itself p = two_true _ _ (equal_bytes p.repo p.repo refl) (equal_bytes p.package p.package refl)
+
+-- what is reported of a label by whether its package and a target of it are found
+abbrev reported : LabelParts → Bool → Bool → Fault
+reported l p t = if p then (if t then None else Some (e.NoSuchTarget (full_form l))) else Some (e.NoSuchPackage (full_form l))
+
+pub missing_package_first : (w : GraphParts) (l : LabelParts) → MissingPackageFirst w l
+missing_package_first w l =
+    let there : Bool = is_some (find (has_label l) w.targets) in
+    let owner : Contains w.packages (package_of l) → has_package w.packages (package_of l) ≡ true =
+    λ c. finds (is_package (package_of l)) w.packages (package_of l) c (is_itself (package_of l)) in
+    record {
+      no_package = λ n. ap (λ b. reported l b there) (finds_not (is_package (package_of l)) w.packages (λ q c h. n (subst (λ (r : PackageParts). Contains w.packages r) (same_package (package_of l) q h) c)));
+      no_target = λ c n.
+          ap (λ b. reported l b there) (owner c)
+          ∙ ap (λ b. reported l true b) (finds_not (has_label l) w.targets (λ t d h. n t d ((bytes_eq-Decides (full_form t.label) (full_form l)).0 h)));
+      both_there = λ c t d same.
+          ap (λ b. reported l b there) (owner c)
+          ∙ ap (λ b. reported l true b) (finds (has_label l) w.targets t d ((bytes_eq-Decides (full_form t.label) (full_form l)).1 same));
+    }

@@ -1,8 +1,12 @@
 -- Which fault a query ends with, in words of its target patterns in the order of the text.
-use Rattle.std.specs.Prelude.{◌≡◌, List, [], ◌∷◌, ◌++◌, Option, Some, None}
-use Rattle.std.specs.List.{AllByRecursion}
+use Rattle.std.specs.Prelude.{◌≡◌, ◌≢◌, List, [], ◌∷◌, ◌++◌, Option, Some, None}
+use Rattle.std.specs.List.{AllByRecursion, Contains}
+use Rattle.bq_label.specs.Label.{LabelParts, package_of, full_form}
 use Rattle.bq_query_lex.specs.declared.query_error.QueryErr.{QueryErr}
+use Rattle.bq_query_lex.specs.declared.query_error.QueryErr.TheVariants as e
 use Rattle.bq_query_target_pattern.specs.declared.pattern.TargetPattern.{TargetPattern}
+use Rattle.bq_query_target_pattern.specs.declared.pattern.TargetPattern.TheVariants as pattern
+use Rattle.bq_package_target.specs.declared.target.Target.{Target}
 use Rattle.bq_query_check.specs.Formula.{Formula, named, variable, let_in, combined, one, two}
 use Rattle.bq_query_target_sets.specs.Missing.{missing}
 use Rattle.bq_query.specs.Faults.{fault_in}
@@ -39,3 +43,14 @@ pub record FailsForFirstMissing (w : GraphParts) (x : Formula) : Type 0 where
   pub fails : (why : QueryErr) → IsFirstMissing w x why → fault_in w x ≡ Some why
   pub answers : fault_in w x ≡ None → AreThere w (target_patterns x)
   pub all_there : AreThere w (target_patterns x) → fault_in w x ≡ None
+
+-- ---- a label
+
+-- what is missing of a label: its package, before the target in it
+pub record MissingPackageFirst (w : GraphParts) (l : LabelParts) : Type 0 where
+  -- Q6, also where a target has the label
+  pub no_package : ¬ Contains w.packages (package_of l) → missing_of w (pattern.Target l) ≡ Some (e.NoSuchPackage (full_form l))
+  -- Q5
+  pub no_target : Contains w.packages (package_of l) → ((t : Target) → Contains w.targets t → full_form t.label ≢ full_form l)
+      → missing_of w (pattern.Target l) ≡ Some (e.NoSuchTarget (full_form l))
+  pub both_there : Contains w.packages (package_of l) → (t : Target) → Contains w.targets t → full_form t.label ≡ full_form l → missing_of w (pattern.Target l) ≡ None
