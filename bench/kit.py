@@ -1,15 +1,10 @@
-"""What the scripts in bench/ share: the crates of the repository, a room outside it where one of them is checked, what a run takes, and
-the page of figures."""
+"""What the scripts in bench/ share: the crates of the repository, a room outside it where one of them is checked, and what a run takes."""
 import collections
-import contextlib
-import datetime
 import functools
 import importlib.machinery
 import importlib.util
-import io
 import lzma
 import os
-import re
 import resource
 import shutil
 import subprocess
@@ -108,44 +103,3 @@ def timed(command, stdin=os.devnull, folder=None):
         if ended.returncode != 0:
             sys.exit(f"{command[0]}: status {ended.returncode}: {ended.stderr.decode()[-300:]}")
         return Run(clock, seconds, int(report.read()) * 1024, ended.stdout)
-
-
-def machine():
-    """What figures of today are measured on."""
-    with open("/proc/meminfo", encoding="ascii") as lines:
-        memory = int(re.search(r"MemTotal:\s*(\d+)", lines.read())[1]) / 2**20
-    load = os.getloadavg()[0]
-    return f"{datetime.date.today()}, {os.cpu_count()} processors, {memory:.0f} GB, load {load:.1f} before"
-
-
-def write_figures(name, text, path=f"{ROOT}/docs/MEASURED.md"):
-    """Puts figures, and what they were measured on, between the marks of that name on the page."""
-    with open(path, encoding="utf-8") as file:
-        page = file.read()
-    start, end = f"<!-- {name} -->\n", f"<!-- end of {name} -->\n"
-    if page.count(start) != 1 or page.count(end) != 1:
-        sys.exit(f"{path} has no place for {name}")
-    before, after = page.partition(start)[0], page.partition(end)[2]
-    with open(path, "w", encoding="utf-8") as file:
-        file.write(f"{before}{start}{text.strip()}\n{end}{after}")
-
-
-@contextmanager
-def figures(name, writes):
-    """Prints what is printed inside, and with `writes` puts it on the page too: the tables of Markdown, with the machine above them."""
-    if not writes:
-        yield
-        return
-    on, printed, shown = machine(), io.StringIO(), sys.stdout
-
-    class Both(io.TextIOBase):
-        def write(self, text):
-            shown.write(text)
-            return printed.write(text)
-
-        def flush(self):
-            shown.flush()
-
-    with contextlib.redirect_stdout(Both()):
-        yield
-    write_figures(name, f"Measured on: {on}.\n\n{printed.getvalue()}")
