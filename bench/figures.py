@@ -1,6 +1,7 @@
 """The figures that the scripts of bench/ measure. Every row is in a file of bench/results, named by day and script: tables with tabs between
 their cells, an empty line between tables, and what else was printed on lines that begin with #. docs/MEASURED.md has the rows that a reader
 needs: between two marks with the script's name, where it has such marks, else in its text."""
+import collections
 import contextlib
 import datetime
 import glob
@@ -157,15 +158,15 @@ def results_of(name):
 
 
 def measured(table):
-    """Each figure of a table: by its row's words and its column, the number."""
+    """Each figure of a table: by its row's words, and how often these were there before, and its column."""
     names = table[0]
     is_word = [place == 0 or name in SAYS_WHAT for place, name in enumerate(names)]
-    found = {}
+    found, seen = {}, collections.Counter()
     for row in table[1:]:
         what = ", ".join(cell for cell, word in zip(row, is_word) if word)
-        for name, cell, word in zip(names, row, is_word):
-            if not word and number(cell) is not None:
-                found.setdefault((what, name), number(cell))
+        seen[what] += 1
+        what += f" ({seen[what]})" if seen[what] > 1 else ""
+        found |= {(what, name): number(cell) for name, cell, word in zip(names, row, is_word) if not word and number(cell) is not None}
     return found
 
 
