@@ -2,6 +2,7 @@
 use Rattle.std.proofs.Common.{◌≡◌, ◌∙◌, ℕ, zero, suc, inl, inr, List, [], ◌∷◌, map, Option, Some, None, Result, Ok, Err, slice_get, option_map, Contains, refl, sym, ap, subst}
 use Rattle.std.specs.Prelude.{IfOk}
 use Rattle.bq_base.specs.declared.fault.FaultKind.{FaultKind}
+use Rattle.bq_base.specs.declared.fault.LoadFault.{LoadFault}
 use Rattle.bq_base.specs.declared.fault.Fault.{Fault}
 use Rattle.bq_parse_grammar.specs.declared.tree.FileKind.TheVariants as kinds
 use Rattle.bq_label.specs.Label.{LabelParts}
@@ -86,7 +87,7 @@ module _ (x : LoadingParts) (k : ℕ) (home : ℕ) where
         (package_left (kept_after (module_run x.names meaning (resolved_files x.modules) k file (map frozen_of modules) imported x.limit (kept_first x l)))) v
         (stay_callable x.names meaning calls_own (resolved_files x.modules) k file at (map frozen_of modules) imported (kept_first x l) x.limit home callable) is none
 
-    by_values : (l : LabelParts) (file : ResolvedFile) → slice_get (resolved_files x.modules) k ≡ Some (Some file) → (r : Result (List Datum) (Fault FaultKind)) → by_imports x k l file modules r ≡ Ok v → ForLoaders v.frozen
+    by_values : (l : LabelParts) (file : ResolvedFile) → slice_get (resolved_files x.modules) k ≡ Some (Some file) → (r : Result (List Datum) (Fault LoadFault)) → by_imports x k l file modules r ≡ Ok v → ForLoaders v.frozen
     by_values l file at (Err why) is = absurd (cc)
     by_values l file at (Ok imported) is = by_run l file at imported is
 
