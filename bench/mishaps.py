@@ -20,7 +20,7 @@ def too_many(bench):
     bench.lay_out("thousand", {f"{n}.txt": "" for n in range(1000)})
     for n in range(LINKS):
         os.symlink("../thousand", f"{bench.room}/many/l{n}")
-    said = "{} files, and bq reads 65,536: name directories in .bazelignore (most are in l0 (1,000), l1 (1,000), l2 (1,000))\n"
+    said = "{} files, and bq reads 65,536: name directories in .bazelignore (most are in l0 (1,000), l1 (1,000), l10 (1,000))\n"
     bench.compare("too many files", bench.run("bzlq //a", "many"), ("", f"bzlq: reading the workspace\nbzlq: {said.format('66,004')}", 2))
     bench.compare("a bundle of too many files", bench.run("tools/bundle many")[1:], (f"bundle: {said.format('66,003')}", 2))
     bench.run("git init -q; echo 'l?' > .gitignore", "many")

@@ -21,11 +21,13 @@ VALUE_METHODS = set("get items keys values format".split())
 class Workspace:
     """A tree's files, what each of those that count says, and where its labels lead."""
 
-    def __init__(self, root):
+    def __init__(self, root, read_all=None):
+        """`read_all` gives what the files of a list of paths say, else they are read here."""
         odd = []
         self.paths = set(files(root, odd))
         self.directories = {os.path.dirname(path) for path in self.paths if os.path.basename(path) in ("BUILD", "BUILD.bazel")}
-        self.files = {path: read(path, content(root, path)) for path in sorted(self.paths) if has_content(path) and path != SCHEMA}
+        paths = sorted(path for path in self.paths if has_content(path) and path != SCHEMA)
+        self.files = read_all(paths) if read_all else {path: read(path, content(root, path)) for path in paths}
         self.files = {path: file for path, file in self.files.items() if not self.is_hidden(path)}
         self.left_out = {}  # a package -> a file in it whose name bq can't have
         for path in sorted(odd):

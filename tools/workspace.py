@@ -10,6 +10,8 @@ SCHEMA = "rules.schema"
 MAX_DIRECTORIES = 1_048_576
 ROOT_FILES = ("MODULE.bazel", "REPO.bazel", "WORKSPACE", "WORKSPACE.bazel")
 VALID = re.compile(r"[ -9;-\[\]-~]+")
+# a part that is empty, `.` or `..`
+ODD = re.compile(r"(?:^|/)\.{0,2}(?:/|$)")
 
 
 class Refused(Exception):
@@ -37,7 +39,7 @@ def likely_root(paths):
 
 def is_path(path):
     """Whether a file of a workspace may have this path."""
-    return bool(VALID.fullmatch(path)) and not any(part in ("", ".", "..") for part in path.split("/"))
+    return bool(VALID.fullmatch(path)) and not ODD.search(path)
 
 
 def has_content(path):
@@ -67,6 +69,8 @@ def ignored_in(text):
 
 
 def name_of(entry):
+    if entry.isascii():
+        return entry
     try:
         return os.fsencode(entry).decode("utf-8")
     except UnicodeDecodeError as error:
@@ -128,18 +132,21 @@ def files(root, odd=None):
         if left < 0:
             raise Unreadable(f"{root} has more than {MAX_DIRECTORIES:,} directories, links followed")
         try:
-            entries = os.listdir(os.path.join(root, directory) or ".")
+            with os.scandir(os.path.join(root, directory) or ".") as entries:
+                listed = sorted(entries, key=lambda it: it.name)
         except OSError as error:
             raise Unreadable(f"{directory or root}: {error.strerror}") from error
-        for entry in sorted(entries):
-            name = name_of(entry)
+        for entry in listed:
+            name = name_of(entry.name)
             path = f"{directory}/{name}" if directory else name
-            place = os.path.join(root, path)
-            if is_left_out(path, name, lambda: os.path.islink(place)):
+            if is_left_out(path, name, entry.is_symlink):
                 if odd is not None and not is_path(path):
                     odd.append(path)
                 continue
-            found = what_is(place, path)
+            if entry.is_file(follow_symlinks=False):
+                yield path
+                continue
+            found = what_is(entry.path, path)
             if found is None:
                 continue
             identity = (found.st_dev, found.st_ino)

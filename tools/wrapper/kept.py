@@ -16,6 +16,7 @@ from workspace import SCHEMA, Refused
 from wrapper.cache import cache, is_at, locked, open_own, own
 from wrapper.fresh import print_of
 from wrapper.overlay import TOOLS, make_bundle, make_overlay
+from wrapper.readings import Readings
 
 # after how many seconds a folder goes in which nothing was ever made
 EMPTY = 24 * 3600
@@ -27,7 +28,7 @@ def cache_of(root):
 
 def version():
     """What the scripts are that make an overlay: another version makes it anew."""
-    found = hashlib.sha256()
+    found = hashlib.sha256(sys.version.encode())
     for name in sorted(os.listdir(TOOLS)):
         if name.endswith(".py") or name in ("stubs", "bundle"):
             entry = os.stat(os.path.join(TOOLS, name))
@@ -115,7 +116,7 @@ class Kept:
             said = make_bundle([self.root, f"{new}/overlay"], f"{new}/bundle")
         else:
             print("bzlq: reading the workspace", file=sys.stderr, flush=True)
-            warnings, said = make_overlay(self.root, self.program, new)
+            warnings, said = make_overlay(self.root, self.program, new, Readings(self.root, self.path("readings"), now["version"]))
         with open(f"{new}/state", "w", encoding="utf-8") as file:
             json.dump({**now, "bundle": os.path.getsize(f"{new}/bundle"), "warnings": warnings, "said": said}, file)
         # (the state goes first and comes last: a run that is ended in between leaves none, and the next one makes all anew)

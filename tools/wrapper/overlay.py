@@ -1,6 +1,7 @@
 """The overlay of a workspace and the bundle of both: takes the root, which is a directory or a bundle, and a new folder, and has tools/stubs
 write the one into it, and writes the other."""
 import contextlib
+import gc
 import io
 import os
 import re
@@ -19,11 +20,21 @@ MANUAL = b'attr(tags, "[\\[ ]manual[,\\]]", //...)\n'
 TOOLS = os.path.dirname(os.path.dirname(os.path.realpath(__file__)))
 
 
-def make_overlay(root, program, new):
+def make_overlay(root, program, new, readings=None):
     """Writes `overlay` and `bundle`, with a second round where macros name targets of repositories that aren't there; gives what is to be said of
-    the one and of the other."""
+    the one and of the other. `readings` has what the files said before."""
+    gc.disable()  # (what is made is kept until the end)
+    try:
+        return made_overlay(root, program, new, readings)
+    finally:
+        gc.enable()
+
+
+def made_overlay(root, program, new, readings):
     stubs = module_of("stubs")
-    facts = stubs.Facts(stubs.Workspace(root))
+    facts = stubs.Facts(stubs.Workspace(root, readings and readings.all))
+    if readings:
+        readings.keep()
     warnings = write_overlay(stubs, root, facts, new, b"")
     said = make_bundle([root, f"{new}/overlay"], f"{new}/bundle")
     faults, suites = found_in(program, f"{new}/bundle", facts), facts.suites()
