@@ -184,7 +184,20 @@ def guessed(bench):
     told(bench, "a file in an attribute of a guessed type", changed(bench, "guessed", GUESSED, "a/a.txt", "x"), "//a:t\n", ["1 affected\n"], 0)
 
 
+REPLACED = {
+    "WORKSPACE": "", "a/m.bzl": 'def m(name, srcs):\n    f = lambda: 0\n    native.filegroup(name = name, srcs = srcs)\n    native.filegroup(name = name + "_more")\n',
+    "a/BUILD": 'load(":m.bzl", "m")\nm(name = "x", srcs = ["x.c"])\nfilegroup(name = "y", srcs = [":x_more"])\n', "b/BUILD": 'filegroup(name = "b", srcs = ["//a:x_more"])\n',
+}
+
+
+def replaced(bench):
+    """Further targets of a macro of the tree that one target stands for."""
+    bench.lay_out("ws", REPLACED)
+    told(bench, "a further target of a macro that is replaced", bench.run("bzlq --output label_kind 'deps(//b)'", "ws"),
+         "m rule //a:x\nsource file //a:x.c\nfilegroup rule //a:x_more\nfilegroup rule //b:b\n", ["one target for a macro 1"], 3)
+
+
 def check(bench):
     """Tries all of it."""
-    for part in (tests, settings, further, names, unreadable, losses, guessed, packages, defaults, mistakes, rows):
+    for part in (tests, settings, further, names, unreadable, losses, guessed, packages, defaults, mistakes, rows, replaced):
         part(bench)

@@ -41,7 +41,7 @@ _END = "=end="
 def _select(branches, nothing):
     if type(branches) != "dict":
         return branches if type(branches) == type(nothing) else nothing
-    given = [value for value in branches.values() if value != None]
+    given = [list(value) if type(value) == "tuple" and value[:1] != (_MARK,) else value for value in branches.values() if value != None]
     conditions = [part for key in branches.keys() for part in (key if type(key) == "tuple" else [key]) if type(part) == "string" and part != _DEFAULT]
     kinds = [type(value) for value in given]
     if "list" in kinds or not given and nothing != None:
