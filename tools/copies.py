@@ -255,6 +255,13 @@ class Copy:
                 if keyword.value.value not in (1, True):
                     self.replace(*self.span(keyword.value), "", "1")
                     self.counts["directories in a glob"] += 1
+            elif self.is_choice(keyword):
+                start, end = self.span(keyword.value)
+                inner, after = self.span(keyword.value.args[-1])
+                self.replace(start, inner, "(")
+                self.replace(after, end, "", ")")
+                self.visit(keyword.value.args[-1])
+                self.counts["a choice"] += 1
             elif keyword.arg == "exclude" and any(isinstance(it, ast.Constant) and isinstance(it.value, str) and not is_pattern(it.value) for it in ast.walk(keyword.value)):
                 start, end = self.span(keyword.value)
                 self.uses_given["bzlq_patterns"] = "bzlq_patterns"
@@ -268,6 +275,14 @@ class Copy:
                 if name in self.empty_texts - self.locals and BY_NAME.get(keyword.arg) == "label":
                     self.around(keyword.value, "(", " or None)")
                 self.visit(keyword.value, self.takes(keyword.arg))
+
+    def is_choice(self, keyword):
+        """Whether one value is wanted, and a function that isn't there is to choose it: the last that it is given stands for it, as `if_cuda(1, 0)`."""
+        match keyword.value:
+            case ast.Call(func=ast.Name(id=name), args=[_, *_], keywords=[]) if name not in self.locals and name in self.file.globals:
+                return self.takes(keyword.arg) == "text" and bool(self.facts.lost_value(self.file, name))
+            case _:
+                return False
 
     def around(self, node, before, after):
         """Puts texts around a node that may be an empty text, which is no label."""
