@@ -262,7 +262,7 @@ class Copy:
                 self.replace(after, end, "", ")")
                 self.visit(keyword.value.args[-1])
                 self.counts["a choice"] += 1
-            elif keyword.arg == "exclude" and any(isinstance(it, ast.Constant) and isinstance(it.value, str) and not is_pattern(it.value) for it in ast.walk(keyword.value)):
+            elif keyword.arg == "exclude" and not all_patterns(keyword.value):
                 start, end = self.span(keyword.value)
                 self.uses_given["bzlq_patterns"] = "bzlq_patterns"
                 self.parts += [(start, start, b"bzlq_patterns("), (end, end, b")")]
@@ -391,8 +391,13 @@ def has_unknown_values(facts, file):
     return bool(facts.workspace.left_out_of(file)) or any(not facts.is_plain_global(file, name) for name in names)
 
 
+def all_patterns(node):
+    """Whether an expression shows patterns alone that `glob` takes; Bazel takes any where it excludes."""
+    return not any(isinstance(it, ast.Name | ast.Attribute) or isinstance(it, ast.Constant) and isinstance(it.value, str) and not is_pattern(it.value)
+                   for it in ast.walk(node))
+
+
 def is_pattern(text):
-    """Whether `glob` takes a pattern; Bazel takes any where it excludes."""
     return not any(part in ("", ".", "..") or "**" in part and part != "**" for part in text.split("/"))
 
 
