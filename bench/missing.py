@@ -79,6 +79,9 @@ def names(bench):
     bench.lay_out("ws", {"WORKSPACE": "", **NAMES})
     line = "bzlq: 1 of 2 targets of this answer is an approximation: files left out 1\n"
     told(bench, "a file with such a name", bench.run("bzlq 'deps(//c:g)'", "ws"), "//c:a b.txt\n//c:g\n", [line], 3)
+    with open(f"{bench.room}/ws/c/ö.txt", "w", encoding="utf-8"):
+        bench.run("rm c/ü*.txt c/日*.txt", "ws")
+    told(bench, "a file with such a name, that came", bench.run("bzlq --facts //c:g | grep -c 'files: c/ö.txt'", "ws"), "1\n", [""], 0)
     told(bench, "what has no such file", bench.run("bzlq 'deps(//c:h)'", "ws"), "//c:a b.txt\n//c:h\n", [""], 0)
     found = changed(bench, "names", NAMES, "c/ünï.txt", "x")
     told(bench, "a change of such a file", found, "", ["affected: targets may be missing: c/ünï.txt: bq takes no file of such a name\n"], 3)
