@@ -113,7 +113,7 @@ LOSSES = {
     "dict, with labels": ({"a/BUILD": 'config_setting(name = "t", flag_values = {":f": "arm"})\nfilegroup(name = "f")\n'}, "deps(//a:t)", "//a:f\n//a:t\n", "dict left out 1", 0),
     "select": ({"a/BUILD": 'alias(name = "t", actual = select({":c": ":x", "//conditions:default": ":y"}))\nfilegroup(name = "c")\nfilegroup(name = "x")\nfilegroup(name = "y")\n'},
                "deps(//a:t)", "//a:c\n//a:t\n//a:x\n//a:y\n", "one branch of a select 1", 0),
-    "test_suite": ({"a/BUILD": 'test_suite(name = "t")\n'}, "//a:t", "//a:t\n", "edges by a type that was guessed 1", 3),
+    "test_suite": ({"a/BUILD": 'load(":m.bzl", "m")\nm("t")\n', "a/m.bzl": "def m(name):\n    native.test_suite(name = name)\n"}, "//a:t", "//a:t\n", "edges by a type that was guessed 1", 3),
 }
 
 
