@@ -79,6 +79,9 @@ def names(bench):
     bench.lay_out("ws", {"WORKSPACE": "", **NAMES})
     line = "bzlq: 1 of 2 targets of this answer is an approximation: files left out 1\n"
     told(bench, "a file with such a name", bench.run("bzlq 'deps(//c:g)'", "ws"), "//c:a b.txt\n//c:g\n", [line], 3)
+    with open(f"{bench.room}/ws/c/ö.txt", "w", encoding="utf-8"):
+        bench.run("rm c/ü*.txt c/日*.txt", "ws")
+    told(bench, "a file with such a name, that came", bench.run("bzlq --facts //c:g | grep -c 'files: c/ö.txt'", "ws"), "1\n", [""], 0)
     told(bench, "what has no such file", bench.run("bzlq 'deps(//c:h)'", "ws"), "//c:a b.txt\n//c:h\n", [""], 0)
     found = changed(bench, "names", NAMES, "c/ünï.txt", "x")
     told(bench, "a change of such a file", found, "", ["affected: targets may be missing: c/ünï.txt: bq takes no file of such a name\n"], 3)
@@ -110,7 +113,7 @@ LOSSES = {
     "dict, with labels": ({"a/BUILD": 'config_setting(name = "t", flag_values = {":f": "arm"})\nfilegroup(name = "f")\n'}, "deps(//a:t)", "//a:f\n//a:t\n", "dict left out 1", 0),
     "select": ({"a/BUILD": 'alias(name = "t", actual = select({":c": ":x", "//conditions:default": ":y"}))\nfilegroup(name = "c")\nfilegroup(name = "x")\nfilegroup(name = "y")\n'},
                "deps(//a:t)", "//a:c\n//a:t\n//a:x\n//a:y\n", "one branch of a select 1", 0),
-    "test_suite": ({"a/BUILD": 'test_suite(name = "t")\n'}, "//a:t", "//a:t\n", "edges by a type that was guessed 1", 3),
+    "test_suite": ({"a/BUILD": 'load(":m.bzl", "m")\nm("t")\n', "a/m.bzl": "def m(name):\n    native.test_suite(name = name)\n"}, "//a:t", "//a:t\n", "edges by a type that was guessed 1", 3),
 }
 
 
@@ -184,7 +187,20 @@ def guessed(bench):
     told(bench, "a file in an attribute of a guessed type", changed(bench, "guessed", GUESSED, "a/a.txt", "x"), "//a:t\n", ["1 affected\n"], 0)
 
 
+REPLACED = {
+    "WORKSPACE": "", "a/m.bzl": 'def m(name, srcs):\n    f = lambda: 0\n    native.filegroup(name = name, srcs = srcs)\n    native.filegroup(name = name + "_more")\n',
+    "a/BUILD": 'load(":m.bzl", "m")\nm(name = "x", srcs = ["x.c"])\nfilegroup(name = "y", srcs = [":x_more"])\n', "b/BUILD": 'filegroup(name = "b", srcs = ["//a:x_more"])\n',
+}
+
+
+def replaced(bench):
+    """Further targets of a macro of the tree that one target stands for."""
+    bench.lay_out("ws", REPLACED)
+    told(bench, "a further target of a macro that is replaced", bench.run("bzlq --output label_kind 'deps(//b)'", "ws"),
+         "m rule //a:x\nsource file //a:x.c\nfilegroup rule //a:x_more\nfilegroup rule //b:b\n", ["one target for a macro 1"], 3)
+
+
 def check(bench):
     """Tries all of it."""
-    for part in (tests, settings, further, names, unreadable, losses, guessed, packages, defaults, mistakes, rows):
+    for part in (tests, settings, further, names, unreadable, losses, guessed, packages, defaults, mistakes, rows, replaced):
         part(bench)

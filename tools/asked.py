@@ -8,10 +8,10 @@ import os
 import re
 import sys
 
-import lost
 from bq import facts, program_of
 from hint import labels
 from hint.near import did_you_mean
+from lost import of_targets
 from wrapper import words as relative
 from wrapper.kept import Kept
 from wrapper.overlay import MAX_STEPS
@@ -54,7 +54,7 @@ class Asked:
             bundle, self.warnings = self.kept.open()
             with bundle:
                 found = facts(bundle, query, program=self.program, max_steps=MAX_STEPS)
-        self.faults, self.lost = found.faults, lost.of_targets(query, found.targets.values())
+        self.faults, self.lost = found.faults, of_targets(query, found.targets.values())
         return found
 
     def sources(self):

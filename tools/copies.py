@@ -251,23 +251,42 @@ class Copy:
         for part in call.args:
             self.visit(part)
         for keyword in call.keywords:
-            if keyword.arg == "exclude_directories" and isinstance(keyword.value, ast.Constant):
-                if keyword.value.value not in (1, True):
-                    self.replace(*self.span(keyword.value), "", "1")
-                    self.counts["directories in a glob"] += 1
-            elif keyword.arg == "exclude" and any(isinstance(it, ast.Constant) and isinstance(it.value, str) and not is_pattern(it.value) for it in ast.walk(keyword.value)):
-                start, end = self.span(keyword.value)
-                self.uses_given["bzlq_patterns"] = "bzlq_patterns"
-                self.parts += [(start, start, b"bzlq_patterns("), (end, end, b")")]
-                self.counts["a pattern"] += 1
-            elif keyword.arg in TRISTATES and isinstance(keyword.value, ast.Constant) and isinstance(keyword.value.value, bool):
-                self.replace(*self.span(keyword.value), "", str(int(keyword.value.value)))
-                self.counts["a bool"] += 1
-            else:
-                name = keyword.value.id if isinstance(keyword.value, ast.Name) else ""
-                if name in self.empty_texts - self.locals and BY_NAME.get(keyword.arg) == "label":
-                    self.around(keyword.value, "(", " or None)")
-                self.visit(keyword.value, self.takes(keyword.arg))
+            self.argument(keyword, keyword.value)
+
+    def argument(self, keyword, value):
+        """A keyword argument; what Bazel takes there and bq doesn't has something else in its place."""
+        start, end = self.span(value)
+        if keyword.arg == "exclude_directories" and isinstance(value, ast.Constant):
+            if value.value not in (1, True):
+                self.put_instead(value, "1", "directories in a glob")
+        elif keyword.arg in TRISTATES and isinstance(value, ast.Constant) and isinstance(value.value, bool):
+            self.put_instead(value, str(int(value.value)), "a bool")
+        elif keyword.arg == "exclude" and not all_patterns(value):
+            self.uses_given["bzlq_patterns"] = "bzlq_patterns"
+            self.parts += [(start, start, b"bzlq_patterns("), (end, end, b")")]
+            self.counts["a pattern"] += 1
+        elif self.is_choice(keyword):
+            inner, after = self.span(value.args[-1])
+            self.replace(start, inner, "(")
+            self.replace(after, end, "", ")")
+            self.visit(value.args[-1])
+            self.counts["a choice"] += 1
+        else:
+            if isinstance(value, ast.Name) and value.id in self.empty_texts - self.locals and BY_NAME.get(keyword.arg) == "label":
+                self.around(value, "(", " or None)")
+            self.visit(value, self.takes(keyword.arg))
+
+    def put_instead(self, node, text, what):
+        self.replace(*self.span(node), "", text)
+        self.counts[what] += 1
+
+    def is_choice(self, keyword):
+        """Whether one value is wanted, and a function that isn't there is to choose it: the last that it is given stands for it, as `if_cuda(1, 0)`."""
+        match keyword.value:
+            case ast.Call(func=ast.Name(id=name), args=[_, *_], keywords=[]) if name not in self.locals and name in self.file.globals:
+                return self.takes(keyword.arg) == "text" and bool(self.facts.lost_value(self.file, name))
+            case _:
+                return False
 
     def around(self, node, before, after):
         """Puts texts around a node that may be an empty text, which is no label."""
@@ -376,8 +395,13 @@ def has_unknown_values(facts, file):
     return bool(facts.workspace.left_out_of(file)) or any(not facts.is_plain_global(file, name) for name in names)
 
 
+def all_patterns(node):
+    """Whether an expression shows patterns alone that `glob` takes; Bazel takes any where it excludes."""
+    return not any(isinstance(it, ast.Name | ast.Attribute) or isinstance(it, ast.Constant) and isinstance(it.value, str) and not is_pattern(it.value)
+                   for it in ast.walk(node))
+
+
 def is_pattern(text):
-    """Whether `glob` takes a pattern; Bazel takes any where it excludes."""
     return not any(part in ("", ".", "..") or "**" in part and part != "**" for part in text.split("/"))
 
 

@@ -5,6 +5,7 @@ import re
 from collections import Counter, defaultdict
 
 from definitions import definition
+from further import text_of
 from reading import BUILD_FUNCTIONS, BUILT_INS, LEFT_OUT, read
 from replacements import NATIVE_VALUES
 from rule_sets import BAZEL, TYPES
@@ -125,6 +126,7 @@ class Facts:
         self.replaced = defaultdict(list)  # a path -> those statements
         self.everywhere = defaultdict(Counter)  # keyword -> kinds
         self.copies = None  # once they are made
+        self.further = {}  # what else macros seem to declare, once it is known (further.py)
         self.tests_in = {}  # the tests of packages that have a `test_suite` without `tests`, once they are known
         self.reached = self.files_reached()
         self.find_stand_ins()
@@ -394,7 +396,7 @@ class Facts:
             return f"def {name}(name, visibility = None, **given): {function}(name = name, visibility = visibility, **dict({defaults}, **given))"
         if file.size > MAX_SIZE and file.kinds.get(name) == "dict":
             return f"{name} = {{}}"
-        return definition("", name, self.stub(place, name), self.lost_of(place, name))
+        return definition("", name, self.stub(place, name), self.lost_of(place, name)) + text_of(self.further.get((place, name)))
 
     def makes_targets(self, file, name):
         """Whether a name stands for a macro or rule that isn't there."""

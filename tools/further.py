@@ -1,4 +1,4 @@
-"""Further targets of macros that aren't there: labels that lead to nothing, and begin with the name of a call of such a macro in their package, as
+"""Further targets of macros that aren't there, or that one target stands for: labels that lead to nothing, and begin with the name of a call of such a macro in their package, as
 `//a:x-and-hashes` after `release_filegroup(name = "x")`. The stub of the macro declares them as groups that depend on the target of the call."""
 import re
 from collections import defaultdict
@@ -18,7 +18,8 @@ def phantoms(listed, paths):
             rules[package].add(name)
         else:
             files.append((package, name))
-    odd = [(package, name) for package, name in files if owner(name, rules[package], b"") and (package + b"/" + name).lstrip(b"/").decode("utf-8", "replace") not in paths]
+    # (what follows a dot is mostly the ending of a file that a call is given)
+    odd = [(package, name) for package, name in files if (of := owner(name, rules[package], b"")) and name[len(of):][:1] != b"." and (package + b"/" + name).lstrip(b"/").decode("utf-8", "replace") not in paths]
     return b"".join(b"//%s:BUILD:0: F79 DanglingLabel //%s:%s\n" % (package, package, name) for package, name in odd)
 
 
@@ -28,7 +29,7 @@ def owner(name, names, nothing=""):
 
 
 def further_targets(facts, faults):
-    """Of each macro that isn't there, by its place and name: (package and name of a call, further name) for the labels of these fault lines."""
+    """Of each such macro, by its place and name: (package and name of a call, further name) for the labels of these fault lines."""
     dangling, found = defaultdict(set), defaultdict(list)
     for package, name in DANGLING.findall(faults):
         dangling[package.decode("ascii", "replace")].add(name.decode("ascii", "replace"))
@@ -38,16 +39,14 @@ def further_targets(facts, faults):
         for name in sorted(names):
             of = owner(name, calls)
             origin = facts.origin(file, calls[of]) if of else None
-            if origin and origin[0] == "stub" and origin[1][0] and facts.stub(*origin[1:]).makes_targets and is_path(name):
+            if origin and origin[0] == "stub" and facts.stub(*origin[1:]).makes_targets and is_path(name):
                 found[origin[1:]].append((f"{package}:{of}", name))
     return found
 
 
-def lines_of(found):
-    """The lines of a macro that declare them."""
-    if not found:
-        return ""
+def text_of(found):
+    """What a macro says after its own call to declare them."""
     table = defaultdict(list)
-    for call, name in found:
+    for call, name in found or ():
         table[call].append(name)
-    return f"    for more in {dict(table)!r}.get(native.package_name() + \":\" + name, []):\n        native.filegroup(name = more, srcs = [name])\n"
+    return f"; [native.filegroup(name = more, srcs = [name]) for more in {dict(table)!r}.get(native.package_name() + \":\" + name, [])]" if found else ""

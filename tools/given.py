@@ -41,7 +41,7 @@ _END = "=end="
 def _select(branches, nothing):
     if type(branches) != "dict":
         return branches if type(branches) == type(nothing) else nothing
-    given = [value for value in branches.values() if value != None]
+    given = [list(value) if type(value) == "tuple" and value[:1] != (_MARK,) else value for value in branches.values() if value != None]
     conditions = [part for key in branches.keys() for part in (key if type(key) == "tuple" else [key]) if type(part) == "string" and part != _DEFAULT]
     kinds = [type(value) for value in given]
     if "list" in kinds or not given and nothing != None:
@@ -142,9 +142,14 @@ def _test(given):
 '''
 
 
-def given_files(schema, tests_in, mark):
-    """The files of the repository `@bzlq`, by their paths. `tests_in` has the tests of packages."""
-    tables = {**schema.tables(), "_TEXTS": dict.fromkeys(TEXTS), "_TESTS_IN": tests_in}
+# a line of an overlay that depends on which files there are
+BY_NAMES = "# Which labels are further targets depends on which files there are.\n"
+
+
+def given_files(schema, facts, mark):
+    """The files of the repository `@bzlq`, by their paths."""
+    mark += BY_NAMES if facts.further else ""
+    tables = {**schema.tables(), "_TEXTS": dict.fromkeys(TEXTS), "_TESTS_IN": facts.tests_in}
     lines = [f"{name} = {json.dumps(value).replace('null', 'None')}\n" for name, value in tables.items()]
     functions = [f"\ndef {PREFIX}{rule}(*args, **given):\n    native.{rule}(*args, **bzlq_given(\"{rule}\", [], given))\n" for rule in schema.types if rule in BAZEL]
     return {f"{DIRECTORY}/BUILD": mark, f"{DIRECTORY}/given.bzl": mark + "".join(lines) + TEXT + "".join(functions)}

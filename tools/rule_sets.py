@@ -2,7 +2,7 @@
 
 Attributes with dicts aren't here: no type of a schema takes them (guesses.py). What Bazel 4.2.3 says of its own rules is in bazel_rules.py.
 """
-import bazel_rules
+from bazel_rules import TABLE as TABLE_OF_BAZEL
 
 TABLE = """
 # Bazel's own rules and rules_cc
@@ -202,7 +202,7 @@ def types_of(table):
     return found
 
 
-OF_BAZEL = types_of(bazel_rules.TABLE)
+OF_BAZEL = types_of(TABLE_OF_BAZEL)
 TYPES = {rule: {name: kind for name, kind in {**types, **OF_BAZEL.get(rule, {})}.items() if kind != "dict"} for rule, types in {**OF_BAZEL, **types_of(TABLE)}.items()}
 # the attributes of Bazel's own rules that take dicts
 DICTS_OF = {rule: [name for name, kind in types.items() if kind == "dict"] for rule, types in OF_BAZEL.items()}

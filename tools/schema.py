@@ -72,10 +72,10 @@ class Schema:
 
     def tables(self):
         """What the functions of `given` know of the rules."""
-        closed = {rule for rule in self.types if rule in BAZEL or rule in TYPES or self.said[rule]}
+        closed = {rule for rule in self.types if rule in OF_BAZEL or self.said[rule]}
         guessed = defaultdict(list)
         for rule, name, kind, _ in self.guesses:
-            if rule not in closed and kind in ("string", "string_list"):
+            if rule not in closed and rule not in TYPES and kind in ("string", "string_list"):
                 guessed[rule].append(name)
         return {
             "_LABELS": {rule: [name for name, kind in types.items() if kind == "label"] for rule, types in self.types.items()},

@@ -114,8 +114,7 @@ def parts_then(path, *_):
 
 
 def files(root, odd=None):
-    """The paths of the files in a directory and below it, in the order in which they are found; or of those in a bundle. Those that are left out
-    since bq can't have their names are put into `odd`."""
+    """The paths of the files of a directory, or of a bundle, in the order in which they are found. `odd` gets those whose names bq can't have."""
     if os.path.isfile(root):
         yield from parts(root)
         return

@@ -5,9 +5,9 @@ import os
 import subprocess
 import sys
 
-import lost
-import package_defaults
 from bq import Facts
+from lost import ask, of_targets
+from package_defaults import lines_of
 from script import write, write_bytes
 from wrapper.forms import FORMS
 from wrapper.kept import Kept
@@ -47,14 +47,14 @@ class Answer:
             ended = subprocess.run([self.program, *words], stdin=bundle, capture_output=True, check=False)
             if form and ended.returncode in (0, 3):
                 targets = Facts.of_lines(ended.stdout.splitlines()).targets
-                found = lost.of_targets(self.query, targets.values())
+                found = of_targets(self.query, targets.values())
                 write(form(targets, ended.stdout, self.path), sys.stdout)
             else:
                 write_bytes(ended.stdout, sys.stdout)
                 if ended.returncode in (0, 3):
-                    write(package_defaults.lines_of(self.kept.path("bundle"), ended.stdout), sys.stdout)
+                    write(lines_of(self.kept.path("bundle"), ended.stdout), sys.stdout)
         else:
-            ended, found = lost.ask(self.program, [*options, *self.call.of_bq("--output")], bundle, self.query)
+            ended, found = ask(self.program, [*options, *self.call.of_bq("--output")], bundle, self.query)
             write_bytes(ended.stdout, sys.stdout)
         self.tell(self.explained(ended), warnings, found)
         return self.status(ended.returncode, warnings, found)

@@ -5,7 +5,7 @@ A print is two sums: of the files whose bytes count, by size and time, and of al
 import hashlib
 import os
 
-from workspace import ROOT_FILES, SCHEMA, ignored
+from workspace import ROOT_FILES, SCHEMA, ignored, is_path
 
 # files whose bytes count, besides those that end in .bzl
 COUNTED = frozenset(("BUILD", "BUILD.bazel", SCHEMA, ".bazelignore", *ROOT_FILES))
@@ -22,6 +22,8 @@ def print_of(root):
         listed = [directory]
         for entry in found:
             name = entry.name
+            if not is_path(name):
+                contents.update(os.fsencode(f"{directory}/{name}\n"))  # (an overlay says which are left out)
             if is_directory(entry):
                 path = f"{directory}/{name}" if directory else name
                 inner = way_in(entry, directory, around)

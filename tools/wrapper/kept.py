@@ -12,6 +12,7 @@ import shutil
 import sys
 import time
 
+from given import BY_NAMES, DIRECTORY
 from workspace import SCHEMA, Refused
 from wrapper.cache import cache, is_at, locked, open_own, own
 from wrapper.fresh import print_of
@@ -106,7 +107,7 @@ class Kept:
 
     def make_in(self, new, now, before):
         warnings, said = before.get("warnings", []), []
-        is_same = all(before.get(key) == now[key] for key in ("contents", "version")) and os.path.isdir(self.overlay)
+        is_same = all(before.get(key) == now[key] for key in ("contents", "version")) and os.path.isdir(self.overlay) and not self.depends_on_names()
         if os.path.isfile(os.path.join(self.root, SCHEMA)):
             os.makedirs(f"{new}/overlay")
             warnings = []
@@ -126,6 +127,14 @@ class Kept:
         shutil.rmtree(self.overlay, ignore_errors=True)
         for name in ("overlay", "bundle", "state"):
             os.rename(f"{new}/{name}", self.path(name))
+
+    def depends_on_names(self):
+        """Whether the overlay depends on which files there are."""
+        try:
+            with open(os.path.join(self.overlay, DIRECTORY, "given.bzl"), encoding="utf-8") as file:
+                return BY_NAMES in file.readlines(1000)
+        except OSError:
+            return False
 
 
 def remove_gone(cache):

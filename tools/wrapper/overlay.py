@@ -7,9 +7,9 @@ import os
 import re
 import subprocess
 
-import lost
 from bundles import fewer, merged, write_bundle
 from further import phantoms
+from lost import blocks_of
 from script import module_of
 
 # Bazel bounds no file's evaluation, and there are files that take some millions of steps
@@ -48,7 +48,7 @@ def found_in(program, bundle, facts):
     """The fault lines of a first round, with those for labels that only seem to be files; notes the tests of packages that have a suite of all."""
     words = [program, f"--max-steps={MAX_STEPS}", "--output", "label_kind", "--bundle", bundle, "--queries", "-"]
     ended = subprocess.run(words, input=b"//...:*\n" + MANUAL, capture_output=True, check=False)
-    blocks = [lines for status, lines in lost.blocks_of(ended.stdout) if status != 2]
+    blocks = [lines for status, lines in blocks_of(ended.stdout) if status != 2]
     if len(blocks) != 2:
         return ended.stderr
     tests = [it.partition(b" rule ")[2].decode("utf-8", "surrogateescape").rstrip("\n") for it in blocks[0] if TEST.match(it) and it not in blocks[1]]
