@@ -16,7 +16,7 @@ from program import ROOT, Refused, bytes_of, text_of
 
 # the scripts that users run, and the module that they import
 SCRIPTS = ("bzlq", "hints", "affected", "why", "graph", "loads", "users", "cycles", "unused", "stubs", "bundle", "bq.py")
-IMPORT = re.compile(r"^\s*from ([\w.]+) import ([\w, ]+)", re.M)
+IMPORT = re.compile(r"^\s*(?:from ([\w.]+) )?import ([\w, ]+)", re.M)
 PAGE_HEAD = re.compile(r'^(\.TH \w+ 1) "" "bq"', re.M)
 MAINTAINER = "The developers of bq <bq@users.noreply.invalid>"
 
@@ -55,6 +55,7 @@ License: Apache-2.0
  /usr/share/common-licenses/Apache-2.0.
 """
 
+COMMANDS = ("bq", "bzlq")
 LINKS = {"usr/bin/bzlq": "../share/bq/tools/bzlq"}
 
 # the command bq is another program's on some machines (BigQuery's): theirs stays, and ours is there where it has no other
@@ -100,7 +101,7 @@ def manual(name, version, day):
 
 
 def manuals(version, day):
-    return {name: manual(name, version, day) for name in ("bq.1", "bzlq.1")}
+    return {f"{it}.1": manual(f"{it}.1", version, day) for it in COMMANDS}
 
 
 def tools():
@@ -110,7 +111,8 @@ def tools():
         name = f"tools/{left.pop()}"
         found[name] = bytes_of(f"{ROOT}/{name}")
         for module, names in IMPORT.findall(found[name].decode()):
-            paths = [module, *(f"{module}.{it.strip()}" for it in names.split(","))]
+            named = [it.strip() for it in names.split(",")]
+            paths = [module, *(f"{module}.{it}" for it in named)] if module else named
             paths = [f"{it.replace('.', '/')}.py" for it in paths]
             left += [it for it in paths if os.path.isfile(f"{ROOT}/tools/{it}") and f"tools/{it}" not in found]
     return found
@@ -162,9 +164,9 @@ def debian_files(program, version, day):
     files = {
         "usr/lib/bq/bq": program,
         **{f"{share}/man/man1/{name}.gz": packed(page) for name, page in manuals(version, day).items()},
-        f"{share}/bash-completion/completions/bq": pages.pop("docs/completions/bq.bash"),
-        f"{share}/zsh/vendor-completions/_bq": pages.pop("docs/completions/_bq"),
-        f"{share}/fish/vendor_completions.d/bq.fish": pages.pop("docs/completions/bq.fish"),
+        **{f"{share}/bash-completion/completions/{it}": pages.pop(f"docs/completions/{it}.bash") for it in COMMANDS},
+        **{f"{share}/zsh/vendor-completions/_{it}": pages.pop(f"docs/completions/_{it}") for it in COMMANDS},
+        **{f"{share}/fish/vendor_completions.d/{it}.fish": pages.pop(f"docs/completions/{it}.fish") for it in COMMANDS},
         f"{share}/lintian/overrides/bq": OVERRIDES.encode(),
         f"{doc}/changelog.gz": packed(changelog(version)),
         f"{doc}/copyright": copyright_of(day),
