@@ -36,7 +36,8 @@ def parser_of(about):
 class Asked:
     """A workspace, and what was found out about it."""
 
-    def __init__(self, words):
+    def __init__(self, words, is_of_targets):
+        self.is_of_targets = is_of_targets
         self.words, self.program = words, program_of(words.program)
         self.root, self.folder, self.bundle, self.overlay = words.dir, "", words.bundle, ""
         self.faults, self.warnings, self.lost = [], [], None
@@ -54,7 +55,7 @@ class Asked:
             bundle, self.warnings = self.kept.open()
             with bundle:
                 found = facts(bundle, query, program=self.program, max_steps=MAX_STEPS)
-        self.faults, self.lost = found.faults, of_targets(query, found.targets.values())
+        self.faults, self.lost = found.faults, of_targets(query, found.targets.values()) if self.is_of_targets else None
         return found
 
     def sources(self):
@@ -95,7 +96,7 @@ class Asked:
         """What there is to say of the workspace, beside the answer."""
         more = len(self.faults) - SHOWN
         said = [f"targets may be missing: {it}" for it in [*self.faults[:SHOWN], *self.warnings]] + ([f"and {more} faults more"] if more > 0 else [])
-        return said + list(self.lost.lines() if self.lost else [])
+        return said + list(self.lost.lines("the workspace") if self.lost else [])
 
     def may_lack(self):
         """Whether the answer may lack something."""
@@ -110,10 +111,11 @@ def pattern(text):
         raise Refused(f"'{text}' is no regular expression: {error}") from None
 
 
-def run(main, words):
-    """Runs a script, which is a function of what is asked, and writes the lines that it gives; gives the status."""
+def run(main, words, is_of_targets=True):
+    """Runs a script, which is a function of what is asked, and writes the lines that it gives; gives the status. `is_of_targets` says whether what
+    was made up of targets concerns its answer."""
     def script(name):
-        asked = Asked(words)
+        asked = Asked(words, is_of_targets)
         write(main(asked), sys.stdout)
         write([f"{name}: {line}" for line in asked.told()], sys.stderr)
         return 3 if asked.may_lack() else 0

@@ -98,24 +98,30 @@ def _guesses(rule, given, lost):
         if [it for it in parts if type(it) == "string" and ("." in it or "/" in it) and " " not in it and it[:1] != "-"]:
             lost.append("edges: " + key)
 
-def bzlq_given(rule, lost, given):
-    text = str(given)
-    is_test = rule in _TESTS
-    if not lost and not is_test and "=select= " not in text and "{" not in text and rule not in _GUESSED and (rule != "test_suite" or given.get("tests")) and "bzlq_lost" not in given:
-        return given
-    found, edges, lost = {}, [], lost + (given.get("bzlq_lost") or [])
+def _plain(rule, given, edges, lost):
+    found = {}
     for key, value in given.items():
         if type(value) == "tuple" and value[:1] == (_MARK,):
             edges += value[2]
             lost.append("select: " + key)
             value = value[1]
-        if key != "bzlq_lost" and not _is_left_out(rule, key, value, edges, lost):
+        if not _is_left_out(rule, key, value, edges, lost):
             found[key] = _value(rule, key, value, edges, lost)
-    _guesses(rule, found, lost)
+    return found
+
+def bzlq_given(rule, lost, given):
+    found, edges = dict(given), []
+    lost = lost + (found.pop("bzlq_lost", None) or [])
+    kinds = [type(value) for value in found.values()]
+    is_odd = rule not in _DICTS and [1 for value in found.values() if type(value) == "list" and [1 for it in value if type(it) != "string"]]
+    if is_odd or "dict" in kinds or "tuple" in kinds or _MARK in str(given):
+        found = _plain(rule, found, edges, lost)
+    if rule in _GUESSED:
+        _guesses(rule, found, lost)
+    if rule in _TESTS:
+        _test(found)
     if rule == "test_suite" and not found.get("tests"):
         _suite(found, lost)
-    if is_test:
-        _test(found)
     if edges:
         found["bzlq_edges"] = {it: None for it in edges}.keys()
     if lost:

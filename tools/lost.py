@@ -28,10 +28,10 @@ class Lost:
         """Whether the answer may lack a target."""
         return any(self.by_word[word] for word, lacks in LOST.items() if lacks or word == "kind" and KINDS.search(self.query)) or bool(self.inner)
 
-    def lines(self):
+    def lines(self, of="this answer"):
         if self.some:
             how = ", ".join(f"{what} {self.by_word[word]}" for word, what in WORDS.items() if self.by_word[word])
-            yield f"{self.some} of {self.count} targets of this answer {'is an approximation' if self.some == 1 else 'are approximations'}: {how}"
+            yield f"{self.some} of {self.count} targets of {of} {'is an approximation' if self.some == 1 else 'are approximations'}: {how}"
         if self.inner:
             yield f"{self.inner} of the targets that this query looks through may lack edges"
 
