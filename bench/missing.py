@@ -109,6 +109,8 @@ LOSSES = {
     "value, under a query of users": ({"a/BUILD": 'load("@r//:m.bzl", "files")\nfilegroup(name = "t", srcs = files("a"))\nfilegroup(name = "u")\n'}, "rdeps(//..., //a:u)",
                                       "//a:u\n", "1 of the targets that this query looks through may lack edges", 3),
     "edges": ({"a/BUILD": 'load("@r//:m.bzl", "pack")\npack(name = "t", odd_of = ["a.txt"])\n'}, "//a:t", "//a:t\n", "kind made up 1, edges by a type that was guessed 1", 3),
+    "files, by a macro": ({"a/BUILD": 'load("//:m.bzl", "m")\nm(name = "t")\n', "BUILD": "", "m.bzl": 'def m(name):\n    srcs = native.glob(["*.txt"])\n    native.filegroup(name = name, srcs = srcs)\n',
+                           "a/ü.txt": ""}, "//a:t", "//a:t\n", "files left out 1", 3),
     "dict": ({"a/BUILD": 'config_setting(name = "t", values = {"cpu": "arm"})\n'}, "//a:t", "//a:t\n", "dict left out 1", 0),
     "dict, with labels": ({"a/BUILD": 'config_setting(name = "t", flag_values = {":f": "arm"})\nfilegroup(name = "f")\n'}, "deps(//a:t)", "//a:f\n//a:t\n", "dict left out 1", 0),
     "select": ({"a/BUILD": 'alias(name = "t", actual = select({":c": ":x", "//conditions:default": ":y"}))\nfilegroup(name = "c")\nfilegroup(name = "x")\nfilegroup(name = "y")\n'},

@@ -36,6 +36,7 @@ class Copy:
         self.counts = Counter()
         self.uses_given = {}  # what the copy loads of `given`: names, and those that they have there
         self.lost = []  # what the values are, in the function around, that aren't there
+        self.has_glob = False  # whether the function around has one
         self.makers = set()  # parameters of the function around whose members declare targets
         self.locals, self.labels = set(), set()  # the names that it binds, and those of them that are labels
         self.loads_more = defaultdict(set)  # a loaded name -> members that stand as symbols of their own
@@ -130,10 +131,10 @@ class Copy:
                 self.visit(right, wanted)
             case ast.FunctionDef():
                 self.makers, self.locals, self.labels = makers_of(node), names_bound(node), labels_bound(node)
-                self.lost = self.values_lost(node)
+                self.lost, self.has_glob = self.values_lost(node), any(isinstance(it, ast.Attribute) and it.attr == "glob" for it in ast.walk(node))
                 for part in ast.iter_child_nodes(node):
                     self.visit(part)
-                self.makers, self.locals, self.labels, self.lost = set(), set(), set(), []
+                self.makers, self.locals, self.labels, self.lost, self.has_glob = set(), set(), set(), [], False
             case ast.ListComp(elt=ast.Attribute()) if self.file.is_build:
                 self.around(node, "[part for part in ", " if part]")
                 for part in ast.iter_child_nodes(node):
@@ -332,10 +333,13 @@ class Copy:
         lost = self.lost or self.values_lost(call)
         if self.facts.workspace.left_out_of(self.file) and any(isinstance(it, ast.Name) and it.id == "glob" for it in ast.walk(call)):
             lost = [*lost, "files: " + self.facts.workspace.left_out_of(self.file)]
-        if lost:
+        is_by_package = self.has_glob and bool(self.facts.workspace.left_out)
+        if lost or is_by_package:
             _, end = self.span(call.func)
             at = self.text.index(b"(", end) + 1
-            self.parts.append((at, at, f"bzlq_lost = [{', '.join(quoted(it) for it in lost)}], ".encode("utf-8", "surrogateescape")))
+            text = f"[{', '.join(quoted(it) for it in lost)}]" + (" + bzlq_files()" if is_by_package else "")
+            self.uses_given |= {"bzlq_files": "bzlq_files"} if is_by_package else {}
+            self.parts.append((at, at, f"bzlq_lost = {text}, ".encode("utf-8", "surrogateescape")))
 
     def values_lost(self, node):
         """What values a statement or expression names that aren't there."""

@@ -59,6 +59,10 @@ def bzlq_select(branches, no_match_error = ""):
 def bzlq_select_list(branches, no_match_error = ""):
     return _select(branches, [])
 
+def bzlq_files():
+    found = _LEFT_OUT.get(native.package_name())
+    return ["files: " + found] if found else []
+
 def bzlq_patterns(patterns):
     return [it for it in patterns if type(it) == "string" and it and not [part for part in it.split("/") if part in ("", ".", "..") or "**" in part and part != "**"]]
 
@@ -155,7 +159,7 @@ BY_NAMES = "# Which labels are further targets depends on which files there are.
 def given_files(schema, facts, mark):
     """The files of the repository `@bzlq`, by their paths."""
     mark += BY_NAMES if facts.further else ""
-    tables = {**schema.tables(), "_TEXTS": dict.fromkeys(TEXTS), "_TESTS_IN": facts.tests_in}
-    lines = [f"{name} = {json.dumps(value).replace('null', 'None')}\n" for name, value in tables.items()]
+    tables = {**schema.tables(), "_TEXTS": dict.fromkeys(TEXTS), "_TESTS_IN": facts.tests_in, "_LEFT_OUT": facts.workspace.left_out}
+    lines = [f"{name} = {json.dumps(value, ensure_ascii=False).replace('null', 'None')}\n" for name, value in tables.items()]
     functions = [f"\ndef {PREFIX}{rule}(*args, **given):\n    native.{rule}(*args, **bzlq_given(\"{rule}\", [], given))\n" for rule in schema.types if rule in BAZEL]
     return {f"{DIRECTORY}/BUILD": mark, f"{DIRECTORY}/given.bzl": mark + "".join(lines) + TEXT + "".join(functions)}
