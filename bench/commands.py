@@ -44,6 +44,34 @@ def answers(bench):
     bench.compare("no such file of queries", bench.run("bzlq --queries none", "ws"), ("", "bzlq: none: No such file or directory\n", 2))
 
 
+WORDS = (
+    ("a", "why :a lib/x.c", "BUILD:2: //a:a -> //a:lib/x.c (srcs)\n", 3),
+    ("a", "owner lib/x.c", "//a:a\n", 3),
+    ("a", "users :a", "../BUILD:1: //:all_of_it -> //a:a (srcs)\n", 3),
+    ("a", "query :a", "//a:a\n", 3),
+    ("a", "facts lib/x.c | head -1", '{"target":"//a:lib/x.c","kind":"source file","file":"a/lib/x.c"}\n', 0),
+    ("", "bundle | bq //a:a", "//a:a\n", 3),
+    ("", "bundle 'a b' | bq //:c", "//:c\n", 0),
+    ("", "lint f/BUILD", FAULT, 1),
+    ("", "lint a/BUILD", "", 0),
+    ("f", "lint BUILD ../BUILD", FAULT.removeprefix("f/"), 1),
+)
+
+
+def words(bench):
+    """The words beside a query."""
+    for folder, call, output, status in WORDS:
+        bench.compare(f"{folder}$ bzlq {call}", bench.run(f"bzlq {call}", f"ws/{folder}")[::2], (output, status))
+    bench.compare("bzlq queries", bench.run("echo :a | bzlq queries", "ws/a")[0], "=== 3 1 //a:a\n//a:a\n")
+    bench.compare("bzlq build", bench.run("bzlq build //a", "ws"), ("", "bzlq: there is no build: bzlq answers questions about what BUILD files "
+                  "declare, and builds nothing (`bzlq query build` asks for a target of that name)\n", 2))
+    bench.compare("bzlq lint without git", bench.run("GIT_DIR=none bzlq lint", "ws"), ("", "bzlq: git doesn't say which files have changed: name the files\n", 2))
+    bench.run("git init -q; git add -A; git -c user.name=x -c user.email=x commit -qm x; echo >> f/BUILD", "ws")
+    bench.compare("bzlq lint of what has changed", bench.run("bzlq lint", "ws")[::2], (FAULT, 1))
+    for name in ("why", "affected", "stubs", "hints"):
+        bench.compare(f"bzlq {name} --help", bench.run(f"bzlq {name} --help")[1:], ("", 0))
+
+
 def co_process(bench):
     """Each answer comes as soon as its query is there."""
     with subprocess.Popen([f"{bench.room}/bin/bzlq", "--queries", "-"], cwd=f"{bench.room}/ws/a", env=bench.environment, stdin=subprocess.PIPE,
@@ -72,5 +100,5 @@ def module(bench):
 
 def check(bench):
     """Tries all of it."""
-    for part in (answers, co_process, module):
+    for part in (answers, words, co_process, module):
         part(bench)

@@ -16,7 +16,7 @@ from program import ROOT, Refused, bytes_of, text_of
 
 # the scripts that users run, and the module that they import
 SCRIPTS = ("bzlq", "hints", "affected", "why", "graph", "loads", "users", "cycles", "unused", "stubs", "bundle", "bq.py")
-IMPORT = re.compile(r"^\s*from ([\w.]+) import ([\w, ]+)", re.M)
+IMPORT = re.compile(r"^\s*(?:from ([\w.]+) )?import ([\w, ]+)", re.M)
 PAGE_HEAD = re.compile(r'^(\.TH \w+ 1) "" "bq"', re.M)
 MAINTAINER = "The developers of bq <bq@users.noreply.invalid>"
 
@@ -110,7 +110,8 @@ def tools():
         name = f"tools/{left.pop()}"
         found[name] = bytes_of(f"{ROOT}/{name}")
         for module, names in IMPORT.findall(found[name].decode()):
-            paths = [module, *(f"{module}.{it.strip()}" for it in names.split(","))]
+            named = [it.strip() for it in names.split(",")]
+            paths = [module, *(f"{module}.{it}" for it in named)] if module else named
             paths = [f"{it.replace('.', '/')}.py" for it in paths]
             left += [it for it in paths if os.path.isfile(f"{ROOT}/tools/{it}") and f"tools/{it}" not in found]
     return found

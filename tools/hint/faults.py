@@ -11,7 +11,7 @@ from hint.near import did_you_mean
 from hint.package import place_in
 
 # for how many processor seconds files are evaluated again, and how many calls around a place are shown
-SECONDS = 10
+SECONDS = 2
 SHOWN = 4
 
 
@@ -45,7 +45,7 @@ class Hints:
     def __init__(self, sources, faults):
         self.sources, self.faults = sources, faults
         self.failed = {it.label for it in faults if it.number != "F79"}
-        self.until = time.process_time() + SECONDS
+        self.until, self.skipped = time.process_time() + SECONDS, 0
 
     def all(self):
         """The hints of all faults: causes in the order of the lines, then what follows from them."""
@@ -92,7 +92,9 @@ class Hints:
 
     def evaluated(self, fault, path, shown, tree):
         """What the evaluation of the file ends with, if it is this fault in this statement."""
-        wrong = Machine(self.sources).run(path) if time.process_time() < self.until else None
+        is_late = time.process_time() > self.until
+        self.skipped += is_late
+        wrong = None if is_late else Machine(self.sources).run(path)
         statement = names.statement_of(tree, fault.line)
         if not wrong or wrong.number != fault.number or statement is None:
             return fault.line, statement.col_offset + 1 if statement else 1, fault.detail

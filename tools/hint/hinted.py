@@ -1,5 +1,5 @@
 """All lines of a run: takes what `bq` wrote to standard error, and the sources; gives the lines to write in its place."""
-from hint.faults import Hints
+from hint.faults import SECONDS, Hints
 from hint.lines import Error, Fault, read
 from hint.queries import explained
 
@@ -8,7 +8,8 @@ def hinted(texts, sources, query="", is_all=False):
     """The lines to write, and the same as data."""
     lines = [read(text) for text in texts]
     faults = [it for it in lines if isinstance(it, Fault) and sources and sources.file_of(it.label)]
-    found = Hints(sources, faults).all() if faults else []
+    hints = Hints(sources, faults)
+    found = hints.all() if faults else []
     written, data = [], []
     for text, it in zip(texts, lines):
         if isinstance(it, Error):
@@ -23,4 +24,6 @@ def hinted(texts, sources, query="", is_all=False):
     written = [it.text() for it in found if not it.follows or is_all] + written
     if following and not is_all:
         written.append(f"and {len(following)} that follow{'s' * (len(following) == 1)} from these")
+    if hints.skipped:
+        written.append(f"{hints.skipped} of these have no reason: looking for it is ended after {SECONDS} s")
     return written, [it.data() for it in found] + data

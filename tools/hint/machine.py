@@ -27,8 +27,7 @@ class Machine(Statements, Expressions, Calls):
         self.package = None  # the package whose BUILD file is evaluated
         self.packages = {}  # those that were evaluated, or begun, by the paths of their BUILD files
         self.running, self.module = [], None
-        self.frozen, self.iterated = set(), []
-        self.kept = []  # what is frozen, so that no other value gets its identity
+        self.frozen, self.kept, self.iterated = sources.frozen, sources.kept, []
 
     def run(self, path):
         """What the evaluation of a file ends with; nothing where it ends well, or can't be told."""
@@ -43,6 +42,8 @@ class Machine(Statements, Expressions, Calls):
 
     def evaluated(self, path):
         """The module of a file, evaluated once."""
+        if path in self.sources.modules:
+            return self.sources.modules[path]
         if path in self.modules:
             if not isinstance(self.modules[path], Module):
                 raise Unknown(path)
@@ -64,6 +65,8 @@ class Machine(Statements, Expressions, Calls):
         self.freeze(list(module.globals.values()))
         self.package, self.running, self.module = package, running, around
         self.modules[path] = module
+        if not module.is_build:
+            self.sources.modules[path] = module
         return module
 
     def freeze(self, values):

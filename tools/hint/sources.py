@@ -26,6 +26,8 @@ class Sources:
         self.packages = {os.path.dirname(path) for path in self.paths if os.path.basename(path) in ("BUILD", "BUILD.bazel")}
         self.texts, self.trees, self.owned = {}, {}, None
         self.names = {}  # the names of a package's targets, by its BUILD file, once they were asked for
+        # the .bzl files that were evaluated, by their paths; what is frozen, by identity; and the values, so that no other gets their identity
+        self.modules, self.frozen, self.kept = {}, set(), []
         self.schema, self.mandatory = self.read_schema()
 
     @staticmethod

@@ -96,9 +96,8 @@ class Answer:
             return line
 
     def path(self, path):
-        """A file's path from the folder that one stands in; in full for one that is only in the overlay."""
-        place = os.path.join(self.root, path)
-        return os.path.relpath(place) if os.path.lexists(place) else os.path.join(self.kept.overlay, path)
+        """A file's path from the folder that one stands in."""
+        return self.kept.shown(path)
 
     def explained(self, ended):
         """What a run wrote to standard error, with hints. (Those of fault lines are kept, since the next run has the same lines.)"""

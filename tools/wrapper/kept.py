@@ -67,6 +67,11 @@ class Kept:
                     path = self.path(name)
                     shutil.rmtree(path) if os.path.isdir(path) else os.remove(path)
 
+    def shown(self, path):
+        """A file's path from the folder that one stands in; in full for one that is only in the overlay."""
+        place = os.path.join(self.root, path)
+        return os.path.relpath(place) if os.path.lexists(place) else os.path.join(self.overlay, path)
+
     def path(self, name):
         return os.path.join(self.folder, name)
 
