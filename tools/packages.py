@@ -55,6 +55,7 @@ License: Apache-2.0
  /usr/share/common-licenses/Apache-2.0.
 """
 
+COMMANDS = ("bq", "bzlq")
 LINKS = {"usr/bin/bzlq": "../share/bq/tools/bzlq"}
 
 # the command bq is another program's on some machines (BigQuery's): theirs stays, and ours is there where it has no other
@@ -100,7 +101,7 @@ def manual(name, version, day):
 
 
 def manuals(version, day):
-    return {name: manual(name, version, day) for name in ("bq.1", "bzlq.1")}
+    return {f"{it}.1": manual(f"{it}.1", version, day) for it in COMMANDS}
 
 
 def tools():
@@ -163,9 +164,9 @@ def debian_files(program, version, day):
     files = {
         "usr/lib/bq/bq": program,
         **{f"{share}/man/man1/{name}.gz": packed(page) for name, page in manuals(version, day).items()},
-        f"{share}/bash-completion/completions/bq": pages.pop("docs/completions/bq.bash"),
-        f"{share}/zsh/vendor-completions/_bq": pages.pop("docs/completions/_bq"),
-        f"{share}/fish/vendor_completions.d/bq.fish": pages.pop("docs/completions/bq.fish"),
+        **{f"{share}/bash-completion/completions/{it}": pages.pop(f"docs/completions/{it}.bash") for it in COMMANDS},
+        **{f"{share}/zsh/vendor-completions/_{it}": pages.pop(f"docs/completions/_{it}") for it in COMMANDS},
+        **{f"{share}/fish/vendor_completions.d/{it}.fish": pages.pop(f"docs/completions/{it}.fish") for it in COMMANDS},
         f"{share}/lintian/overrides/bq": OVERRIDES.encode(),
         f"{doc}/changelog.gz": packed(changelog(version)),
         f"{doc}/copyright": copyright_of(day),
