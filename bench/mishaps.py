@@ -176,7 +176,22 @@ def clones(bench):
     bench.compare("no dist", run(), ("", "bzlq: there is no bq: the variable BZLQ_BQ can name it\n", 2))
 
 
+# texts that a reader in Python has its limits with, or that it takes otherwise than bq
+ODD = ("1" + "+1" * 300, "not " * 10000 + "1", '"\\0"', '"\\ud800"', "-" * 500 + "1", "a" + ".strip()" * 500, "[a" + "[:]" * 500 + "]", "1 if 1 else " * 500 + "1")
+
+
+def odd_texts(bench):
+    """Whatever a file has in it, the rest of the workspace is answered, and there is no traceback."""
+    files = {f"{kind}{at}/{'BUILD' if kind == 'b' else 'd.bzl'}": f"x = {text}\n" for at, text in enumerate(ODD) for kind in "bd"}
+    loads = {f"d{at}/BUILD": 'load(":d.bzl", "x")\n' for at in range(len(ODD))}
+    bench.lay_out("ws", {"WORKSPACE": "", "a/BUILD": 'filegroup(name = "a")\n', **files, **loads})
+    found = bench.run("bzlq //a", "ws")
+    bench.compare("odd texts", (found[0], "Traceback" in found[1], found[2]), ("//a:a\n", False, 3))
+    found = bench.run("tools/stubs ws overlay")
+    bench.compare("stubs of odd texts", ("Traceback" in found[1], found[2]), (False, 0))
+
+
 def check(bench):
     """Tries all of it."""
-    for part in (too_many, places, others, kept, signals, devices, words, clones):
+    for part in (too_many, places, others, kept, signals, devices, words, clones, odd_texts):
         part(bench)

@@ -1,5 +1,6 @@
 """Copies of a workspace's files in which stands, in place of what `bq` leaves out, something that it reads. Lines keep their numbers."""
 import ast
+import contextlib
 import re
 from collections import Counter, defaultdict
 
@@ -384,7 +385,8 @@ class Copy:
         bare = text.replace("\\\\", "")
         if any(bare[i + 1:i + 2] not in ESCAPES for i in range(len(bare)) if bare[i] == "\\"):
             value = node.value.replace("\\", "\\\\").replace(quote, f"\\{quote}").replace("\n", "\\n").replace("\r", "\\r")
-            self.parts.append((start, end, f"{quote}{value}{quote}".encode("utf-8", "surrogateescape")))
+            with contextlib.suppress(UnicodeEncodeError):  # (half a character has no bytes, and bq refuses its escape)
+                self.parts.append((start, end, f"{quote}{value}{quote}".encode("utf-8", "surrogateescape")))
             self.counts["an escape"] += 1
 
 
@@ -427,7 +429,12 @@ def copies(facts, content):
         if file.is_build and not file.members and not MAY_CHANGE.search(text) and not has_unknown_values(facts, file):
             continue
         copy = Copy(facts, file, text)
-        if copied := copy.result():
+        try:
+            copied = copy.result()
+        except (RecursionError, MemoryError):
+            facts.cannot("a file that isn't read here", file, 0)
+            continue
+        if copied:
             found[path] = copied
             counts.update(copy.counts)
     return found, counts

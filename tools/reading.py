@@ -533,10 +533,17 @@ def read(path, text):
     name = path.rpartition("/")[2]
     file = File(path, not name.endswith(".bzl"), size=len(text))
     try:
-        tree = parsed(text)
-    except (SyntaxError, ValueError, RecursionError) as error:
+        fill(file, parsed(text))
+    except (SyntaxError, ValueError) as error:
         file.broken = f"{getattr(error, 'lineno', 0) or 0}: {getattr(error, 'msg', error)}"
-        return file
+    except (RecursionError, MemoryError):
+        # (what was read until then is no more sure than nothing)
+        file = File(path, file.is_build, "0: it nests too deep to be read here", size=len(text))
+    return file
+
+
+def fill(file, tree):
+    """Has a file say what its tree does."""
     top_level(file, tree)
     reader = Reader(file)
     for node in tree.body:
@@ -548,4 +555,3 @@ def read(path, text):
                 if call.inside == node.name:
                     for splat in call.splats:
                         call.keywords = {**keys.get(splat, {}), **call.keywords}
-    return file

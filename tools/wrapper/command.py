@@ -122,6 +122,9 @@ def run(words):
     word, rest = (words or [""])[0], words[1:]
     if word in SCRIPTS or word == "bundle" and rest:
         return script(word, rest)
+    if word in OTHERS and rest in (["-h"], ["--help"]) and word != "bundle":
+        print(f"bzlq {word}: {OTHERS[word]} (`bzlq --help` has the options)")
+        return 0
     if word in BUILDERS and (rest or word not in ("run", "info", "mod")):
         return ended(lambda _: refuse(word), "bzlq")
     does = {"facts": lambda: answered(["--facts", *rest]), "queries": lambda: queries(rest), "owner": lambda: owner(rest), "bundle": lambda: bundle(rest),
