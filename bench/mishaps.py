@@ -191,7 +191,15 @@ def odd_texts(bench):
     bench.compare("stubs of odd texts", ("Traceback" in found[1], found[2]), (False, 0))
 
 
+def terminals(bench):
+    """A terminal gets control bytes as texts; a pipe gets them as they are."""
+    bench.lay_out("ws", {"WORKSPACE": "", "a/BUILD": 'fail("\\033[1A")\n'})
+    found = bench.run("python3 -c 'import pty; pty.spawn([\"bzlq\", \"//a:*\"])'", "ws")[0]
+    bench.compare("control bytes on a terminal", ("\x1b" in found, "\\x1b[1A" in found), (False, True))
+    bench.compare("control bytes in a pipe", "\x1b[1A" in bench.run("bzlq //a:*", "ws")[1], True)
+
+
 def check(bench):
     """Tries all of it."""
-    for part in (too_many, places, others, kept, signals, devices, words, clones, odd_texts):
+    for part in (too_many, places, others, kept, signals, devices, words, clones, odd_texts, terminals):
         part(bench)
