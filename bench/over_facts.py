@@ -55,7 +55,7 @@ ASKED = (
     ("users --dir w --direct tools/a.bzl%both", "".join(f"w/{it}\n" for it in BOTH), "", 0),
     ("users --dir w genrule", "w/c/BUILD:3: genrule: //c:gen\nw/c/BUILD:3: genrule: //c:made.c\n", "", 0),
     ("users --dir w //d:us", "w/c/BUILD:10: //c:us -> //d:us (includes)\n", "", 0),
-    ("users --dir w //d:none", "", "users: there is no target //d:none\n", 2),
+    ("users --dir w //d:none", "", "users: there is no target //d:none (did you mean '//d:f'?)\n", 2),
     ("users --dir w boht", "", "users: no file has a function 'boht' (did you mean 'both'?)\n", 2),
     ("users --dir w //tools:b.bzl%both", "", "users: //tools:b.bzl has no function 'both'\n", 2),
     ("cycles --dir w", CYCLES, "", 0),
