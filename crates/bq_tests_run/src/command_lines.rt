@@ -2,6 +2,7 @@
 
 use bq_command_line::{Asked, Place, Wanted, Words, words_of};
 use bq_run::OutputForm;
+use bq_run_explain::{Explanation, Subject};
 use std::alloc::{AllocError, Global};
 
 /// What words ask for: a query with a word for where it comes from, where the workspace is, the form of the answer, and the most workers
@@ -58,13 +59,22 @@ fn are_taken(words: &Words, taken: &Ask) -> bool {
         && options.max_steps == steps
 }
 
+fn name_of(explanation: &Explanation) -> &'static str {
+    match explanation.subject {
+        Subject::Fault(kind) => kind.name(),
+        Subject::Error(_, name) => name,
+    }
+}
+
 /// Whether words ask for this, or for the explanation of this name.
 fn ask_for(alloc: Global, words: &[&str], taken: &Ask) -> Result<bool, AllocError> {
     let words = words_after(alloc, words)?;
     let asked = words_of(alloc, &words);
     let found = match &asked {
         Ok(Asked::Answer(words)) => are_taken(words, taken),
-        Ok(Asked::Explanation(explanation)) => taken.0 == "explain" && explanation.name == taken.1,
+        Ok(Asked::Explanation(explanation)) => {
+            taken.0 == "explain" && name_of(explanation) == taken.1
+        }
         Err(_) => false,
     };
     drop(asked);
