@@ -4,3 +4,5 @@ pub mod Order
 pub mod Written
 -- in which lines the faults are
 pub mod Lines
+-- which files make a workspace, and how long a bundle may be
+pub mod Workspaces

@@ -15,6 +15,7 @@ ghost use Rattle.bq_run_write.specs.Deeds.{Run, IsSilent};
 ghost use Rattle.bq_run.specs.Run.{IsRunOver, IsRunOf};
 ghost use Rattle.bq_run.specs.Written.{IsBundleOf};
 ghost use Rattle.bq_run_laws.specs.Lines.{FaultLinesStandOnLines, DanglingLinesAreOfStatements};
+ghost use Rattle.bq_run_laws.specs.Workspaces.{PathsAreApart, GibibyteAtMost};
 ghost use Rattle.bq_run_laws.specs.Order.{EndsWithWrongQuery, WritesFaultsAlone};
 
 /// A bundle that makes no workspace is E4, whatever the query and the schema are, and nothing is written.
@@ -51,4 +52,14 @@ pub fn errors_write_no_answer()
 pub fn fault_lines_stand_on_lines()
     ensures lines { FaultLinesStandOnLines }
     ensures dangling { DanglingLinesAreOfStatements }
+{}
+
+/// Of the files of a workspace no path is a directory of another or is there twice, and none has a segment that is empty, `.` or `..`.
+pub fn paths_are_apart()
+    ensures { PathsAreApart }
+{}
+
+/// A bundle has at most 2^30 bytes; no text is refused as too long that has no more.
+pub fn bundles_have_a_gibibyte_at_most()
+    ensures { (text : List ℕ) (files : List File) → GibibyteAtMost text files }
 {}
