@@ -6,3 +6,5 @@ pub mod Written
 pub mod Lines
 -- which files make a workspace, and how long a bundle may be
 pub mod Workspaces
+-- in which order facts are written
+pub mod FactsOrder

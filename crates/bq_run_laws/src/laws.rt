@@ -15,6 +15,7 @@ ghost use Rattle.bq_run_write.specs.Deeds.{Run, IsSilent};
 ghost use Rattle.bq_run.specs.Run.{IsRunOver, IsRunOf};
 ghost use Rattle.bq_run.specs.Written.{IsBundleOf};
 ghost use Rattle.bq_run_laws.specs.Lines.{FaultLinesStandOnLines, DanglingLinesAreOfStatements};
+ghost use Rattle.bq_run_laws.specs.FactsOrder.{TargetsComeFirst};
 ghost use Rattle.bq_run_laws.specs.Workspaces.{PathsAreApart, GibibyteAtMost};
 ghost use Rattle.bq_run_laws.specs.Order.{EndsWithWrongQuery, WritesFaultsAlone};
 
@@ -62,4 +63,11 @@ pub fn paths_are_apart()
 /// A bundle has at most 2^30 bytes; no text is refused as too long that has no more.
 pub fn bundles_have_a_gibibyte_at_most()
     ensures { (text : List ℕ) (files : List File) → GibibyteAtMost text files }
+{}
+
+/// What a run that is asked for facts writes is a line for each object: first those of targets, then those of modules, then those of faults, by
+/// their first keys, `target`, `module` and `fault`. By `values_read_back` and `one_reading` of bq_facts_json a reader finds these objects in that
+/// order, and no others.
+pub fn targets_come_before_modules_and_faults()
+    ensures { TargetsComeFirst }
 {}
