@@ -1,5 +1,7 @@
 //! Input that never ends. It is read up to a limit, and that of a bundle is the number of docs/FORMATS.md.
 
+ghost use Rattle.std.specs.Prelude.{◌≡◌};
+
 use bq_run::{MAX_BUNDLE_BYTES, Metered, ReadFault, read_all};
 use std::io;
 use std::io::Read;
