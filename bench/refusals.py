@@ -42,7 +42,7 @@ def run(bench, log, *files, status=0):
     """What .ci/run writes last, and its status, where the gate writes this log and ends with that status."""
     bench.lay_out("gate", {"crates.txt": "low:\nhigh: low\n", "log": log, "rt": f"#!/bin/sh\ncat log; exit {status}\n", "tools/rows": "#!/bin/sh\n",
                            "tools/release": "#!/bin/sh\n", "bench/refused_memory": "#!/bin/sh\n", **{path: "" for path in (*EDITS, *files)}})
-    for path in (".ci/run", "bench/proofs", "bench/gate.py", "bench/kit.py"):
+    for path in (".ci/run", "bench/proofs", "bench/gate.py", "bench/figures.py", "bench/kit.py"):
         os.makedirs(os.path.dirname(f"{bench.room}/gate/{path}"), exist_ok=True)
         shutil.copy(f"{ROOT}/{path}", f"{bench.room}/gate/{path}")
     for path in ("rt", "tools/rows", "tools/release", "bench/refused_memory"):
