@@ -1,4 +1,5 @@
 """The workspaces that bench/run, bench/steps and bench/peers measure, each as the paths of its files with their texts."""
+import os
 
 MACROS = """def {name}(name, srcs):
     for i in range(10):
@@ -165,3 +166,10 @@ def wide():
     yield "rules/loop.bzl", LOOP
     for p in range(4000):
         yield f"tree/package_{p}/BUILD", 'load("//rules:loop.bzl", "turns")\nfilegroup(name = "t", srcs = ["x" + str(turns(1000)) + ".txt"])\n'
+
+
+def write_bundle(path, files):
+    with open(path, "w", encoding="ascii") as out:
+        for name, text in files:
+            out.write(f"=== {name}\n{text}")
+    return os.path.getsize(path)

@@ -1,4 +1,15 @@
 # Completion of bzlq for fish: put this file into ~/.config/fish/completions.
+# Labels come from the files on the disk and from the last answer; nothing is loaded for them.
+function __bzlq_labels
+    set -l word (commandline -ct | string trim -l -c '\'"')
+    set -l start (string replace -r '.*[ (,+^]' '' -- $word)
+    set -l head (string sub -l (math (string length -- $word) - (string length -- $start)) -- $word)
+    string match -qr ':|^//|^@' -- $start
+    and string replace -r '^' -- $head (bzlq --complete $start 2>/dev/null)
+end
+complete -c bzlq -a '(__bzlq_labels)'
+complete -c bzlq -n __fish_use_subcommand -a ask -d 'answers questions one after another: a prompt on a terminal, plain lines in a pipe'
+complete -c bzlq -n __fish_use_subcommand -a watch -d 'answers a query after each change of the workspace: what came, and what went'
 complete -c bzlq -n __fish_use_subcommand -a query -d 'answers a query, as without a word'
 complete -c bzlq -n __fish_use_subcommand -a facts -d 'the facts behind a query, or of all of the workspace, as JSON'
 complete -c bzlq -n __fish_use_subcommand -a queries -d 'answers each line of a file, or of standard input, over one load'
@@ -12,6 +23,10 @@ complete -c bzlq -n __fish_use_subcommand -a users -d 'the calls of a macro, or 
 complete -c bzlq -n __fish_use_subcommand -a loads -d 'who loads a .bzl file, directly or not'
 complete -c bzlq -n __fish_use_subcommand -a unused -d 'the rules that nothing depends on'
 complete -c bzlq -n __fish_use_subcommand -a cycles -d 'the cycles of targets'
+complete -c bzlq -n __fish_use_subcommand -a visible -d 'whether A may depend on B, and by which line; or the edges that break a visibility'
+complete -c bzlq -n __fish_use_subcommand -a closures -d 'the targets that depend on most others'
+complete -c bzlq -n __fish_use_subcommand -a shared -d 'the files that several rules have as sources'
+complete -c bzlq -n __fish_use_subcommand -a diff -d 'how an answer differs between two revisions of git'
 complete -c bzlq -n __fish_use_subcommand -a stubs -d 'makes a schema, and what stands in for other repositories'
 complete -c bzlq -n __fish_use_subcommand -a hints -d 'says of fault lines where they are and why'
 complete -c bzlq -l jobs -x -a '1 2 4 8 16 32 64 128 256' -d 'Number of workers that load modules, 1 to 256'

@@ -1,0 +1,107 @@
+"""What a workspace's answers stand on, so that it is made anew only where that changed: takes a root, gives what was seen of its files.
+
+A print is two sums: of the files whose bytes count, by what their directory entries say, and of all names, which is all that counts of the
+others. Of a file that changed in the last seconds its bytes count too: it may change again before the clock of the disk goes on.
+"""
+import hashlib
+import os
+import time
+
+from bzlq.workspace.files import ROOT_FILES, SCHEMA, ignored, is_path
+
+# files whose bytes count, besides those that end in .bzl
+COUNTED = frozenset(("BUILD", "BUILD.bazel", SCHEMA, ".bazelignore", *ROOT_FILES))
+# for how many nanoseconds a change is recent
+RECENT = 2_000_000_000
+
+
+class Seen:
+    """`files` has the entry of each file whose bytes count, by its path; `names` the names of a directory that aren't directories; `odd` the paths that
+    bq can't have; `links` the directories that are links, or lie behind one."""
+
+    def __init__(self, root):
+        self.root, self.since = root, time.time_ns() - RECENT
+        self.files, self.names, self.odd, self.links = {}, {}, [], set()
+        contents, names = hashlib.sha256(), hashlib.sha256()
+        for directory, listed in self.walk():
+            names.update(os.fsencode("\n".join((directory, *listed))) + b"\0")
+        for path, entry in self.files.items():
+            contents.update(os.fsencode(f"{path} {' '.join(map(str, entry))}\n"))
+        for path in self.odd:
+            contents.update(os.fsencode(f"{path}\n"))  # (an overlay says which are left out)
+        self.print = {"contents": contents.hexdigest(), "names": names.hexdigest()}
+
+    def walk(self):
+        """The directories, each with the names in it that aren't directories."""
+        without = ignored(self.root)
+        pending = [("", self.root, ())]
+        while pending:
+            directory, place, around = pending.pop()
+            before = f"{directory}/" if directory else ""
+            with os.scandir(place) as entries:
+                found = sorted(entries, key=lambda entry: entry.name)
+            listed = []
+            for entry in found:
+                name = entry.name
+                if not is_name(name) and not is_path(name):
+                    self.odd.append(before + name)
+                if entry.is_symlink() and is_directory(entry) or entry.is_dir(follow_symlinks=False):
+                    inner = way_in(entry, directory, around)
+                    if name != ".git" and before + name not in without and inner is not None:
+                        pending.append((before + name, entry.path, inner))
+                        if inner:
+                            self.links.add(before + name)
+                    continue
+                listed.append(name)
+                if name.endswith(".bzl") or name in COUNTED:
+                    self.files[before + name] = entry_of(entry, self.since)
+            self.names[directory] = listed
+            yield directory, listed
+
+    def __contains__(self, path):
+        """Whether there is a file of this path."""
+        directory, _, name = path.rpartition("/")
+        return name in self.names.get(directory, ())
+
+
+def is_name(name):
+    """Whether a name is plain: most are."""
+    return name.isascii() and name.isprintable() and ":" not in name and "\\" not in name
+
+
+def is_directory(entry):
+    """Whether an entry is a directory, or a link to one; not where it can't be read."""
+    try:
+        return entry.is_dir()
+    except OSError:
+        return False
+
+
+def way_in(entry, directory, around):
+    """The links on the way into a directory; nothing where it lies around itself, or is a link to Bazel's output."""
+    if not entry.is_symlink():
+        return around
+    real, here = os.path.realpath(entry.path), os.path.realpath(os.path.dirname(entry.path))
+    is_output = not directory and entry.name.startswith("bazel-")
+    is_around = real in around or f"{here}/".startswith(f"{real.rstrip('/')}/")
+    return None if is_output or is_around else (*around, real)
+
+
+def entry_of(place, since):
+    """What the directory entry of a file says of it: size, times, number; with a sum of its bytes where it changed since then. Nothing of a file
+    that isn't there."""
+    try:
+        found = os.stat(place)
+    except OSError:
+        return ()
+    entry = (found.st_size, found.st_mtime_ns, found.st_ctime_ns, found.st_ino, found.st_dev)
+    return (*entry, sum_of(place)) if max(found.st_mtime_ns, found.st_ctime_ns) > since else entry
+
+
+def sum_of(place):
+    """A sum of the bytes of a file; of one that can't be read a text that is none."""
+    try:
+        with open(place, "rb") as file:
+            return hashlib.sha256(file.read()).hexdigest()
+    except OSError as error:
+        return str(error.strerror)

@@ -1,0 +1,169 @@
+"""Asks bq about the workspace that one stands in: takes the words of a call and the program, writes the answer and what there is to say of it,
+gives the status."""
+import hashlib
+import os
+import subprocess
+import sys
+
+from bzlq.bq import Facts
+from bzlq.cache.store import Kept
+from bzlq.cli.formats import FORMS
+from bzlq.cli.labels import Labels
+from bzlq.cli.process import write, write_bytes
+from bzlq.cli.relative_labels import BadWord, absolute
+from bzlq.overlay.approximations import ask, of_targets
+from bzlq.overlay.assembly import MAX_STEPS
+from bzlq.workspace.root import folder_of, root_of
+
+
+class Answer:
+    """What is asked of a workspace, and where it is."""
+
+    def __init__(self, call, program):
+        self.call, self.program, self.root = call, program, root_of(os.getcwd())
+        self.folder = folder_of(self.root)
+        self.kept = Kept(self.root, program)
+        self.query = absolute(" ".join(call.queries), self.root, self.folder)
+        self.early = None  # the answer, where it was asked for with what a patch has to know
+
+    def give(self):
+        """Writes what is asked for; gives the status."""
+        is_plain = self.query and not ({"--facts", "--bundle-path"} & self.call.flags or {"--queries", "--max-steps"} & self.call.values.keys())
+        bundle, warnings = self.kept.open(self.ask_with if is_plain and self.call.values.get("--output", "") not in FORMS else None)
+        with bundle:
+            if "--bundle-path" in self.call.flags:
+                write([self.kept.path("bundle")], sys.stdout)
+                self.tell([], warnings)
+                return 0
+            if "--queries" in self.call.values:
+                self.tell([], warnings)
+                return self.many(bundle, self.call.values["--queries"])
+            return self.one(bundle, warnings)
+
+    def one(self, bundle, warnings):
+        """Answers the query."""
+        ended, text, found = self.asked(bundle)
+        write_bytes(text, sys.stdout)
+        self.tell(self.explained(ended), warnings, found)
+        return self.status(ended.returncode, warnings, found)
+
+    def asked(self, bundle):
+        """How a run of the query ends, the text of the answer in its form, and what is lost of it."""
+        options, form = self.options(), FORMS.get(self.call.values.get("--output", ""))
+        if not form and "--facts" not in self.call.flags:
+            if self.early and self.kept.is_asked:
+                ended, found = self.early
+            else:
+                labels = Labels(self.kept, bundle)
+                ended, found, further = self.ask(bundle, labels.wanted())
+                labels.keep(lines for _, lines in further)
+            return ended, ended.stdout, found
+        words = [*options, "--facts", *(["--", self.query] if self.query else [])]
+        ended = subprocess.run([self.program, *words], stdin=bundle, capture_output=True, check=False)
+        if ended.returncode not in (0, 3):
+            return ended, ended.stdout, None
+        if not form:
+            from bzlq.overlay.package_defaults import lines_of  # (not at the top: it reads files)
+            return ended, ended.stdout + text_of(lines_of(self.kept.path("bundle"), ended.stdout)), None
+        targets = Facts.of_lines(ended.stdout.splitlines()).targets
+        return ended, text_of(form(targets, ended.stdout, self.path)), of_targets(self.query, targets.values())
+
+    def ask(self, bundle, more):
+        """Asks for the answer, and for more in the same session."""
+        return ask(self.program, [*self.options(), *self.call.of_bq("--output")], bundle, self.query, more)
+
+    def ask_with(self, bundle, queries):
+        """Asks for the answer, and for more in the same session: gives the blocks of the latter, and the run's fault lines."""
+        *self.early, blocks = self.ask(bundle, queries)
+        return blocks, self.early[0].stderr
+
+    def status(self, status, warnings, found):
+        """The status: 3 also where the answer may lack a target, or with --strict is an approximation in any way."""
+        is_lacking = bool(warnings) or found is not None and (found.may_lack() or "--strict" in self.call.flags and found.some)
+        return 3 if status == 0 and is_lacking else status
+
+    def options(self):
+        """The options of the call that each run of bq gets."""
+        return self.call.of_bq("--jobs", "--max-steps") + ([] if "--max-steps" in self.call.values else [f"--max-steps={MAX_STEPS}"])
+
+    def many(self, bundle, name):
+        """Answers the queries of a file, or those of standard input, each as soon as it is there."""
+        words = [self.program, *self.options(), *self.call.of_bq("--output"), "--bundle", f"/dev/fd/{bundle.fileno()}", "--queries", "-"]
+        with open(sys.stdin.fileno() if name == "-" else name, "rb", closefd=name != "-") as lines:
+            run = subprocess.Popen(words, stdin=subprocess.PIPE, pass_fds=[bundle.fileno()])
+            try:
+                for line in lines:
+                    run.stdin.write(self.full(line))
+                    run.stdin.flush()
+                run.stdin.close()
+                return run.wait()
+            except BrokenPipeError:
+                return run.wait()  # (it has ended, and said why)
+            except BaseException:
+                run.kill()
+                run.wait()
+                raise
+
+    def full(self, line):
+        """A line of queries with labels in full; one that leads out of the workspace is left to bq, which refuses it in its place."""
+        text = line.decode("utf-8", "surrogateescape")
+        if text.startswith("#") or not text.strip():
+            return line
+        try:
+            return (absolute(text.rstrip("\r\n"), self.root, self.folder) + "\n").encode("utf-8", "surrogateescape")
+        except BadWord:
+            return line
+
+    def path(self, path):
+        """A file's path from the folder that one stands in."""
+        return self.kept.shown(path)
+
+    def explained(self, ended):
+        """What a run wrote to standard error, with hints. (Those of fault lines are kept, since the next run has the same lines.)"""
+        text, is_all = ended.stderr.decode("utf-8", "surrogateescape"), "--all" in self.call.flags
+        is_empty = ended.returncode in (0, 3) and not ended.stdout
+        key = hashlib.sha256(f"{os.getcwd()}\0{is_all}\0{text}".encode("utf-8", "surrogateescape")).hexdigest()
+        lines = self.kept.said(key) if ended.returncode == 3 else [] if not text else None
+        if lines is not None and not is_empty:
+            return lines
+        # (not at the top: most runs don't need them)
+        from bzlq.hints.report import hinted
+        from bzlq.hints.sources import Sources
+        sources = Sources.of_bundle(self.kept.path("bundle"), self.path)
+        if lines is None:
+            lines, _ = hinted(text.splitlines(), sources, self.query, is_all, not is_all)
+            if ended.returncode == 3:
+                self.kept.keep_said(key, lines)
+        return lines + ([f"bzlq: nothing matches{empty(sources, self.query)}"] if is_empty else [])
+
+    @staticmethod
+    def tell(lines, warnings, found=None):
+        """Writes what is to be said of a run, and what its answer lacks."""
+        if warnings:
+            lines = lines + [f"bzlq: targets may be missing: {warnings[0]}" +
+                             (f"; and {len(warnings) - 1} more (bzlq stubs lists them)" if len(warnings) > 1 else "")]
+        if found:
+            lines = lines + [f"bzlq: {it}" for it in found.lines()]
+        write(lines, sys.stderr)
+
+
+def text_of(lines):
+    """Lines as they are written."""
+    return "".join(f"{line}\n" for line in lines).encode("utf-8", "surrogateescape")
+
+
+def empty(sources, query):
+    """Why an answer may be empty: a kind that no rule has, or an attribute."""
+    from bzlq.hints.suggestions import did_you_mean
+    from bzlq.hints.queries import calls
+    for function, given in calls(query):
+        if function in ("attr", "labels") and given:
+            word, known = given[0][1].strip("\"'"), {name for attributes in sources.schema.values() for name in attributes}
+            if word not in known:
+                return f": no rule of the workspace has an attribute '{word}'{did_you_mean(word, known)}"
+        if function == "kind" and given:
+            word = given[0][1].strip("\"'")
+            plain = word.removesuffix(" rule").strip("^$.*")
+            if plain and not any(plain in f"{rule} rule" for rule in [*sources.schema, "source file", "generated file", "package group"]):
+                return f": no rule of the workspace has a kind like '{word}'{did_you_mean(plain, sources.schema)}"
+    return ""

@@ -1,0 +1,41 @@
+"""Lists the files that load a .bzl file: bzlq loads [--dir DIR | --bundle FILE] [--direct] FILE.bzl
+
+    $ bzlq loads tools/defs.bzl
+    app/BUILD:1: //app:BUILD loads //tools:defs.bzl
+    lib/BUILD:2: //lib:BUILD loads //tools:more.bzl, which loads //tools:defs.bzl
+
+FILE.bzl is a path or a label. The list has the BUILD and .bzl files that load it, directly or through others, each with the place of its
+load and a shortest path. With --direct only those that load it themselves.
+
+Status: 0; 3 if files have faults; 2 if nothing can be answered; 4, 5 as for bq.
+"""
+from bzlq.cli.request import parser_of, run
+from bzlq.facts.graph import path_to, reached
+from bzlq.hints.suggestions import did_you_mean
+from bzlq.workspace.files import Refused
+
+
+def loads(asked):
+    modules = asked.facts().modules
+    label = asked.label(asked.words.file)
+    if label not in modules:
+        known = [it for it in modules if it.endswith(".bzl")]
+        raise Refused(f"no BUILD file loads {label}{did_you_mean(label, known)}")
+    loaders = {}
+    for module in modules.values():
+        for load in module.loads:
+            loaders.setdefault(load.label, []).append(module.label)
+    before = reached([label], lambda it: loaders.get(it, ()))
+    for loader in sorted(before):
+        way = path_to(loader, before)[::-1]
+        if len(way) == 1 or asked.words.direct and len(way) > 2:
+            continue
+        line = next(it.line for it in modules[loader].loads if it.label == way[1])
+        yield f"{asked.path(modules[loader].file)}:{line}: {loader} loads {', which loads '.join(way[1:])}"
+
+
+def main():
+    parser = parser_of(__doc__)
+    parser.add_argument("--direct", action="store_true", help="only those that load it themselves")
+    parser.add_argument("file", metavar="FILE.bzl")
+    return run(loads, parser.parse_args(), is_of_targets=False)

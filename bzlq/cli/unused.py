@@ -1,0 +1,51 @@
+"""Lists the rules that no other target depends on: bzlq unused [--dir DIR | --bundle FILE] [--kind PATTERN | --roots PATTERN | --bzl] [QUERY]
+
+    $ bzlq unused
+    log/BUILD:8: //log:old (filegroup rule)
+
+Tests, binaries and test suites are left out, since nothing needs to depend on them (--roots gives another pattern for such kinds). --kind
+lists only the kinds that match a pattern, and these too. --bzl lists the .bzl files that nothing loads instead. With QUERY only its targets
+are listed. Other workspaces may use a target, and so may a part of an attribute that bq leaves out: look before you remove one.
+
+Status: 0; 3 if files have faults, so that users may be missing; 2 if nothing can be answered; 4, 5 as for bq.
+"""
+import os
+
+from bzlq.cli.request import parser_of, pattern, run
+from bzlq.facts.graph import users_of
+
+ROOTS = r"_test rule$|_binary rule$|^test_suite rule$"
+
+
+def unloaded(asked):
+    """The .bzl files that nothing loads."""
+    loaded = {it.file for it in asked.facts().modules.values()}
+    asked.lost = None  # (what was made up of targets changes nothing here)
+    files = [path for path in sorted(asked.sources().paths) if path.endswith(".bzl") and path not in loaded]
+    return [asked.path(path) for path in files if not asked.overlay or os.path.lexists(os.path.join(asked.root, path))]
+
+
+def unused(asked):
+    if asked.words.bzl:
+        yield from unloaded(asked)
+        return
+    kinds, roots = pattern(asked.words.kind or " rule$"), pattern(asked.words.roots)
+    targets = asked.facts().targets
+    users = users_of(targets)
+    asked_for = asked.facts(asked.query(asked.words.query)).targets if asked.words.query else targets
+    for label, target in asked_for.items():
+        outputs = [it for it in users[label] if targets[it].kind == "generated file"]
+        is_used = any(it not in outputs for it in users[label]) or any(users[it] for it in outputs)
+        is_root = roots.search(target.kind) and not asked.words.kind
+        if kinds.search(target.kind) and not is_root and not is_used and not label.startswith("@"):
+            yield f"{asked.path(target.file)}:{target.line or 1}: {label} ({target.kind})"
+
+
+def main():
+    parser = parser_of(__doc__)
+    which = parser.add_mutually_exclusive_group()
+    which.add_argument("--kind", default="", metavar="PATTERN", help="list only these kinds")
+    which.add_argument("--roots", default=ROOTS, metavar="PATTERN", help=f"the kinds that nothing needs to depend on ({ROOTS})")
+    which.add_argument("--bzl", action="store_true", help="list the .bzl files that no BUILD file loads, directly or not")
+    parser.add_argument("query", metavar="QUERY", nargs="?", default="")
+    return run(unused, parser.parse_args())

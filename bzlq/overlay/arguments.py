@@ -1,0 +1,216 @@
+"""What stands between the calls of an overlay's files and the rules of its schema: the text of `@bzlq//:given.bzl`.
+
+For each rule `x` it has a function `bzlq_r_x`, which declares the target, and puts into two attributes of their own what the rule can't be given:
+
+- `bzlq_edges`: what Bazel's query makes edges of, and no other attribute has: conditions of a `select`, the branches of one value that aren't
+  taken, labels among the keys of a dict;
+- `bzlq_lost`: what was made up or left out, as texts, each with one of the words of LOST and a colon before it.
+
+A `select` is a list of all of its branches with a mark before them, or the default branch with marks in it. Nothing that Bazel loads looks into
+a `select`, so the marks come to the calls as they are, and are taken out there.
+
+A large workspace calls these functions a hundred thousand times, so they look at elements one by one only where something is odd: `str`, `in`,
+`count` and `remove` look at a whole list in a step or a few.
+"""
+import json
+
+from bzlq.overlay.rule_sets import BAZEL
+
+# what may be lost, by its word; whether an answer may then lack a target
+LOST = {
+    "kind": False,  # the kind, for a rule or macro that isn't there
+    "targets": True,  # what else a macro declares, which one target stands for
+    "value": True,  # what a name of another repository, or one that bq leaves out, stands for
+    "edges": True,  # the type of an attribute was guessed, and what it is given may name files
+    "files": True,  # files whose names bq can't have, which a glob may match in Bazel
+    "dict": False,  # an attribute with a dict, or with a list of other things than texts
+    "select": False,  # the other branches of an attribute with one value
+}
+LOST_ATTRIBUTE = "bzlq_lost"
+ATTRIBUTES = {"bzlq_edges": "label_list", LOST_ATTRIBUTE: "string_list"}
+# attributes whose dicts have texts as keys
+TEXTS = ("define_values", "env", "exec_properties", "rustc_env", "substitutions", "values")
+DIRECTORY = "external/bzlq"
+LABEL = "@bzlq//:given.bzl"
+# (as long as `native.`, so that columns stay)
+PREFIX = "bzlq_r_"
+
+TEXT = '''\
+_DEFAULT = "//conditions:default"
+_MARK = "=select= "
+_AND = " =and= "
+_BRANCH = "=branch= "
+_END = "=end="
+
+def _is_texts(values):
+    """Whether a list has texts alone: written out, each then follows another."""
+    text = str(values)
+    return not values or text.startswith("[\\"") and text.count("\\", \\"") == len(values) - 1
+
+def _conditions(branches):
+    keys = branches.keys()
+    if not _is_texts(keys):
+        keys = [part for key in keys for part in (key if type(key) == "tuple" else [key]) if type(part) == "string"]
+    return [it for it in keys if it != _DEFAULT]
+
+def _marked(conditions):
+    return [_MARK + _AND.join(conditions)] if conditions else []
+
+def _select(branches, nothing):
+    if type(branches) != "dict":
+        return branches if type(branches) == type(nothing) else nothing
+    conditions, kinds = _conditions(branches), [type(value) for value in branches.values()]
+    if kinds and kinds == ["list"] * len(kinds):
+        found = _marked(conditions)
+        for value in branches.values():
+            found += value
+        return found
+    given = [list(value) if type(value) == "tuple" and value[:1] != (_MARK,) else value for value in branches.values() if value != None]
+    kinds = [type(value) for value in given]
+    if "list" in kinds or not given and nothing != None:
+        return _marked(conditions) + [part for value in given if type(value) == "list" for part in value]
+    found = branches.get(_DEFAULT)
+    if found == None and given:
+        found = given[-1]
+    if type(found) == "string":
+        return found + "".join([_MARK + it + _END for it in conditions or [""]] + [_BRANCH + it + _END for it in given if type(it) == "string" and it != found])
+    return (_MARK, found, conditions)
+
+def bzlq_select(branches, no_match_error = ""):
+    return _select(branches, None)
+
+def bzlq_select_list(branches, no_match_error = ""):
+    return _select(branches, [])
+
+def bzlq_files():
+    found = _LEFT_OUT.get(native.package_name())
+    return ["files: " + found] if found else []
+
+def bzlq_patterns(patterns):
+    return [it for it in patterns if type(it) == "string" and it and not [part for part in it.split("/") if part in ("", ".", "..") or "**" in part and part != "**"]]
+
+def _of_text(rule, key, value, edges, lost):
+    plain = ""
+    for piece in value.split(_END):
+        before, mark, condition = piece.partition(_MARK)
+        before, is_branch, branch = before.partition(_BRANCH)
+        plain += before
+        edges += [condition] if mark and condition else [] if mark else [branch] if is_branch and key in _LABELS.get(rule, []) else []
+    lost.append("select: " + key)
+    return plain
+
+def _is_left_out(rule, key, value, edges, lost):
+    is_open = rule not in _DICTS
+    if type(value) == "dict" and (is_open or key in _DICTS[rule]):
+        edges += [it for it in value.keys() if type(it) == "string" and (it[:1] in (":", "@") or it[:2] == "//") and key not in _TEXTS]
+    elif not (type(value) == "list" and is_open and not _is_texts(value)):
+        return False
+    lost.append("dict: " + key)
+    return True
+
+def _list(value, edges):
+    """A list without its marks, whose conditions are edges."""
+    text = str(value)
+    if _MARK not in text:
+        return value
+    found = list(value)
+    for piece in text.split("\\"" + _MARK)[1:]:
+        conditions = piece.partition("\\"")[0]
+        if _MARK + conditions in found:
+            found.remove(_MARK + conditions)
+            edges += conditions.split(_AND)
+    return _unmarked(found, edges) if _MARK in str(found) else found
+
+def _unmarked(value, edges):
+    """The same for marks that a list's text doesn't show."""
+    if [it for it in value if type(it) == "string" and it.find(_MARK) > 0]:
+        fail("a select in a list: write [..] + select(..)")
+    edges += [part for it in value if type(it) == "string" and it.startswith(_MARK) for part in it[len(_MARK):].split(_AND)]
+    return [it for it in value if type(it) != "string" or not it.startswith(_MARK)]
+
+def _guesses(rule, given, lost):
+    for key in _GUESSED.get(rule, []):
+        value = given.get(key)
+        if value == None:
+            continue
+        parts = value if type(value) == "list" else [value]
+        if [it for it in parts if type(it) == "string" and ("." in it or "/" in it) and " " not in it and it[:1] != "-"]:
+            lost.append("edges: " + key)
+
+def _plain(rule, given, edges, lost):
+    found, is_open = {}, rule not in _DICTS
+    for key, value in given.items():
+        if type(value) == "tuple" and value[:1] == (_MARK,):
+            edges += value[2]
+            lost.append("select: " + key)
+            value = value[1]
+        kind = type(value)
+        if (kind == "dict" or kind == "list" and is_open) and _is_left_out(rule, key, value, edges, lost):
+            continue
+        if kind == "list":
+            value = _list(value, edges)
+        elif kind == "string" and _MARK in value:
+            value = _of_text(rule, key, value, edges, lost)
+        found[key] = value
+    return found
+
+def bzlq_given(rule, lost, given):
+    found, edges = dict(given), []
+    lost = lost + (found.pop("bzlq_lost", None) or [])
+    kinds = [type(value) for value in found.values()]
+    is_odd = rule not in _DICTS and [1 for value in found.values() if type(value) == "list" and not _is_texts(value)]
+    if is_odd or "dict" in kinds or "tuple" in kinds or _MARK in str(given):
+        found = _plain(rule, found, edges, lost)
+    if rule in _GUESSED:
+        _guesses(rule, found, lost)
+    if rule == "genrule":
+        _outputs(found)
+    if rule in _TESTS:
+        _test(found)
+    if rule == "test_suite" and not found.get("tests"):
+        _suite(found, lost)
+    if edges:
+        found["bzlq_edges"] = {it: None for it in edges}.keys()
+    if lost:
+        found["bzlq_lost"] = {it: None for it in lost}.keys()
+    return found
+
+def _outputs(given):
+    """No file is an input of a rule and its output."""
+    outs, srcs = [it if type(it) == "list" else [] for it in (given.get("outs"), given.get("srcs"))]
+    before = "//" + native.package_name() + ":"
+    for out in outs:
+        if type(out) == "string" and (out in srcs or ":" + out in srcs or before + out in srcs):
+            fail("rule '" + str(given.get("name")) + "' has the file '" + out + "' as an input and as an output")
+
+def _suite(given, lost):
+    """All tests of the package."""
+    if native.package_name() in _TESTS_IN:
+        given["tests"] = [":" + it for it in _TESTS_IN[native.package_name()] if it != given.get("name")]
+    else:
+        lost.append("edges: tests")
+
+def _test(given):
+    """What Bazel takes where a test gives none."""
+    if given.get("size") == None:
+        given["size"] = "medium"
+    if given.get("timeout") == None:
+        given["timeout"] = {"small": "short", "large": "long", "enormous": "eternal"}.get(given["size"], "moderate")
+    if given.get("flaky") == None:
+        given["flaky"] = False
+    if given.get("shard_count") == None:
+        given["shard_count"] = -1
+'''
+
+
+# a line of an overlay that depends on which files there are
+BY_NAMES = "# Which labels are further targets depends on which files there are.\n"
+
+
+def given_files(schema, facts, mark):
+    """The files of the repository `@bzlq`, by their paths."""
+    mark += BY_NAMES if facts.further else ""
+    tables = {**schema.tables(), "_TEXTS": dict.fromkeys(TEXTS), "_TESTS_IN": facts.tests_in, "_LEFT_OUT": facts.workspace.left_out}
+    lines = [f"{name} = {json.dumps(value, ensure_ascii=False).replace('null', 'None')}\n" for name, value in tables.items()]
+    functions = [f"\ndef {PREFIX}{rule}(*args, **given):\n    native.{rule}(*args, **bzlq_given(\"{rule}\", [], given))\n" for rule in schema.types if rule in BAZEL]
+    return {f"{DIRECTORY}/BUILD": mark, f"{DIRECTORY}/given.bzl": mark + "".join(lines) + TEXT + "".join(functions)}

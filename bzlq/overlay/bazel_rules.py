@@ -1,0 +1,249 @@
+"""The attributes of Bazel's own rules, as `bazel info build-language` of 4.2.3 has them (dev/build_language). A line names a rule, and then a
+type's attributes. `dict` stands for any type with a dict."""
+TABLE = """
+action_listener: dict exec_properties
+action_listener: label_list applicable_licenses compatible_with exec_compatible_with extra_actions restricted_to target_compatible_with
+action_listener: string_list distribs licenses mnemonics
+alias: label actual
+alias: label_list applicable_licenses compatible_with restricted_to
+apple_binary: bool extension_safe
+apple_binary: dict exec_properties feature_flags
+apple_binary: int stamp
+apple_binary: label bundle_loader
+apple_binary: label_list applicable_licenses compatible_with data deps dylibs exec_compatible_with restricted_to target_compatible_with
+apple_binary: string binary_type minimum_os_version platform_type
+apple_binary: string_list distribs licenses linkopts sdk_dylibs sdk_frameworks weak_sdk_frameworks
+apple_cc_toolchain: bool supports_header_parsing supports_param_files
+apple_cc_toolchain: label all_files ar_files as_files compiler_files compiler_files_without_includes coverage_files dwp_files dynamic_runtime_lib libc_top linker_files module_map objcopy_files static_runtime_lib strip_files toolchain_config
+apple_cc_toolchain: label_list applicable_licenses compatible_with restricted_to
+apple_cc_toolchain: string compiler cpu toolchain_identifier
+apple_cc_toolchain: string_list distribs licenses output_licenses
+apple_static_library: dict exec_properties feature_flags
+apple_static_library: label_list applicable_licenses avoid_deps compatible_with data deps exec_compatible_with restricted_to target_compatible_with
+apple_static_library: string minimum_os_version platform_type
+apple_static_library: string_list distribs licenses linkopts sdk_dylibs sdk_frameworks weak_sdk_frameworks
+available_xcodes: label default
+available_xcodes: label_list applicable_licenses versions
+available_xcodes: string_list distribs licenses
+cc_binary: bool linkshared linkstatic
+cc_binary: dict env exec_properties
+cc_binary: int stamp
+cc_binary: label malloc win_def_file
+cc_binary: label_list additional_linker_inputs applicable_licenses compatible_with data deps dynamic_deps exec_compatible_with reexport_deps restricted_to srcs target_compatible_with toolchains
+cc_binary: string nocopts
+cc_binary: string_list args copts defines distribs includes licenses linkopts local_defines output_licenses
+cc_host_toolchain_alias: label_list applicable_licenses compatible_with restricted_to
+cc_import: bool alwayslink system_provided
+cc_import: label interface_library shared_library static_library
+cc_import: label_list applicable_licenses compatible_with data hdrs restricted_to
+cc_import: string_list distribs licenses
+cc_libc_top_alias: label_list applicable_licenses compatible_with restricted_to
+cc_library: bool alwayslink linkstatic
+cc_library: dict exec_properties
+cc_library: label linkstamp win_def_file
+cc_library: label_list applicable_licenses compatible_with data deps exec_compatible_with hdrs reexport_deps restricted_to srcs target_compatible_with textual_hdrs toolchains
+cc_library: string include_prefix nocopts strip_include_prefix
+cc_library: string_list copts defines distribs includes licenses linkopts local_defines
+cc_proto_library: dict exec_properties
+cc_proto_library: label_list applicable_licenses compatible_with data deps exec_compatible_with restricted_to target_compatible_with
+cc_proto_library: string_list distribs licenses
+cc_test: bool flaky linkstatic local
+cc_test: dict env exec_properties
+cc_test: int shard_count stamp
+cc_test: label malloc win_def_file
+cc_test: label_list additional_linker_inputs applicable_licenses compatible_with data deps dynamic_deps exec_compatible_with reexport_deps restricted_to srcs target_compatible_with toolchains
+cc_test: string nocopts size timeout
+cc_test: string_list args copts defines distribs env_inherit includes licenses linkopts local_defines
+cc_toolchain: bool supports_header_parsing supports_param_files
+cc_toolchain: label all_files ar_files as_files compiler_files compiler_files_without_includes coverage_files dwp_files dynamic_runtime_lib libc_top linker_files module_map objcopy_files static_runtime_lib strip_files toolchain_config
+cc_toolchain: label_list applicable_licenses compatible_with restricted_to
+cc_toolchain: string compiler cpu toolchain_identifier
+cc_toolchain: string_list distribs licenses output_licenses
+cc_toolchain_alias: label_list applicable_licenses compatible_with restricted_to
+cc_toolchain_suite: dict toolchains
+cc_toolchain_suite: label_list applicable_licenses compatible_with restricted_to
+cc_toolchain_suite: string_list distribs licenses
+config_feature_flag: label_list applicable_licenses
+config_feature_flag: string default_value
+config_feature_flag: string_list allowed_values distribs licenses
+config_setting: dict define_values flag_values values
+config_setting: label_list applicable_licenses constraint_values
+config_setting: string_list distribs licenses
+constraint_setting: dict exec_properties
+constraint_setting: label_list applicable_licenses exec_compatible_with
+constraint_setting: string default_constraint_value
+constraint_setting: string_list distribs licenses
+constraint_value: dict exec_properties
+constraint_value: label constraint_setting
+constraint_value: label_list applicable_licenses exec_compatible_with
+constraint_value: string_list distribs licenses
+environment: label_list applicable_licenses fulfills
+environment: string_list distribs licenses
+extra_action: bool requires_action_output
+extra_action: dict exec_properties
+extra_action: label_list applicable_licenses compatible_with data exec_compatible_with restricted_to target_compatible_with toolchains tools
+extra_action: string cmd
+extra_action: string_list distribs licenses out_templates
+fdo_prefetch_hints: label profile
+fdo_prefetch_hints: label_list applicable_licenses compatible_with restricted_to
+fdo_prefetch_hints: string absolute_path_profile
+fdo_prefetch_hints: string_list distribs licenses
+fdo_profile: label profile proto_profile
+fdo_profile: label_list applicable_licenses compatible_with restricted_to
+fdo_profile: string absolute_path_profile
+fdo_profile: string_list distribs licenses
+filegroup: label_list applicable_licenses compatible_with data restricted_to srcs
+filegroup: string output_group path
+filegroup: string_list distribs licenses output_licenses
+genquery: bool strict
+genquery: dict exec_properties
+genquery: label_list applicable_licenses compatible_with data deps exec_compatible_with restricted_to scope target_compatible_with
+genquery: string expression
+genquery: string_list distribs licenses opts
+genrule: bool executable heuristic_label_expansion local output_to_bindir stamp
+genrule: dict exec_properties
+genrule: label_list applicable_licenses compatible_with exec_compatible_with exec_tools restricted_to srcs target_compatible_with toolchains tools
+genrule: output_list outs
+genrule: string cmd cmd_bash cmd_bat cmd_ps message
+genrule: string_list distribs licenses output_licenses
+j2objc_library: label_list applicable_licenses compatible_with deps jre_deps restricted_to
+j2objc_library: string_list distribs entry_classes licenses
+java_binary: bool create_executable use_launcher use_testrunner
+java_binary: dict env exec_properties
+java_binary: int stamp
+java_binary: label launcher
+java_binary: label_list applicable_licenses classpath_resources compatible_with data deploy_env deps exec_compatible_with plugins resource_jars resources restricted_to runtime_deps srcs target_compatible_with toolchains
+java_binary: string main_class resource_strip_prefix
+java_binary: string_list args deploy_manifest_lines distribs javacopts jvm_flags licenses output_licenses
+java_import: bool neverlink
+java_import: dict exec_properties
+java_import: label srcjar
+java_import: label_list applicable_licenses compatible_with data deps exec_compatible_with exports jars proguard_specs restricted_to runtime_deps target_compatible_with
+java_import: string_list constraints distribs licenses
+java_library: bool neverlink
+java_library: dict exec_properties
+java_library: label_list applicable_licenses compatible_with data deps exec_compatible_with exported_plugins exports plugins proguard_specs resource_jars resources restricted_to runtime_deps srcs target_compatible_with
+java_library: string resource_strip_prefix
+java_library: string_list distribs javacopts licenses
+java_lite_proto_library: bool strict_deps
+java_lite_proto_library: dict exec_properties
+java_lite_proto_library: label_list applicable_licenses compatible_with data deps exec_compatible_with restricted_to target_compatible_with
+java_lite_proto_library: string_list distribs licenses
+java_package_configuration: label_list applicable_licenses compatible_with data packages restricted_to
+java_package_configuration: string_list distribs javacopts licenses output_licenses
+java_plugin: bool generates_api neverlink
+java_plugin: dict exec_properties
+java_plugin: label_list applicable_licenses compatible_with data deps exec_compatible_with plugins proguard_specs resource_jars resources restricted_to srcs target_compatible_with
+java_plugin: string processor_class resource_strip_prefix
+java_plugin: string_list distribs javacopts licenses output_licenses
+java_proto_library: bool strict_deps
+java_proto_library: dict exec_properties
+java_proto_library: label_list applicable_licenses compatible_with data deps exec_compatible_with restricted_to target_compatible_with
+java_proto_library: string_list distribs licenses
+java_runtime: label java
+java_runtime: label_list applicable_licenses compatible_with restricted_to srcs
+java_runtime: string java_home
+java_runtime: string_list distribs licenses output_licenses
+java_runtime_alias: label_list applicable_licenses compatible_with restricted_to
+java_test: bool create_executable flaky local use_launcher use_testrunner
+java_test: dict env exec_properties
+java_test: int shard_count stamp
+java_test: label launcher
+java_test: label_list applicable_licenses classpath_resources compatible_with data deps exec_compatible_with plugins resource_jars resources restricted_to runtime_deps srcs target_compatible_with toolchains
+java_test: string main_class resource_strip_prefix size test_class timeout
+java_test: string_list args deploy_manifest_lines distribs env_inherit javacopts jvm_flags licenses
+java_toolchain: bool forcibly_disable_header_compilation javac_supports_multiplex_workers javac_supports_workers
+java_toolchain: dict compatible_javacopts
+java_toolchain: label jacocorunner java_runtime oneversion oneversion_whitelist proguard_allowlister timezone_data
+java_toolchain: label_list applicable_licenses bootclasspath compatible_with genclass header_compiler header_compiler_direct ijar javabuilder javac package_configuration resourcejar restricted_to singlejar tools
+java_toolchain: string source_version target_version
+java_toolchain: string_list distribs header_compiler_builtin_processors javabuilder_jvm_opts javacopts jvm_opts licenses misc output_licenses reduced_classpath_incompatible_processors turbine_jvm_opts xlint
+java_toolchain_alias: label_list applicable_licenses compatible_with restricted_to
+label_flag: label_list applicable_licenses compatible_with restricted_to
+label_flag: string build_setting_default
+label_setting: label_list applicable_licenses compatible_with restricted_to
+label_setting: string build_setting_default
+ninja_build: dict deps_mapping output_groups
+ninja_build: label ninja_graph
+ninja_build: label_list applicable_licenses compatible_with restricted_to
+ninja_build: string_list distribs licenses
+ninja_graph: label main
+ninja_graph: label_list applicable_licenses compatible_with ninja_srcs restricted_to
+ninja_graph: string output_root working_directory
+ninja_graph: string_list distribs licenses output_root_inputs
+objc_import: bool alwayslink
+objc_import: label_list applicable_licenses archives compatible_with hdrs restricted_to textual_hdrs
+objc_import: string_list distribs includes licenses sdk_dylibs sdk_frameworks sdk_includes weak_sdk_frameworks
+objc_library: bool alwayslink enable_modules
+objc_library: dict exec_properties
+objc_library: label module_map pch
+objc_library: label_list applicable_licenses compatible_with data deps exec_compatible_with hdrs non_arc_srcs restricted_to runtime_deps srcs target_compatible_with textual_hdrs toolchains
+objc_library: string module_name
+objc_library: string_list copts defines distribs includes licenses sdk_dylibs sdk_frameworks sdk_includes weak_sdk_frameworks
+platform: bool host_platform target_platform
+platform: dict exec_properties
+platform: label_list applicable_licenses constraint_values cpu_constraints exec_compatible_with os_constraints parents
+platform: string remote_execution_properties
+platform: string_list distribs licenses
+propeller_optimize: label cc_profile ld_profile
+propeller_optimize: label_list applicable_licenses compatible_with restricted_to
+propeller_optimize: string absolute_cc_profile absolute_ld_profile
+propeller_optimize: string_list distribs licenses
+proto_lang_toolchain: dict exec_properties
+proto_lang_toolchain: label plugin runtime
+proto_lang_toolchain: label_list applicable_licenses blacklisted_protos compatible_with exec_compatible_with restricted_to target_compatible_with
+proto_lang_toolchain: string command_line
+proto_lang_toolchain: string_list distribs licenses
+proto_library: dict exec_properties
+proto_library: label_list applicable_licenses compatible_with data deps exec_compatible_with exports restricted_to srcs target_compatible_with
+proto_library: string import_prefix strip_import_prefix
+proto_library: string_list distribs licenses
+py_binary: dict env exec_properties
+py_binary: int legacy_create_init stamp
+py_binary: label main
+py_binary: label_list applicable_licenses compatible_with data deps exec_compatible_with restricted_to srcs target_compatible_with toolchains
+py_binary: string python_version srcs_version
+py_binary: string_list args distribs imports licenses output_licenses
+py_library: dict exec_properties
+py_library: label_list applicable_licenses compatible_with data deps exec_compatible_with restricted_to srcs target_compatible_with
+py_library: string srcs_version
+py_library: string_list distribs imports licenses
+py_runtime: label interpreter
+py_runtime: label_list applicable_licenses compatible_with files restricted_to
+py_runtime: string interpreter_path python_version stub_shebang
+py_runtime: string_list distribs licenses output_licenses
+py_test: bool flaky local
+py_test: dict env exec_properties
+py_test: int legacy_create_init shard_count stamp
+py_test: label main
+py_test: label_list applicable_licenses compatible_with data deps exec_compatible_with restricted_to srcs target_compatible_with toolchains
+py_test: string python_version size srcs_version timeout
+py_test: string_list args distribs env_inherit imports licenses
+sh_binary: dict env exec_properties
+sh_binary: label_list applicable_licenses compatible_with data deps exec_compatible_with restricted_to srcs target_compatible_with toolchains
+sh_binary: string_list args distribs licenses output_licenses
+sh_library: dict exec_properties
+sh_library: label_list applicable_licenses compatible_with data deps exec_compatible_with restricted_to srcs target_compatible_with
+sh_library: string_list distribs licenses
+sh_test: bool flaky local
+sh_test: dict env exec_properties
+sh_test: int shard_count
+sh_test: label_list applicable_licenses compatible_with data deps exec_compatible_with restricted_to srcs target_compatible_with toolchains
+sh_test: string size timeout
+sh_test: string_list args distribs env_inherit licenses
+test_suite: label_list applicable_licenses compatible_with restricted_to tests
+test_suite: string_list distribs licenses
+toolchain: dict exec_properties
+toolchain: label toolchain_type
+toolchain: label_list applicable_licenses exec_compatible_with target_compatible_with target_settings
+toolchain: string toolchain
+toolchain: string_list distribs licenses
+toolchain_type: label_list applicable_licenses compatible_with restricted_to
+xcode_config: label default local_versions remote_versions
+xcode_config: label_list applicable_licenses versions
+xcode_config: string_list distribs licenses
+xcode_config_alias: label_list applicable_licenses compatible_with restricted_to
+xcode_version: label_list applicable_licenses
+xcode_version: string default_ios_sdk_version default_macos_sdk_version default_tvos_sdk_version default_watchos_sdk_version version
+xcode_version: string_list aliases distribs licenses
+"""

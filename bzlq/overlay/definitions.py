@@ -1,0 +1,72 @@
+"""What stands in a .bzl file for a symbol that isn't there: a macro that forwards to a rule of the schema, a function, or a value."""
+from collections import Counter
+
+from bzlq.overlay.guesses import type_of
+from bzlq.overlay.reading import BUILD_FUNCTIONS, BUILT_INS
+from bzlq.overlay.skylib import MEMBERS
+
+RESERVED = set("""and break continue def elif else for if in lambda load not or pass return as assert async await class del except finally from
+    global import is nonlocal raise try while with yield native""".split()) | BUILT_INS | BUILD_FUNCTIONS
+
+
+def rule_of(symbol):
+    """The rule that a symbol is forwarded to. (`selects__config_setting_group` stands for a member.)"""
+    name = symbol.partition("__")[2] if "__" in symbol.strip("_") else symbol
+    return f"{name}_rule" if name in RESERVED else name
+
+
+def shape(place):
+    """What a place takes: a list, a text, or something else."""
+    if place in ("list", "strings", "labels"):
+        return "list"
+    if place in ("string", "label"):
+        return "text"
+    kind, source = type_of(place, Counter(), {})
+    return "" if source != "name" else "list" if kind.endswith("_list") else "text" if kind in ("string", "label") else ""
+
+
+def value_for(stub):
+    """What stands for a symbol that makes no target, by the places that it is used at."""
+    if stub.members & {"get", "items", "keys", "values"} or stub.wanted["dict"]:
+        return "{}"
+    shapes = Counter()
+    for place, count in stub.wanted.items():
+        shapes[shape(place)] += count
+    if shapes["text"] > shapes["list"] or "format" in stub.members:
+        return '""'
+    # (an attribute that is given None isn't given)
+    return "None" if not shapes["list"] and any(stub.wanted) else "[]"
+
+
+# functions of rules_python and rules_jvm_external that give labels
+LABELS_OF = {
+    "requirement": '"@{repository}//" + name.lower().partition("[")[0].replace("-", "_").replace(".", "_")',
+    "artifact": '"@maven//:" + "_".join(name.split(":")[:2]).replace("-", "_").replace(".", "_")',
+}
+
+
+def quoted(text):
+    """A text as Starlark writes it."""
+    return '"' + text.replace("\\", "\\\\").replace('"', '\\"') + '"'
+
+
+def definition(repository, symbol, stub, lost=()):
+    """The text that defines a symbol, in one line but for members of skylib's. `lost` says what is made up."""
+    if symbol in MEMBERS and repository:
+        return f"def {symbol}{MEMBERS[symbol]}"
+    if stub.makes_targets:
+        rule = rule_of(symbol)
+        texts = ", ".join(quoted(it) for it in lost)
+        return f"def {symbol}(name, *args, **given): native.{rule}(**bzlq_given(\"{rule}\", [{texts}], dict({{\"name\": name}}, **given)))"
+    if repository and symbol in LABELS_OF:
+        return f"def {symbol}(name, *args, **kwargs): return {LABELS_OF[symbol].format(repository=repository)}"
+    if not stub.is_called:
+        return f"{symbol} = {value_for(stub)}"
+    value = value_for(stub)
+    if value == "[]":
+        # (of what mostly is a choice between lists)
+        value = "[part for value in list(args) + list(kwargs.values()) if type(value) == \"list\" for part in value]"
+    if value == '""':
+        # a label, so that it may stand where a label is wanted
+        value = f'"@{repository}//:{symbol}"' if repository else f'":{symbol}"'
+    return f"def {symbol}(*args, **kwargs): return {value}"

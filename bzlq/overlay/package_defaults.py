@@ -1,0 +1,57 @@
+"""What calls of `package(..)` say, which bq accepts without effect: takes the file of a bundle, gives lines as those of `bq --facts`, one for each
+package that says something."""
+import ast
+import json
+import os
+import re
+
+from bzlq.overlay.reading import parsed
+from bzlq.workspace.files import parts
+
+CALL = re.compile(rb"^package\(", re.M)
+TARGET = re.compile(rb'^\{"target":"([^":]*)', re.M)
+NAMES = ("default_visibility", "default_testonly", "default_deprecation", "features", "default_applicable_licenses", "default_package_metadata")
+
+
+def lines_of(bundle, facts):
+    """The lines, in the order of the packages that these facts have a target of."""
+    asked = {it.decode("utf-8", "replace") for it in TARGET.findall(facts)}
+    for path, text in parts(bundle).items():
+        if label(os.path.dirname(path)) in asked and os.path.basename(path) in ("BUILD", "BUILD.bazel") and (found := CALL.search(text)):
+            line = text.count(b"\n", 0, found.start()) + 1
+            if said := members(text, line):
+                yield json.dumps({"package": label(os.path.dirname(path)), "file": path, "line": line, **said}, separators=(",", ":"), ensure_ascii=False)
+
+
+def label(directory):
+    """The package in a directory."""
+    if directory.startswith("external/"):
+        _, repository, *rest = directory.split("/")
+        return f"@{repository}//{'/'.join(rest)}"
+    return f"//{directory}"
+
+
+def members(text, line):
+    """What the call in this line says, as far as it shows values; null for one that it doesn't show."""
+    try:
+        found = next((node.value for node in parsed(text).body if node.lineno == line and isinstance(node, ast.Expr)), None)
+    except (SyntaxError, ValueError, RecursionError, MemoryError):
+        return {}
+    return {key.arg: shown(key.value) for key in getattr(found, "keywords", ()) if key.arg in NAMES}
+
+
+def shown(node):
+    is_shown, value = literal(node)
+    return value if is_shown and isinstance(value, str | bool | int | list) else None
+
+
+def literal(node):
+    """Whether an expression shows its value, and the value; lists may be joined by `+`."""
+    if isinstance(node, ast.BinOp) and isinstance(node.op, ast.Add):
+        (is_left, left), (is_right, right) = literal(node.left), literal(node.right)
+        is_shown = is_left and is_right and type(left) is type(right) and isinstance(left, str | list)
+        return is_shown, left + right if is_shown else None
+    try:
+        return True, ast.literal_eval(node)
+    except (ValueError, TypeError, SyntaxError, RecursionError, MemoryError):
+        return False, None

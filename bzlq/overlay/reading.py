@@ -1,0 +1,605 @@
+"""What a BUILD or .bzl file says, as far as its text shows it: loads, definitions, calls and their arguments.
+
+Starlark is near enough to Python that Python's own parser reads it; nothing is run. What a value is like is guessed from its form.
+"""
+import ast
+import re
+import warnings
+from dataclasses import dataclass, field
+
+from bzlq.overlay.replacements import NAMES, REPLACED, label_in, labels_bound, replacement
+from bzlq.overlay.rule_sets import BAZEL
+
+# names that every file knows, besides the rules
+BUILT_INS = set("""None True False all any bool dict enumerate fail int len list max min print range repr reversed select sorted str tuple
+    type zip""".split())
+BUILD_FUNCTIONS = set("glob package_name package licenses exports_files package_group".split())
+# what Bazel knows and `bq` leaves out
+LEFT_OUT = set("""abs analysis_test_transition apple_common apple_support aspect attr bytes cc_common config configuration_field coverage_common
+    DefaultInfo depset distribs CcInfo exec_group existing_rule existing_rules float getattr hasattr hash InstrumentedFilesInfo
+    JavaInfo java_common json Label module_extension native OutputGroupInfo platform_common proto provider ProtoInfo PyInfo PyRuntimeInfo
+    repository_name repository_rule rule RunEnvironmentInfo set struct subpackages tag_class testing transition workspace dir
+    CcToolchainConfigInfo CcSharedLibraryInfo DebugPackageInfo ErlangInfo macro module_name module_version repo_name symbolic_macro visibility""".split())
+
+
+# attributes that are numbers, and may be given True and False
+TRISTATES = ("stamp", "legacy_create_init")
+# what a BUILD file has where something in it is replaced: one of these texts, and then one of these patterns
+ODD = [it.encode() for it in ("select", "genrule(", "{", "\\", "=== ", " / ", "to_list", "exclude", *TRISTATES, *NAMES)]
+ODD_PATTERN = re.compile(rb"select\b|genrule\(|[{\\]|^=== |\b(?:%s|to_list|exclude|exclude_directories)\b|\b(?:%s)\s*=| / " % ("|".join(NAMES).encode(), "|".join(TRISTATES).encode()), re.M)
+RELATIVE_LOAD = re.compile(rb"load\(\s*[\"'][^/@:]")
+LABEL = re.compile(rb"[\"']@([\w.+~-]+)(?://([^:\"'\s]*)(?::([^\"'\s]+))?)?[\"']")
+# a comprehension, or a loop (the text comes first, so that most of a file is passed over quickly)
+FOR = re.compile(rb"for(?<!\wfor)\b")
+
+
+def passed(value):
+    """The name whose entries a `**` passes on: its own, or the first that is given to a call, as in `**with_tags(attrs)`."""
+    if isinstance(value, ast.Call) and value.args:
+        value = value.args[0]
+    return value.id if isinstance(value, ast.Name) else None
+
+
+@dataclass
+class Call:
+    """A call of a name (`f(..)`) or of a member of `native`."""
+
+    name: str
+    is_native: bool
+    line: int
+    inside: str  # the function whose body it is in; empty at the top level
+    keywords: dict  # each keyword's kinds of values
+    splats: list  # the names given with `**`; None for other values
+    positional: list  # kinds
+    is_statement: bool
+    wanted: str  # what the place takes: a kind, or empty
+    passed: dict  # each keyword that is given a name as it is
+    target: str  # the text that it gives as `name`
+
+
+@dataclass
+class Def:
+    """The head of a function."""
+
+    parameters: list
+    rest: str  # the name after `**`; empty without one
+    defaults: dict  # what the defaults of parameters are like
+
+
+@dataclass
+class Statement:
+    """A statement at the top level: its lines, and the names that it binds."""
+
+    first: int
+    last: int
+    names: list
+    is_def: bool
+
+
+@dataclass
+class File:
+    """What a file says."""
+
+    path: str
+    is_build: bool
+    broken: str = ""
+    loads: list = field(default_factory=list)  # (label, line, {local: symbol})
+    defs: dict = field(default_factory=dict)
+    aliases: dict = field(default_factory=dict)  # a global that is another name
+    natives: dict = field(default_factory=dict)  # a global that is a member of `native`: a rule of Bazel's own
+    made: dict = field(default_factory=dict)  # a global that a call of `rule` gives: the types that it says, by attribute
+    macros: dict = field(default_factory=dict)  # a global that a call of `macro` gives: its function, and the text of its attributes' defaults
+    size: int = 0
+    tests: set = field(default_factory=set)  # those of them that say `test = True`
+    kinds: dict = field(default_factory=dict)  # what the value of a global is like
+    called: set = field(default_factory=set)  # globals whose values are calls
+    plain: set = field(default_factory=set)  # globals whose values have neither a name nor a call but of `glob`
+    statements: list = field(default_factory=list)
+    globals: set = field(default_factory=set)
+    calls: list = field(default_factory=list)
+    uses: list = field(default_factory=list)  # (name, how it is used, line)
+    members: list = field(default_factory=list)  # (name, member, line, whether it is called)
+    member_calls: list = field(default_factory=list)  # (name, member, keywords, line), of those that are statements
+    faults: list = field(default_factory=list)  # (line, what bq leaves out)
+    labels: list = field(default_factory=list)  # the labels of other repositories that its text names, each as (repository, package, name)
+    is_odd: bool = False  # whether its text has what a copy may have something else for
+
+
+def is_label(text):
+    return text.startswith(("//", ":", "@"))
+
+
+def joined(kinds):
+    """The kind of a list whose elements are of these kinds."""
+    if kinds & {"dict", "list", "strings", "labels"}:
+        return "other"
+    if "label" in kinds:
+        return "labels"
+    return "strings" if "string" in kinds else "list"
+
+
+def first_known(kinds):
+    """The kind that says most of a value that is like one of these."""
+    return next((kind for kind in ("labels", "strings", "list", "label", "string", "bool", "int", "bit", "dict", "none") if kind in kinds), "other")
+
+
+def kind_of_constant(value):
+    if isinstance(value, str):
+        return "label" if is_label(value) else "string"
+    if value is None:
+        return "none"
+    if isinstance(value, bool):
+        return "bool"
+    if isinstance(value, int):
+        return "bit" if value in (0, 1) else "int"
+    return "other"
+
+
+def kind_of(node):
+    """What a value is like: string, label, strings, labels, list, bit, int, bool, dict, none, or other where the form doesn't show it."""
+    if isinstance(node, ast.Constant):
+        return kind_of_constant(node.value)
+    match node:
+        case ast.UnaryOp(op=ast.USub()):
+            return "int"
+        case ast.List(elts=parts) | ast.Tuple(elts=parts):
+            return joined({kind_of(part) for part in parts}) if parts else "list"
+        case ast.ListComp(elt=part):
+            return joined({kind_of(part)})
+        case ast.Dict() | ast.DictComp():
+            return "dict"
+        case ast.BinOp(op=ast.Add(), left=left, right=right):
+            return first_known({kind_of(left), kind_of(right)})
+        case ast.BinOp(op=ast.Mod(), left=left):
+            return kind_of(left)
+        case ast.IfExp(body=body):
+            return kind_of(body)
+        case ast.Call(func=ast.Name(id="select") | ast.Attribute(attr="with_or"), args=[ast.Dict(values=branches), *_]):
+            return first_known({kind_of(branch) for branch in branches})
+        case ast.Call(func=ast.Name(id="select"), args=[ast.DictComp(value=branch), *_]):
+            return kind_of(branch)
+        case ast.Call(func=ast.Name(id="glob") | ast.Attribute(attr="glob")):
+            return "labels"
+        case ast.Call() if label_in(node):
+            return "label"
+        case ast.Call(func=ast.Attribute(value=of, attr="to_list"), args=[]):
+            return kind_of(of)
+        case ast.Call(func=ast.Name(id="depset"), args=args):
+            return kind_of(args[0]) if args else "list"
+        case ast.Call(func=ast.Attribute(value=of, attr="format" | "strip" | "replace" | "lower" | "upper" | "join")):
+            return kind_of(of) if isinstance(of, ast.Constant) else "string"
+        case _:
+            return "other"
+
+
+class Reader(ast.NodeVisitor):
+    """Walks a file's tree. `locals` are the names that the function around binds."""
+
+    def __init__(self, file):
+        self.file = file
+        self.inside = ""
+        self.all_names = file.globals
+        self.own_names(set())
+        self.bound = {}
+        self.makers = set()  # parameters whose members declare targets
+        self.labels = set()  # names that the function around binds to labels
+        self.wanted = ""
+
+    def own_names(self, names):
+        """Goes into a function that binds these names."""
+        self.locals = names
+        # (`all_names` is asked for each node)
+        self.all_names = names | self.file.globals if names else self.file.globals
+
+    def left_out(self, node, what):
+        """Notes something that bq leaves out."""
+        self.file.faults.append((node.lineno, what))
+
+    def known(self, name):
+        """Whether the file has a name."""
+        return name in self.all_names
+
+    def wanting(self, kind, node):
+        before, self.wanted = self.wanted, kind
+        self.visit(node)
+        self.wanted = before
+
+    def visit_Constant(self, node):
+        """A constant says nothing by itself. (Without this Python looks for methods of older names, which takes a tenth of all reading.)"""
+
+    def visit(self, node):
+        """Reads a node, or what stands for it."""
+        found = replacement(node, self.all_names, self.labels) if isinstance(node, REPLACED) else None
+        if found:
+            for part in found.pieces:
+                if isinstance(part, ast.AST):
+                    self.wanting(found.wanted, part)
+        else:
+            super().visit(node)
+
+    def visit_FunctionDef(self, node):
+        if self.inside:
+            self.left_out(node, "a function in a function")
+            return
+        for default in [*node.args.defaults, *node.args.kw_defaults]:
+            if default is not None:
+                self.visit(default)
+        self.inside, self.makers, self.labels = node.name, makers_of(node), labels_bound(node)
+        self.own_names(names_bound(node))
+        parameters = {it.arg for it in ast.walk(node.args) if isinstance(it, ast.arg)}
+        self.bound = {}
+        for it in ast.walk(node):
+            match it:
+                case ast.Assign(targets=[ast.Name(id=target)], value=value) if target not in parameters:
+                    self.bound.setdefault(target, kind_of(value))
+        for part in node.body:
+            self.visit(part)
+        self.inside, self.makers, self.labels, self.bound = "", set(), set(), {}
+        self.own_names(set())
+
+    def visit_Lambda(self, node):
+        self.left_out(node, "lambda")
+
+    def visit_Expr(self, node):
+        match node.value:
+            case ast.Call():
+                self.call(node.value, True)
+            case ast.ListComp(elt=ast.Call() as call):
+                self.in_scope(node.value, call)
+            case _:
+                self.wanting("", node.value)
+
+    def visit_Call(self, node):
+        self.call(node, False)
+
+    def call(self, node, is_statement):
+        """Reads a call."""
+        match node.func:
+            case ast.Name(id="load") if not self.inside:
+                return
+            case ast.Name(id="select"):
+                self.left_out(node, "select")
+            case ast.Name(id="Label") if label_in(node) and not self.known("Label"):
+                pass
+            case ast.Name(id=name):
+                self.named_call(node, name, False, is_statement)
+            case ast.Attribute(value=ast.Name(id="native"), attr=name) if not self.known("native"):
+                self.named_call(node, name, True, is_statement)
+            case ast.Attribute(value=ast.Name(id=name), attr=member) if name in self.makers and has_name(node):
+                self.named_call(node, member, True, is_statement)
+            case ast.Attribute(value=ast.Name(id=name), attr=member) if name not in self.locals:
+                self.member(node, name, member, True)
+                if is_statement:
+                    self.file.member_calls.append((name, member, {key.arg: kind_of(key.value) for key in node.keywords if key.arg}, node.lineno))
+            case ast.Attribute(value=of):
+                if label_in(of):
+                    self.left_out(node, "a member of a label")
+                self.wanting("", of)
+            case _:
+                self.visit(node.func)
+        for part in node.args:
+            self.wanting("dict" if isinstance(node.func, ast.Name) and node.func.id == "dict" else "", part)
+        for keyword in node.keywords:
+            self.wanting(keyword.arg or "", keyword.value)
+
+    def kind_here(self, node):
+        """What a value is like; of a variable that this function binds, what it binds it to first."""
+        if isinstance(node, ast.BinOp) and isinstance(node.op, ast.Add):
+            return first_known({self.kind_here(node.left), self.kind_here(node.right)})
+        return self.bound.get(node.id, "other") if isinstance(node, ast.Name) else kind_of(node)
+
+    def named_call(self, node, name, is_native, is_statement):
+        if name in self.locals and not is_native:
+            return
+        keywords = {key.arg: self.kind_here(key.value) for key in node.keywords if key.arg}
+        splats = []
+        for key in node.keywords:
+            if key.arg is None:
+                splats.append(passed(key.value))
+                keywords.update(entries(key.value))
+        starred = [part for part in node.args if isinstance(part, ast.Starred)]
+        positional = [kind_of(part) for part in node.args if part not in starred]
+        names = {key.arg: key.value.id for key in node.keywords if key.arg and isinstance(key.value, ast.Name)}
+        self.file.calls.append(Call(name, is_native, node.lineno, self.inside, keywords, splats, positional, is_statement, self.wanted, names, target_of(node)))
+
+    def member(self, node, name, member, is_called):
+        """Notes that a member of a name is used."""
+        if name == "native":
+            return
+        if not self.known(name) and name in LEFT_OUT:
+            self.left_out(node, f"{name}.{member}")
+        else:
+            self.file.members.append((name, member, node.lineno, is_called))
+
+    def visit_Attribute(self, node):
+        if isinstance(node.value, ast.Name) and node.value.id == "native" and not self.known("native") and node.attr in BAZEL:
+            self.file.calls.append(Call(node.attr, True, node.lineno, self.inside, {}, [], [], False, "", {}, ""))
+            return
+        self.left_out(node, "a member that isn't called")
+        if isinstance(node.value, ast.Name):
+            self.member(node, node.value.id, node.attr, False)
+        else:
+            self.visit(node.value)
+
+    def visit_Name(self, node):
+        if isinstance(node.ctx, ast.Load) and node.id not in self.locals:
+            self.file.uses.append((node.id, self.wanted, node.lineno))
+
+    def visit_BinOp(self, node):
+        sides = (kind_of(node.left), kind_of(node.right))
+        known = [kind for kind in sides if kind in ("string", "label", "strings", "labels", "list", "dict")]
+        wanted = known[0] if known else self.wanted
+        self.wanting("string" if wanted == "label" else wanted, node.left)
+        self.wanting("string" if wanted == "label" else wanted, node.right)
+
+    def visit_comprehension(self, node):
+        self.wanting("list", node.iter)
+        for part in node.ifs:
+            self.wanting("", part)
+
+    def visit_ListComp(self, node):
+        self.in_scope(node)
+
+    def visit_DictComp(self, node):
+        self.in_scope(node)
+
+    def in_scope(self, node, statement=None):
+        """Visits a comprehension; with `statement`, a call whose value nobody takes, as `[rule(..) for ..]` has it."""
+        before = self.locals
+        self.own_names(before | {part.id for clause in node.generators for part in ast.walk(clause.target) if isinstance(part, ast.Name)})
+        if statement:
+            self.call(statement, True)
+            for clause in node.generators:
+                self.visit(clause)
+        else:
+            self.generic_visit(node)
+        self.own_names(before)
+
+    def visit_For(self, node):
+        self.wanting("list", node.iter)
+        for part in node.body:
+            self.visit(part)
+
+    def visit_Subscript(self, node):
+        self.wanting("dict", node.value)
+        self.wanting("", node.slice)
+
+    def visit_List(self, node):
+        for part in node.elts:
+            self.wanting("string", part)
+
+    visit_Tuple = visit_List
+
+
+def target_of(call):
+    """The text that a call gives as `name`; empty where it gives none, or another value."""
+    given = [key.value for key in call.keywords if key.arg == "name"]
+    return given[0].value if given and isinstance(given[0], ast.Constant) and isinstance(given[0].value, str) else ""
+
+
+def has_name(call):
+    """Whether a call gives a `name`."""
+    return any(key.arg == "name" for key in call.keywords)
+
+
+def makers_of(function):
+    """The parameters of a function whose members are called as rules: `def targets(rules): rules.cc_library(name = ..)`."""
+    arguments = function.args
+    parameters = {it.arg for it in [*arguments.posonlyargs, *arguments.args, *arguments.kwonlyargs]}
+    found = set()
+    for part in ast.walk(function):
+        match part:
+            case ast.Call(func=ast.Attribute(value=ast.Name(id=name))) if name in parameters and has_name(part):
+                found.add(name)
+    return found
+
+
+def names_bound(function):
+    """The names that a function binds: parameters, loop variables and what is assigned to."""
+    arguments = function.args
+    found = {it.arg for it in [*arguments.posonlyargs, *arguments.args, *arguments.kwonlyargs]}
+    found |= {it.arg for it in (arguments.vararg, arguments.kwarg) if it}
+    for part in ast.walk(function):
+        if isinstance(part, ast.Name) and isinstance(part.ctx, ast.Store):
+            found.add(part.id)
+    return found
+
+
+def entries(node):
+    """The keys that a dict's form shows, with the kinds of their values."""
+    match node:
+        case ast.Dict(keys=keys, values=values):
+            return {key.value: kind_of(value) for key, value in zip(keys, values) if isinstance(key, ast.Constant) and isinstance(key.value, str)}
+        case ast.Call(func=ast.Name(id="dict"), keywords=keywords):
+            return {key.arg: kind_of(key.value) for key in keywords if key.arg}
+        case _:
+            return {}
+
+
+def load_of(node):
+    """The label, line and clauses of a load statement."""
+    texts = [part.value for part in node.args if isinstance(part, ast.Constant) and isinstance(part.value, str)]
+    if not texts:
+        return None
+    clauses = {symbol: symbol for symbol in texts[1:]}
+    clauses.update({key.arg: key.value.value for key in node.keywords if key.arg and isinstance(key.value, ast.Constant)})
+    return texts[0], node.lineno, clauses
+
+
+def set_keys(function):
+    """Keys that a function puts into dicts by name: `kwargs["deps"] = ..`, `kwargs.setdefault("deps", ..)`, `.update({..})`."""
+    found = {}
+    for node in ast.walk(function):
+        match node:
+            case ast.Assign(targets=[ast.Subscript(value=ast.Name(id=name), slice=ast.Constant(value=str() as key))], value=value):
+                found.setdefault(name, {})[key] = kind_of(value)
+            case ast.AugAssign(target=ast.Subscript(value=ast.Name(id=name), slice=ast.Constant(value=str() as key)), value=value):
+                found.setdefault(name, {})[key] = kind_of(value)
+            case ast.Call(func=ast.Attribute(value=ast.Name(id=name), attr="setdefault"), args=[ast.Constant(value=str() as key), value]):
+                found.setdefault(name, {})[key] = kind_of(value)
+            case ast.Call(func=ast.Attribute(value=ast.Name(id=name), attr="update"), args=[value], keywords=keywords):
+                found.setdefault(name, {}).update(entries(value))
+                found[name].update({key.arg: kind_of(key.value) for key in keywords if key.arg})
+            case ast.Assign(targets=[ast.Name(id=name)], value=ast.Dict() | ast.Call(func=ast.Name(id="dict")) as value):
+                found.setdefault(name, {}).update(entries(value))
+    return found
+
+
+# the types of a schema, by the functions of `attr` in a rule's attributes
+ATTRIBUTE_TYPES = {name: name for name in "bool int label label_list output output_list string string_list".split()}
+
+
+def rule_attributes(value, dicts):
+    """The types that a call of `rule` gives its attributes, as far as the text and these globals show them; nothing for another value."""
+    match value:
+        case ast.Call(func=ast.Name(id="rule")):
+            pass
+        case ast.Call(func=ast.Attribute(value=ast.Name(id="analysistest" | "unittest"), attr="make")):
+            return {"target_under_test": "label"}
+        case _:
+            return None
+    shown = [part for key in value.keywords if key.arg == "attrs" for part in ast.walk(key.value)]
+    shown += [part for name in shown if isinstance(name, ast.Name) and name.id in dicts for part in ast.walk(dicts[name.id])]
+    pairs = [pair for part in shown if isinstance(part, ast.Dict) for pair in zip(part.keys, part.values)]
+    pairs += [(ast.Constant(key.arg), key.value) for part in shown if isinstance(part, ast.Call) for key in part.keywords if key.arg]
+    found = {}
+    for name, kind in pairs:
+        match name, kind:
+            case ast.Constant(value=str() as name), ast.Call(func=ast.Attribute(value=ast.Name(id="attr"), attr=kind)):
+                found[name] = ATTRIBUTE_TYPES.get(kind, "")
+    return found
+
+
+# what attributes of a symbolic macro have where neither a call nor their definition says it
+NOTHING = {"bool": "False", "int": "0", "string": '""', "label": "None", "output": "None", "label_list": "[]", "string_list": "[]", "int_list": "[]", "output_list": "[]"}
+
+
+def symbolic(value, dicts):
+    """The function of a symbolic macro, and the text of a dict of its attributes' defaults; nothing for another value."""
+    match value:
+        case ast.Call(func=ast.Name(id="macro"), keywords=keywords):
+            given = {key.arg: key.value for key in keywords}
+        case _:
+            return None
+    function, attributes = given.get("implementation"), given.get("attrs")
+    if isinstance(attributes, ast.Name):
+        attributes = dicts.get(attributes.id)
+    if not isinstance(function, ast.Name):
+        return None
+    pairs = zip(attributes.keys, attributes.values) if isinstance(attributes, ast.Dict) else ()
+    texts = [f"{key.value!r}: {default_of(kind)}" for key, kind in pairs if isinstance(key, ast.Constant) and isinstance(key.value, str)]
+    return function.id, "{" + ", ".join(texts) + "}"
+
+
+def default_of(kind):
+    """The text of the default of an attribute of a symbolic macro."""
+    said = [key.value for key in getattr(kind, "keywords", ()) if key.arg == "default"]
+    if said and is_plain(said[0]):
+        return ast.unparse(said[0])
+    return NOTHING.get(getattr(getattr(kind, "func", None), "attr", ""), "{}")
+
+
+def defaults_of(arguments):
+    """What the defaults of a function's parameters are like."""
+    positional = [*arguments.posonlyargs, *arguments.args]
+    given = [*zip(positional[len(positional) - len(arguments.defaults):], arguments.defaults), *zip(arguments.kwonlyargs, arguments.kw_defaults)]
+    return {parameter.arg: kind_of(value) for parameter, value in given if value is not None}
+
+
+def bound_by(node):
+    """The names that a statement at the top level binds."""
+    match node:
+        case ast.FunctionDef(name=name):
+            return [name]
+        case ast.Assign(targets=targets):
+            return [part.id for target in targets for part in ast.walk(target) if isinstance(part, ast.Name) and isinstance(part.ctx, ast.Store)]
+        case ast.AugAssign(target=ast.Name(id=name)):
+            return [name]
+        case _:
+            return []
+
+
+def is_plain(node):
+    """Whether a value is shown, and is no dict."""
+    return not any(isinstance(it, ast.Dict | ast.DictComp | ast.Call | ast.Name) and getattr(getattr(it, "func", it), "id", "") != "glob" for it in ast.walk(node))
+
+
+def top_level(file, tree, may_bind):
+    """Has a file say what its statements bind. `may_bind` says whether an expression of the file may bind names, as a comprehension does."""
+    dicts = {}
+    for node in tree.body:
+        file.statements.append(Statement(node.lineno, node.end_lineno, bound_by(node), isinstance(node, ast.FunctionDef)))
+        match node:
+            case ast.Expr(value=ast.Call(func=ast.Name(id="load")) as call):
+                if found := load_of(call):
+                    file.loads.append(found)
+                    file.globals |= set(found[2])
+            case ast.FunctionDef(name=name, args=arguments):
+                parameters = [it.arg for it in [*arguments.posonlyargs, *arguments.args, *arguments.kwonlyargs]]
+                file.defs[name] = Def(parameters, arguments.kwarg.arg if arguments.kwarg else "", defaults_of(arguments))
+                file.globals.add(name)
+            case ast.Assign(targets=targets, value=value):
+                for part in (part for target in targets for part in ast.walk(target) if isinstance(part, ast.Name)):
+                    file.globals.add(part.id)
+                    file.kinds[part.id] = kind_of(value)
+                    if is_plain(value):
+                        file.plain.add(part.id)
+                    if isinstance(value, ast.Call):
+                        file.called.add(part.id)
+                    if isinstance(value, ast.Name):
+                        file.aliases[part.id] = value.id
+                    if isinstance(value, ast.Attribute) and isinstance(value.value, ast.Name) and value.value.id == "native":
+                        file.natives[part.id] = value.attr
+                    dicts[part.id] = value
+                    if found := symbolic(value, dicts):
+                        file.macros[part.id] = found
+                    attributes = rule_attributes(value, dicts)
+                    if attributes is not None:
+                        file.made[part.id] = attributes
+                        if any(key.arg == "test" and getattr(key.value, "value", False) is True for key in value.keywords):
+                            file.tests.add(part.id)
+            case ast.Expr() if not may_bind:
+                pass
+            case _:
+                for part in ast.walk(node):
+                    if isinstance(part, ast.Name) and isinstance(part.ctx, ast.Store):
+                        file.globals.add(part.id)
+
+
+def parsed(text):
+    """The tree of a text."""
+    with warnings.catch_warnings():
+        warnings.simplefilter("ignore")
+        return ast.parse(text.decode("utf-8", "surrogateescape").replace("\x0c", " "))
+
+
+def read(path, text):
+    """What a file says."""
+    name = path.rpartition("/")[2]
+    labels = sorted(set(LABEL.findall(text))) if b"@" in text else []
+    is_build = not name.endswith(".bzl")
+    is_odd = is_build and bool(any(it in text for it in ODD) and ODD_PATTERN.search(text) or RELATIVE_LOAD.search(text))
+    file = File(path, is_build, size=len(text), labels=labels, is_odd=is_odd)
+    try:
+        fill(file, parsed(text), b":=" in text or bool(FOR.search(text)))
+    except (SyntaxError, ValueError) as error:
+        file.broken = f"{getattr(error, 'lineno', 0) or 0}: {getattr(error, 'msg', error)}"
+    except (RecursionError, MemoryError):
+        # (what was read until then is no more sure than nothing)
+        file = File(path, file.is_build, "0: it nests too deep to be read here", size=len(text), labels=labels, is_odd=is_odd)
+    return file
+
+
+def fill(file, tree, may_bind):
+    """Has a file say what its tree does."""
+    top_level(file, tree, may_bind)
+    reader = Reader(file)
+    for node in tree.body:
+        reader.visit(node)
+    for node in tree.body:
+        if isinstance(node, ast.FunctionDef):
+            keys = set_keys(node)
+            for call in file.calls:
+                if call.inside == node.name:
+                    for splat in call.splats:
+                        call.keywords = {**keys.get(splat, {}), **call.keywords}

@@ -1,0 +1,92 @@
+"""What stands for an expression that `bq` leaves out, where the language can say the same: `depset(x).to_list()`, `Label(x).name` and the like.
+
+Takes a node of Python's tree; gives texts and parts of the node by turns, in the order of the file, which are written in its place.
+"""
+import ast
+from dataclasses import dataclass
+
+# what a member of a label is, told from the label's text `t`
+LABEL_MEMBERS = {
+    "name": 't.partition(":")[2] or t.rpartition("/")[2].lstrip("@")',
+    "package": 't.partition("//")[2].partition(":")[0] if "//" in t else "" if t.startswith("@") else native.package_name()',
+    "workspace_name": 't[1:].partition("//")[0] if t.startswith("@") else ""',
+    "repo_name": 't[1:].partition("//")[0] if t.startswith("@") else ""',
+}
+# what stands for a call of a member of `native` that bq leaves out, as for a workspace in which nothing was declared before
+NATIVE_VALUES = {"repository_name": '"@"', "repo_name": '""', "module_name": "None", "module_version": "None", "existing_rules": "{}", "existing_rule": "None"}
+# functions whose calls are replaced; a file or function that binds such a name means something else
+NAMES = ("Label", "abs", "depset", "hasattr", "json", *NATIVE_VALUES)
+
+
+# the nodes that may be replaced
+REPLACED = (ast.Call, ast.Attribute, ast.BinOp)
+
+
+@dataclass
+class Replacement:
+    what: str  # as the report names it
+    pieces: list  # texts, and nodes whose own texts stay
+    wanted: str = ""  # what the places of the nodes take
+
+
+def label_in(call):
+    """The text in a call of `Label`, or of `native.package_relative_label`, that is given one."""
+    match call:
+        case ast.Call(func=ast.Name(id="Label") | ast.Attribute(value=ast.Name(id="native"), attr="package_relative_label"), args=[text], keywords=[]):
+            return text
+        case _:
+            return None
+
+
+def labels_bound(function):
+    """The names that a function binds to calls of `Label`, and to nothing else."""
+    found, others = set(), set()
+    for part in ast.walk(function):
+        match part:
+            case ast.Assign(targets=[ast.Name(id=name)], value=value) if label_in(value):
+                found.add(name)
+            case ast.Assign(targets=targets):
+                others |= {it.id for target in targets for it in ast.walk(target) if isinstance(it, ast.Name)}
+            case ast.For(target=target) | ast.comprehension(target=target) | ast.AugAssign(target=target):
+                others |= {it.id for it in ast.walk(target) if isinstance(it, ast.Name)}
+            case ast.arg(arg=name):
+                others.add(name)
+    return found - others
+
+
+def depset(call):
+    """A list without what occurs in it before, as `to_list` gives it."""
+    given = [("direct", part) for part in call.args[:1]] + [(key.arg, key.value) for key in call.keywords]
+    given = sorted((it for it in given if it[0] in ("direct", "transitive")), key=lambda it: (it[1].lineno, it[1].col_offset))
+    pieces = ["{part: None for parts in "]
+    for at, (name, node) in enumerate(given):
+        before, after = ("[(", ")]") if name == "direct" else ("(", ")")
+        pieces += [(" + " if at else "") + before, node, after]
+    return Replacement("a depset", [*pieces, " for part in parts}.keys()"] if given else ["[]"], "list")
+
+
+def replacement(node, bound=(), labels=()):
+    """What stands for a node; nothing where the table hasn't it. `bound` are the names that the file and the function around bind."""
+    match node:
+        case ast.Call(func=ast.Name(id="depset")) if "depset" not in bound:
+            return depset(node)
+        case ast.Call(func=ast.Attribute(value=of, attr="to_list"), args=[], keywords=[]):
+            return Replacement("a depset", ["(", of, ")"], "list")
+        case ast.Attribute(value=of, attr=member) if member in LABEL_MEMBERS and label_in(of) and "Label" not in bound:
+            return Replacement("a member of a label", [f"[({LABEL_MEMBERS[member]}) for t in [", label_in(of), "]][0]"])
+        case ast.Attribute(value=ast.Name(id=name) as of, attr=member) if member in LABEL_MEMBERS and name in labels:
+            return Replacement("a member of a label", [f"[({LABEL_MEMBERS[member]}) for t in [", of, "]][0]"])
+        case ast.Call(func=ast.Name(id="abs"), args=[of], keywords=[]) if "abs" not in bound:
+            return Replacement("a function", ["max([sign * (", of, ") for sign in (1, -1)])"])
+        case ast.Call(func=ast.Name(id="hasattr"), args=[ast.Name(id=name), ast.Constant()]) if "hasattr" not in bound:
+            # (asked of what Bazel gives: whether it is new enough)
+            return Replacement("a function", ["True"]) if name == "native" or name.endswith("_common") else None
+        case ast.Call(func=ast.Attribute(value=ast.Name(id="json"), attr="encode" | "encode_indent"), args=[of, *_]) if "json" not in bound:
+            return Replacement("a function", ["repr(", of, ")"])
+        case ast.Call(func=ast.Name(id=name)) if name in NATIVE_VALUES and name not in bound:
+            # (as BUILD files call what .bzl files call as a member of `native`)
+            return Replacement("a function", [NATIVE_VALUES[name]])
+        case ast.BinOp(op=ast.Div(), left=left, right=right):
+            return Replacement("a division", ["((", left, ") // (", right, "))"])
+        case _:
+            return None

@@ -1,0 +1,107 @@
+"""The schema of an overlay: the rules that files call, each attribute with its type, and what the functions of `given` have to know of them."""
+import difflib
+import re
+from collections import Counter, defaultdict
+
+from bzlq.overlay.arguments import ATTRIBUTES
+from bzlq.overlay.definitions import RESERVED, rule_of
+from bzlq.overlay.guesses import BASE, COMMON, DICTS, FAMILIES, attributes_of, type_of
+from bzlq.overlay.reading import BUILD_FUNCTIONS, BUILT_INS
+from bzlq.overlay.rule_sets import BAZEL, CLOSED, DICTS_OF, LATER, MANDATORY, OF_BAZEL, TESTS, TEST_TYPES, TYPES
+
+# how near a name is to one that it may have been meant for: `sources` to `srcs` is
+NEAR = 0.72
+STANDARD = ("alias", "filegroup", "genrule", "test_suite")
+IDENTIFIER = re.compile(r"[A-Za-z_]\w*")
+
+
+class Schema:
+    """The rules, each attribute with its type."""
+
+    def __init__(self):
+        self.given = {rule: defaultdict(Counter) for rule in STANDARD}
+        self.said = defaultdict(dict)  # the types that calls of `rule` say
+        self.tests = set(TESTS)
+        self.guesses = []
+        self.dicts = []
+        self.types = {}  # rule -> attribute -> type
+
+    def add(self, rule, given):
+        """Adds what calls give a rule."""
+        for keyword, kinds in given.items():
+            self.given.setdefault(rule, defaultdict(Counter))[keyword].update(kinds)
+        self.given.setdefault(rule, defaultdict(Counter))
+
+    def find_types(self):
+        everywhere = defaultdict(Counter)
+        for given in self.given.values():
+            for keyword, kinds in given.items():
+                everywhere[keyword].update(kinds)
+        for rule, given in sorted(self.given.items()):
+            self.types[rule] = dict(ATTRIBUTES)
+            for name in attributes_of(rule, {**given, **self.said[rule], **(TEST_TYPES if rule in self.tests else {})}):
+                if IDENTIFIER.fullmatch(name) and name not in RESERVED - BUILD_FUNCTIONS - BUILT_INS and not self.is_misspelt(rule, name):
+                    self.types[rule].setdefault(name, self.type_of(rule, name, everywhere))
+
+    def type_of(self, rule, name, everywhere):
+        given = self.given[rule]
+        kind, source = type_of(name, given.get(name, Counter()), everywhere, rule)
+        said = self.said[rule].get(name) or rule in self.tests and TEST_TYPES.get(name) or rule in BAZEL and TYPES.get(rule, {}).get(name)
+        if said:
+            kind, source = said, "name"
+        if name in given and source != "name":
+            self.guesses.append((rule, name, kind, source))
+        if given.get(name, Counter())["dict"]:
+            self.dicts.append((rule, name))
+        return kind
+
+    def is_misspelt(self, rule, name):
+        """Whether a rule that its documents tell of lacks this attribute: one that is closed by them, or that has one nearly of this name."""
+        if rule not in TYPES or name in self.said[rule]:
+            return False
+        known = {*TYPES[rule], *OF_BAZEL.get(rule, ()), *COMMON, *DICTS, *LATER}
+        if rule not in OF_BAZEL:
+            known |= {*BASE, *TEST_TYPES, *(it for family, names in FAMILIES.items() if rule.startswith(family) for it in names.split())}
+        return name not in known and (rule in CLOSED or bool(difflib.get_close_matches(name, known, 1, NEAR)))
+
+    def text(self):
+        """The text of the schema."""
+        lines = ["# Written by bzlq stubs: the types are guessed."]
+        for rule, types in self.types.items():
+            lines += ["", f"rule {rule}"]
+            lines += [f"attr {name} {kind}{' mandatory' if name in MANDATORY.get(rule, ()) else ''}" for name, kind in sorted(types.items())]
+        return "\n".join(lines) + "\n"
+
+    def tables(self):
+        """What the functions of `given` know of the rules."""
+        closed = {rule for rule in self.types if rule in OF_BAZEL or self.said[rule]}
+        guessed = defaultdict(list)
+        for rule, name, kind, _ in self.guesses:
+            if rule not in closed and rule not in TYPES and kind in ("string", "string_list"):
+                guessed[rule].append(name)
+        return {
+            "_LABELS": {rule: [name for name, kind in types.items() if kind == "label"] for rule, types in self.types.items()},
+            "_DICTS": {rule: sorted({*DICTS, *DICTS_OF.get(rule, ()), *(name for name, kind in self.said[rule].items() if not kind)}) for rule in sorted(closed)},
+            "_GUESSED": dict(guessed),
+            "_TESTS": dict.fromkeys(sorted(self.tests & {*self.types})),
+        }
+
+
+def schema_of(facts):
+    """The schema of a workspace."""
+    schema = Schema()
+    for callee, given in list(facts.given.items()):
+        if callee[0] == "rule" and callee[1] in BAZEL:
+            schema.add(callee[1], given)
+    for place, symbols in facts.stubs.items():
+        for symbol, stub in symbols.items():
+            is_forwarded = place[0] is None or not symbol.startswith("_") and not facts.workspace.is_own(place[0])
+            if stub.makes_targets and is_forwarded:
+                schema.add(rule_of(symbol), facts.given.get(("stub", place, symbol), {}))
+                if place[0] is None:
+                    file = facts.workspace.files[place[1]]
+                    schema.said[rule_of(symbol)].update(file.made.get(symbol, {}))
+                    if symbol in file.tests:
+                        schema.tests.add(rule_of(symbol))
+    schema.find_types()
+    return schema

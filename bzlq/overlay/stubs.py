@@ -1,0 +1,237 @@
+"""Makes what a workspace needs so that bq loads it: bzlq stubs TREE OVERLAY [--faults FILE] [--all]
+
+Reads the BUILD and .bzl files of TREE, a directory or the file of a bundle, and writes into the folder OVERLAY `rules.schema` (the rules
+that the files call, each attribute with a guessed type); for each repository that the files load from or name and that isn't there a folder
+`external/NAME` with BUILD files, and .bzl files whose macros forward to rules of the schema; and copies of the files that use something that
+bq leaves out, with something else instead. Nothing is written into TREE, and nothing is run. Then
+
+    bzlq bundle TREE OVERLAY | bq QUERY
+
+What was guessed, and what bq still can't load, is printed; with --all each place of it. Where a call of a BUILD file declares nothing over
+the overlay and may declare targets in Bazel, a line on standard error says so. With --faults, labels that the F79 lines of FILE name (what
+a run wrote to standard error) get a target too, if their repository isn't there. What an earlier run wrote into OVERLAY is replaced:
+correct it in another folder (docs/REAL_WORKSPACES.md).
+
+Exit status: 0; with --strict 3 if a call declares nothing; 2 if TREE can't be read or OVERLAY can't be written.
+"""
+import argparse
+import os
+import re
+import sys
+from collections import Counter, defaultdict
+
+from bzlq.overlay.analysis import Facts, Workspace
+from bzlq.overlay.arguments import LABEL as GIVEN, given_files
+from bzlq.overlay.copies import copies
+from bzlq.overlay.definitions import definition
+from bzlq.overlay.extra_targets import further_targets, text_of
+from bzlq.overlay.macro_warnings import silences, warnings
+from bzlq.overlay.schema import IDENTIFIER, schema_of
+from bzlq.workspace.files import SCHEMA, Unreadable, files, is_path, likely_root, refused
+
+MAX_MODULES = 16384
+MARK = "# A stub that tools/stubs wrote.\n"
+USES_GIVEN = f'load("{GIVEN}", "bzlq_given")\n'
+COPIED = b"# A copy that tools/stubs made.\n"
+# how many repositories, and kinds of what can't be loaded, are printed without --all
+SHOWN = 12
+
+
+def stub_files(facts):
+    """The .bzl files that are loaded and aren't there, by their paths, each with the directory of its package."""
+    found = {}
+    for (repository, package, name), symbols in facts.stubs.items():
+        directory = Workspace.joined("external", repository) if repository else ""
+        directory = Workspace.joined(directory, package) if package else directory
+        path = Workspace.joined(directory, name)
+        if repository is None or not name.endswith(".bzl"):
+            continue
+        if not facts.workspace.may_hold(path):
+            facts.refused.add(path)
+            continue
+        if not repository and any(Workspace.joined(directory, it) in facts.workspace.files for it in ("BUILD", "BUILD.bazel")):
+            continue  # (a typing error: the package is there, and hasn't the file)
+        known = sorted((symbol, stub) for symbol, stub in symbols.items() if IDENTIFIER.fullmatch(symbol) and not symbol.startswith("_"))
+        if facts.workspace.is_own(repository):
+            clauses = "".join(f', _{symbol} = "{symbol}"' for symbol, _ in known)
+            text = f'load("@//{package}:{name}"{clauses})\n' + "".join(f"{symbol} = _{symbol}\n" for symbol, _ in known)
+        else:
+            place = (repository, package, name)
+            lines = [definition(repository, symbol, stub, facts.lost_of(place, symbol)) + text_of(facts.further.get((place, symbol))) for symbol, stub in known]
+            text = "\n".join(line.replace("): ", "):\n    ", 1) + "\n" for line in lines)
+            text = USES_GIVEN + text if "bzlq_given(" in text else text
+        found[path] = MARK + text, directory
+    return found
+
+
+DANGLING = re.compile(rb" F79 DanglingLabel @([\w.+~-]+)//([^:\n]*):([^\n]+)$", re.M)
+
+
+def named_targets(facts, faults):
+    """The labels of repositories that aren't there which the BUILD files, what they load and these fault lines name, by their packages."""
+    found = defaultdict(set)
+    named = {label for path in facts.reached if not path.startswith("external/") for label in facts.workspace.files[path].labels}
+    for repository, package, name in named | set(DANGLING.findall(faults)):
+        repository, package = repository.decode(), package.decode("ascii", "replace")
+        name = name.decode("ascii", "replace") or package.rpartition("/")[2] or repository
+        is_valid = is_path(name) and (not package or is_path(package)) and not name.endswith(".bzl") and name not in ("__pkg__", "__subpackages__")
+        if is_valid and repository not in facts.workspace.repositories:
+            found[repository, package].add(name)
+    return found
+
+
+def build_files(workspace, targets, bzl_files, room):
+    """BUILD files for stubs and for labels that are named, as far as there is room for modules."""
+    packages = {directory: set() for _, directory in bzl_files.values() if directory not in workspace.directories}
+    for (repository, package), names in sorted(targets.items()):
+        directory = f"external/{repository}/{package}".rstrip("/")
+        if directory in packages or len(packages) < room:
+            packages.setdefault(directory, set()).update(names)
+    found = {}
+    for directory, names in packages.items():
+        text = MARK
+        for name in sorted(names):
+            inside = any(f"{directory}/{name}".startswith(other + "/") for other in packages if other != directory and other.startswith(directory + "/"))
+            if inside or f"{directory}/{name}" in bzl_files or name in ("BUILD", "BUILD.bazel"):
+                continue
+            own = directory.split("/")[1] == workspace.name
+            package = "/".join(directory.split("/")[2:])
+            text += f'alias(name = "{name}", actual = "@//{package}:{name}")\n' if own else f'filegroup(name = "{name}")\n'
+        found[f"{directory}/BUILD"] = text
+    return found
+
+
+def report(facts, overlay, is_all):
+    """Says what is in an overlay."""
+    schema, written, stubs, copied = overlay.schema, overlay.files, overlay.bzl_files, overlay.copied
+    rules = len(schema.given)
+    attributes = sum(len(given) for given in schema.given.values())
+    repositories = sorted({path.split("/")[1] for path in written if path.startswith("external/")})
+    names = repositories if is_all else [*repositories[:SHOWN], ".."] if len(repositories) > SHOWN else repositories
+    print(f"schema: {rules} rules, {attributes} attributes that the files give them")
+    print(f"stubs: {len(repositories)} repositories, {len(stubs)} .bzl files: {' '.join(names)}")
+    paths, counts = sorted(copied), sum((counts for _, counts in copied.values()), Counter())
+    print(f"copies: {len(paths)} files of the tree with something else in place of " + (", ".join(f"{what} ({n})" for what, n in counts.most_common()) or "nothing"))
+    sources = Counter(source for *_, source in schema.guesses)
+    print("types guessed not by name: " + (", ".join(f"{count} by {source}" for source, count in sources.most_common()) or "none"))
+    if is_all:
+        print(*(f"  {path}" for path in paths), sep="\n")
+        for rule, name, kind, source in schema.guesses:
+            print(f"  {rule}.{name} {kind} (by {source})")
+    if schema.dicts:
+        print("given a dict, which no type of a schema takes (copies give None): " + ", ".join(f"{rule}.{name}" for rule, name in schema.dicts))
+    left = sorted(facts.left_out.items(), key=lambda it: -len(it[1]))
+    for what, places in left if is_all else left[:SHOWN]:
+        shown = places if is_all else places[:2]
+        print(f"can't: {what}: {len(places)} places, {', '.join(shown)}{', ..' if len(shown) < len(places) else ''}")
+    if len(left) > SHOWN and not is_all:
+        print(f"can't: {len(left) - SHOWN} more (--all prints them)")
+
+
+def write(overlay, path, text):
+    place = os.path.join(overlay, path)
+    os.makedirs(os.path.dirname(place), exist_ok=True)
+    with open(place, "wb") as file:
+        file.write(text)
+
+
+def remove_old(overlay):
+    """Removes what an earlier run wrote: stubs, and copies, which would hide what their files say now."""
+    for path in list(files(overlay)) if os.path.isdir(overlay) else []:
+        with open(os.path.join(overlay, path), "rb") as file:
+            text = file.read()
+        if text.startswith(MARK.encode()) or text.endswith(COPIED):
+            os.remove(os.path.join(overlay, path))
+
+
+def marked(facts, path, text):
+    """A copy, with what stands for members of what it binds, and the mark that it is one."""
+    more = "".join(f"{line}\n" for line in facts.members_of(path))
+    if b"bzlq_given(" in text or "bzlq_given(" in more:
+        more += USES_GIVEN
+    return text + (b"" if text.endswith(b"\n") else b"\n") + more.encode() + COPIED
+
+
+def words_of():
+    parser = argparse.ArgumentParser(description=__doc__, formatter_class=argparse.RawDescriptionHelpFormatter)
+    parser.add_argument("tree", metavar="TREE")
+    parser.add_argument("overlay", metavar="OVERLAY")
+    parser.add_argument("--faults", metavar="FILE", help="fault lines of a run: their labels get targets")
+    parser.add_argument("--all", action="store_true", help="print each place")
+    parser.add_argument("--strict", action="store_true", help="end with status 3 if a call of a BUILD file declares nothing")
+    return parser.parse_args()
+
+
+def read_faults(path):
+    with open(path, "rb") as file:
+        return file.read()
+
+
+class Overlay:
+    """The files of an overlay: `files` has their texts by their paths."""
+
+    def __init__(self, facts, faults, copied=None):
+        """`faults` are the lines of a first round; `copied` has the copies by their paths, where they are known."""
+        self.facts, self.schema = facts, schema_of(facts)
+        before, facts.further = facts.further, further_targets(facts, faults)
+        self.bzl_files = stub_files(facts)
+        self.copied = {}
+        if copied is None:
+            self.copied = copied_again(facts, {place[1] for place, _ in (*before, *facts.further) if place[0] is None})
+        room = MAX_MODULES - len(facts.reached) - len(self.bzl_files)
+        texts = {SCHEMA: self.schema.text(), **{path: text for path, (text, _) in self.bzl_files.items()}}
+        texts |= build_files(facts.workspace, named_targets(facts, faults), self.bzl_files, room)
+        self.files = {path: text.encode() for path, text in texts.items()}
+        self.files |= {path: marked(facts, path, text) for path, (text, _) in self.copied.items()} if copied is None else copied
+        if any(GIVEN.encode() in text for path, text in self.files.items() if path != SCHEMA):
+            self.files |= {path: text.encode() for path, text in given_files(self.schema, facts, MARK).items()}
+
+    def write(self, folder):
+        """Writes the files, and removes those that an earlier run wrote."""
+        try:
+            remove_old(folder)
+            for path, text in self.files.items():
+                write(folder, path, text)
+        except OSError as error:
+            refused(f"stubs: the overlay can't be written: {error.filename}: {error.strerror}")
+
+
+def copied_again(facts, paths):
+    """The copies; those that were made before are made again for these paths alone."""
+    if facts.copies is None:
+        facts.copies = copies(facts, facts.reached)
+    elif paths:
+        facts.copies = {**{path: it for path, it in facts.copies.items() if path not in paths}, **copies(facts, paths)}
+    return facts.copies
+
+
+def make(tree, facts, overlay, faults, is_all):
+    """Writes the overlay, and says what is in it; gives the directory that looks like the root, and the functions whose calls declare nothing."""
+    found = Overlay(facts, faults)
+    found.write(overlay)
+    report(facts, found, is_all)
+    return likely_root(facts.workspace.paths), silences(facts)
+
+
+def told(tree, root, found, is_all):
+    """What may be wrong with what was made."""
+    if root:
+        yield f"{tree} has no WORKSPACE or MODULE.bazel, and {root} has one: is that the root?"
+    yield from warnings(found, is_all)
+
+
+def main():
+    words = words_of()
+    tree, overlay = os.path.realpath(words.tree), os.path.realpath(words.overlay)
+    if overlay == tree or overlay.startswith(tree + "/"):
+        refused("stubs: the overlay must lie outside the tree: nothing is written into it")
+    try:
+        root, found = make(tree, Facts(Workspace(tree)), overlay, read_faults(words.faults) if words.faults else b"", words.all)
+    except Unreadable as error:
+        refused(f"stubs: {error}")
+    except OSError as error:
+        refused(f"stubs: {error.filename}: {error.strerror}")
+    sys.stdout.flush()
+    for line in told(words.tree, root, found, words.all):
+        print(f"stubs: WARNING: {line}", file=sys.stderr)
+    sys.exit(3 if found and words.strict else 0)

@@ -1,0 +1,123 @@
+"""What tests of scripts share: a folder of their own with the command bzlq on the PATH, and how what is found is compared with what is wanted."""
+import contextlib
+import importlib
+import io
+import os
+import re
+import shlex
+import shutil
+import subprocess
+import sys
+import tempfile
+import traceback
+from unittest import mock
+
+# (also what bzlq imports only where it needs it: each call has it then)
+from bzlq.cli import lint, subcommands  # noqa: F401
+from bzlq.hints import report, sources  # noqa: F401
+from bzlq.overlay import stubs  # noqa: F401
+
+ROOT = os.path.dirname(os.path.dirname(os.path.dirname(os.path.realpath(__file__))))
+
+# a call of bzlq for which no shell is needed: its words are plain, or in single quotes
+PLAIN = re.compile(r"bzlq((?: (?:'[^']*'|(?!-h |--help|--complete)[\w./:=@,+-]+))*)")
+
+
+class Bench:
+    """A room, and how many comparisons were made and were wrong."""
+
+    def __init__(self, program, room):
+        self.room, self.count, self.wrong = room, 0, 0
+        os.makedirs(f"{room}/bin", exist_ok=True)
+        links = {"bin/bq": program, "bin/bzlq": f"{ROOT}/bzlq/__main__.py", **{it: f"{ROOT}/{it}" for it in ("tools", "bzlq", "examples")}}
+        for name, to in links.items():
+            if not os.path.lexists(f"{room}/{name}"):
+                os.symlink(to, f"{room}/{name}")
+        path = f"{room}/bin:{os.environ['PATH']}"
+        self.environment = {**os.environ, "PATH": path, "XDG_CACHE_HOME": f"{room}/cache", "PYTHONPYCACHEPREFIX": f"{room}/compiled"}
+        self.program = program
+        self.environment["BZLQ_BQ"] = program
+
+    def run(self, command, folder="", given=b""):
+        """What bash writes to each output, and the status."""
+        if found := PLAIN.fullmatch(command):
+            return self.forked(shlex.split(found[1]), f"{self.room}/{folder}", given)
+        ended = subprocess.run(["bash", "-c", command], input=given, cwd=f"{self.room}/{folder}", env=self.environment, capture_output=True, check=False)
+        return ended.stdout.decode(errors="surrogateescape"), ended.stderr.decode(errors="surrogateescape"), ended.returncode
+
+    def forked(self, words, folder, given):
+        """The same of bzlq, in a copy of this process, which has its modules already: most of what a small call takes is to import them."""
+        with contextlib.ExitStack() as stack:
+            files = [stack.enter_context(tempfile.TemporaryFile()) for _ in range(3)]
+            files[0].write(given)
+            sys.stdout.flush()
+            child = os.fork()
+            if not child:
+                self.call(words, folder, files)
+            status = os.waitstatus_to_exitcode(os.waitpid(child, 0)[1])
+            for file in files:
+                file.seek(0)
+            return *(it.read().decode(errors="surrogateescape") for it in files[1:]), status
+
+    def call(self, words, folder, files):
+        """Calls bzlq with these files for its input and its outputs, and ends the process."""
+        status = 1
+        try:
+            files[0].seek(0)
+            for number, file in enumerate(files):
+                os.dup2(file.fileno(), number)
+            sys.stdin = open(0, encoding="utf-8", errors="surrogateescape", closefd=False)
+            sys.stdout, sys.stderr = (open(number, "w", encoding="utf-8", errors="surrogateescape", closefd=False) for number in (1, 2))
+            os.chdir(folder)
+            os.environ.clear()
+            os.environ.update({**self.environment, "PWD": folder})
+            sys.argv = ["bzlq", *words]
+            status = subcommands.run(words)
+        except SystemExit as ended:
+            status = ended.code
+        except BaseException:
+            traceback.print_exc()
+        finally:
+            for file in (sys.stdout, sys.stderr):
+                with contextlib.suppress(OSError):
+                    file.flush()
+            os._exit(status or 0)
+
+    def compare(self, what, found, wanted):
+        """Compares, and prints what differs."""
+        self.count += 1
+        if found != wanted:
+            self.wrong += 1
+            print(f"{what}:\n  is to give {wanted}\n  and gives  {found}")
+
+    def lay_out(self, folder, files):
+        """A folder with these files alone."""
+        shutil.rmtree(f"{self.room}/{folder}", ignore_errors=True)
+        for path, text in files.items():
+            place = f"{self.room}/{folder}/{path}"
+            os.makedirs(os.path.dirname(place), exist_ok=True)
+            with open(place, "wb") as file:
+                file.write(text if isinstance(text, bytes) else text.encode())
+
+    def compare_calls(self, calls, place=""):
+        """Compares what bzlq writes for each of (folder, words, output, status) or (folder, words, output, errors, status)."""
+        for folder, words, *wanted in calls:
+            found = self.run(f"bzlq {words}", f"{place}/{folder}")
+            self.compare(f"{folder}$ bzlq {words}", found if len(wanted) == 3 else found[::2], tuple(wanted))
+
+    def called(self, words, folder=""):
+        """What a script writes to each output, and its status; it is called here, which takes less than a process of its own."""
+        name, *rest = shlex.split(words)
+        outputs = [io.TextIOWrapper(io.BytesIO(), encoding="utf-8", errors="surrogateescape") for _ in range(2)]
+        before = os.getcwd()
+        os.chdir(f"{self.room}/{folder}")
+        with mock.patch.object(sys, "argv", [name, *rest]), mock.patch.dict(os.environ, self.environment), contextlib.redirect_stdout(outputs[0]), \
+                contextlib.redirect_stderr(outputs[1]):
+            try:
+                status = importlib.import_module(f"bzlq.cli.{name}").main()
+            except SystemExit as ended:
+                status = ended.code
+        os.chdir(before)
+        for it in outputs:
+            it.flush()
+        return *(it.buffer.getvalue().decode("utf-8", "surrogateescape") for it in outputs), status or 0

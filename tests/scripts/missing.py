@@ -1,0 +1,208 @@
+"""Tries docs/REAL_WORKSPACES.md, "What can be missing, and what says so": a case for each row of its table.
+
+Each has a small workspace in which something is made up, left out or can't be read, a command, and what the command has to write to both
+outputs (of standard error: lines that have to be there), with its status.
+"""
+import re
+
+from bench import ROOT
+from bzlq.overlay.arguments import LOST
+from histories import Project
+from mistakes import MISTAKES, WORKSPACE
+
+PAGE = f"{ROOT}/docs/REAL_WORKSPACES.md"
+
+R = 'load("@r//:m.bzl", "junit_tests")\n'
+
+
+def changed(bench, name, files, path, text, *words):
+    """What bzlq affected says after a change of one file."""
+    project = Project(bench, name, {"WORKSPACE": "", **files})
+    project.write(path, text)
+    return project.affected("--base", "HEAD", *words)
+
+
+def told(bench, what, found, output, errors, status):
+    """Compares what a command wrote with what it has to write."""
+    lacking = [line for line in errors if line not in found[1]]
+    bench.compare(what, (found[0], found[1] if lacking else "", found[2]), (output, "", status))
+
+
+JUNIT = {"a/BUILD": R + 'junit_tests(name = "t", srcs = ["T.java"])\n', "a/T.java": ""}
+UNLISTED = "affected: targets may be missing: 1 target of a kind that was made up (junit_tests) may be a test, and isn't listed: --tests lists it\n"
+SETTINGS = {
+    "MODULE.bazel": 'pip.parse(hub_name = "pip", requirements_lock = "//third_party:requirements_lock.txt")\ngo_deps.from_file(go_mod = "//:go.mod")\n',
+    ".bazelrc": "import %workspace%/tools/other.bazelrc\ntry-import none.bazelrc\n", "tools/other.bazelrc": "", "go.mod": "", "go.sum": "",
+    "third_party/requirements_lock.txt": "", "third_party/BUILD": "", "WORKSPACE": 'load("//tools:deps.bzl", "deps")\ndeps()\n',
+    "tools/BUILD": "", "tools/deps.bzl": 'load(":more.bzl", "more")\ndef deps():\n    maven_install(lock = "@//:maven_install.json")\n', "tools/more.bzl": "more = 1\n",
+    "maven_install.json": "", "a/BUILD": 'filegroup(name = "x", srcs = ["@pip//numpy"])\nfilegroup(name = "y")\n', "README": "",
+}
+SETTING = "affected: {0}: what depends on another repository counts as changed (1 target), and no other target\n".format
+
+
+def tests(bench):
+    """Tests that a macro of another repository declares."""
+    run = lambda *words: changed(bench, "junit", JUNIT, "a/T.java", "x", *words)  # noqa: E731
+    told(bench, "tests of a made-up kind, by kind", run("--kind", "'_test rule'"), "", [UNLISTED], 3)
+    told(bench, "tests of a made-up kind, by --tests", run("--tests"), "//a:t\n", ["1 affected\n"], 0)
+    told(bench, "tests of a made-up kind, where all are listed", run("--kind", "'_test rule'", "--all-on-fault"), "//a:t\n", ["1 affected\n"], 0)
+
+
+def settings(bench):
+    """Files that the workspace's own name: lists of dependencies, and what those load."""
+    for path in ("third_party/requirements_lock.txt", "go.mod", "go.sum", "maven_install.json", "tools/deps.bzl", "tools/more.bzl", "tools/other.bazelrc", "MODULE.bazel"):
+        told(bench, f"a dependency, by {path}", changed(bench, "settings", SETTINGS, path, "# x\n", "--kind", "rule"), "//a:x\n", [SETTING(path)], 0)
+    told(bench, "a file that none names", changed(bench, "settings", SETTINGS, "README", "x"), "", ["affected: in no target: README\n"], 0)
+
+
+FURTHER = {
+    "WORKSPACE": "", "a/BUILD": 'load("@r//:m.bzl", "release")\nrelease(name = "x", srcs = ["x.sh"])\nfilegroup(name = "all", srcs = [":x-and-hashes"])\n', "a/x.sh": "",
+    "BUILD": 'load("@npm//:defs.bzl", "npm_link_all_packages")\nnpm_link_all_packages(name = "node_modules")\n',
+    "b/BUILD": 'filegroup(name = "b", srcs = ["//a:x-and-hashes", "//:node_modules/lodash"])\nfilegroup(name = "c", srcs = ["//a:y"])\n',
+}
+
+
+def further(bench):
+    """Further targets of a macro that isn't there: a label that begins with the name of one of its calls."""
+    bench.lay_out("ws", FURTHER)
+    dangling = "b/BUILD:2:31: F79 DanglingLabel: package 'a' has no target 'y'\n"
+    told(bench, "a further target of a macro", bench.run("bzlq --output label_kind 'deps(//b) - //b'", "ws"),
+         "npm_link_all_packages rule //:node_modules\nfilegroup rule //:node_modules/lodash\nrelease rule //a:x\nfilegroup rule //a:x-and-hashes\n"
+         "source file //a:x.sh\n", [dangling], 3)
+
+
+NAMES = {"c/BUILD": 'filegroup(name = "g", srcs = glob(["*.txt"]))\nfilegroup(name = "h", srcs = ["a b.txt"])\n', "c/ünï.txt": "", "c/日本.txt": "", "c/a b.txt": ""}
+
+
+def names(bench):
+    """Files whose names bq can't have."""
+    bench.lay_out("ws", {"WORKSPACE": "", **NAMES})
+    line = "bzlq: 1 of 2 targets of this answer is an approximation: files left out 1\n"
+    told(bench, "a file with such a name", bench.run("bzlq 'deps(//c:g)'", "ws"), "//c:a b.txt\n//c:g\n", [line], 3)
+    with open(f"{bench.room}/ws/c/ö.txt", "w", encoding="utf-8"):
+        bench.run("rm c/ü*.txt c/日*.txt", "ws")
+    told(bench, "a file with such a name, that came", bench.run("bzlq --facts //c:g | grep -c 'files: c/ö.txt'", "ws"), "1\n", [""], 0)
+    told(bench, "what has no such file", bench.run("bzlq 'deps(//c:h)'", "ws"), "//c:a b.txt\n//c:h\n", [""], 0)
+    found = changed(bench, "names", NAMES, "c/ünï.txt", "x")
+    told(bench, "a change of such a file", found, "", ["affected: targets may be missing: c/ünï.txt: bq takes no file of such a name\n"], 3)
+
+
+def unreadable(bench):
+    """BUILD files that can't be read: a fault of their package."""
+    bench.lay_out("ws", {"WORKSPACE": "", "x/BUILD": "", "y/BUILD": b'filegroup(name = "a")\n\0\n', "z/BUILD": 'filegroup(name = "z")\n'})
+    bench.run("rm x/BUILD; ln -s nowhere x/BUILD", "ws")
+    lines = ["x/BUILD:1:1: F56 Fail: \"x/BUILD can't be read: No such file or directory\"\n", "y/BUILD:2:1: F1 BadByte"]
+    told(bench, "files that can't be read", bench.run("bzlq //...", "ws"), "//z:z\n", lines, 3)
+    found = changed(bench, "unreadable", {"z/BUILD": 'filegroup(name = "z", srcs = ["z.c"])\n', "x/BUILD": ""}, "z/z.c", "", "--kind", "rule")
+    told(bench, "a change beside", found, "//z:z\n", ["1 affected\n"], 0)
+
+
+# what is lost: files, a query, its answer, the line that tells it, and the status
+LOSSES = {
+    "kind": ({"a/BUILD": R + 'junit_tests(name = "t", srcs = ["T.java"])\n'}, "//a:t", "//a:t\n", "kind made up 1", 0),
+    "kind, where kinds are asked for": ({"a/BUILD": R + 'junit_tests(name = "t", srcs = ["T.java"])\n'}, 'kind("test", //a:t)', "//a:t\n", "kind made up 1", 3),
+    "targets": ({"a/BUILD": 'load(":m.bzl", "m")\nm(name = "t", srcs = ["a.c"])\n', "a/m.bzl": 'def m(name, srcs):\n    x = lambda: 0\n    native.filegroup(name = name)\n'},
+                "//a:t", "//a:t\n", "one target for a macro 1", 3),
+    "value": ({"a/BUILD": 'load("@r//:m.bzl", "files")\nfilegroup(name = "t", srcs = files("a", ["b.c"]))\n'}, "deps(//a:t)", "//a:b.c\n//a:t\n", "value that isn't there 1", 3),
+    "value, in a macro": ({"a/BUILD": 'load(":m.bzl", "m")\nm(name = "t")\n', "a/m.bzl": 'load("@r//:m.bzl", "MORE")\ndef m(name):\n    native.filegroup(name = name, srcs = MORE)\n'},
+                          "//a:t", "//a:t\n", "value that isn't there 1", 3),
+    "value, under a query of users": ({"a/BUILD": 'load("@r//:m.bzl", "files")\nfilegroup(name = "t", srcs = files("a"))\nfilegroup(name = "u")\n'}, "rdeps(//..., //a:u)",
+                                      "//a:u\n", "1 of the targets that this query looks through may lack edges", 3),
+    "edges": ({"a/BUILD": 'load("@r//:m.bzl", "pack")\npack(name = "t", odd_of = ["a.txt"])\n'}, "//a:t", "//a:t\n", "kind made up 1, edges by a type that was guessed 1", 3),
+    "files, by a macro": ({"a/BUILD": 'load("//:m.bzl", "m")\nm(name = "t")\n', "BUILD": "", "m.bzl": 'def m(name):\n    srcs = native.glob(["*.txt"])\n    native.filegroup(name = name, srcs = srcs)\n',
+                           "a/ü.txt": ""}, "//a:t", "//a:t\n", "files left out 1", 3),
+    "dict": ({"a/BUILD": 'config_setting(name = "t", values = {"cpu": "arm"})\n'}, "//a:t", "//a:t\n", "dict left out 1", 0),
+    "dict, with labels": ({"a/BUILD": 'config_setting(name = "t", flag_values = {":f": "arm"})\nfilegroup(name = "f")\n'}, "deps(//a:t)", "//a:f\n//a:t\n", "dict left out 1", 0),
+    "select": ({"a/BUILD": 'alias(name = "t", actual = select({":c": ":x", "//conditions:default": ":y"}))\nfilegroup(name = "c")\nfilegroup(name = "x")\nfilegroup(name = "y")\n'},
+               "deps(//a:t)", "//a:c\n//a:t\n//a:x\n//a:y\n", "one branch of a select 1", 0),
+    "test_suite": ({"a/BUILD": 'load(":m.bzl", "m")\nm("t")\n', "a/m.bzl": "def m(name):\n    native.test_suite(name = name)\n"}, "//a:t", "//a:t\n", "edges by a type that was guessed 1", 3),
+}
+
+
+def losses(bench):
+    """What was made up or left out of targets."""
+    for what, (files, query, output, line, status) in LOSSES.items():
+        bench.lay_out("ws", {"WORKSPACE": "", **files})
+        told(bench, f"lost, {what}", bench.run(f"bzlq '{query}'", "ws"), output, [line], status)
+    bench.compare("lost, by --strict", bench.run("bzlq --strict //...", "ws")[2], 3)
+    bench.lay_out("ws", {"WORKSPACE": "", **LOSSES["dict"][0]})
+    bench.compare("lost, a dict by --strict", [bench.run(f"bzlq {word} //...", "ws")[2] for word in ("", "--strict")], [0, 3])
+    bench.compare("lost, in facts", bench.run("bzlq --facts //...", "ws")[0].splitlines()[0],
+                  '{"target":"//a:t","kind":"config_setting rule","file":"a/BUILD","line":1,"attributes":{"name":"t","bzlq_lost":["dict: values"]},"deps":[]}')
+
+
+def packages(bench):
+    """What package(..) says, in facts."""
+    bench.lay_out("ws", {"WORKSPACE": "", "a/BUILD": '"""A package."""\npackage(\n    default_visibility = ["//b:__pkg__"],\n    default_testonly = True,\n)\nfilegroup(name = "x")\n',
+                         "b/BUILD": 'package(default_visibility = V)\nV = []\n'})
+    bench.compare("package(..) in facts", bench.run("bzlq --facts //a:x", "ws")[0].splitlines()[-1],
+                  '{"package":"//a","file":"a/BUILD","line":2,"default_visibility":["//b:__pkg__"],"default_testonly":true}')
+
+
+SUITE = {"a/BUILD": 'test_suite(name = "all_tests")\nsh_test(name = "x_test", srcs = ["x.sh"])\nsh_test(name = "y_test", srcs = ["y.sh"], tags = ["manual"])\n'}
+SIZES = {"a/BUILD": 'load("@rules_cc//cc:defs.bzl", "cc_test")\ncc_test(name = "a", srcs = ["a.c"])\nsh_test(name = "b", srcs = ["b.sh"], size = "small")\n'
+                    'load(":m.bzl", "m")\nm("c")\n', "a/m.bzl": 'def m(name):\n    native.sh_test(name = name, srcs = ["c.sh"], timeout = "long")\n'}
+
+
+def defaults(bench):
+    """What Bazel takes where a test, or a suite of tests, says nothing."""
+    bench.lay_out("ws", {"WORKSPACE": "", **SUITE})
+    told(bench, "a suite of all tests", bench.run("bzlq 'deps(//a:all_tests)'", "ws"), "//a:all_tests\n//a:x.sh\n//a:x_test\n", [""], 0)
+    bench.lay_out("ws", {"WORKSPACE": "", **SIZES})
+    for query, output in (("attr(size, medium, //...)", "//a:a\n//a:c\n"), ("attr(timeout, moderate, //...)", "//a:a\n"), ("attr(timeout, short, //...)", "//a:b\n"),
+                          ("attr(shard_count, \"-1\", //...)", "//a:a\n//a:b\n//a:c\n"), ("attr(flaky, 0, //...)", "//a:a\n//a:b\n//a:c\n")):
+        told(bench, query, bench.run(f"bzlq '{query}'", "ws"), output, [""], 0)
+
+
+def mistakes(bench):
+    """Mistakes that are said over an overlay as they are without one; and that no stub is made for a file of a package that is there."""
+    for what in ("a typo in a rule's name", "a wrong attribute", "a wrong attribute in a macro", "a value of a wrong type", "a .bzl file that isn't there"):
+        files, query, _ = MISTAKES[what]
+        bench.lay_out("w", {**WORKSPACE, **files})
+        wanted = bench.run(f"bq --dir w '{query}' 2>&1 >/dev/null | bzlq hints w")[0].replace("w/", "").splitlines()[0]
+        told(bench, f"bzlq, {what}", bench.run(f"bzlq '{query}' 2>&1 >/dev/null | grep '{wanted[:12]}'", "w"), f"{wanted}\n", [""], 0)
+    for what, text, line in OTHERS:
+        bench.lay_out("w", {**WORKSPACE, "app/BUILD": text})
+        told(bench, f"bzlq, {what}", bench.run("bzlq //app:all 2>&1 >/dev/null | grep app/BUILD", "w"), f"{line}\n", [""], 0)
+
+
+OTHERS = (
+    ("a mandatory attribute", 'genrule(name = "g", cmd = "x")\n', "app/BUILD:1:1: F72 MissingAttribute: the rule genrule misses the attribute 'outs'"),
+    ("a select in a list", 'filegroup(name = "x", srcs = ["a", select({"//conditions:default": "b"})])\n', 'app/BUILD:1:1: F56 Fail: "a select in a list: write [..] + select(..)"'),
+    ("a wrong attribute beside a select", 'filegroup(name = "x", dta = select({"//conditions:default": ["b"]}))\n',
+     "app/BUILD:1:23: F71 NoAttribute: no attribute 'dta' in rule 'filegroup' (did you mean 'data'?)"),
+)
+
+
+def rows(bench):
+    """The page has a row for each word."""
+    with open(PAGE, encoding="utf-8") as file:
+        table = file.read().partition("### What can be missing, and what says so")[2].partition("\n## ")[0]
+    bench.compare("the words of the page", re.findall(r"^\| `(\w+)` \|", table, re.M), [*LOST])
+
+
+GUESSED = {"a/BUILD": 'load("@r//:m.bzl", "pack")\npack(name = "t", odd_of = ["a.txt"])\n', "a/a.txt": ""}
+
+
+def guessed(bench):
+    """A file that is named where no label is looked for."""
+    told(bench, "a file in an attribute of a guessed type", changed(bench, "guessed", GUESSED, "a/a.txt", "x"), "//a:t\n", ["1 affected\n"], 0)
+
+
+REPLACED = {
+    "WORKSPACE": "", "a/m.bzl": 'def m(name, srcs):\n    f = lambda: 0\n    native.filegroup(name = name, srcs = srcs)\n    native.filegroup(name = name + "_more")\n',
+    "a/BUILD": 'load(":m.bzl", "m")\nm(name = "x", srcs = ["x.c"])\nfilegroup(name = "y", srcs = [":x_more"])\n', "b/BUILD": 'filegroup(name = "b", srcs = ["//a:x_more"])\n',
+}
+
+
+def replaced(bench):
+    """Further targets of a macro of the tree that one target stands for."""
+    bench.lay_out("ws", REPLACED)
+    told(bench, "a further target of a macro that is replaced", bench.run("bzlq --output label_kind 'deps(//b)'", "ws"),
+         "m rule //a:x\nsource file //a:x.c\nfilegroup rule //a:x_more\nfilegroup rule //b:b\n", ["one target for a macro 1"], 3)
+
+
+def check(bench):
+    """Tries all of it."""
+    for part in (tests, settings, further, names, unreadable, losses, guessed, packages, defaults, mistakes, rows, replaced):
+        part(bench)
