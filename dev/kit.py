@@ -103,12 +103,12 @@ def timed(command, stdin=os.devnull, folder=None):
         return Run(clock, seconds, int(report.read()) * 1024, ended.stdout)
 
 
-def instructions(program, bundle, words):
-    """The instructions that valgrind counts in a run of the program over the bundle in a file."""
+def instructions(program, bundle, words, statuses=(0,)):
+    """The instructions that valgrind counts in a run of the program over the bundle in a file, which has to end with one of these statuses."""
     with open(bundle, "rb") as stdin:
         counted = ["valgrind", "--tool=callgrind", "--callgrind-out-file=/dev/null", program, *words]
         ended = subprocess.run(counted, stdin=stdin, capture_output=True)
     found = re.search(rb"Collected : (\d+)", ended.stderr)
-    if ended.returncode != 0 or not found:
+    if ended.returncode not in statuses or not found:
         sys.exit(f"valgrind: status {ended.returncode}: {ended.stderr.decode(errors='replace')[-300:]}")
     return int(found[1])

@@ -112,6 +112,8 @@ class Affected:
         by = Owners.of(self.git, revision)
         if not by:
             raise Refused(f"the repository has no {', '.join(PLACES[:-1])} or {PLACES[-1]}")
+        if by.sections:
+            self.change.notes.append(f"owners may be missing: {by.sections} section{'s' * (by.sections != 1)} of GitLab in CODEOWNERS, which has owners of its own")
         targets = self.all()
         return sorted((owner, label) for label in labels for owner in by.of_path(targets[label].file) or ["-"])
 

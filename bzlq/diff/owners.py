@@ -1,5 +1,5 @@
 """Who owns files, by the CODEOWNERS of a repository of git: takes its text, gives the owners of a path. The last line that has a match counts, as on
-GitHub; sections of GitLab are passed over."""
+GitHub. A section of GitLab is no pattern: its name and its own owners are left out, and counted."""
 import re
 
 from bzlq.diff.git import NoRevision
@@ -9,13 +9,16 @@ WORD = re.compile(r"(?:\\.|[^\s\\])+")
 
 
 class Owners:
-    """`rules` are the patterns, in order, each with its owners; `before` is the workspace's path in the repository."""
+    """`rules` are the patterns, in order, each with its owners; `sections` counts the lines that name a section; `before` is the workspace's path in
+    the repository."""
 
     def __init__(self, text, before=""):
-        self.before, self.rules = before, []
+        self.before, self.rules, self.sections = before, [], 0
         for line in text.splitlines():
             words = WORD.findall(re.sub(r"(?:^|\s)#.*", "", line))
-            if words and not words[0].startswith(("[", "^[")):
+            if words and words[0].startswith(("[", "^[")):
+                self.sections += 1
+            elif words:
                 self.rules.append((re.compile(regex(re.sub(r"\\(.)", r"\1", words[0]))), words[1:]))
 
     @staticmethod

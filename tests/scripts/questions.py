@@ -89,6 +89,7 @@ def owners(bench):
     from bzlq.diff.owners import Owners
     for pattern, path, is_owned in OWNED:
         bench.compare(f"{pattern} of {path}", Owners(f"[Section]\n{pattern} @x\n").of_path(path), ["@x"] if is_owned else [])
+    bench.compare("sections of GitLab", Owners("[Docs] @d\n^[Tests][2] @t\n* @a\n").sections, 2)
     bench.compare("the last one counts", Owners("* @a @b\n# x\n/a @c\n/a/b\n").of_path("a/b"), [])
     bench.compare("no CODEOWNERS", Project(bench, "unowned", {"WORKSPACE": "", "BUILD": ""}).affected("--owners", "HEAD")[1:],
                   ("affected: the repository has no .github/CODEOWNERS, CODEOWNERS or docs/CODEOWNERS\n", 2))
