@@ -160,6 +160,7 @@ kind_of_eval e.GlobEmpty = f.GlobEmpty
 kind_of_eval e.GlobPattern = f.GlobPattern
 kind_of_eval e.BadLabel = f.BadLabel
 
+-- the number of a fault of an evaluation
 abbrev pub eval_fault_number : EvalFault → ℕ
 eval_fault_number fault = fault_number (kind_of_eval fault)
 

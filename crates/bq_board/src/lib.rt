@@ -27,10 +27,9 @@ mod view;
 
 pub use board::{Board, Seat};
 pub use bq_board_plan::{
-    Graph, MAX_EDGES, MAX_LOAD_DEPTH, MAX_MODULES, Order, Plan, PlanErr, cut_is_plan,
-    cyclic_is_a_path, cyclic_loads_a_cyclic, cyclic_or_too_deep, cyclic_reaches_a_cycle,
-    deep_enough, edges_are_loads, loads_of_too_deep, starts_are_sums, too_deep_is_a_path,
-    too_deep_loads_a_deep,
+    Graph, MAX_LOAD_DEPTH, Order, Plan, PlanErr, cut_is_plan, cyclic_is_a_path,
+    cyclic_loads_a_cyclic, cyclic_or_too_deep, cyclic_reaches_a_cycle, deep_enough,
+    edges_are_loads, loads_of_too_deep, starts_are_sums, too_deep_is_a_path, too_deep_loads_a_deep,
 };
 pub use claim::Claim;
 pub use laws::{done_law, edge_law, load_law, module_law, note_law, owner_law, seat_law, slot_law};

@@ -2,6 +2,8 @@
 use Rattle.std.specs.Prelude.{ℕ, ◌<◌, ◌≤◌, List, [], ◌∷◌, ◌++◌, length, map, Vec}
 use Rattle.std.specs.declared.alloc.Global.{Global}
 use lib.ListN.{get_or}
+use Rattle.bq_base_limits.specs.declared.limits.Limits.{Limits}
+use Rattle.bq_base_limits.specs.Limits.{number_bound}
 use Rattle.bq_board_plan.specs.Counts.{Has}
 
 -- the load graph: for each module, by its number, the numbers of those that it loads, in source order
@@ -29,18 +31,10 @@ edges p = length (sources p)
 abbrev pub Known : Loads → Type 0
 Known p = (m l : ℕ) → Has (row p m) l → l < length p
 
--- the most modules, and the most edges, that a graph may have
-abbrev pub max_modules : ℕ
-max_modules = 16384
+-- the graph keeps these limits
+abbrev pub Fits : Limits → Loads → Type 0
+Fits limits p = (length p ≤ limits.modules) × (edges p ≤ limits.edges)
 
--- the most loads that one graph has
-abbrev pub max_edges : ℕ
-max_edges = 262144
-
--- the graph keeps both limits
-abbrev pub Fits : Loads → Type 0
-Fits p = (length p ≤ max_modules) × (edges p ≤ max_edges)
-
--- it keeps the limits, and each load names one of its modules
+-- modules and edges can be numbered, and each load names one of its modules
 abbrev pub IsGraph : Loads → Type 0
-IsGraph p = Fits p × Known p
+IsGraph p = ((length p < number_bound) × (edges p < number_bound)) × Known p

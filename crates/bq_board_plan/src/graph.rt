@@ -1,18 +1,14 @@
 //! Load graphs: for each module, by number, the modules that it loads.
 ghost use Rattle.std.specs.Prelude.{◌≡◌, ℕ, ◌+◌, ◌<◌, ◌≤◌, ◌↔◌, List, [], length, vec_len, IfOk, OnOk, IfErr, IsTrue};
+ghost use Rattle.bq_base_limits.specs.Limits.{AreBounded, standard};
 ghost use Rattle.bq_board_plan.specs.Counts.{Has};
-ghost use Rattle.bq_board_plan.specs.Graph.{row, edges, Known, IsGraph, lists};
-ghost use Rattle.bq_board_plan.specs.Refusal.{Refused};
+ghost use Rattle.bq_board_plan.specs.Graph.{row, edges, Known, Fits, IsGraph, lists};
+ghost use Rattle.bq_board_plan.specs.Refusal.{Refused, RefusedWithin};
 
 use crate::refusal::PlanErr;
+use bq_base_limits::Limits;
 use std::alloc::{AllocError, Global};
 use std::marker::Model;
-
-/// The most modules that a graph may have.
-pub const MAX_MODULES: usize = 16_384;
-
-/// The most edges that a graph may have: a module that is loaded twice makes two.
-pub const MAX_EDGES: usize = 262_144;
 
 /// For each module the modules that it loads. A contract sees it as the list of these lists.
 #[derive(Drop)]
@@ -30,13 +26,25 @@ impl Model for Graph {
 
 impl Graph {
     /// Makes the graph in which module `m` loads the modules `rows[m]`, in this order.
-    /// P3 for too many modules or edges, then P2 for a loaded module that the graph doesn't have.
+    /// P3 for more modules or edges than the standard limits, then P2 for a loaded module that the graph doesn't have.
     pub fn new(rows: Vec<Vec<u32>>) -> Result<Graph, PlanErr>
         ensures graph { IfOk result (λ g. g ≡ lists rows.items) }
         ensures valid { OnOk result (IsGraph (lists rows.items)) }
+        ensures fits { OnOk result (Fits standard (lists rows.items)) }
         ensures refused { IfErr result (λ e. Refused (lists rows.items) e) }
     {
-        if rows.len() > MAX_MODULES || !has_few_edges(rows.as_slice()) {
+        Graph::within(Limits::standard(), rows)
+    }
+
+    /// Makes the graph, as [`Graph::new`] does, by these limits. A module that is loaded twice makes two edges.
+    pub fn within(limits: Limits, rows: Vec<Vec<u32>>) -> Result<Graph, PlanErr>
+        requires { AreBounded limits }
+        ensures graph { IfOk result (λ g. g ≡ lists rows.items) }
+        ensures valid { OnOk result (IsGraph (lists rows.items)) }
+        ensures fits { OnOk result (Fits limits (lists rows.items)) }
+        ensures refused { IfErr result (λ e. RefusedWithin limits (lists rows.items) e) }
+    {
+        if rows.len() > limits.modules || !has_few_edges(rows.as_slice(), limits.edges) {
             return Err(PlanErr::TooMany);
         }
         if !knows_all(rows.as_slice()) {
@@ -61,13 +69,25 @@ impl Graph {
     {
         self.rows[m].as_slice()
     }
+
+    /// Copies the graph.
+    #[tactic(auto, using(crate::proofs::Copied::next_row, crate::proofs::Copied::all_rows, crate::proofs::Copied::is_graph))]
+    pub fn copy(&self, alloc: Global) -> Result<Graph, AllocError>
+        ensures { IfOk result (λ copy. copy ≡ self.now) }
+    {
+        let mut rows = Vec::with_capacity(alloc, self.len())?;
+        for m in 0..self.len() {
+            rows.push(self.row(m).to_vec(alloc)?)?;
+        }
+        Ok(Graph { rows })
+    }
 }
 
-/// Returns whether the rows have no more entries than a graph may have edges.
-fn has_few_edges(rows: &[Vec<u32>]) -> bool
-    ensures { IsTrue result ↔ (edges (lists rows.now) ≤ MAX_EDGES) }
+/// Returns whether the rows have at most so many entries.
+fn has_few_edges(rows: &[Vec<u32>], most: usize) -> bool
+    ensures { IsTrue result ↔ (edges (lists rows.now) ≤ most) }
 {
-    let mut left = MAX_EDGES;
+    let mut left = most;
     for row in rows {
         if row.len() > left {
             return false;

@@ -25,7 +25,7 @@ pub use depth::{
     MAX_LOAD_DEPTH, cyclic_or_too_deep, deep_enough, loads_of_too_deep, too_deep_is_a_path,
     too_deep_loads_a_deep,
 };
-pub use graph::{Graph, MAX_EDGES, MAX_MODULES};
+pub use graph::Graph;
 pub use plan::{Plan, edges_are_loads, starts_are_sums};
 pub use refusal::PlanErr;
 pub use topological::Order;

@@ -1,13 +1,15 @@
 //! Plans: load graphs without cyclic modules, with their edges numbered.
 ghost use Rattle.std.specs.Prelude.{◌≡◌, ℕ, ◌+◌, ◌<◌, ◌≤◌, ◌^◌, List, length, IfOk, OnOk, IfErr};
+ghost use Rattle.bq_base_limits.specs.Limits.{AreBounded, standard};
 ghost use Rattle.bq_board_plan.specs.Counts.{Has};
 ghost use Rattle.bq_board_plan.specs.Cycles.{IsAcyclic};
-ghost use Rattle.bq_board_plan.specs.Graph.{Loads, sources, edges, lists};
+ghost use Rattle.bq_board_plan.specs.Graph.{Loads, sources, edges, Fits, lists};
 ghost use Rattle.bq_board_plan.specs.Plan.{start, Into, IsPlan, HasStarts, HasTargets, OutsOf, IsOut, AddsOuts, EdgesAreLoads, StartsAreSums};
-ghost use Rattle.bq_board_plan.specs.Refusal.{Refused};
+ghost use Rattle.bq_board_plan.specs.Refusal.{Refused, RefusedWithin};
 
 use crate::graph::{Graph, empty_rows};
 use crate::refusal::PlanErr;
+use bq_base_limits::Limits;
 use std::alloc::{AllocError, Global};
 use std::marker::Model;
 
@@ -34,15 +36,27 @@ impl Model for Plan {
 
 impl Plan {
     /// Makes the plan in which module `m` loads the modules `loads[m]`, in this order. The empty list is a plan. Edges
-    /// are numbered by `m`, then by place; an edge's source is the loaded module, its target is `m`. P3 for too many
-    /// modules or edges, then P2 for a loaded module that isn't there, then P1 for a cyclic module; P4 if it runs out
+    /// are numbered by `m`, then by place; an edge's source is the loaded module, its target is `m`. P3 for more modules
+    /// or edges than the standard limits, then P2 for a loaded module that isn't there, then P1 for a cyclic module; P4 if it runs out
     /// of memory. It takes time linear in modules and edges.
     pub fn new(alloc: Global, loads: Vec<Vec<u32>>) -> Result<Plan, PlanErr>
         ensures plan { IfOk result (λ p. p ≡ lists loads.items) }
         ensures valid { OnOk result (IsPlan (lists loads.items)) }
+        ensures fits { OnOk result (Fits standard (lists loads.items)) }
         ensures refused { IfErr result (λ e. Refused (lists loads.items) e) }
     {
-        let graph = Graph::new(loads)?;
+        Plan::within(alloc, Limits::standard(), loads)
+    }
+
+    /// Makes the plan, as [`Plan::new`] does, by these limits.
+    pub fn within(alloc: Global, limits: Limits, loads: Vec<Vec<u32>>) -> Result<Plan, PlanErr>
+        requires { AreBounded limits }
+        ensures plan { IfOk result (λ p. p ≡ lists loads.items) }
+        ensures valid { OnOk result (IsPlan (lists loads.items)) }
+        ensures fits { OnOk result (Fits limits (lists loads.items)) }
+        ensures refused { IfErr result (λ e. RefusedWithin limits (lists loads.items) e) }
+    {
+        let graph = Graph::within(limits, loads)?;
         if !graph.is_acyclic(alloc)? {
             return Err(PlanErr::Cyclic);
         }

@@ -10,7 +10,7 @@ pub enum PlanErr {
     /// A loaded module isn't one of the plan's.
     #[error("P2 BadIndex")]
     BadIndex,
-    /// More modules than `MAX_MODULES`, or more edges than `MAX_EDGES`.
+    /// More modules or more edges than the limits allow.
     #[error("P3 TooMany")]
     TooMany,
     #[error("P4 Memory")]

@@ -1,5 +1,5 @@
 -- The built-in functions (Starlark, "Built-in constants and functions"), and what a call gives.
-use Rattle.std.specs.Prelude.{List, Option, Some, None, Result}
+use Rattle.std.specs.Prelude.{ℕ, List, [], ◌∷◌, Option, Some, None, Result, codes, slice_get}
 use Rattle.bq_base.specs.declared.fault.EvalFault.{EvalFault}
 use Rattle.bq_base.specs.declared.fault.EvalFault.TheVariants as fault
 use Rattle.bq_resolve_predeclared.specs.declared.predeclared.Predeclared.{Predeclared}
@@ -17,70 +17,52 @@ use Rattle.bq_builtin.specs.Choosing.{chosen, sorted}
 use Rattle.bq_builtin.specs.Sequences.{tuple, list, reversed, enumerate, zip}
 use Rattle.bq_builtin.specs.Texts.{type_of, str, repr, print, fail}
 use Rattle.bq_builtin.specs.declared.choosing.ExtremeKind.TheVariants.{Greatest, Least}
-use Rattle.bq_builtin.specs.declared.call.BuiltInFunction.{BuiltInFunction}
-use Rattle.bq_builtin.specs.declared.call.BuiltInFunction.TheVariants as f
-use Rattle.bq_builtin.specs.declared.call.ValueFunction.{ValueFunction}
-use Rattle.bq_builtin.specs.declared.call.ValueFunction.TheVariants as v
-use Rattle.bq_builtin.specs.declared.call.ListFunction.{ListFunction}
-use Rattle.bq_builtin.specs.declared.call.ListFunction.TheVariants as l
 
--- the built-in function that a predeclared name stands for
-abbrev pub built_in : Predeclared → Option BuiltInFunction
-built_in p.All = Some (f.Value v.All)
-built_in p.Any = Some (f.Value v.Any)
-built_in p.Bool = Some (f.Value v.Bool)
-built_in p.Dict = Some f.Dict
-built_in p.Enumerate = Some (f.List l.Enumerate)
-built_in p.Fail = Some f.Fail
-built_in p.Int = Some (f.Value v.Int)
-built_in p.Len = Some (f.Value v.Len)
-built_in p.List = Some (f.List l.List)
-built_in p.Max = Some (f.Value v.Max)
-built_in p.Min = Some (f.Value v.Min)
-built_in p.Print = Some f.Print
-built_in p.Range = Some (f.Value v.Range)
-built_in p.Repr = Some f.Repr
-built_in p.Reversed = Some (f.List l.Reversed)
-built_in p.Select = Some f.Select
-built_in p.Sorted = Some (f.List l.Sorted)
-built_in p.Str = Some f.Str
-built_in p.Tuple = Some (f.Value v.Tuple)
-built_in p.Type = Some (f.Value v.Type)
-built_in p.Zip = Some (f.List l.Zip)
-built_in _ = None
+-- what a call of a function gives: a value, of what lists and dicts hold and of the arguments; the values of a new list; or what an action
+-- gives
+pub data Calling : Type 0 where
+  gives : (StoreView → Passed → Result Datum EvalFault) → Calling
+  lists : (StoreView → Passed → Result (List Datum) EvalFault) → Calling
+  does : (Passed → Action State Datum) → Calling
 
--- the value that a function gives of its arguments and of what lists and dicts hold
-abbrev pub value : ValueFunction → StoreView → Passed → Result Datum EvalFault
-value v.All s args = all s args
-value v.Any s args = any s args
-value v.Bool s args = bool s args
-value v.Int s args = int args
-value v.Len s args = len s args
-value v.Max s args = chosen Greatest s args
-value v.Min s args = chosen Least s args
-value v.Range s args = range args
-value v.Tuple s args = tuple s args
-value v.Type s args = type_of s args
+-- the built-in functions, each with its name and what a call of it gives; `select` needs configurations, which only an analysis has (F60)
+abbrev pub functions : List (List ℕ × Calling)
+functions =
+    (codes "all", gives all) ∷
+    (codes "any", gives any) ∷
+    (codes "bool", gives bool) ∷
+    (codes "dict", does dict_made) ∷
+    (codes "enumerate", lists enumerate) ∷
+    (codes "fail", does fail) ∷
+    (codes "int", gives (λ s args. int args)) ∷
+    (codes "len", gives len) ∷
+    (codes "list", lists list) ∷
+    (codes "max", gives (chosen Greatest)) ∷
+    (codes "min", gives (chosen Least)) ∷
+    (codes "print", does print) ∷
+    (codes "range", gives (λ s args. range args)) ∷
+    (codes "repr", does repr) ∷
+    (codes "reversed", lists reversed) ∷
+    (codes "select", does (λ args. stop fault.Select)) ∷
+    (codes "sorted", lists sorted) ∷
+    (codes "str", does str) ∷
+    (codes "tuple", gives tuple) ∷
+    (codes "type", gives type_of) ∷
+    (codes "zip", lists zip) ∷
+    []
 
--- the values of the new list that a function gives
-abbrev pub list_values : ListFunction → StoreView → Passed → Result (List Datum) EvalFault
-list_values l.Enumerate s args = enumerate s args
-list_values l.List s args = list s args
-list_values l.Reversed s args = reversed s args
-list_values l.Sorted s args = sorted s args
-list_values l.Zip s args = zip s args
+-- a call with these arguments
+abbrev pub called : Calling → Passed → Action State Datum
+called (gives value) args = look (λ s. value s.store args)
+called (lists values) args = look (λ s. values s.store args) >>= λ xs. new_list xs
+called (does action) args = action args
 
--- `select` needs configurations, which only an analysis has (F60)
-unfoldable pub given_by : BuiltInFunction → Passed → Action State Datum
-given_by (f.Value g) args = look (λ s. value g s.store args)
-given_by (f.List g) args = look (λ s. list_values g s.store args) >>= λ xs. new_list xs
-given_by f.Dict args = dict_made args
-given_by f.Str args = str args
-given_by f.Repr args = repr args
-given_by f.Print args = print args
-given_by f.Fail args = fail args
-given_by f.Select args = stop fault.Select
+-- no program has a function that isn't in the table
+abbrev pub called_if_any : Option (List ℕ × Calling) → Passed → Action State Datum
+called_if_any None args = stop fault.WrongType
+called_if_any (Some function) args = called function.1 args
 
 -- what is no function of the language can't be called (F40)
 unfoldable pub call_function : Predeclared → Passed → Action State Datum
-call_function function args = elim (built_in function) [ Some function ↦ given_by function args | None ↦ stop fault.WrongType ]
+call_function (p.BuiltIn place) args = called_if_any (slice_get functions place) args
+call_function _ args = stop fault.WrongType

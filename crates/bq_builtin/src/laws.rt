@@ -5,16 +5,23 @@ ghost use Rattle.std.specs.Int.{w64};
 ghost use Rattle.std.specs.Fmt.{signed_decimal};
 ghost use Rattle.std.specs.Ordering.{int_cmp};
 ghost use Rattle.bq_base.specs.declared.fault.EvalFault.TheVariants.{Args};
+ghost use Rattle.bq_resolve_predeclared.specs.Predeclared.{built_in_names};
 ghost use Rattle.bq_value.specs.Datum.{Datum, int, tuple, data_of};
 ghost use Rattle.bq_value.specs.Cells.{StoreView};
 ghost use Rattle.bq_builtin_machine.specs.Args.{Passed};
 ghost use Rattle.bq_builtin_machine.specs.Iteration.{elements_in};
 ghost use Rattle.bq_builtin.specs.Arguments.{by_place};
+ghost use Rattle.bq_builtin.specs.Call.{functions};
 ghost use Rattle.bq_builtin.specs.Integers.{read_integer, length_in};
 ghost use Rattle.bq_builtin.specs.Order.{ascending};
 ghost use Rattle.bq_builtin.specs.Choosing.{text_cmp, in_order, extreme};
 ghost use Rattle.bq_builtin.specs.declared.choosing.ExtremeKind.TheVariants.{Greatest, Least};
 ghost use Rattle.bq_builtin.specs.Sequences.{heads, rows, shortest, numbered, numbered_value};
+
+/// The table of functions has the names that are predeclared, each at the same place.
+pub fn functions_have_their_names()
+    ensures { map (λ function. function.0) functions ≡ built_in_names }
+{}
 
 /// What is sorted has the same elements, and none is less than the one before it.
 pub fn sorted_lists_have_the_elements_in_order()

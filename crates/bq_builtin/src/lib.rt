@@ -19,7 +19,7 @@
 //! - `sequences`: `list`, `tuple`, `reversed` and `enumerate`;
 //! - `column`, `zip`: `zip`, over elements where they are;
 //! - `texts`: `type`, `str`, `repr`, `print` and `fail`;
-//! - `call`: the call;
+//! - `call`: the call, by the place of the function in the table of `specs/Call.antt`;
 //! - `laws`: what the definitions say together.
 #![tactic(auto)]
 

@@ -11,17 +11,13 @@ use Rattle.bq_value.specs.Cell.{Cell}
 use Rattle.bq_builtin_machine.specs.State.{State}
 use Rattle.bq_builtin_machine.specs.Action.{Action, done, ◌>>=◌, ◌>>◌, pure, stop, given, look, change}
 
--- the state with another store
-abbrev pub with_store : StoreView → State → State
-with_store store s = record s { store = store }
-
 -- the state in which the running module's cell of that number holds this
 abbrev pub with_content : State → ℕ → Contents → State
-with_content s number c = with_store (with_cell s.store number c) s
+with_content s number c = record s { store = with_cell s.store number c }
 
 -- a new cell of the running module
 unfoldable pub new_content : Contents → Action State Datum
-new_content c s = done (cell s.store.own (length s.store.cells)) (with_store (with_cells (s.store.cells ++ c ∷ []) s.store) s)
+new_content c s = done (cell s.store.own (length s.store.cells)) (record s { store = with_cells (s.store.cells ++ c ∷ []) s.store })
 
 -- a value of the type that is needed, or the fault that it has another
 abbrev pub or_wrong : {A : Type 0} → Option A → Result A EvalFault

@@ -40,8 +40,8 @@ Exit status:
   4  out of memory
   5  reading the input or writing the output failed"#;
 
-/// The version of the program. The man page and the packages take it from this line (`tools/release`).
-pub const VERSION: &str = "1.3.0";
+/// The version of the program. The man page and the packages take it from this line (`dev/release`).
+pub const VERSION: &str = "1.4.0";
 
 pub const MAX_STEPS: u64 = 1_000_000_000;
 

@@ -1,12 +1,16 @@
 //! Runs over bundles and directories, of one query and of many, and for facts.
 
 ghost use Rattle.std.specs.Prelude.{◌≡◌, ◌-◌, ◌^◌, ◌<◌, IfOk};
+ghost use Rattle.bq_base_limits.specs.Limits.{AreBounded};
 ghost use Rattle.bq_run.specs.Run.{IsInRange};
 
 use crate::messages::announce_input;
 use crate::words::{Place, Wanted, Words};
+use bq_base_limits::Limits;
 use bq_label::Workspace;
-use bq_run::{ByteSource, Metered, Options, RunErr, Status, end_run, read_bundle, run, run_files};
+use bq_run::{
+    ByteSource, Metered, Options, RunErr, Status, end_run, read_bundle_within, run, run_files,
+};
 use bq_run_directory::{DirectoryErr, read_directory};
 use bq_run_facts::run_facts;
 use bq_run_session::{SessionStatus, run_queries, session_code};
@@ -30,8 +34,10 @@ fn open(rt: &HostRuntime, path: &str) -> Result<File, RunErr> {
 }
 
 /// Reads the workspace of a directory.
-fn read_files(rt: &HostRuntime, directory: &str) -> Result<Workspace, RunErr> {
-    match read_directory(rt, directory) {
+fn read_files(rt: &HostRuntime, directory: &str, limits: Limits) -> Result<Workspace, RunErr>
+    requires { AreBounded limits }
+{
+    match read_directory(rt, directory, limits) {
         Ok(workspace) => Ok(workspace),
         Err(DirectoryErr::Memory) => Err(RunErr::Memory),
         Err(DirectoryErr::Read) => Err(RunErr::Read),
@@ -66,7 +72,7 @@ pub fn run_on_directory<T: Threads + Wait + RandomSource + Sync>(
 ) -> Result<Status, RunErr>
     requires { IsInRange options.now }
 {
-    let workspace = read_files(rt, directory)?;
+    let workspace = read_files(rt, directory, options.limits)?;
     let mut writer = Metered::new(rt.stdout());
     let mut faults = Metered::new(rt.stderr());
     run_files(
@@ -102,14 +108,21 @@ fn run_one<T: Threads + Wait + RandomSource + Sync>(
 }
 
 /// Reads the workspace at a place.
-fn read_workspace(rt: &HostRuntime, alloc: Global, place: Place) -> Result<Workspace, RunErr> {
+fn read_workspace(
+    rt: &HostRuntime,
+    alloc: Global,
+    place: Place,
+    limits: Limits,
+) -> Result<Workspace, RunErr>
+    requires { AreBounded limits }
+{
     match place {
-        Place::Input => read_bundle(alloc, &mut Metered::new(rt.stdin())),
+        Place::Input => read_bundle_within(alloc, limits, &mut Metered::new(rt.stdin())),
         Place::Bundle(path) => {
             let file = open(rt, path)?;
-            read_bundle(alloc, &mut Metered::new(file))
+            read_bundle_within(alloc, limits, &mut Metered::new(file))
         }
-        Place::Directory(path) => read_files(rt, path),
+        Place::Directory(path) => read_files(rt, path, limits),
     }
 }
 
@@ -124,7 +137,7 @@ fn answer_queries<T: Threads + Wait + RandomSource + Sync, Q: ByteSource>(
     requires in_range { IsInRange words.now.options }
     requires queries { Q.failed queries.old < 2 ^ 64 - 1 }
 {
-    let workspace = read_workspace(rt, alloc, words.place)?;
+    let workspace = read_workspace(rt, alloc, words.place, words.options.limits)?;
     let mut writer = Metered::new(rt.stdout());
     let mut faults = Metered::new(rt.stderr());
     run_queries(
@@ -176,7 +189,7 @@ fn run_for_facts<T: Threads + Wait + RandomSource + Sync>(
 ) -> Result<Status, RunErr>
     requires { IsInRange words.now.options }
 {
-    let workspace = read_workspace(rt, alloc, words.place)?;
+    let workspace = read_workspace(rt, alloc, words.place, words.options.limits)?;
     let mut writer = Metered::new(rt.stdout());
     let mut faults = Metered::new(rt.stderr());
     let query = match query {

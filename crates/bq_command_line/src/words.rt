@@ -6,6 +6,7 @@ ghost use Rattle.bq_command_line.specs.declared.words.Words.{Words};
 ghost use Rattle.bq_command_line.specs.declared.words.Asked.TheVariants.{Answer};
 
 use crate::command::{MAX_STEPS, command};
+use bq_base_limits::Limits;
 use bq_run::{MAX_JOBS, Options, OutputForm};
 use bq_run_explain::{Explanation, explain};
 use clap::error::ErrorKind;
@@ -13,8 +14,6 @@ use clap::{ArgMatches, Error};
 use std::alloc::{AllocError, Global};
 
 const DEFAULT_JOBS: u32 = 4;
-
-const DEFAULT_STEPS: u64 = 1_000_000;
 
 /// Why words are refused that name no place but standard input, and take the queries from there too.
 const INPUT_TWICE: &str =
@@ -97,7 +96,10 @@ fn options_of(alloc: Global, matches: &ArgMatches) -> Result<Options, AllocError
     ensures { IfOk result IsInRange }
 {
     let jobs = matches.get_one::<u32>("jobs").unwrap_or(DEFAULT_JOBS);
-    let max_steps = matches.get_one::<u64>("max-steps").unwrap_or(DEFAULT_STEPS);
+    let standard = Limits::standard();
+    let max_steps = matches
+        .get_one::<u64>("max-steps")
+        .unwrap_or(standard.steps);
     let output = match matches.get_str("output") {
         Some("label_kind") => OutputForm::LabelKind,
         _ => OutputForm::Label,
@@ -107,7 +109,7 @@ fn options_of(alloc: Global, matches: &ArgMatches) -> Result<Options, AllocError
         query: query.as_bytes().to_vec(alloc)?,
         jobs: jobs.clamp(1, MAX_JOBS),
         output,
-        max_steps: max_steps.clamp(1, MAX_STEPS),
+        limits: Limits::standard_with(max_steps.clamp(1, MAX_STEPS)),
     })
 }
 

@@ -16,7 +16,8 @@ use Rattle.bq_resolve_scope.specs.Names.{Name, has, place_among, with_name, with
 use Rattle.bq_resolve_scope.proofs.Cases.{with_load_by}
 use Rattle.bq_resolve_scope.specs.Scope.{FileParts}
 use Rattle.bq_resolve_scope.specs.Visit.{fault_of}
-use Rattle.bq_resolve_by_name.specs.Violations.{in_turn, when, no_double, Before, in_load_clause, in_file_small_by, in_file_small, after_small, in_top_level_by, in_top_level, after}
+use Rattle.bq_resolve_scope.specs.Expressions.{is_bzl}
+use Rattle.bq_resolve_by_name.specs.Violations.{in_turn, when, Before, in_load_clause, in_file_small_by, in_file_small, after_small, in_top_level_by, in_top_level, after}
 use Rattle.bq_resolve_by_name.proofs.Cases.{after_by}
 use Rattle.bq_eval_by_name_spec.specs.Files.{clauses_by, line_clauses, clauses_of, load_clauses}
 use Rattle.bq_eval_by_name_module_laws.proofs.Places.{new_place, name_stays, each_stays}
@@ -86,7 +87,7 @@ not_by false why rest e = refl
 module _ (file : FileParts) where
   clause_fresh : (b : Before) (c : LoadClause) → in_load_clause file b c ≡ [] → has b.loaded c.local.name ≡ false
   unfolding in_load_clause
-  clause_fresh b c e = not_by (has b.loaded c.local.name) (fault_of f.BoundTwice c.local) (when (no_double file.universe.kind && has b.bound c.local.name) (fault_of f.Rebound c.local)) e
+  clause_fresh b c e = not_by (has b.loaded c.local.name) (fault_of f.BoundTwice c.local) (when (is_bzl file.universe.kind && has b.bound c.local.name) (fault_of f.Rebound c.local)) e
 
   clauses_fresh : (b : Before) (cs : List LoadClause) → in_turn (in_load_clause file) (λ o c. record o { loaded = with_load_clause o.loaded c }) b cs ≡ [] → Fresh b.loaded cs
   clauses_fresh b [] e = tt

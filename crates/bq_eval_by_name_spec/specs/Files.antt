@@ -60,10 +60,6 @@ lines_from place [] = []
 lines_from place (t ∷ ts) =
     record { line = t.line; statement = outside_by place (out-Stmt t.statement) } ∷ lines_from (place + length (functions_by (out-Stmt t.statement))) ts
 
--- the lines of a file
-abbrev pub lines_of : List TopLevel → List FileLine
-lines_of ts = lines_from 0 ts
-
 -- ---- loads
 
 -- what a small statement binds by loading

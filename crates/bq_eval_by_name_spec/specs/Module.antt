@@ -11,7 +11,7 @@ use Rattle.bq_eval_meaning_spec.specs.Primitives.{Primitives}
 use Rattle.bq_eval_language_spec.specs.Calls.{TreeUnit, Units}
 use Rattle.bq_eval_language_spec.specs.Module as language
 use Rattle.bq_eval_language_spec.specs.Module.{Own}
-use Rattle.bq_eval_by_name_spec.specs.Files.{functions_of, lines_of, load_clauses}
+use Rattle.bq_eval_by_name_spec.specs.Files.{functions_of, lines_from, load_clauses}
 use Rattle.bq_eval_by_name_spec.specs.Names.{Env, Round, bind, declare, outside, by_names}
 
 -- ---- loads
@@ -45,7 +45,7 @@ own_of number universe ts loaded = record { number = number; functions = functio
 
 -- a file, as module `number` among these, with a value for each clause of its loads
 unfoldable pub module_meaning : {S : Type 0} → Primitives S → Units Round → ℕ → UniverseParts → List TopLevel → List Datum → Action S Env
-module_meaning m units number universe ts loaded = language.module_meaning m by_names units (own_of number universe ts loaded) (lines_of ts) (first_globals ts loaded)
+module_meaning m units number universe ts loaded = language.module_meaning m by_names units (own_of number universe ts loaded) (lines_from 0 ts) (first_globals ts loaded)
 
 -- a frozen module: its globals are as they were when its evaluation ended
 abbrev pub frozen_unit : UniverseParts → List TopLevel → List Datum → Env → TreeUnit Round

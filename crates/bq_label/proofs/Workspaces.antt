@@ -16,10 +16,12 @@ use Rattle.std.proofs.lemmas.List.Sorted.{list_any-IsPermutation, IsPermutation-
 use Rattle.std.proofs.lemmas.Cmp.{nat_list_cmp_total, nat_list_eq_equiv}
 use Rattle.std.proofs.lemmas.Map.Text.{is_eq-slice_cmp}
 use Rattle.std.proofs.lemmas.Map.Keys.{sorted_head, sorted_tail, sorted_from_all_adjacent, IsDistinct-IsPermutation}
+use Rattle.bq_base_limits.specs.declared.limits.Limits.{Limits}
+use Rattle.bq_base_limits.specs.Limits.{AreBounded}
 use Rattle.bq_label.specs.declared.workspace.File.{File}
 use Rattle.bq_label.specs.Paths.{is_path}
 use Rattle.bq_label.specs.Order.{in_order}
-use Rattle.bq_label.specs.Workspace.{is_above, are_distinct, are_apart, are_paths, paths_of, path_cmp, file_at, max_files, workspace_of, IsWorkspace, IsWorkspaceOf}
+use Rattle.bq_label.specs.Workspace.{is_above, are_distinct, are_apart, are_paths, paths_of, path_cmp, file_at, workspace_within, IsWorkspace, IsWorkspaceOf}
 use Rattle.bq_label.proofs.Above.{same_bytes, equal_bytes, above_take, above_length, above_slash, above_front}
 use Rattle.bq_label.proofs.Orders.{in_order_is, in_order_moves, in_order_ascends}
 use Rattle.bq_label.proofs.Readings.{first_of_two, second_of_two}
@@ -220,24 +222,27 @@ paths_moved files moved m =
 
 -- ---- the workspace of files
 
-pub too_many : (files : List File) → max_files < length files → workspace_of files ≡ None
-unfolding workspace_of
-too_many files l = let no : nat_le (length files) max_files ≡ false = grind (arith, nat_tests) in rw no refl
+module _ (limits : Limits) where
+  pub too_many : (files : List File) → limits.files < length files → workspace_within limits files ≡ None
+  unfolding workspace_within
+  too_many files l = let no : nat_le (length files) limits.files ≡ false = grind (arith, nat_tests) in rw no refl
 
-pub no_workspace : (files moved : List File) → length files ≤ max_files → IsPermutation files moved → are_paths (paths_of moved) ≡ false → workspace_of files ≡ None
-unfolding workspace_of
-no_workspace files moved l m h =
-    let few : nat_le (length files) max_files ≡ true = grind (arith, nat_tests) in
-    rw (few, paths_moved files moved m, h) refl
+  pub no_workspace : (files moved : List File) → length files ≤ limits.files → IsPermutation files moved → are_paths (paths_of moved) ≡ false → workspace_within limits files ≡ None
+  unfolding workspace_within
+  no_workspace files moved l m h =
+      let few : nat_le (length files) limits.files ≡ true = grind (arith, nat_tests) in
+      rw (few, paths_moved files moved m, h) refl
 
-pub workspace_is : (files moved : List File) → length files ≤ max_files → IsPermutation files moved → IsStrictlySortedBy path_cmp moved → are_paths (paths_of moved) ≡ true → workspace_of files ≡ Some moved
-unfolding workspace_of
-workspace_is files moved l m s h =
-    let few : nat_le (length files) max_files ≡ true = grind (arith, nat_tests) in
-    rw (few, paths_moved files moved m, h) (ap Some (in_order_is path_cmp by_path files moved m s))
+  pub workspace_is : (files moved : List File) → length files ≤ limits.files → IsPermutation files moved → IsStrictlySortedBy path_cmp moved → are_paths (paths_of moved) ≡ true
+      → workspace_within limits files ≡ Some moved
+  unfolding workspace_within
+  workspace_is files moved l m s h =
+      let few : nat_le (length files) limits.files ≡ true = grind (arith, nat_tests) in
+      rw (few, paths_moved files moved m, h) (ap Some (in_order_is path_cmp by_path files moved m s))
 
-pub is_workspace : (files moved : List File) → length files ≤ max_files → IsPermutation files moved → IsStrictlySortedBy path_cmp moved → are_paths (paths_of moved) ≡ true → IsWorkspace moved
-is_workspace files moved l m s h = record { few = omega (arith, length_permutation files moved m); valid = h; ascending = s }
+  pub is_workspace : (files moved : List File) → length files ≤ limits.files → AreBounded limits → IsPermutation files moved → IsStrictlySortedBy path_cmp moved → are_paths (paths_of moved) ≡ true
+      → IsWorkspace moved
+  is_workspace files moved l b m s h = record { few = omega (arith, length_permutation files moved m, l, b.files); valid = h; ascending = s }
 
 -- no file is at a path
 pub any_at_path : (files : List File) (path : List ℕ) → list_any (bytes_eq path) (paths_of files) ≡ is_some (file_at files path)
@@ -275,19 +280,23 @@ few_from n m h = grind (arith, nat_tests)
 some_list : {A : Type 0} {x y : A} → Some x ≡ Some y → x ≡ y
 some_list e = cc
 
-pub workspace_found : (files w : List File) → workspace_of files ≡ Some w → IsWorkspaceOf files w
-unfolding workspace_of
-workspace_found files w h = elim (cases_Bool (nat_le (length files) max_files && are_paths (paths_of files))) [
+pub workspace_found : (limits : Limits) → AreBounded limits → (files w : List File) → workspace_within limits files ≡ Some w → IsWorkspaceOf limits files w
+unfolding workspace_within
+workspace_found limits bounded files w h = elim (cases_Bool (nat_le (length files) limits.files && are_paths (paths_of files))) [
   | inr n ↦ let none : None ≡ Some w = sym (rw n refl) ∙ h in absurd (cc)
   | inl y ↦
-      let few : length files ≤ max_files = few_from (length files) max_files (first_of_two (nat_le (length files) max_files) (are_paths (paths_of files)) y) in
-      let valid : are_paths (paths_of files) ≡ true = second_of_two (nat_le (length files) max_files) (are_paths (paths_of files)) y in
+      let few : length files ≤ limits.files = few_from (length files) limits.files (first_of_two (nat_le (length files) limits.files) (are_paths (paths_of files)) y) in
+      let valid : are_paths (paths_of files) ≡ true = second_of_two (nat_le (length files) limits.files) (are_paths (paths_of files)) y in
       let is : in_order path_cmp files ≡ w = some_list (sym (rw y refl) ∙ h) in
       let moved : IsPermutation files (in_order path_cmp files) = in_order_moves path_cmp by_path files in
       let strict : IsStrictlySortedBy path_cmp (in_order path_cmp files) = in_order_ascends path_cmp by_path files (distinct_files files (paths_distinct (paths_of files) valid)) in
-      let whole : IsWorkspaceOf files (in_order path_cmp files) = record { moved = moved; valid = is_workspace files (in_order path_cmp files) few moved strict (sym (paths_moved files (in_order path_cmp files) moved) ∙ valid) } in
-      subst (λ (v : List File). IsWorkspaceOf files v) is whole
+      let whole : IsWorkspaceOf limits files (in_order path_cmp files) = record {
+        few = few;
+        moved = moved;
+        valid = is_workspace limits files (in_order path_cmp files) few bounded moved strict (sym (paths_moved files (in_order path_cmp files) moved) ∙ valid);
+      } in
+      subst (λ (v : List File). IsWorkspaceOf limits files v) is whole
 ]
 
-pub workspace_from : (files w : List File) → IsWorkspaceOf files w → workspace_of files ≡ Some w
-workspace_from files w h = workspace_is files w (omega (arith, h.valid.few, length_permutation files w h.moved)) h.moved h.valid.ascending h.valid.valid
+pub workspace_from : (limits : Limits) (files w : List File) → IsWorkspaceOf limits files w → workspace_within limits files ≡ Some w
+workspace_from limits files w h = workspace_is limits files w h.few h.moved h.valid.ascending h.valid.valid

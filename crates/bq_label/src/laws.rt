@@ -4,9 +4,11 @@
 ghost use Rattle.std.specs.Prelude.{◌≡◌, ◌↔◌, List, ℕ, Some, []};
 ghost use Rattle.std.specs.List.{Contains};
 ghost use Rattle.std.specs.List.Sorted.{IsStrictlySortedBy};
+ghost use Rattle.bq_base_limits.specs.declared.limits.Limits.{Limits};
+ghost use Rattle.bq_base_limits.specs.Limits.{AreBounded};
 ghost use Rattle.bq_label.specs.declared.workspace.File.{File};
 ghost use Rattle.bq_label.specs.declared.packages.BuildFile.{BuildFile};
-ghost use Rattle.bq_label.specs.Workspace.{workspace_of, IsWorkspace, IsWorkspaceOf};
+ghost use Rattle.bq_label.specs.Workspace.{workspace_within, IsWorkspace, IsWorkspaceOf};
 ghost use Rattle.bq_label.specs.Packages.{packages_of, package_cmp, IsPackageOf, HasBuildFile, IsListed, split_repository, label_path, owner_of, OwnerIs, IsPathOf, label_file, FileIs};
 ghost use Rattle.bq_label.specs.Label.{PackageParts, LabelParts, label_in, IsLabel, IsPackage, ReadsAs, Spells, full_form};
 ghost use Rattle.bq_label.specs.Paths.{HasNoSlash};
@@ -38,9 +40,9 @@ pub fn one_full_form()
 {}
 
 /// A workspace of files has these files in the one order in which each path is below the next, if the paths are valid
-/// and distinct and none is a directory of another.
+/// and distinct, none is a directory of another, and there are not too many.
 pub fn one_order()
-    ensures { (files w : List File) → (workspace_of files ≡ Some w) ↔ IsWorkspaceOf files w }
+    ensures { (limits : Limits) (files w : List File) → AreBounded limits → (workspace_within limits files ≡ Some w) ↔ IsWorkspaceOf limits files w }
 {}
 
 /// A package's directory has a BUILD file: `BUILD.bazel`, or `BUILD` if there is no `BUILD.bazel`.

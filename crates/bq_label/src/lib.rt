@@ -35,4 +35,4 @@ pub use path::{is_path, is_repository, is_segment};
 pub use print::print_label;
 pub use read::{read_label, read_package, read_shared_label};
 pub use repository::{label_file, label_path};
-pub use workspace::{File, MAX_FILES, PathErr, Workspace};
+pub use workspace::{File, PathErr, Workspace};

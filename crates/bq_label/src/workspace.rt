@@ -3,13 +3,15 @@
 ghost use Rattle.std.specs.Prelude.{◌≡◌, List, Some, None, IfOk, MatchResult};
 ghost use Rattle.std.specs.List.{list_all};
 ghost use Rattle.std.specs.List.Sorted.{IsPermutation, IsSorted, IsStrictlySortedBy};
+ghost use Rattle.bq_base_limits.specs.Limits.{AreBounded};
 ghost use Rattle.bq_label.specs.Paths.{is_path, common_len};
-ghost use Rattle.bq_label.specs.Workspace.{paths_of, path_cmp, file_at, are_apart, are_distinct, parts_at_file, are_paths, workspace_of, max_files, IsWorkspace};
+ghost use Rattle.bq_label.specs.Workspace.{paths_of, path_cmp, file_at, are_apart, are_distinct, parts_at_file, are_paths, workspace_of, workspace_within, IsWorkspace};
 ghost use Rattle.std.specs.Option.{option_copied};
 ghost use Rattle.std.specs.Bool.{OnTrue};
 
 use crate::path::is_path;
 use bq_base::Bytes;
+use bq_base_limits::Limits;
 use std::alloc::AllocError;
 use std::marker::Model;
 use thiserror::Error;
@@ -36,13 +38,10 @@ impl File {
 /// Why files make no workspace.
 #[derive(Clone, Copy, Debug, PartialEq, Eq, Error)]
 pub enum PathErr {
-    /// A path is not valid, is there twice, or is a directory of another, or there are more than 65,536 files.
+    /// A path is not valid, is there twice, or is a directory of another, or there are too many files.
     #[error("the paths of the files are not the valid paths of a workspace")]
     Bad,
 }
-
-/// The most files that a workspace has.
-pub const MAX_FILES: usize = 65_536;
 
 /// The files of a workspace, by their paths. Contracts see the list of files, ascending by the bytes of the paths.
 #[derive(Debug)]
@@ -158,11 +157,19 @@ fn are_valid(files: &[File]) -> bool
 
 impl Workspace {
     /// Makes the workspace of these files, in any order. A path is refused if it isn't valid, is there twice, or is a
-    /// directory of another, and so are more than [`MAX_FILES`] files.
+    /// directory of another, and so are more files than the standard limit.
     pub fn new(files: Vec<File>) -> Result<Workspace, PathErr>
         ensures { MatchResult result (λ w. workspace_of files.items ≡ Some w) (λ _. workspace_of files.items ≡ None) }
     {
-        if files.len() > MAX_FILES {
+        Workspace::within(Limits::standard(), files)
+    }
+
+    /// Makes the workspace of these files, as [`Workspace::new`] does, by these limits.
+    pub fn within(limits: Limits, files: Vec<File>) -> Result<Workspace, PathErr>
+        requires { AreBounded limits }
+        ensures { MatchResult result (λ w. workspace_within limits files.items ≡ Some w) (λ _. workspace_within limits files.items ≡ None) }
+    {
+        if files.len() > limits.files {
             return Err(PathErr::Bad);
         }
         let mut files = files;

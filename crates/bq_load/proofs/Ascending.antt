@@ -1,24 +1,27 @@
--- The packages that modules give ascend as those of the workspace do.
-use Rattle.std.proofs.Common.{◌≡◌, ◌∙◌, ◌&&◌, Bool, true, false, List, [], ◌∷◌, Option, Some, None, Result, Ok, Err, refl, sym, ap, option_map, option_and_then, slice_get, if◌then◌else◌, inl, inr}
+-- The packages that modules give are found by labels, and ascend as those of the workspace do.
+use Rattle.std.proofs.Common.{◌≡◌, ◌∙◌, ◌&&◌, cond, suc, ℕ, Bool, true, false, List, [], ◌∷◌, Option, Some, None, refl, sym, ap, subst, option_map, option_and_then, slice_get, position, if◌then◌else◌, inl, inr}
+use Rattle.std.specs.Prelude.{IfSome}
 use Rattle.std.specs.Str.{bytes_eq}
-use Rattle.std.specs.List.{AllByRecursion, cons_option}
+use Rattle.std.specs.List.{All, AllByRecursion, cons_option, find}
 use Rattle.std.specs.List.Sorted.{IsStrictlySortedBy}
 use Rattle.std.specs.Cmp.Lexicographic.{bytes_decides}
 use Rattle.std.specs.declared.cmp.Ordering.TheVariants.{Less}
 use Rattle.std.proofs.lemmas.Bool.{cases_Bool}
+use Rattle.std.proofs.lemmas.List.Elements.{recursion_from_All}
+use Rattle.bq_base_names.proofs.Positions.{position_cons}
 use Rattle.bq_label.specs.declared.packages.BuildFile.{BuildFile}
 use Rattle.bq_label.specs.Label.{PackageParts, LabelParts, package_of, label_in, last_segment}
 use Rattle.bq_label.specs.Paths.{is_path}
 use Rattle.bq_label.specs.Packages.{id_cmp, package_cmp, build_label}
-use Rattle.bq_label_set.specs.Labels.{with_labels}
+use Rattle.bq_label_set.specs.Labels.{same_label}
 use Rattle.bq_package_target.specs.Target.{is_of}
-use Rattle.bq_package_target.specs.Package.{PackageTargets, no_targets}
-use Rattle.bq_load_discover.specs.Edges.{number_in}
-use Rattle.bq_load.specs.Views.{ModuleView, FailedView, OutcomeView}
+use Rattle.bq_package_target.specs.Package.{PackageTargets}
+use Rattle.bq_load.specs.Views.{OutcomeView}
 use Rattle.bq_package_list.specs.Order.{id_of, PackagesAscend}
-use Rattle.bq_load.specs.Loaded.{labels_of, own_package, package_by, package_at, package_in, packages_in}
+use Rattle.bq_load.specs.Loaded.{package_by, package_in, packages_in}
+use Rattle.bq_load.specs.Packages.{labels_of, IsIn, AreOwn}
 
--- ---- a BUILD file's package is of its directory
+-- ---- a package that is of its directory
 
 first_true : (a b : Bool) → (a && b) ≡ true → a ≡ true
 first_true true b h = refl
@@ -36,28 +39,42 @@ same_package p l h =
     let one : package_of l ≡ record { repo = p.repo; «package» = p.package } = λ i. record { repo = r i; «package» = q i } in
     one
 
-own_id : (l : LabelParts) (o : Option PackageTargets) → id_of (own_package l o) ≡ package_of l
-own_id l None = refl
-own_id l (Some p) = elim (cases_Bool (is_of (package_of l) p.build_file)) [
-  | inl h ↦ ap (λ (b : Bool). id_of (if b then p else no_targets l)) h ∙ same_package (package_of l) p.build_file h
-  | inr h ↦ ap (λ (b : Bool). id_of (if b then p else no_targets l)) h
-]
+pub is_own : (own : PackageParts) (p : PackageTargets) → is_of own p.build_file ≡ true → id_of p ≡ own
+is_own own p h = same_package own p.build_file h
 
-result_id : (l : LabelParts) (r : Result ModuleView FailedView) → id_of (package_by l r) ≡ package_of l
-result_id l (Ok m) = own_id l m.package
-result_id l (Err m) = refl
+-- ---- the module of a label
 
-abbrev or_other : PackageTargets → Option PackageTargets → PackageTargets
-or_other p None = p
-or_other p (Some q) = q
+abbrev taken : List OutcomeView → Option ℕ → Option OutcomeView
+taken os o = option_and_then (slice_get os) o
 
-some_id : (l : LabelParts) (o : Option OutcomeView) (p : PackageTargets) → option_map (λ (x : OutcomeView). package_by l x.result) o ≡ Some p → id_of p ≡ package_of l
-some_id l None p e = cc
-some_id l (Some o) p e = sym (ap (λ (z : Option PackageTargets). id_of (or_other p z)) e) ∙ result_id l o.result
+none_at : (o : Option ℕ) → taken [] o ≡ None
+none_at None = refl
+none_at (Some n) = refl
 
-at_id : (os : List OutcomeView) (l : LabelParts) (p : PackageTargets) → package_at os l ≡ Some p → id_of p ≡ package_of l
-unfolding package_at
-at_id os l p e = some_id l (option_and_then (slice_get os) (number_in (with_labels [] (labels_of os)) l)) p e
+module _ (l : LabelParts) where
+  abbrev at : OutcomeView → Bool
+  at o = same_label l o.label
+
+  by_place : (o : OutcomeView) (os : List OutcomeView) (b : Bool) (n : Option ℕ) → option_and_then (slice_get os) n ≡ find at os
+      → option_and_then (slice_get (o ∷ os)) (cond b (Some 0) (option_map suc n)) ≡ cond b (Some o) (find at os)
+  by_place o os true n e = refl
+  by_place o os false None e = e
+  by_place o os false (Some n) e = e
+
+  at_place : (os : List OutcomeView) → option_and_then (slice_get os) (position (same_label l) (labels_of os)) ≡ find at os
+  at_place [] = none_at (position (same_label l) [])
+  at_place (o ∷ os) =
+      ap (option_and_then (slice_get (o ∷ os))) (position_cons (same_label l) o.label (labels_of os)) ∙ by_place o os (at o) (position (same_label l) (labels_of os)) (at_place os)
+
+-- the module of a label is at the label's number
+found_by : (l : LabelParts) (ls : List LabelParts) (os : List OutcomeView) → ls ≡ labels_of os → find (λ o. same_label l o.label) os ≡ option_and_then (slice_get os) (position (same_label l) ls)
+found_by l ls os e = sym (ap (λ (z : List LabelParts). option_and_then (slice_get os) (position (same_label l) z)) e ∙ at_place l os)
+
+pub at_number : (l : LabelParts) (ls : List LabelParts) (os : List OutcomeView) → ls ≡ labels_of os → (p : Option PackageTargets)
+    → p ≡ option_and_then (λ o. package_by l o.result) (option_and_then (slice_get os) (position (same_label l) ls)) → p ≡ option_and_then (λ o. package_by l o.result) (find (λ o. same_label l o.label) os)
+at_number l ls os e p h = h ∙ ap (option_and_then (λ o. package_by l o.result)) (sym (found_by l ls os e))
+
+-- ---- the module of a BUILD file
 
 abbrev or_label : LabelParts → Option LabelParts → LabelParts
 or_label l None = l
@@ -74,31 +91,37 @@ named_id b l e = elim (cases_Bool (is_path (last_segment b.file.path))) [
       absurd (cc)
 ]
 
-by_label : (os : List OutcomeView) (b : BuildFile) (o : Option LabelParts) (p : PackageTargets) → build_label b ≡ o → option_and_then (package_at os) o ≡ Some p → id_of p ≡ b.id
-by_label os b None p h e = cc
-by_label os b (Some l) p h e = at_id os l p e ∙ named_id b l h
-
-in_id : (os : List OutcomeView) (b : BuildFile) (p : PackageTargets) → package_in os b ≡ Some p → id_of p ≡ b.id
-in_id os b p e = by_label os b (build_label b) p refl e
+pub named_in : (b : BuildFile) (l : LabelParts) (p : Option PackageTargets) → Some l ≡ build_label b → IsIn (package_of l) p → IsIn b.id p
+named_in b l p e h = subst (λ (id : PackageParts). IsIn id p) (named_id b l (sym e)) h
 
 -- ---- all packages
 
 module _ (os : List OutcomeView) where
-  below_more : (b c : BuildFile) (p : PackageTargets) → id_of p ≡ b.id → package_cmp b c ≡ Less → (o : Option PackageTargets) → package_in os c ≡ o → (qs : List PackageTargets) → AllByRecursion (λ q. id_cmp (id_of p) (id_of q) ≡ Less) qs
+  abbrev Own : BuildFile → Type 0
+  Own b = IsIn b.id (package_in os b)
+
+  in_id : (b : BuildFile) (p : PackageTargets) → Own b → package_in os b ≡ Some p → id_of p ≡ b.id
+  in_id b p h e = subst (IsIn b.id) e h
+
+  below_more : (b c : BuildFile) (p : PackageTargets) → id_of p ≡ b.id → package_cmp b c ≡ Less → Own c → (o : Option PackageTargets) → package_in os c ≡ o → (qs : List PackageTargets) → AllByRecursion (λ q. id_cmp (id_of p) (id_of q) ≡ Less) qs
       → AllByRecursion (λ q. id_cmp (id_of p) (id_of q) ≡ Less) (cons_option o qs)
-  below_more b c p s h None e qs a = a
-  below_more b c p s h (Some q) e qs a = ((λ i. id_cmp (s i) (in_id os c q e i)) ∙ h, a)
+  below_more b c p s h own None e qs a = a
+  below_more b c p s h own (Some q) e qs a = ((λ i. id_cmp (s i) (in_id c q own e i)) ∙ h, a)
 
-  below : (b : BuildFile) (p : PackageTargets) → id_of p ≡ b.id → (bs : List BuildFile) → AllByRecursion (λ c. package_cmp b c ≡ Less) bs → AllByRecursion (λ q. id_cmp (id_of p) (id_of q) ≡ Less) (packages_in bs os)
-  below b p s [] a = tt
-  below b p s (c ∷ cs) a = below_more b c p s a.0 (package_in os c) refl (packages_in cs os) (below b p s cs a.1)
+  below : (b : BuildFile) (p : PackageTargets) → id_of p ≡ b.id → (bs : List BuildFile) → AllByRecursion Own bs → AllByRecursion (λ c. package_cmp b c ≡ Less) bs → AllByRecursion (λ q. id_cmp (id_of p) (id_of q) ≡ Less) (packages_in bs os)
+  below b p s [] own a = tt
+  below b p s (c ∷ cs) own a = below_more b c p s a.0 own.0 (package_in os c) refl (packages_in cs os) (below b p s cs own.1 a.1)
 
-  ascend_more : (b : BuildFile) (bs : List BuildFile) → AllByRecursion (λ c. package_cmp b c ≡ Less) bs → PackagesAscend (packages_in bs os) → (o : Option PackageTargets) → package_in os b ≡ o → PackagesAscend (cons_option o (packages_in bs os))
+  ascend_more : (b : BuildFile) (bs : List BuildFile) → Own b → AllByRecursion Own bs → AllByRecursion (λ c. package_cmp b c ≡ Less) bs → PackagesAscend (packages_in bs os) → (o : Option PackageTargets) → package_in os b ≡ o
+      → PackagesAscend (cons_option o (packages_in bs os))
   unfolding IsStrictlySortedBy
-  ascend_more b bs a s None e = s
-  ascend_more b bs a s (Some p) e = (below b p (in_id os b p e) bs a, s)
+  ascend_more b bs own owns a s None e = s
+  ascend_more b bs own owns a s (Some p) e = (below b p (in_id b p own e) bs owns a, s)
 
-  pub packages_ascend : (bs : List BuildFile) → IsStrictlySortedBy package_cmp bs → PackagesAscend (packages_in bs os)
+  all_ascend : (bs : List BuildFile) → IsStrictlySortedBy package_cmp bs → AllByRecursion Own bs → PackagesAscend (packages_in bs os)
   unfolding IsStrictlySortedBy
-  packages_ascend [] s = tt
-  packages_ascend (b ∷ bs) s = ascend_more b bs s.0 (packages_ascend bs s.1) (package_in os b) refl
+  all_ascend [] s own = tt
+  all_ascend (b ∷ bs) s own = ascend_more b bs own.0 own.1 s.0 (all_ascend bs s.1 own.1) (package_in os b) refl
+
+  pub packages_ascend : (bs : List BuildFile) → IsStrictlySortedBy package_cmp bs → AreOwn os bs → PackagesAscend (packages_in bs os)
+  packages_ascend bs s own = all_ascend bs s (recursion_from_All Own bs own)

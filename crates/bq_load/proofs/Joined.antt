@@ -6,14 +6,15 @@ use Rattle.bq_label.specs.declared.packages.BuildFile.{BuildFile}
 use Rattle.bq_label.specs.Packages.{packages_of}
 use Rattle.bq_resolve_scope.specs.Names.{Name}
 use Rattle.bq_package_schema.specs.Schema.{Rules}
-use Rattle.bq_board.specs.Graph.{Loads}
+use Rattle.bq_base_limits.specs.declared.limits.Limits.{Limits}
+use Rattle.bq_board.specs.Graph.{Loads, Fits}
 use Rattle.bq_load_discover.specs.declared.modules.Module.{Module}
 use Rattle.bq_load_discover.specs.LoadGraph.{GraphParts, IsNumbered, IsReadGraph, inputs_of}
 use Rattle.bq_load.specs.declared.loaded.Loaded.{Loaded}
 use Rattle.bq_load.specs.Loading.{LoadingParts, loading_in}
 use Rattle.bq_load.specs.Views.{OutcomeView}
 use Rattle.bq_load.specs.Results.{outcomes}
-use Rattle.bq_load.specs.Loaded.{IsLoaded, IsGathered, LoadsWorkspace}
+use Rattle.bq_load.specs.Loaded.{IsLoaded, IsGathered, LoadsWithin}
 
 abbrev parts : List Module → List File → List BuildFile → Rules → List Name → ℕ → LoadingParts
 parts modules files packages rules names limit = record { modules = modules; files = files; packages = packages; rules = rules; names = names; limit = limit }
@@ -35,5 +36,7 @@ module _ (files : List File) (rules : Rules) (limit : ℕ) (g : GraphParts) (is 
   gathered_is bs os l b o h =
       subst (λ (cs : List BuildFile). IsGathered cs (outcomes (loading_in files rules limit g) g.edges) l) (b ∙ is.packages) (subst (λ (vs : List OutcomeView). IsGathered bs vs l) o h)
 
-  pub loaded_is : (l : Loaded) → IsLoaded (loading_in files rules limit g) g.edges l → LoadsWorkspace files rules limit (Ok l)
-  loaded_is l h = (g, is, h)
+-- by these limits
+module _ (files : List File) (rules : Rules) (limits : Limits) (g : GraphParts) (is : IsReadGraph (inputs_of files rules) g) (fits : Fits limits g.edges) where
+  pub loaded_is : (l : Loaded) → IsLoaded (loading_in files rules limits.steps g) g.edges l → LoadsWithin files rules limits (Ok l)
+  loaded_is l h = (g, is, h, fits)

@@ -2,8 +2,6 @@
 pub mod Ascending
 -- a map of the places of names, and what is found by it
 mod ByName
--- a load graph that is copied
-pub mod Copied
 -- what may cross threads
 pub mod Crossing
 -- what is found for elements, one after another
@@ -18,6 +16,8 @@ mod Lined
 pub mod Listed
 -- what a module evaluates to, by what its file is and what it gets
 pub mod Meanings
+-- no two modules of a load graph have one label
+pub mod Named
 -- maps of the places of names, one for each of some modules
 mod Placed
 -- what the threads of a pool bring

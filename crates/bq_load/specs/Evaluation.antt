@@ -21,7 +21,7 @@ use Rattle.bq_load_module.specs.Module.{module_run}
 use Rattle.bq_package_target.specs.Package.{no_targets}
 use Rattle.bq_load_module.specs.Calls.{HeldPackage, outside, declaring, meaning}
 use Rattle.bq_load_front.specs.Parsed.{kind_of}
-pub use Rattle.bq_load_module.specs.Run.{package_left, module_with, module_by}
+pub use Rattle.bq_load_module.specs.Run.{module_with, module_by}
 unfoldable pub use Rattle.bq_load_module.specs.Run.{module_after}
 use Rattle.bq_load_front.specs.declared.front.Front.{Front}
 use Rattle.bq_load_discover.specs.declared.modules.Module.{Module}

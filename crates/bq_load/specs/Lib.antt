@@ -6,4 +6,5 @@ pub mod Imports
 pub mod Evaluation
 pub mod Results
 pub mod Loaded
+pub mod Packages
 pub mod Pool

@@ -1,21 +1,21 @@
 -- What loading a workspace gives: its modules with their outcomes, the packages, the fault lines and the print lines.
-use Rattle.std.specs.Prelude.{◌≡◌, ℕ, ◌++◌, List, [], ◌∷◌, map, Option, Some, None, Result, Ok, Err, slice_get, codes, option_map, option_and_then, if◌then◌else◌}
-use Rattle.std.specs.List.{flat_map, filter_map}
+use Rattle.std.specs.Prelude.{◌≡◌, ℕ, ◌++◌, List, [], ◌∷◌, map, Option, Some, Result, Ok, Err, codes, option_and_then}
+use Rattle.std.specs.List.{find, flat_map, filter_map}
 use Rattle.bq_base_fault_line.specs.declared.fault_line.FaultLine.{FaultLine}
 use Rattle.bq_base_fault_line.specs.FaultLine.{sorted_lines}
 use Rattle.bq_label.specs.declared.workspace.File.{File}
 use Rattle.bq_label.specs.declared.packages.BuildFile.{BuildFile}
-use Rattle.bq_label.specs.Label.{LabelParts, package_of, full_form}
+use Rattle.bq_label.specs.Label.{LabelParts, full_form}
 use Rattle.bq_label.specs.Packages.{build_label, packages_of}
-use Rattle.bq_label_set.specs.Labels.{with_labels}
+use Rattle.bq_label_set.specs.Labels.{same_label}
 use Rattle.bq_package_schema.specs.Schema.{Rules}
-use Rattle.bq_package_target.specs.Target.{is_of}
 use Rattle.bq_package_target.specs.Package.{PackageTargets, no_targets}
-use Rattle.bq_board.specs.Graph.{Loads}
+use Rattle.bq_board.specs.Graph.{Loads, Fits}
 use Rattle.bq_load_front.specs.Reading.{parsed_of}
 use Rattle.bq_load_discover.specs.declared.load_err.LoadErr.{LoadErr}
 use Rattle.bq_load_discover.specs.declared.load_err.LoadErr.TheVariants as e
-use Rattle.bq_load_discover.specs.Edges.{number_in}
+use Rattle.bq_base_limits.specs.declared.limits.Limits.{Limits}
+use Rattle.bq_base_limits.specs.Limits.{standard_with}
 use Rattle.bq_load_discover.specs.Modules.{AreTooMany}
 use Rattle.bq_load_discover.specs.LoadGraph.{GraphParts, IsReadGraph, inputs_of}
 use Rattle.bq_load.specs.declared.loaded.Loaded.{Loaded}
@@ -25,27 +25,14 @@ use Rattle.bq_load.specs.Results.{outcomes}
 
 -- ---- packages
 
--- the labels of modules, in their order
-abbrev pub labels_of : List OutcomeView → List LabelParts
-labels_of os = map (λ o. o.label) os
+-- the package that the BUILD file of this label declared: one without targets where it failed
+abbrev pub package_by : LabelParts → Result ModuleView FailedView → Option PackageTargets
+package_by l (Ok m) = m.package
+package_by l (Err m) = Some (no_targets l)
 
--- a BUILD file's package is of its directory; another, which no evaluation makes, doesn't count
-abbrev pub own_package : LabelParts → Option PackageTargets → PackageTargets
-own_package l None = no_targets l
-own_package l (Some p) = if is_of (package_of l) p.build_file then p else no_targets l
-
--- the package of a BUILD file: one without targets where it failed
-abbrev pub package_by : LabelParts → Result ModuleView FailedView → PackageTargets
-package_by l (Ok m) = own_package l m.package
-package_by l (Err m) = no_targets l
-
--- the package of the BUILD file of this label, which is one of the modules
-unfoldable pub package_at : List OutcomeView → LabelParts → Option PackageTargets
-package_at os l = option_map (λ o. package_by l o.result) (option_and_then (slice_get os) (number_in (with_labels [] (labels_of os)) l))
-
--- the package that a BUILD file declared, unless it failed
+-- the package of a BUILD file, by the module of its label
 abbrev pub package_in : List OutcomeView → BuildFile → Option PackageTargets
-package_in os b = option_and_then (package_at os) (build_label b)
+package_in os b = option_and_then (λ l. option_and_then (λ o. package_by l o.result) (find (λ o. same_label l o.label) os)) (build_label b)
 
 -- the packages of the workspace, in their order
 abbrev pub packages_in : List BuildFile → List OutcomeView → List PackageTargets
@@ -62,13 +49,9 @@ abbrev pub lines_by : LabelParts → Result ModuleView FailedView → List Fault
 lines_by l (Ok m) = []
 lines_by l (Err m) = line_of l m ∷ []
 
--- the line of a module that failed
-abbrev pub lines_of : OutcomeView → List FaultLine
-lines_of o = lines_by o.label o.result
-
 -- the lines of all modules that failed, in the order of modules
 abbrev pub fault_lines : List OutcomeView → List FaultLine
-fault_lines os = flat_map lines_of os
+fault_lines os = flat_map (λ o. lines_by o.label o.result) os
 
 -- `LABEL: TEXT` and a newline
 abbrev pub print_line : List ℕ → List ℕ → List ℕ
@@ -100,11 +83,15 @@ pub record IsGathered (bs : List BuildFile) (os : List OutcomeView) (l : Loaded)
 abbrev pub IsLoaded : LoadingParts → Loads → Loaded → Type 0
 IsLoaded x p l = IsGathered x.packages (outcomes x p) l
 
--- there is no load graph, memory aside: there are too many modules or edges
-abbrev pub HasNoGraph : List File → Rules → LoadErr → Type 0
-HasNoGraph files rules why = (why ≡ e.TooManyModules → AreTooMany (packages_of files) (parsed_of (inputs_of files rules))) × ((line : ℕ) → ¬ (why ≡ e.Schema line))
+-- no load graph keeps these limits, memory aside: there are too many modules or edges
+abbrev pub HasNoGraph : Limits → List File → Rules → LoadErr → Type 0
+HasNoGraph limits files rules why = (why ≡ e.TooManyModules → AreTooMany limits (packages_of files) (parsed_of (inputs_of files rules))) × ((line : ℕ) → ¬ (why ≡ e.Schema line))
 
--- what loading the workspace returns, with `limit` steps for each module
+-- what loading the workspace returns, by these limits
+abbrev pub LoadsWithin : List File → Rules → Limits → Result Loaded LoadErr → Type 0
+LoadsWithin files rules limits (Ok l) = (g : GraphParts) × IsReadGraph (inputs_of files rules) g × IsLoaded (loading_in files rules limits.steps g) g.edges l × Fits limits g.edges
+LoadsWithin files rules limits (Err why) = HasNoGraph limits files rules why
+
+-- by the standard limits, with `limit` steps for each module
 abbrev pub LoadsWorkspace : List File → Rules → ℕ → Result Loaded LoadErr → Type 0
-LoadsWorkspace files rules limit (Ok l) = (g : GraphParts) × IsReadGraph (inputs_of files rules) g × IsLoaded (loading_in files rules limit g) g.edges l
-LoadsWorkspace files rules limit (Err why) = HasNoGraph files rules why
+LoadsWorkspace files rules limit r = LoadsWithin files rules (standard_with limit) r

@@ -22,7 +22,7 @@ loads_of pool = pool.shared.graph
 
 abbrev pub package_by_kind : FileKind → OutcomeView → Option PackageTargets
 package_by_kind kinds.Bzl o = None
-package_by_kind kinds.Build o = Some (package_by o.label o.result)
+package_by_kind kinds.Build o = package_by o.label o.result
 
 -- the package of a BUILD file, without targets where it failed; a .bzl file has none
 abbrev pub package_of_file : OutcomeView → Option PackageTargets

@@ -45,7 +45,7 @@ mod work;
 
 pub use bq_load_module::{FailedModule, LoadedModule};
 pub use gate::{Gate, OpenGate};
-pub use load::{load_graph_with, load_one_thread, load_with};
+pub use load::{load_graph_with, load_one_thread, load_with, load_within};
 pub use loaded::Loaded;
 pub use outcome::ModuleOutcome;
 pub use pool::{Evaluated, Pool, PoolSeat, Worked};

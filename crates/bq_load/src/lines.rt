@@ -3,8 +3,8 @@
 ghost use Rattle.std.specs.Prelude.{◌≡◌, ◌++◌, map, IfOk, OnOk};
 ghost use Rattle.std.specs.List.{flat_map};
 ghost use Rattle.bq_base_fault_line.specs.FaultLine.{put_lines, sorted_lines};
-ghost use Rattle.bq_load.specs.Views.{failed_view, outcome_view};
-ghost use Rattle.bq_load.specs.Loaded.{line_of, lines_of, fault_lines, print_line, prints_by, prints_of, print_lines};
+ghost use Rattle.bq_load.specs.Views.{failed_view, result_view, outcome_view};
+ghost use Rattle.bq_load.specs.Loaded.{line_of, lines_by, fault_lines, print_line, prints_by, prints_of, print_lines};
 
 use crate::outcome::ModuleOutcome;
 use crate::results::shown;
@@ -30,7 +30,7 @@ fn line_of(alloc: Global, label: &Label, failed: &FailedModule) -> Result<FaultL
 /// Adds the line of a module that failed.
 #[tactic(auto, unfolding(bq_base_fault_line::specs::FaultLine::put_lines))]
 fn add_line(alloc: Global, module: &ModuleOutcome, lines: &mut FaultLines) -> Result<(), AllocError>
-    ensures { OnOk result (lines.new ≡ put_lines lines.old (lines_of (outcome_view «module».now))) }
+    ensures { OnOk result (lines.new ≡ put_lines lines.old (lines_by «module».now.label (result_view «module».now.result))) }
 {
     match &module.result {
         Ok(_) => Ok(()),

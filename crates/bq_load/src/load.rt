@@ -1,12 +1,13 @@
 //! The loading of a workspace.
 
 ghost use Rattle.std.specs.Prelude.{◌≡◌, ◌<◌, ◌≤◌, map, All, IfOk};
+ghost use Rattle.bq_base_limits.specs.Limits.{AreBounded};
 ghost use Rattle.bq_board.specs.Seats.{IsSeatOf};
 ghost use Rattle.bq_load_discover.specs.LoadGraph.{IsReadGraph, inputs_of};
 ghost use Rattle.bq_load.specs.Views.{outcome_view};
 ghost use Rattle.bq_load.specs.Loading.{loading_in};
 ghost use Rattle.bq_load.specs.Results.{outcomes};
-ghost use Rattle.bq_load.specs.Loaded.{IsLoaded, LoadsWorkspace};
+ghost use Rattle.bq_load.specs.Loaded.{IsLoaded, LoadsWithin, LoadsWorkspace};
 ghost use Rattle.bq_load.specs.Pool.{parts_of, loads_of};
 
 use crate::gate::Gate;
@@ -14,8 +15,9 @@ use crate::loaded::Loaded;
 use crate::loading::Loading;
 use crate::outcome::ModuleOutcome;
 use crate::pool::Pool;
+use bq_base_limits::Limits;
 use bq_label::Workspace;
-use bq_load_discover::{LoadErr, LoadGraph, discover, discover_by_workers};
+use bq_load_discover::{LoadErr, LoadGraph, discover_by_workers, discover_within};
 use bq_load_order::{Unwatched, outcomes_one_thread};
 use bq_load_workers::MAX_WORKERS;
 use bq_package_schema::Schema;
@@ -43,10 +45,32 @@ fn modules_one_thread(
     loading.outcomes(alloc, graph.edges(), found.as_slice())
 }
 
+/// Loads a workspace on one thread, as [`load_one_thread`] does, by these limits.
+#[tactic(auto, using(crate::proofs::Named::once, crate::proofs::Joined::gathered_is, crate::proofs::Joined::loaded_is))]
+fn one_thread_within(
+    alloc: Global,
+    workspace: &Workspace,
+    schema: &Schema,
+    limits: Limits,
+    seed: Seed,
+) -> Result<Loaded, LoadErr>
+    requires { AreBounded limits }
+    ensures { LoadsWithin workspace.now schema.now limits result }
+{
+    // PROOF: the error is the same
+    let graph = match discover_within(alloc, workspace, schema, limits) {
+        Ok(graph) => graph,
+        Err(why) => return Err(why),
+    };
+    let modules = modules_one_thread(alloc, workspace, schema, limits.steps, seed, &graph)?;
+    let packages = graph.into_packages();
+    Ok(Loaded::gathered(alloc, &packages, modules)?)
+}
+
 /// Loads a workspace on one thread: each module is evaluated after all that it loads, with `limit` steps of its own. It
-/// is refused if there are too many modules or edges (L2), and if memory is refused (L1). It evaluates on the stack of
-/// its caller, which no call overflows if that is as large as `bq_load_workers::EVALUATION_STACK`.
-#[tactic(auto, using(crate::proofs::Joined::gathered_is, crate::proofs::Joined::loaded_is))]
+/// is refused if there are more modules or edges than the standard limits (L2), and if memory is refused (L1). It
+/// evaluates on the stack of its caller, which no call overflows if that is as large as
+/// `bq_load_workers::EVALUATION_STACK`.
 pub fn load_one_thread(
     alloc: Global,
     workspace: &Workspace,
@@ -56,14 +80,7 @@ pub fn load_one_thread(
 ) -> Result<Loaded, LoadErr>
     ensures { LoadsWorkspace workspace.now schema.now limit result }
 {
-    // PROOF: the error is the same
-    let graph = match discover(alloc, workspace, schema) {
-        Ok(graph) => graph,
-        Err(why) => return Err(why),
-    };
-    let modules = modules_one_thread(alloc, workspace, schema, limit, seed, &graph)?;
-    let packages = graph.into_packages();
-    Ok(Loaded::gathered(alloc, &packages, modules)?)
+    one_thread_within(alloc, workspace, schema, Limits::standard_with(limit), seed)
 }
 
 /// Returns the modules of a load graph with their outcomes, by several workers.
@@ -91,7 +108,7 @@ fn modules_with<R: Threads + Wait + Sync, G: Gate>(
 /// Loads the modules of a workspace's load graph by several workers, each in a thread of its own with the stack that
 /// evaluation may take, and notifies a gate of each evaluation. It returns the same whatever the order of the workers'
 /// steps. Drops the modules' files before the rest is made, by as many threads, to lower the peak of memory.
-#[tactic(auto, using(crate::proofs::Joined::gathered_is))]
+#[tactic(auto, using(crate::proofs::Named::once, crate::proofs::Joined::gathered_is))]
 pub fn load_graph_with<R: Threads + Wait + Sync, G: Gate>(
     rt: &R,
     alloc: Global,
@@ -115,8 +132,8 @@ pub fn load_graph_with<R: Threads + Wait + Sync, G: Gate>(
     Ok(Loaded::gathered(alloc, &packages, modules)?)
 }
 
-/// Loads a workspace by several workers, as [`load_graph_with`] does. It returns what one thread returns.
-#[tactic(auto, using(crate::proofs::Joined::loaded_is))]
+/// Loads a workspace by several workers, as [`load_graph_with`] does, by the standard limits, and with `limit` steps for
+/// each module. It returns what one thread returns.
 pub fn load_with<R: Threads + Wait + Sync, G: Gate>(
     rt: &R,
     alloc: Global,
@@ -130,12 +147,40 @@ pub fn load_with<R: Threads + Wait + Sync, G: Gate>(
     requires { (0 < workers) × (workers ≤ MAX_WORKERS) }
     ensures { LoadsWorkspace workspace.now schema.now limit result }
 {
+    let limits = Limits::standard_with(limit);
+    load_within(rt, alloc, workspace, schema, limits, seed, workers, gate)
+}
+
+/// Loads a workspace by several workers, as [`load_with`] does, by these limits.
+#[tactic(auto, using(crate::proofs::Joined::loaded_is))]
+pub fn load_within<R: Threads + Wait + Sync, G: Gate>(
+    rt: &R,
+    alloc: Global,
+    workspace: &Workspace,
+    schema: &Schema,
+    limits: Limits,
+    seed: Seed,
+    workers: usize,
+    gate: &G,
+) -> Result<Loaded, LoadErr>
+    requires bounded { AreBounded limits }
+    requires workers { (0 < workers) × (workers ≤ MAX_WORKERS) }
+    ensures { LoadsWithin workspace.now schema.now limits result }
+{
     // PROOF: the error is the same
-    let graph = match discover_by_workers(rt, alloc, workspace, schema, workers) {
+    let graph = match discover_by_workers(rt, alloc, workspace, schema, limits, workers) {
         Ok(graph) => graph,
         Err(why) => return Err(why),
     };
     Ok(load_graph_with(
-        rt, alloc, workspace, schema, limit, seed, graph, workers, gate,
+        rt,
+        alloc,
+        workspace,
+        schema,
+        limits.steps,
+        seed,
+        graph,
+        workers,
+        gate,
     )?)
 }

@@ -1,8 +1,10 @@
 //! A workspace that was loaded.
 
-ghost use Rattle.std.specs.Prelude.{map, IfOk};
+ghost use Rattle.std.specs.Prelude.{◌≡◌, [], map, IfOk};
+ghost use Rattle.bq_label_set.specs.Labels.{with_labels};
 ghost use Rattle.bq_load.specs.Views.{outcome_view};
 ghost use Rattle.bq_load.specs.Loaded.{IsGathered};
+ghost use Rattle.bq_load.specs.Packages.{labels_of};
 
 use crate::lines::{fault_lines, print_lines};
 use crate::outcome::ModuleOutcome;
@@ -27,13 +29,14 @@ pub struct Loaded {
 }
 
 impl Loaded {
-    /// Gathers the outcomes of modules, in a workspace with these packages.
+    /// Gathers the outcomes of modules, no two of which have one label, in a workspace with these packages.
     #[tactic(auto, using(crate::proofs::Ascending::packages_ascend))]
     pub(crate) fn gathered(
         alloc: Global,
         packages: &Packages,
         modules: Vec<ModuleOutcome>,
     ) -> Result<Loaded, AllocError>
+        requires { with_labels [] (labels_of (map outcome_view modules.items)) ≡ labels_of (map outcome_view modules.items) }
         ensures { IfOk result (λ l. IsGathered packages.now (map outcome_view modules.items) l) }
     {
         let all = packages_in(alloc, packages, modules.as_slice())?;

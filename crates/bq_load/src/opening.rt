@@ -21,21 +21,6 @@ use bq_package_schema::Schema;
 use bq_value_seed::Seed;
 use std::alloc::{AllocError, Global};
 
-/// Copies which module loads which.
-#[tactic(auto, using(crate::proofs::Copied::next_row, crate::proofs::Copied::all_rows))]
-fn copy_of(alloc: Global, edges: &Graph) -> Result<Graph, AllocError>
-    ensures { IfOk result (λ copy. copy ≡ edges.now) }
-{
-    let mut rows = Vec::with_capacity(alloc, edges.len())?;
-    for m in 0..edges.len() {
-        rows.push(edges.row(m).to_vec(alloc)?)?;
-    }
-    match Graph::new(rows) {
-        Ok(copy) => Ok(copy),
-        Err(_) => Err(AllocError), // never: these are the rows of a graph
-    }
-}
-
 impl<'a> Pool<'a> {
     /// Opens a pool of the modules of the workspace's load graph, none of them begun, and its seats, which have done
     /// nothing. Each evaluation may take `limit` steps.
@@ -56,7 +41,7 @@ impl<'a> Pool<'a> {
         ensures fresh { IfOk result (λ r. All (λ s. IsSeatOf r.0.shared.board s.place × (view_of s.place ≡ blank (base_of r.0.shared.board) r.0.shared.board.plan)) r.1.items) }
     {
         let loading = Loading::of(alloc, workspace, schema, limit, seed, graph)?;
-        let edges = copy_of(alloc, graph.edges())?;
+        let edges = graph.edges().copy(alloc)?;
         let (shared, seats) = bq_load_workers::WorkerPool::open(alloc, loading, edges, seats)?;
         let pool = Pool { shared };
         Ok((pool, seats))

@@ -31,7 +31,7 @@ fn package_of_file(alloc: Global, module: &ModuleOutcome) -> Result<Option<Packa
 {
     match kind_of(&module.label) {
         FileKind::Bzl => Ok(None),
-        FileKind::Build => Ok(Some(package_by(alloc, &module.label, &module.result)?)),
+        FileKind::Build => package_by(alloc, &module.label, &module.result),
     }
 }
 

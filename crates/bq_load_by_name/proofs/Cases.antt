@@ -10,6 +10,7 @@ use Rattle.bq_parse_grammar.specs.declared.tree.FileKind.TheVariants as kinds
 use Rattle.bq_label.specs.Label.{LabelParts, package_of, full_form}
 use Rattle.bq_resolve_scope.specs.Names.{Name, global_names}
 use Rattle.bq_resolve_by_name.specs.Files.{ParsedFile}
+use Rattle.bq_resolve_by_name.specs.Loads.{file_loads}
 use Rattle.bq_value.specs.Datum.{Datum}
 use Rattle.bq_package_target.specs.Package.{no_targets}
 use Rattle.bq_package.specs.Calls.{HeldPackage, outside, declaring}
@@ -17,7 +18,7 @@ use Rattle.bq_load_front.specs.Parsed.{ParsedFront}
 use Rattle.bq_load.specs.Views.{ModuleView, FailedView, not_evaluated}
 use Rattle.bq_load_by_name.specs.Evaluation.{evaluation, module_after, file_means}
 use Rattle.bq_load_by_name.specs.Parsed.{ParsedModule, ParsedParts}
-use Rattle.bq_load_by_name.specs.Results.{line_by}
+use Rattle.bq_load_by_name.specs.Results.{line_of_load}
 
 -- the parsed file of a module, unless that has a fault
 abbrev pub file_by : Result ParsedFront (Fault FaultKind) → Option ParsedFile
@@ -49,6 +50,10 @@ by_front x m l modules r = elim r [ Err why ↦ Err (not_evaluated why) | Ok fro
 -- the outcome of a module, if there is one
 abbrev pub by_module : ParsedParts → ℕ → List ModuleView → Option ParsedModule → Result ModuleView FailedView
 by_module x m modules o = elim o [ None ↦ Err (not_evaluated (fault_at f.NoSuchFile 0)) | Some s ↦ by_front x m s.label modules s.front ]
+
+-- the line of the first load of this file in one that was read so
+abbrev pub line_by : LabelParts → Result ParsedFront (Fault FaultKind) → ℕ
+line_by l r = elim r [ Err why ↦ 0 | Ok read ↦ line_of_load l (file_loads read.file.statements) read.loads ]
 
 -- the fault of a loader, by the module that it loads
 abbrev pub load_fault_by : LoadFault → Result ParsedFront (Fault FaultKind) → Option ParsedModule → Fault FaultKind

@@ -1,5 +1,5 @@
 -- A module evaluates by names to what it evaluates to by slots.
-use Rattle.std.proofs.Common.{◌≡◌, ◌∙◌, ℕ, List, [], map, Option, Some, None, Result, Ok, Err, slice_get, refl, sym, ap}
+use Rattle.std.proofs.Common.{◌≡◌, ◌∙◌, ℕ, List, [], map, Option, Some, None, Result, Ok, Err, slice_get, option_and_then, refl, sym, ap}
 use Rattle.bq_base.specs.declared.fault.FaultKind.{FaultKind}
 use Rattle.bq_base.specs.declared.fault.LoadFault.{LoadFault}
 use Rattle.bq_base.specs.declared.fault.Fault.{Fault}
@@ -12,14 +12,14 @@ use Rattle.bq_resolve_by_name.specs.Files.{ResolvesTo}
 use Rattle.bq_resolve_by_name.specs.Resolution.{Maybe}
 use Rattle.bq_resolve_by_name.proofs.Loads.{loads_kept}
 use Rattle.bq_value.specs.Datum.{Datum}
-use Rattle.bq_package.specs.Calls.{meaning}
+use Rattle.bq_package.specs.Calls.{meaning, package_in}
 use Rattle.bq_load_front.specs.Agreement.{IsFrontOf}
 use Rattle.bq_load_front.specs.Parsed.{ParsedFront, kind_of}
 use Rattle.bq_load_front.specs.declared.front.Front.{Front}
 use Rattle.bq_load_discover.specs.declared.modules.Module.{Module}
 use Rattle.bq_eval_by_name.specs.Module.{module_run}
 use Rattle.bq_load.specs.Evaluation as slots
-use Rattle.bq_load.specs.Evaluation.{module_by, package_left}
+use Rattle.bq_load.specs.Evaluation.{module_by}
 use Rattle.bq_load.specs.Imports as loads
 use Rattle.bq_load.specs.ResolvedFiles.{resolved_files}
 use Rattle.bq_load.specs.Loading.{LoadingParts}
@@ -51,7 +51,7 @@ module _ (x : LoadingParts) (all : List ParsedModule) (are : AreReadAs all x.mod
     unfolding module_after slots.module_after evaluation slots.evaluation
     run_same modules values =
         let agree = evaluations_agree x.names meaning (parsed_files all) resolved (files_read all x.modules are) m parsed.file front.file is (map (λ v. v.frozen) modules) values x.limit (kept_first named l) in
-        (λ i. module_by (agree.0 i) (package_left (agree.1 i)))
+        (λ i. module_by (agree.0 i) (option_and_then package_in (agree.1 i)))
         ∙ ap (λ kept. slots.module_after front.file values (module_run x.names meaning resolved m front.file (map (λ v. v.frozen) modules) values x.limit kept)) (kept_same l (kind_of l))
 
     imports_by : (modules : List ModuleView) (r : Result (List Datum) (Fault LoadFault)) → by_imports named m l parsed.file modules r ≡ slots.by_imports x m l front.file modules r

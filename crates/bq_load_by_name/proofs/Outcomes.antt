@@ -14,7 +14,7 @@ use Rattle.bq_resolve_by_name.specs.Loads.{written_load}
 use Rattle.bq_resolve_by_name.specs.Resolution.{Maybe}
 use Rattle.bq_resolve_by_name.proofs.Loads.{loads_kept}
 use Rattle.bq_package_schema.specs.Schema.{Rules}
-use Rattle.bq_board.specs.Graph.{Loads}
+use Rattle.bq_board.specs.Graph.{Loads, Fits}
 use Rattle.bq_eval_by_name.proofs.Units.{in_place}
 use Rattle.bq_load_front.specs.Inputs.{InputParts}
 use Rattle.bq_load_front.specs.Agreement.{IsFrontOf}
@@ -30,7 +30,8 @@ use Rattle.bq_load_outcome_spec.specs.Outcome.{outcome}
 use Rattle.bq_load_outcome_spec.specs.declared.outcome.Outcome.{Outcome}
 use Rattle.bq_load_outcome_spec.specs.declared.outcome.Outcome.TheVariants as o
 use Rattle.bq_load.specs.Evaluation as evaluation
-use Rattle.bq_load.specs.Loaded.{IsGathered, LoadsWorkspace}
+use Rattle.bq_load.specs.Loaded.{IsGathered, LoadsWithin}
+use Rattle.bq_base_limits.specs.declared.limits.Limits.{Limits}
 use Rattle.bq_load.specs.declared.loaded.Loaded.{Loaded}
 use Rattle.bq_load.specs.Results as slots
 use Rattle.bq_load.specs.Loading.{LoadingParts, loading_in}
@@ -38,8 +39,8 @@ use Rattle.bq_load.specs.Views.{ModuleView, FailedView, not_evaluated}
 use Rattle.bq_load_by_name.specs.Agreement.{IsReadAs, AreReadAs, with_modules, OutcomesAgree, WorkspacesAgree}
 use Rattle.bq_load_by_name.specs.Evaluation.{means}
 use Rattle.bq_load_by_name.specs.Parsed.{ParsedModule, ParsedParts, parsed_module, parsed_in}
-use Rattle.bq_load_by_name.specs.Results.{line_of_load, line_by, load_fault, result_of, outcomes_from, outcomes, HaveTooMany}
-use Rattle.bq_load_by_name.proofs.Cases.{load_fault_by}
+use Rattle.bq_load_by_name.specs.Results.{line_of_load, load_fault, result_of, outcomes_from, outcomes, HaveTooMany}
+use Rattle.bq_load_by_name.proofs.Cases.{line_by, load_fault_by}
 use Rattle.bq_load_by_name.proofs.Modules.{means_same}
 use Rattle.bq_load_by_name.proofs.Read.{modules_are_read}
 
@@ -117,35 +118,36 @@ read_graph inputs labels edges = record { labels = labels; modules = map (module
 pub is_read_graph : (inputs : InputParts) (labels : List LabelParts) (edges : Loads) → IsLoadGraph inputs.packages (parsed_of inputs) labels edges → IsReadGraph inputs (read_graph inputs labels edges)
 is_read_graph inputs labels edges is = record { graph = is; read = refl; packages = refl }
 
-module _ (files : List File) (rules : Rules) (limit : ℕ) (l : Loaded) where
+module _ (files : List File) (rules : Rules) (limits : Limits) (l : Loaded) where
   -- the modules of these labels give this, where the files of labels are these
   abbrev Gives : Fronts → List LabelParts → Loads → Type 0
-  Gives fronts labels edges = IsLoadGraph (packages_of files) fronts labels edges × IsGathered (packages_of files) (outcomes (parsed_in files rules fronts limit labels) edges) l
+  Gives fronts labels edges = IsLoadGraph (packages_of files) fronts labels edges × IsGathered (packages_of files) (outcomes (parsed_in files rules fronts limits.steps labels) edges) l
 
-  by_slots : (labels : List LabelParts) (edges : Loads) → Gives (parsed_of (inputs_of files rules)) labels edges → LoadsWorkspace files rules limit (Ok l)
-  by_slots labels edges h =
+  by_slots : (labels : List LabelParts) (edges : Loads) → Gives (parsed_of (inputs_of files rules)) labels edges → Fits limits edges → LoadsWithin files rules limits (Ok l)
+  by_slots labels edges h fits =
       let g : GraphParts = read_graph (inputs_of files rules) labels edges in
       let is : IsReadGraph (inputs_of files rules) g = is_read_graph (inputs_of files rules) labels edges h.0 in
-      (g, is, subst (λ os. IsGathered (packages_of files) os l) (outcomes_agree files rules limit g is) h.1)
+      (g, is, subst (λ os. IsGathered (packages_of files) os l) (outcomes_agree files rules limits.steps g is) h.1, fits)
 
-as_read : (files : List File) (rules : Rules) → HaveTooMany files rules → AreTooMany (packages_of files) (parsed_of (inputs_of files rules))
-as_read files rules h = subst (λ (z : Fronts). AreTooMany (packages_of files) z) (fronts_are (inputs_of files rules) h.0 h.1) h.2
+as_read : (limits : Limits) (files : List File) (rules : Rules) → HaveTooMany limits files rules → AreTooMany limits (packages_of files) (parsed_of (inputs_of files rules))
+as_read limits files rules h = subst (λ (z : Fronts). AreTooMany limits (packages_of files) z) (fronts_are (inputs_of files rules) h.0 h.1) h.2
 
 pub workspaces_agree : WorkspacesAgree
-workspaces_agree files rules limit (Ok l) = (
+workspaces_agree files rules limits (Ok l) = (
   λ h.
       let read : h.0 ≡ parsed_of (inputs_of files rules) = fronts_are (inputs_of files rules) h.0 h.1 in
-      by_slots files rules limit l h.2 h.3 (subst (λ (z : Fronts). Gives files rules limit l z h.2 h.3) read (h.4, h.5)),
+      by_slots files rules limits l h.2 h.3 (subst (λ (z : Fronts). Gives files rules limits l z h.2 h.3) read (h.4, h.5)) h.6,
   λ h. (
     parsed_of (inputs_of files rules),
     are_fronts (inputs_of files rules),
     h.0.labels,
     h.0.edges,
     h.1.graph,
-    subst (λ os. IsGathered (packages_of files) os l) (sym (outcomes_agree files rules limit h.0 h.1)) h.2,
+    subst (λ os. IsGathered (packages_of files) os l) (sym (outcomes_agree files rules limits.steps h.0 h.1)) h.2,
+    h.3,
   ),
 )
-workspaces_agree files rules limit (Err why) = (
-  λ h. (λ e. as_read files rules (h.0 e), h.1),
+workspaces_agree files rules limits (Err why) = (
+  λ h. (λ e. as_read limits files rules (h.0 e), h.1),
   λ h. (λ e. (parsed_of (inputs_of files rules), are_fronts (inputs_of files rules), h.0 e), h.1),
 )

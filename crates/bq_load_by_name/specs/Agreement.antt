@@ -9,7 +9,8 @@ use Rattle.bq_load_discover.specs.LoadGraph.{GraphParts, IsReadGraph, inputs_of}
 use Rattle.bq_load_discover.specs.declared.modules.Module.{Module}
 use Rattle.bq_load_discover.specs.declared.load_err.LoadErr.{LoadErr}
 use Rattle.bq_load.specs.Evaluation as slots
-use Rattle.bq_load.specs.Loaded.{LoadsWorkspace}
+use Rattle.bq_load.specs.Loaded.{LoadsWithin}
+use Rattle.bq_base_limits.specs.declared.limits.Limits.{Limits}
 use Rattle.bq_load.specs.Results as results
 use Rattle.bq_load.specs.Loading.{LoadingParts, loading_in}
 use Rattle.bq_load.specs.Views.{ModuleView}
@@ -45,4 +46,4 @@ OutcomesAgree =
 
 -- a workspace loads by names as by slots
 abbrev pub WorkspacesAgree : Type 0
-WorkspacesAgree = (files : List File) (rules : Rules) (limit : ℕ) (r : Result Loaded LoadErr) → LoadsByNames files rules limit r ↔ LoadsWorkspace files rules limit r
+WorkspacesAgree = (files : List File) (rules : Rules) (limits : Limits) (r : Result Loaded LoadErr) → LoadsByNames files rules limits r ↔ LoadsWithin files rules limits r

@@ -1,6 +1,6 @@
 -- What a module evaluates to by names, by the modules that it loads: its own fault; else the first symbol that they lack; else what its
 -- statements give, run on a fresh machine with all its steps.
-use Rattle.std.specs.Prelude.{ℕ, List, [], map, Some, None, Result, Ok, Err, slice_get}
+use Rattle.std.specs.Prelude.{ℕ, List, [], map, Some, None, Result, Ok, Err, slice_get, option_and_then}
 use Rattle.bq_base.specs.declared.fault.FaultKind.TheVariants as f
 use Rattle.bq_base.specs.Fault.{fault_as, fault_at, kind_of_load}
 use Rattle.bq_parse_grammar.specs.declared.tree.FileKind.TheVariants as kinds
@@ -12,10 +12,10 @@ use Rattle.bq_value.specs.Datum.{Datum}
 use Rattle.bq_builtin_machine.specs.Action.{Run}
 use Rattle.bq_builtin_machine.specs.State.{State}
 use Rattle.bq_package_target.specs.Package.{no_targets}
-use Rattle.bq_package.specs.Calls.{HeldPackage, outside, declaring, meaning}
+use Rattle.bq_package.specs.Calls.{HeldPackage, outside, declaring, meaning, package_in}
 use Rattle.bq_load_front.specs.Parsed.{ParsedFront, kind_of}
 use Rattle.bq_load.specs.Views.{ModuleView, FailedView, not_evaluated}
-use Rattle.bq_load.specs.Evaluation.{module_by, package_left}
+use Rattle.bq_load.specs.Evaluation.{module_by}
 use Rattle.bq_eval_by_name_spec.specs.Names.{Env}
 use Rattle.bq_eval_by_name.specs.Evaluation.{ended, kept_after, module_run}
 use Rattle.bq_load_by_name.specs.Imports.{LoadedParts, imports}
@@ -37,7 +37,7 @@ evaluation x m l file modules values = module_run x.names meaning (parsed_files 
 
 -- what an evaluation ends in, and the package that is kept then
 unfoldable pub module_after : ParsedFile → List Datum → Run (State × HeldPackage) Env → Result ModuleView FailedView
-module_after file values run = module_by (ended file values run) (package_left (kept_after run))
+module_after file values run = module_by (ended file values run) (option_and_then package_in (kept_after run))
 
 -- ---- a module
 

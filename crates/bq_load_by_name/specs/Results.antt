@@ -12,9 +12,10 @@ use Rattle.bq_label.specs.Label.{LabelParts, full_form}
 use Rattle.bq_label.specs.Packages.{packages_of}
 use Rattle.bq_resolve_by_name.specs.Loads.{WrittenLoad, file_loads}
 use Rattle.bq_package_schema.specs.Schema.{Rules}
-use Rattle.bq_board.specs.Graph.{Loads}
+use Rattle.bq_board.specs.Graph.{Loads, Fits}
 use Rattle.bq_load_front.specs.Parsed.{ParsedFront, Fronts, AreFronts}
 use Rattle.bq_load_discover.specs.LoadGraph.{IsLoadGraph, inputs_of}
+use Rattle.bq_base_limits.specs.declared.limits.Limits.{Limits}
 use Rattle.bq_load_discover.specs.Modules.{AreTooMany}
 use Rattle.bq_load_discover.specs.declared.load_err.LoadErr.{LoadErr}
 use Rattle.bq_load_discover.specs.declared.load_err.LoadErr.TheVariants as e
@@ -33,15 +34,18 @@ line_of_load l [] ls = 0
 line_of_load l (s ∷ ss) [] = 0
 line_of_load l (s ∷ ss) (k ∷ ks) = if bytes_eq (full_form l) (full_form k) then s.line else line_of_load l ss ks
 
--- a file with a fault of its own loads nothing
-abbrev pub line_by : LabelParts → Result ParsedFront (Fault FaultKind) → ℕ
-line_by l (Err why) = 0
-line_by l (Ok front) = line_of_load l (file_loads front.file.statements) front.loads
-
--- the fault of a module whose file is this, for its load of module k
+-- the fault of a module whose file is this, for its load of module k; a file with a fault of its own loads nothing
 unfoldable pub load_fault : ParsedParts → Result ParsedFront (Fault FaultKind) → LoadFault → ℕ → Fault FaultKind
 load_fault x front kind k =
-    elim (slice_get x.modules k) [ None ↦ fault_at (kind_of_load kind) 0 | Some m ↦ record { kind = kind_of_load kind; line = line_by m.label front; detail = full_form m.label } ]
+    elim (slice_get x.modules k) [
+      | None ↦ fault_at (kind_of_load kind) 0
+      | Some m ↦
+          record {
+            kind = kind_of_load kind;
+            line = elim front [ Err why ↦ 0 | Ok read ↦ line_of_load m.label (file_loads read.file.statements) read.loads ];
+            detail = full_form m.label;
+          }
+    ]
 
 -- the outcome of a module, with the fault that a load gave it
 abbrev pub result_of : ParsedParts → Result ParsedFront (Fault FaultKind) → Outcome ModuleView FailedView → Result ModuleView FailedView
@@ -51,26 +55,22 @@ result_of x front (o.Cyclic k) = Err (not_evaluated (load_fault x front of_load.
 result_of x front (o.TooDeep k) = Err (not_evaluated (load_fault x front of_load.LoadDepth k))
 result_of x front (o.LoadFailed k) = Err (not_evaluated (load_fault x front of_load.LoadFailed k))
 
--- a module's outcome by the recursion along loads
-abbrev pub outcome_of : ParsedParts → Loads → ℕ → ParsedModule → OutcomeView
-outcome_of x p m s = record { label = s.label; result = result_of x s.front (outcome (means x) p m) }
-
--- those of these modules, the first of which has this number
+-- these modules, the first of which has this number, each with its outcome by the recursion along loads
 abbrev pub outcomes_from : ParsedParts → Loads → ℕ → List ParsedModule → List OutcomeView
 outcomes_from x p m [] = []
-outcomes_from x p m (s ∷ ss) = outcome_of x p m s ∷ outcomes_from x p (m + 1) ss
+outcomes_from x p m (s ∷ ss) = record { label = s.label; result = result_of x s.front (outcome (means x) p m) } ∷ outcomes_from x p (m + 1) ss
 
 -- each module with its outcome
 unfoldable pub outcomes : ParsedParts → Loads → List OutcomeView
 outcomes x p = outcomes_from x p 0 x.modules
 
 -- there are too many modules or edges
-abbrev pub HaveTooMany : List File → Rules → Type 0
-HaveTooMany files rules = (fronts : Fronts) × AreFronts (inputs_of files rules) fronts × AreTooMany (packages_of files) fronts
+abbrev pub HaveTooMany : Limits → List File → Rules → Type 0
+HaveTooMany limits files rules = (fronts : Fronts) × AreFronts (inputs_of files rules) fronts × AreTooMany limits (packages_of files) fronts
 
--- what loading the workspace returns by names, with `limit` steps for each module; memory aside
-abbrev pub LoadsByNames : List File → Rules → ℕ → Result Loaded LoadErr → Type 0
-LoadsByNames files rules limit (Ok l) =
+-- what loading the workspace returns by names, by these limits; memory aside
+abbrev pub LoadsByNames : List File → Rules → Limits → Result Loaded LoadErr → Type 0
+LoadsByNames files rules limits (Ok l) =
     (fronts : Fronts) × AreFronts (inputs_of files rules) fronts × (labels : List LabelParts) × (edges : Loads) × IsLoadGraph (packages_of files) fronts labels edges
-    × IsGathered (packages_of files) (outcomes (parsed_in files rules fronts limit labels) edges) l
-LoadsByNames files rules limit (Err why) = (why ≡ e.TooManyModules → HaveTooMany files rules) × ((line : ℕ) → ¬ (why ≡ e.Schema line))
+    × IsGathered (packages_of files) (outcomes (parsed_in files rules fronts limits.steps labels) edges) l × Fits limits edges
+LoadsByNames files rules limits (Err why) = (why ≡ e.TooManyModules → HaveTooMany limits files rules) × ((line : ℕ) → ¬ (why ≡ e.Schema line))

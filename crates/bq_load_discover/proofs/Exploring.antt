@@ -9,7 +9,7 @@ use Rattle.bq_label.specs.Label.{LabelParts}
 use Rattle.bq_label.specs.Packages.{build_label}
 use Rattle.bq_label_set.specs.Labels.{same_label, with_labels}
 use Rattle.bq_label_set.proofs.Added.{numbers_stay, the_labels_added, each_label_once, still_distinct}
-use Rattle.bq_board_plan.specs.Graph.{max_modules}
+use Rattle.bq_base_limits.specs.declared.limits.Limits.{Limits}
 use Rattle.bq_load_front.specs.Inputs.{InputParts}
 use Rattle.bq_load_front.specs.Front.{loads_by}
 use Rattle.bq_load_front.specs.Reading.{parsed_of, loads_of}
@@ -112,8 +112,8 @@ reached : (inputs : InputParts) (ls : List LabelParts) → ((b : BuildFile) (l :
 reached inputs ls builds closed l (IsModule.build b c g) = builds b l c g
 reached inputs ls builds closed l (IsModule.loaded m i c) = closed m l (reached inputs ls builds closed m i) c
 
-pub ends : (inputs : InputParts) (ls : List LabelParts) (ms : List Module) → Explores inputs ls ms → length ls ≤ length ms → length ms ≤ max_modules → AreFound inputs ms
-ends inputs ls ms x h few =
+pub ends : (limits : Limits) (inputs : InputParts) (ls : List LabelParts) (ms : List Module) → Explores inputs ls ms → length ls ≤ length ms → length ms ≤ limits.modules → AreFound limits inputs ms
+ends limits inputs ls ms x h few =
     let whole : take (length ms) ls ≡ ls = take_all (length ms) ls h in
     let read : ms ≡ map (module_of inputs) ls = x.read ∙ ap (map (module_of inputs)) whole in
     let labels : labels_of ms ≡ ls = ap labels_of read ∙ named inputs ls in
@@ -129,5 +129,5 @@ ends inputs ls ms x h few =
 
 -- ---- too much is read
 
-pub too_many : (inputs : InputParts) (ls : List LabelParts) (ms : List Module) → Explores inputs ls ms → max_modules < length ms → AreTooMany inputs.packages (parsed_of inputs)
-too_many inputs ls ms x h = AreTooMany.modules ls x.distinct (omega (arith, h, x.within)) x.only
+pub too_many : (limits : Limits) (inputs : InputParts) (ls : List LabelParts) (ms : List Module) → Explores inputs ls ms → limits.modules < length ms → AreTooMany limits inputs.packages (parsed_of inputs)
+too_many limits inputs ls ms x h = AreTooMany.modules ls x.distinct (omega (arith, h, x.within)) x.only

@@ -9,7 +9,9 @@ use Rattle.bq_label.specs.declared.packages.BuildFile.{BuildFile}
 use Rattle.bq_label.specs.Label.{LabelParts}
 use Rattle.bq_label_set.specs.Labels.{same_label, with_labels}
 use Rattle.bq_label_set.proofs.Added.{those_that_differ}
-use Rattle.bq_board_plan.specs.Graph.{Loads, edges, max_modules, max_edges, Fits, IsGraph}
+use Rattle.bq_board_plan.specs.Graph.{Loads, edges, Fits, IsGraph}
+use Rattle.bq_base_limits.specs.declared.limits.Limits.{Limits}
+use Rattle.bq_base_limits.specs.Limits.{number_bound}
 use Rattle.bq_load_front.specs.Inputs.{InputParts}
 use Rattle.bq_load_front.specs.Front.{loads_by}
 use Rattle.bq_load_front.specs.Reading.{parsed_of, loads_of}
@@ -22,8 +24,8 @@ use Rattle.bq_load_discover.specs.LoadGraph.{GraphParts, IsNumbered, IsReadGraph
 use Rattle.bq_load_discover.proofs.Ordered.{differ, modules_ascend, are_modules, still_read}
 use Rattle.bq_load_discover.proofs.Rows.{all_rows, edges_count}
 
-module _ (found : List Module) (d : IsDistinct same_label (labels_of found)) (small : length found ≤ max_modules) (ms : List Module) (p : IsPermutation found ms) (s : IsSorted module_cmp ms) (v : AreValid ms) where
-  pub few : length (labels_of ms) ≤ max_modules
+module _ (found : List Module) (d : IsDistinct same_label (labels_of found)) (small : length found < number_bound) (ms : List Module) (p : IsPermutation found ms) (s : IsSorted module_cmp ms) (v : AreValid ms) where
+  pub few : length (labels_of ms) < number_bound
   few =
       let a : length (labels_of ms) ≡ length ms = length-map ms (λ (m : Module). m.label) in
       omega (arith, a, length_permutation found ms p, small)
@@ -42,38 +44,38 @@ module _ (found : List Module) (d : IsDistinct same_label (labels_of found)) (sm
     valid = g;
   }
 
-module _ (inputs : InputParts) (found : List Module) (f : AreFound inputs found) (ms : List Module) (p : IsPermutation found ms) (s : IsSorted module_cmp ms) (v : AreValid ms) where
+module _ (limits : Limits) (inputs : InputParts) (found : List Module) (f : AreFound limits inputs found) (ms : List Module) (p : IsPermutation found ms) (s : IsSorted module_cmp ms) (v : AreValid ms) where
   all_loaded : (m l : LabelParts) → Contains (labels_of ms) m → Contains (loads_of inputs m) l → Contains (labels_of ms) l
   all_loaded m l c d =
-      let a = are_modules inputs found f ms p s v in
+      let a = are_modules limits inputs found f ms p s v in
       a.all l (IsModule.loaded m (a.only m c) d)
 
   rows : map (map (slice_get (labels_of ms))) (rows_of (labels_of ms) ms) ≡ map (λ m. map (λ l. Some l) (edges_from (parsed_of inputs) m)) (labels_of ms)
-  rows = all_rows inputs (labels_of ms) (differ (labels_of ms) (modules_ascend found f.distinct ms p s v)) ms (still_read inputs found f ms p s v) all_loaded
+  rows = all_rows inputs (labels_of ms) (differ (labels_of ms) (modules_ascend found f.distinct ms p s v)) ms (still_read limits inputs found f ms p s v) all_loaded
 
   pub is_read_graph : (bs : List BuildFile) → bs ≡ inputs.packages → IsGraph (rows_of (labels_of ms) ms) → IsReadGraph inputs (record { labels = labels_of ms; modules = ms; edges = rows_of (labels_of ms) ms; packages = bs })
   is_read_graph bs b g = record {
-    graph = record { modules = are_modules inputs found f ms p s v; edges = rows; valid = g };
-    read = still_read inputs found f ms p s v;
+    graph = record { modules = are_modules limits inputs found f ms p s v; edges = rows; valid = g };
+    read = still_read limits inputs found f ms p s v;
     packages = b;
   }
 
-  pub too_many_edges : ¬ Fits (rows_of (labels_of ms) ms) → AreTooMany inputs.packages (parsed_of inputs)
+  pub too_many_edges : ¬ Fits limits (rows_of (labels_of ms) ms) → AreTooMany limits inputs.packages (parsed_of inputs)
   too_many_edges n =
       let counted : edges (rows_of (labels_of ms) ms) ≡ length (flat_map (edges_from (parsed_of inputs)) (labels_of ms)) = edges_count (slice_get (labels_of ms)) (edges_from (parsed_of inputs)) (rows_of (labels_of ms) ms) (labels_of ms) rows in
       let long : length (rows_of (labels_of ms) ms) ≡ length ms = length-map ms (λ (m : Module). row_of (labels_of ms) (loads_by m.front)) in
-      let lists : length (rows_of (labels_of ms) ms) ≤ max_modules = omega (arith, long, length_permutation found ms p, f.few) in
-      let many : max_edges < edges (rows_of (labels_of ms) ms) = lt_of_not-le (λ h. n (lists, h)) in
-      AreTooMany.edges (labels_of ms) (are_modules inputs found f ms p s v) (omega (arith, many, counted))
+      let lists : length (rows_of (labels_of ms) ms) ≤ limits.modules = omega (arith, long, length_permutation found ms p, f.few) in
+      let many : limits.edges < edges (rows_of (labels_of ms) ms) = lt_of_not-le (λ h. n (lists, h)) in
+      AreTooMany.edges (labels_of ms) (are_modules limits inputs found f ms p s v) (omega (arith, many, counted))
 
 -- ---- as the code holds these parts
 
 abbrev parts : List LabelParts → List Module → Loads → List BuildFile → GraphParts
 parts ls ms p bs = record { labels = ls; modules = ms; edges = p; packages = bs }
 
-module _ (found : List Module) (d : IsDistinct same_label (labels_of found)) (small : length found ≤ max_modules) (ms : List Module) (p : IsPermutation found ms) (s : IsSorted module_cmp ms)
+module _ (found : List Module) (d : IsDistinct same_label (labels_of found)) (small : length found < number_bound) (ms : List Module) (p : IsPermutation found ms) (s : IsSorted module_cmp ms)
     (held again : List Module) (h : held ≡ ms) (a : again ≡ ms) (v : AreValid held) (ls seen : List LabelParts) (n : ls ≡ labels_of held) (k : seen ≡ ls) (es : Loads) (e : es ≡ rows_of seen again)
-    (bs : List BuildFile) where
+    (bs : List BuildFile) (limits : Limits) where
   valid : AreValid ms
   valid = subst (λ (z : List Module). AreValid z) h v
 
@@ -89,12 +91,15 @@ module _ (found : List Module) (d : IsDistinct same_label (labels_of found)) (sm
   pub held_numbered : IsGraph (rows_of seen again) → IsNumbered (record { labels = ls; modules = ms; edges = es; packages = bs })
   held_numbered g = subst (λ (z : GraphParts). IsNumbered z) whole (is_numbered found d small ms p s valid bs (subst (λ (z : Loads). IsGraph z) same g))
 
-  pub held_graph : IsGraph (rows_of seen again) → (inputs : InputParts) → AreFound inputs found → bs ≡ inputs.packages → IsReadGraph inputs (record { labels = ls; modules = ms; edges = es; packages = bs })
-  held_graph g inputs f b = subst (λ (z : GraphParts). IsReadGraph inputs z) whole (is_read_graph inputs found f ms p s valid bs b (subst (λ (z : Loads). IsGraph z) same g))
+  pub held_graph : IsGraph (rows_of seen again) → (inputs : InputParts) → AreFound limits inputs found → bs ≡ inputs.packages → IsReadGraph inputs (record { labels = ls; modules = ms; edges = es; packages = bs })
+  held_graph g inputs f b = subst (λ (z : GraphParts). IsReadGraph inputs z) whole (is_read_graph limits inputs found f ms p s valid bs b (subst (λ (z : Loads). IsGraph z) same g))
 
-module _ (found ms : List Module) (p : IsPermutation found ms) (s : IsSorted module_cmp ms) (held again : List Module) (h : held ≡ ms) (a : again ≡ ms) (v : AreValid held) (ls seen : List LabelParts) (n : ls ≡ labels_of held) (k : seen ≡ ls) where
-  pub held_too_many : ¬ Fits (rows_of seen again) → (inputs : InputParts) → AreFound inputs found → AreTooMany inputs.packages (parsed_of inputs)
+  pub held_fits : Fits limits (rows_of seen again) → Fits limits es
+  held_fits f = subst (λ (z : Loads). Fits limits z) (sym e) f
+
+module _ (found ms : List Module) (p : IsPermutation found ms) (s : IsSorted module_cmp ms) (held again : List Module) (h : held ≡ ms) (a : again ≡ ms) (v : AreValid held) (ls seen : List LabelParts) (n : ls ≡ labels_of held) (k : seen ≡ ls) (limits : Limits) where
+  pub held_too_many : ¬ Fits limits (rows_of seen again) → (inputs : InputParts) → AreFound limits inputs found → AreTooMany limits inputs.packages (parsed_of inputs)
   held_too_many none inputs f =
       let valid : AreValid ms = subst (λ (z : List Module). AreValid z) h v in
       let same : rows_of seen again ≡ rows_of (labels_of ms) ms = ap (λ (z : List LabelParts). rows_of z again) (k ∙ (n ∙ ap labels_of h)) ∙ ap (λ (z : List Module). rows_of (labels_of ms) z) a in
-      too_many_edges inputs found f ms p s valid (subst (λ (z : Loads). ¬ Fits z) same none)
+      too_many_edges limits inputs found f ms p s valid (subst (λ (z : Loads). ¬ Fits limits z) same none)

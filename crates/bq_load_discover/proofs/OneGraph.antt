@@ -1,4 +1,4 @@
--- A workspace has at most one load graph, and none if there are too many modules or edges.
+-- A workspace has at most one load graph, which doesn't keep the limits if there are too many modules or edges.
 use Rattle.std.proofs.Common.{◌≡◌, ◌∙◌, ◌≤◌, ℕ, List, [], ◌∷◌, Option, Some, length, map, slice_get, refl, sym, ap, subst, arith}
 use Rattle.std.specs.List.{Contains, IsDistinct, flat_map}
 use Rattle.std.proofs.lemmas.List.{length-map}
@@ -9,7 +9,8 @@ use Rattle.bq_label.specs.Label.{LabelParts}
 use Rattle.bq_label.proofs.Orders.{same_ascending}
 use Rattle.bq_label_set.specs.Labels.{same_label, same_label-Decides, same_label-equiv}
 use Rattle.bq_label_set.proofs.Numbers.{the_number}
-use Rattle.bq_board_plan.specs.Graph.{Loads, edges}
+use Rattle.bq_board_plan.specs.Graph.{Loads, edges, Fits}
+use Rattle.bq_base_limits.specs.declared.limits.Limits.{Limits}
 use Rattle.bq_load_front.specs.Parsed.{Fronts}
 use Rattle.bq_load_front.proofs.Fronts.{same_fronts}
 use Rattle.bq_load_discover.specs.Module.{label_cmp, label_cmp_total}
@@ -88,18 +89,18 @@ among : (some ls : List LabelParts) → ((l : LabelParts) → Contains some l �
 among some ls f d = length-le_from_is_member same_label-equiv some ls d (λ q h.
     list_any-from_Contains same_label-equiv q ls (f q (Contains-from_any (λ x y e. (same_label-Decides x y).0 e) q some h)))
 
-too_many : (packages : List BuildFile) (fronts : Fronts) (labels : List LabelParts) (p : Loads) → AreTooMany packages fronts → ¬ IsLoadGraph packages fronts labels p
-too_many packages fronts labels p (AreTooMany.modules some d many only) x =
+too_many : (limits : Limits) (packages : List BuildFile) (fronts : Fronts) (labels : List LabelParts) (p : Loads) → AreTooMany limits packages fronts → IsLoadGraph packages fronts labels p → ¬ Fits limits p
+too_many limits packages fronts labels p (AreTooMany.modules some d many only) x fits =
     let few : length some ≤ length labels = among some labels (λ l c. x.modules.all l (only l c)) d in
     let rows : length p ≡ length labels = sym (length-map p (map (slice_get labels))) ∙ (ap length x.edges ∙ length-map labels (λ l. map (λ k. Some k) (edges_from fronts l))) in
-    omega (arith, few, rows, many, x.valid.0.0)
-too_many packages fronts labels p (AreTooMany.edges ls a many) x =
+    omega (arith, few, rows, many, fits.0)
+too_many limits packages fronts labels p (AreTooMany.edges ls a many) x fits =
     let same : ls ≡ labels = same_modules packages fronts ls labels a x.modules in
     let counted : edges p ≡ length (flat_map (edges_from fronts) labels) = edges_count (slice_get labels) (edges_from fronts) p labels x.edges in
     let here : length (flat_map (edges_from fronts) ls) ≡ length (flat_map (edges_from fronts) labels) = ap (λ (z : List LabelParts). length (flat_map (edges_from fronts) z)) same in
-    omega (arith, counted, here, many, x.valid.0.1)
+    omega (arith, counted, here, many, fits.1)
 
 pub too_many_for_a_load_graph : TooManyForALoadGraph
-too_many_for_a_load_graph inputs a b is-a is-b labels p many x =
+too_many_for_a_load_graph limits inputs a b is-a is-b labels p many x =
     let one : b ≡ a = same_fronts inputs b a is-b is-a in
-    too_many inputs.packages a labels p many (subst (λ (f : Fronts). IsLoadGraph inputs.packages f labels p) one x)
+    too_many limits inputs.packages a labels p many (subst (λ (f : Fronts). IsLoadGraph inputs.packages f labels p) one x)

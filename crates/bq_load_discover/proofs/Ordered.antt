@@ -20,6 +20,7 @@ use Rattle.bq_load_front.specs.Reading.{parsed_of}
 use Rattle.bq_load_discover.specs.declared.modules.Module.{Module}
 use Rattle.bq_load_discover.specs.Module.{module_of, IsRead, labels_of, AreValid, label_cmp, label_cmp_total, module_cmp, module_cmp_total}
 use Rattle.bq_load_discover.specs.Modules.{AreModules}
+use Rattle.bq_base_limits.specs.declared.limits.Limits.{Limits}
 use Rattle.bq_load_discover.specs.Exploring.{AreFound}
 
 not_equal : (b : Bool) → (b ≡ true → ⊥) → b ≡ false
@@ -84,7 +85,7 @@ modules_ascend found d ms p s v =
     let valid : AreValid found = All-permutation (λ (m : Module). IsLabel m.label) ms found (IsPermutation-sym found ms p) v in
     labels_ascend ms (strict_from_sort module_cmp module_cmp_total found ms p s (distinct_forms found (recursion_from_All (λ (m : Module). IsLabel m.label) found valid) d))
 
-module _ (inputs : InputParts) (found : List Module) (f : AreFound inputs found) (ms : List Module) (p : IsPermutation found ms) (s : IsSorted module_cmp ms) (v : AreValid ms) where
+module _ (limits : Limits) (inputs : InputParts) (found : List Module) (f : AreFound limits inputs found) (ms : List Module) (p : IsPermutation found ms) (s : IsSorted module_cmp ms) (v : AreValid ms) where
   moved : IsPermutation (labels_of found) (labels_of ms)
   moved = IsPermutation-map (λ (m : Module). m.label) found ms p
 

@@ -3,6 +3,7 @@ use Rattle.std.specs.Prelude.{◌≡◌, ℕ, List, [], map, Option, position}
 use Rattle.std.specs.List.{filter_map}
 use Rattle.bq_label.specs.Label.{LabelParts}
 use Rattle.bq_label_set.specs.Labels.{same_label, with_labels}
+use Rattle.bq_base_limits.specs.declared.limits.Limits.{Limits}
 use Rattle.bq_board_plan.specs.Graph.{Loads, Fits}
 use Rattle.bq_load_front.specs.Front.{loads_by}
 use Rattle.bq_load_discover.specs.declared.modules.Module.{Module}
@@ -22,5 +23,5 @@ abbrev pub rows_of : List LabelParts → List Module → Loads
 rows_of ls ms = map (λ m. row_of ls (loads_by m.front)) ms
 
 -- the edges are refused only where they are too many, memory aside
-abbrev pub RefusesEdges : Loads → LoadErr → Type 0
-RefusesEdges p why = (why ≡ e.TooManyModules → ¬ Fits p) × ((line : ℕ) → ¬ (why ≡ e.Schema line))
+abbrev pub RefusesEdges : Limits → Loads → LoadErr → Type 0
+RefusesEdges limits p why = (why ≡ e.TooManyModules → ¬ Fits limits p) × ((line : ℕ) → ¬ (why ≡ e.Schema line))

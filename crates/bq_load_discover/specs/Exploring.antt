@@ -5,7 +5,7 @@ use Rattle.bq_label.specs.declared.packages.BuildFile.{BuildFile}
 use Rattle.bq_label.specs.Label.{LabelParts}
 use Rattle.bq_label.specs.Packages.{build_label}
 use Rattle.bq_label_set.specs.Labels.{same_label}
-use Rattle.bq_board_plan.specs.Graph.{max_modules}
+use Rattle.bq_base_limits.specs.declared.limits.Limits.{Limits}
 use Rattle.std.specs.Prelude.{Vec}
 use Rattle.std.specs.Global.{Global}
 use Rattle.bq_load_front.specs.Inputs.{InputParts}
@@ -38,19 +38,14 @@ AfterReading true n ls ms = length ms ≡ n + 1
 AfterReading false n ls ms = (length ms ≡ n) × (length ls ≤ n)
 
 -- all modules, each once
-pub record AreFound (inputs : InputParts) (ms : List Module) : Type 0 where
-  pub few : length ms ≤ max_modules
+pub record AreFound (limits : Limits) (inputs : InputParts) (ms : List Module) : Type 0 where
+  pub few : length ms ≤ limits.modules
   pub read : All (IsRead inputs) ms
   pub distinct : IsDistinct same_label (labels_of ms)
   pub all : (l : LabelParts) → IsModule inputs.packages (parsed_of inputs) l → Contains (labels_of ms) l
   pub only : (l : LabelParts) → Contains (labels_of ms) l → IsModule inputs.packages (parsed_of inputs) l
 
--- all modules are read, or there are too many
-abbrev pub AllAreRead : InputParts → Bool → List Module → Type 0
-AllAreRead inputs true ms = AreFound inputs ms
-AllAreRead inputs false ms = AreTooMany inputs.packages (parsed_of inputs)
-
 -- all modules, or there are too many
-abbrev pub Finds : InputParts → Option (Vec Module Global) → Type 0
-Finds inputs None = AreTooMany inputs.packages (parsed_of inputs)
-Finds inputs (Some ms) = AreFound inputs ms.items
+abbrev pub Finds : Limits → InputParts → Option (Vec Module Global) → Type 0
+Finds limits inputs None = AreTooMany limits inputs.packages (parsed_of inputs)
+Finds limits inputs (Some ms) = AreFound limits inputs ms.items

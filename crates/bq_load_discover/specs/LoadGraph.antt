@@ -6,7 +6,9 @@ use Rattle.bq_label.specs.declared.packages.BuildFile.{BuildFile}
 use Rattle.bq_label.specs.Label.{LabelParts}
 use Rattle.bq_label.specs.Packages.{packages_of}
 use Rattle.bq_package_schema.specs.Schema.{Rules}
-use Rattle.bq_board_plan.specs.Graph.{Loads, IsGraph}
+use Rattle.bq_base_limits.specs.declared.limits.Limits.{Limits}
+use Rattle.bq_base_limits.specs.Limits.{standard}
+use Rattle.bq_board_plan.specs.Graph.{Loads, Fits, IsGraph}
 use Rattle.bq_load_front.specs.Inputs.{InputParts}
 use Rattle.bq_load_front.specs.Parsed.{Fronts}
 use Rattle.bq_load_front.specs.Reading.{parsed_of}
@@ -47,7 +49,11 @@ pub record IsReadGraph (inputs : InputParts) (g : GraphParts) : Type 0 where
   pub read : g.modules ≡ map (module_of inputs) g.labels
   pub packages : g.packages ≡ inputs.packages
 
--- the load graph, or there are too many modules or edges; memory aside
+-- the load graph, which keeps these limits, or there are too many modules or edges; memory aside
+abbrev pub DiscoversWithin : Limits → InputParts → Result GraphParts LoadErr → Type 0
+DiscoversWithin limits inputs (Ok g) = IsReadGraph inputs g × Fits limits g.edges
+DiscoversWithin limits inputs (Err why) = (why ≡ e.TooManyModules → AreTooMany limits inputs.packages (parsed_of inputs)) × ((line : ℕ) → ¬ (why ≡ e.Schema line))
+
+-- by the standard limits
 abbrev pub Discovers : InputParts → Result GraphParts LoadErr → Type 0
-Discovers inputs (Ok g) = IsReadGraph inputs g
-Discovers inputs (Err why) = (why ≡ e.TooManyModules → AreTooMany inputs.packages (parsed_of inputs)) × ((line : ℕ) → ¬ (why ≡ e.Schema line))
+Discovers inputs r = DiscoversWithin standard inputs r

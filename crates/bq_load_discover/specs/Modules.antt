@@ -6,7 +6,7 @@ use Rattle.bq_label.specs.declared.packages.BuildFile.{BuildFile}
 use Rattle.bq_label.specs.Label.{LabelParts}
 use Rattle.bq_label.specs.Packages.{build_label}
 use Rattle.bq_label_set.specs.Labels.{same_label, with_labels}
-use Rattle.bq_board_plan.specs.Graph.{max_modules, max_edges}
+use Rattle.bq_base_limits.specs.declared.limits.Limits.{Limits}
 use Rattle.bq_load_front.specs.Parsed.{Fronts, loads_in}
 use Rattle.bq_load_discover.specs.Module.{label_cmp}
 
@@ -29,7 +29,7 @@ pub record AreModules (packages : List BuildFile) (fronts : Fronts) (ls : List L
 abbrev pub edges_from : Fronts → LabelParts → List LabelParts
 edges_from fronts l = with_labels [] (loads_in (fronts l))
 
--- more labels than a load graph may have are modules, or they have more edges
-pub data AreTooMany (packages : List BuildFile) (fronts : Fronts) : Type 0 where
-  modules : (some : List LabelParts) → IsDistinct same_label some → max_modules < length some → ((l : LabelParts) → Contains some l → IsModule packages fronts l) → AreTooMany packages fronts
-  edges : (ls : List LabelParts) → AreModules packages fronts ls → max_edges < length (flat_map (edges_from fronts) ls) → AreTooMany packages fronts
+-- more labels are modules than these limits allow, or they have more edges
+pub data AreTooMany (limits : Limits) (packages : List BuildFile) (fronts : Fronts) : Type 0 where
+  modules : (some : List LabelParts) → IsDistinct same_label some → limits.modules < length some → ((l : LabelParts) → Contains some l → IsModule packages fronts l) → AreTooMany limits packages fronts
+  edges : (ls : List LabelParts) → AreModules packages fronts ls → limits.edges < length (flat_map (edges_from fronts) ls) → AreTooMany limits packages fronts

@@ -2,12 +2,13 @@
 
 ghost use Rattle.std.specs.Prelude.{◌≡◌, ◌<◌, ◌≤◌, length, IfOk};
 ghost use Rattle.std.specs.List.{IsDistinct};
+ghost use Rattle.bq_base_limits.specs.Limits.{AreBounded};
 ghost use Rattle.bq_label.specs.Packages.{packages_of};
 ghost use Rattle.bq_load_front.specs.Inputs.{InputParts};
 ghost use Rattle.bq_label_set.specs.Labels.{same_label};
 ghost use Rattle.bq_load_discover.specs.Module.{labels_of};
 ghost use Rattle.bq_load_discover.specs.Exploring.{AreFound, Finds};
-ghost use Rattle.bq_load_discover.specs.LoadGraph.{inputs_of, Discovers};
+ghost use Rattle.bq_load_discover.specs.LoadGraph.{inputs_of, Discovers, DiscoversWithin};
 
 use crate::edges::edges;
 use crate::exploration::explore;
@@ -16,7 +17,7 @@ use crate::load_graph::LoadGraph;
 use crate::modules::Module;
 use crate::order::{labels, sorted};
 use crate::waves::explore_by_workers;
-use bq_board_plan::MAX_MODULES;
+use bq_base_limits::Limits;
 use bq_label::{Packages, Workspace};
 use bq_load_front::Inputs;
 use bq_package_schema::Schema;
@@ -24,92 +25,119 @@ use std::alloc::{AllocError, Global};
 use std::thread::Threads;
 
 /// Makes the load graph of modules that were found, in a workspace with these packages.
-fn load_graph(alloc: Global, packages: Packages, modules: Vec<Module>) -> Result<LoadGraph, LoadErr>
-    requires few { length modules.items ≤ MAX_MODULES }
+fn load_graph(
+    alloc: Global,
+    limits: Limits,
+    packages: Packages,
+    modules: Vec<Module>,
+) -> Result<LoadGraph, LoadErr>
+    requires bounded { AreBounded limits }
+    requires few { length modules.items ≤ limits.modules }
     requires distinct { IsDistinct same_label (labels_of modules.items) }
-    ensures { (inputs : InputParts) → AreFound inputs modules.items → packages ≡ inputs.packages → Discovers inputs result }
+    ensures { (inputs : InputParts) → AreFound limits inputs modules.items → packages ≡ inputs.packages → DiscoversWithin limits inputs result }
 {
     let modules = sorted(modules);
     let labels = labels(alloc, &modules)?;
-    let edges = edges(alloc, &labels, &modules)?;
+    let edges = edges(alloc, limits, &labels, &modules)?;
     Ok(LoadGraph::of(labels, modules, edges, packages))
 }
 
 /// Makes the load graph of the modules that were found in a workspace, if they aren't too many.
 fn load_graph_of(
     alloc: Global,
+    limits: Limits,
     workspace: &Workspace,
     schema: &Schema,
     packages: Packages,
     found: Option<Vec<Module>>,
 ) -> Result<LoadGraph, LoadErr>
+    requires bounded { AreBounded limits }
     requires packages { packages ≡ packages_of workspace.now }
-    requires found { Finds (inputs_of workspace.now schema.now) found }
-    ensures { Discovers (inputs_of workspace.now schema.now) result }
+    requires found { Finds limits (inputs_of workspace.now schema.now) found }
+    ensures { DiscoversWithin limits (inputs_of workspace.now schema.now) result }
 {
     let _ = workspace; // contracts alone speak of what is read
     let _ = schema;
     match found {
         None => Err(LoadErr::TooManyModules),
-        Some(modules) => load_graph(alloc, packages, modules),
+        Some(modules) => load_graph(alloc, limits, packages, modules),
     }
 }
 
 /// Finds the modules of a workspace with these packages; `None` if there are too many.
 fn modules_of(
     alloc: Global,
+    limits: Limits,
     workspace: &Workspace,
     schema: &Schema,
     packages: &Packages,
 ) -> Result<Option<Vec<Module>>, AllocError>
-    requires { packages.now ≡ packages_of workspace.now }
-    ensures { IfOk result (Finds (inputs_of workspace.now schema.now)) }
+    requires bounded { AreBounded limits }
+    requires packages { packages.now ≡ packages_of workspace.now }
+    ensures { IfOk result (Finds limits (inputs_of workspace.now schema.now)) }
 {
     let names = schema.shared_names()?;
     let inputs = Inputs::new(workspace, packages, &names)?;
-    explore(alloc, &inputs)
+    explore(alloc, limits, &inputs)
 }
 
 /// Finds the modules of a workspace with these packages, as [`modules_of`] does, in at most `workers` threads.
 fn modules_by_workers<R: Threads + Sync>(
     rt: &R,
     alloc: Global,
+    limits: Limits,
     workspace: &Workspace,
     schema: &Schema,
     packages: &Packages,
     workers: usize,
 ) -> Result<Option<Vec<Module>>, AllocError>
+    requires bounded { AreBounded limits }
     requires workers { 0 < workers }
     requires packages { packages.now ≡ packages_of workspace.now }
-    ensures { IfOk result (Finds (inputs_of workspace.now schema.now)) }
+    ensures { IfOk result (Finds limits (inputs_of workspace.now schema.now)) }
 {
     let names = schema.shared_names()?;
     let inputs = Inputs::new(workspace, packages, &names)?;
-    explore_by_workers(rt, alloc, &inputs, workers)
+    explore_by_workers(rt, alloc, limits, &inputs, workers)
 }
 
-/// Finds the load graph of a workspace with the rules of the schema. It takes time linear in the files and loads of its
-/// modules, but for the order of the labels, which takes n log n.
+/// Finds the load graph of a workspace with the rules of the schema, by the standard limits. It takes time linear in the
+/// files and loads of its modules, but for the order of the labels, which takes n log n.
 pub fn discover(alloc: Global, workspace: &Workspace, schema: &Schema) -> Result<LoadGraph, LoadErr>
     ensures { Discovers (inputs_of workspace.now schema.now) result }
 {
-    let packages = Packages::of(alloc, workspace)?;
-    let found = modules_of(alloc, workspace, schema, &packages)?;
-    load_graph_of(alloc, workspace, schema, packages, found)
+    discover_within(alloc, workspace, schema, Limits::standard())
 }
 
-/// Finds the load graph of a workspace, as [`discover`] does. Its files are read in at most `workers` threads.
+/// Finds the load graph of a workspace, as [`discover`] does, by these limits.
+pub fn discover_within(
+    alloc: Global,
+    workspace: &Workspace,
+    schema: &Schema,
+    limits: Limits,
+) -> Result<LoadGraph, LoadErr>
+    requires { AreBounded limits }
+    ensures { DiscoversWithin limits (inputs_of workspace.now schema.now) result }
+{
+    let packages = Packages::of(alloc, workspace)?;
+    let found = modules_of(alloc, limits, workspace, schema, &packages)?;
+    load_graph_of(alloc, limits, workspace, schema, packages, found)
+}
+
+/// Finds the load graph of a workspace, as [`discover_within`] does. Its files are read in at most `workers` threads.
 pub fn discover_by_workers<R: Threads + Sync>(
     rt: &R,
     alloc: Global,
     workspace: &Workspace,
     schema: &Schema,
+    limits: Limits,
     workers: usize,
 ) -> Result<LoadGraph, LoadErr>
-    requires { 0 < workers }
-    ensures { Discovers (inputs_of workspace.now schema.now) result }
+    requires bounded { AreBounded limits }
+    requires workers { 0 < workers }
+    ensures { DiscoversWithin limits (inputs_of workspace.now schema.now) result }
 {
     let packages = Packages::of(alloc, workspace)?;
-    let found = modules_by_workers(rt, alloc, workspace, schema, &packages, workers)?;
-    load_graph_of(alloc, workspace, schema, packages, found)
+    let found = modules_by_workers(rt, alloc, limits, workspace, schema, &packages, workers)?;
+    load_graph_of(alloc, limits, workspace, schema, packages, found)
 }

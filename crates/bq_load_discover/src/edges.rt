@@ -1,21 +1,23 @@
 //! Which module loads which, by their numbers.
 
-ghost use Rattle.std.specs.Prelude.{◌≡◌, ◌≤◌, [], ◌++◌, length, map, option_to_list, IfOk, IfErr, OnOk};
-ghost use Rattle.bq_board_plan.specs.Graph.{lists, IsGraph};
+ghost use Rattle.std.specs.Prelude.{◌≡◌, ◌<◌, [], ◌++◌, length, map, option_to_list, IfOk, IfErr, OnOk};
+ghost use Rattle.bq_base_limits.specs.Limits.{AreBounded, number_bound};
+ghost use Rattle.bq_board_plan.specs.Graph.{Fits, lists, IsGraph};
 ghost use Rattle.std.specs.List.{filter_map};
 ghost use Rattle.bq_label_set.specs.Labels.{with_labels};
 ghost use Rattle.bq_load_discover.specs.Edges.{number_in, rows_of, RefusesEdges};
 
 use crate::load_err::LoadErr;
 use crate::modules::Module;
-use bq_board_plan::{Graph, MAX_MODULES, PlanErr};
+use bq_base_limits::Limits;
+use bq_board_plan::{Graph, PlanErr};
 use bq_label::Label;
 use bq_label_set::LabelSet;
 use std::alloc::{AllocError, Global};
 
 /// Appends the number of a label.
 fn add_number(numbers: &LabelSet, label: &Label, row: &mut Vec<u32>) -> Result<(), AllocError>
-    requires { length numbers.now ≤ MAX_MODULES }
+    requires { length numbers.now < number_bound }
     ensures { OnOk result (row.new.items ≡ row.old.items ++ option_to_list (number_in numbers.now label.now)) }
 {
     match numbers.number(label)? {
@@ -29,7 +31,7 @@ fn add_number(numbers: &LabelSet, label: &Label, row: &mut Vec<u32>) -> Result<(
 
 /// Returns the numbers of labels, in their order.
 fn row(alloc: Global, numbers: &LabelSet, labels: &[Label]) -> Result<Vec<u32>, AllocError>
-    requires { length numbers.now ≤ MAX_MODULES }
+    requires { length numbers.now < number_bound }
     ensures { IfOk result (λ row. row.items ≡ filter_map (number_in numbers.now) labels.now) }
 {
     let mut row = Vec::with_capacity(alloc, labels.len())?;
@@ -41,7 +43,7 @@ fn row(alloc: Global, numbers: &LabelSet, labels: &[Label]) -> Result<Vec<u32>, 
 
 /// Returns the rows of modules.
 fn rows(alloc: Global, numbers: &LabelSet, modules: &[Module]) -> Result<Vec<Vec<u32>>, AllocError>
-    requires { length numbers.now ≤ MAX_MODULES }
+    requires { length numbers.now < number_bound }
     ensures { IfOk result (λ rows. lists rows.items ≡ rows_of numbers.now modules.now) }
 {
     let mut rows = Vec::new(alloc);
@@ -62,7 +64,7 @@ fn numbers(alloc: Global, labels: &[Label]) -> Result<LabelSet, AllocError>
 
 /// Returns the rows of modules of these labels.
 fn rows_by(alloc: Global, labels: &[Label], modules: &[Module]) -> Result<Vec<Vec<u32>>, AllocError>
-    requires few { length labels.now ≤ MAX_MODULES }
+    requires few { length labels.now < number_bound }
     requires numbered { with_labels [] labels.now ≡ labels.now }
     ensures { IfOk result (λ rows. lists rows.items ≡ rows_of labels.now modules.now) }
 {
@@ -70,15 +72,22 @@ fn rows_by(alloc: Global, labels: &[Label], modules: &[Module]) -> Result<Vec<Ve
     rows(alloc, &numbers, modules)
 }
 
-/// Returns the edges between modules of these labels.
-pub(crate) fn edges(alloc: Global, labels: &[Label], modules: &[Module]) -> Result<Graph, LoadErr>
-    requires few { length labels.now ≤ MAX_MODULES }
+/// Returns the edges between modules of these labels, if they keep the limits.
+pub(crate) fn edges(
+    alloc: Global,
+    limits: Limits,
+    labels: &[Label],
+    modules: &[Module],
+) -> Result<Graph, LoadErr>
+    requires bounded { AreBounded limits }
+    requires few { length labels.now < number_bound }
     requires numbered { with_labels [] labels.now ≡ labels.now }
     ensures edges { IfOk result (λ graph. graph ≡ rows_of labels.now modules.now) }
     ensures valid { OnOk result (IsGraph (rows_of labels.now modules.now)) }
-    ensures refused { IfErr result (RefusesEdges (rows_of labels.now modules.now)) }
+    ensures fits { OnOk result (Fits limits (rows_of labels.now modules.now)) }
+    ensures refused { IfErr result (RefusesEdges limits (rows_of labels.now modules.now)) }
 {
-    match Graph::new(rows_by(alloc, labels, modules)?) {
+    match Graph::within(limits, rows_by(alloc, labels, modules)?) {
         Ok(graph) => Ok(graph),
         Err(PlanErr::TooMany) => Err(LoadErr::TooManyModules),
         Err(_) => Err(LoadErr::Memory), // never: each number is that of a row

@@ -1,15 +1,16 @@
 //! The modules of a workspace, found along loads.
 
 ghost use Rattle.std.specs.Prelude.{◌≡◌, ◌+◌, [], ◌++◌, length, Option, IfOk, OnOk, option_to_list};
+ghost use Rattle.bq_base_limits.specs.Limits.{AreBounded};
 ghost use Rattle.bq_label.specs.Packages.{build_label};
 ghost use Rattle.bq_label_set.specs.Labels.{with_labels};
 ghost use Rattle.bq_load_front.specs.Front.{loads_by};
 ghost use Rattle.bq_load_front.specs.Inputs.{InputParts};
 ghost use Rattle.bq_load_discover.specs.Modules.{build_labels};
-ghost use Rattle.bq_load_discover.specs.Exploring.{Explores, IsNextIn, AfterReading, AllAreRead, Finds};
+ghost use Rattle.bq_load_discover.specs.Exploring.{Explores, IsNextIn, AfterReading, Finds};
 
 use crate::modules::Module;
-use bq_board_plan::MAX_MODULES;
+use bq_base_limits::Limits;
 use bq_label::{BuildFile, Packages};
 use bq_label_set::LabelSet;
 use bq_load_front::Inputs;
@@ -86,17 +87,19 @@ impl Exploration {
     }
 }
 
-/// Returns all modules of a workspace, some of which have been read; `None` if there are too many.
+/// Returns all modules of a workspace, some of which have been read; `None` if there are more than the limits allow.
 pub(crate) fn read_rest(
     alloc: Global,
+    limits: Limits,
     inputs: &Inputs<'_>,
     mut exploration: Exploration,
 ) -> Result<Option<Vec<Module>>, AllocError>
-    requires { Explores inputs.now exploration.found exploration.read.items }
-    ensures { IfOk result (Finds inputs.now) }
+    requires bounded { AreBounded limits }
+    requires explores { Explores inputs.now exploration.found exploration.read.items }
+    ensures { IfOk result (Finds limits inputs.now) }
 {
-    for _ in 0..MAX_MODULES + 1 {
-        if exploration.read.len() > MAX_MODULES {
+    for _ in 0..limits.modules + 1 {
+        if exploration.read.len() > limits.modules {
             return Ok(None);
         }
         if !exploration.read_next(alloc, inputs)? {
@@ -107,9 +110,14 @@ pub(crate) fn read_rest(
 }
 
 /// Returns the modules of a workspace in the order in which they are found; `None` if there are too many.
-pub(crate) fn explore(alloc: Global, inputs: &Inputs<'_>) -> Result<Option<Vec<Module>>, AllocError>
-    ensures { IfOk result (Finds inputs.now) }
+pub(crate) fn explore(
+    alloc: Global,
+    limits: Limits,
+    inputs: &Inputs<'_>,
+) -> Result<Option<Vec<Module>>, AllocError>
+    requires { AreBounded limits }
+    ensures { IfOk result (Finds limits inputs.now) }
 {
     let exploration = Exploration::new(alloc, inputs)?;
-    read_rest(alloc, inputs, exploration)
+    read_rest(alloc, limits, inputs, exploration)
 }

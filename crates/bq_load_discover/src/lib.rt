@@ -5,8 +5,9 @@
 //! that two spellings of a label are one module. A module's number is its place in the order of the bytes of the labels' full forms.
 //!
 //! The promise: [`discover`] returns the one load graph of the workspace, or finds that it has more modules or edges
-//! than a load graph may have (`specs/LoadGraph.antt`), and [`discover_by_workers`] the same by several threads. Each
-//! file is read once, and nothing recurs along loads.
+//! than the standard limits allow (`specs/LoadGraph.antt`), and [`discover_within`] and, by several threads,
+//! [`discover_by_workers`] the same by the limits that they are given. Each file is read once, and nothing recurs along
+//! loads.
 //!
 //! In reading order:
 //!
@@ -32,7 +33,7 @@ mod order;
 mod schema;
 mod waves;
 
-pub use discovery::{discover, discover_by_workers};
+pub use discovery::{discover, discover_by_workers, discover_within};
 pub use laws::{modules_have_files, one_load_graph, too_many_for_a_load_graph};
 pub use load_err::LoadErr;
 pub use load_graph::LoadGraph;

@@ -1,13 +1,14 @@
 //! The modules of a workspace, found along loads by several threads.
 
 ghost use Rattle.std.specs.Prelude.{◌<◌, All, IfOk, IfSome, OnOk};
+ghost use Rattle.bq_base_limits.specs.Limits.{AreBounded, number_bound};
 ghost use Rattle.bq_load_front.specs.Inputs.{InputParts};
 ghost use Rattle.bq_load_discover.specs.Exploring.{Explores, IsModuleAt, Finds};
 ghost use Rattle.bq_load_discover.specs.Waves.{IsReading, Grows};
 
 use crate::exploration::{Exploration, read_rest};
 use crate::modules::Module;
-use bq_board_plan::MAX_MODULES;
+use bq_base_limits::Limits;
 use bq_label_set::LabelSet;
 use bq_load_front::Inputs;
 use std::alloc::{AllocError, Global};
@@ -24,10 +25,18 @@ pub(crate) struct Reading {
     read: Result<Option<Module>, AllocError>,
 }
 
-/// Returns one empty reading for each label from that place on, the last of them first. Labels past the limit get none.
-fn unread(alloc: Global, labels: &LabelSet, from: usize) -> Result<Vec<Reading>, AllocError> {
+/// Returns one empty reading for each label from that place on, the last of them first. Labels past the limit, but for
+/// one, get none.
+fn unread(
+    alloc: Global,
+    labels: &LabelSet,
+    from: usize,
+    most: usize,
+) -> Result<Vec<Reading>, AllocError>
+    requires { most < number_bound }
+{
     let mut readings = Vec::new(alloc);
-    for place in from..MAX_MODULES + 1 {
+    for place in from..most + 1 {
         if labels.get(place).is_none() {
             break;
         }
@@ -117,14 +126,16 @@ impl Exploration {
         &mut self,
         rt: &R,
         alloc: Global,
+        limits: Limits,
         inputs: &Inputs<'_>,
         workers: usize,
     ) -> Result<(), AllocError>
+        requires bounded { AreBounded limits }
         requires workers { 0 < workers }
         requires explores { Explores inputs.now self.old.found self.old.read.items }
         ensures { OnOk result (Explores inputs.now self.new.found self.new.read.items) }
     {
-        let mut readings = unread(alloc, &self.found, self.read.len())?;
+        let mut readings = unread(alloc, &self.found, self.read.len(), limits.modules)?;
         let threads = workers.min(readings.len() / MODULES_OF_A_THREAD + 1);
         read_all(
             rt,
@@ -143,19 +154,21 @@ impl Exploration {
 pub(crate) fn explore_by_workers<R: Threads + Sync>(
     rt: &R,
     alloc: Global,
+    limits: Limits,
     inputs: &Inputs<'_>,
     workers: usize,
 ) -> Result<Option<Vec<Module>>, AllocError>
-    requires { 0 < workers }
-    ensures { IfOk result (Finds inputs.now) }
+    requires bounded { AreBounded limits }
+    requires workers { 0 < workers }
+    ensures { IfOk result (Finds limits inputs.now) }
 {
     let mut exploration = Exploration::new(alloc, inputs)?;
-    for _ in 0..MAX_MODULES {
+    for _ in 0..limits.modules {
         let read = exploration.read.len();
-        if read > MAX_MODULES || exploration.found.get(read).is_none() {
+        if read > limits.modules || exploration.found.get(read).is_none() {
             break;
         }
-        exploration.read_wave(rt, alloc, inputs, workers)?;
+        exploration.read_wave(rt, alloc, limits, inputs, workers)?;
     }
-    read_rest(alloc, inputs, exploration)
+    read_rest(alloc, limits, inputs, exploration)
 }

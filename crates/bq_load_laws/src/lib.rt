@@ -46,6 +46,6 @@ pub use outcome::{
     prints_are_kept, symbols_are_refused_in_order,
 };
 pub use package::{
-    files_make_their_packages, outcomes_have_their_packages, packages_count,
-    packages_declare_their_targets, what_build_files_keep_is_not_seen,
+    files_make_their_packages, outcomes_have_their_packages, packages_declare_their_targets,
+    what_build_files_keep_is_not_seen,
 };

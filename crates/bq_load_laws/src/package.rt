@@ -2,7 +2,7 @@
 
 ghost use Rattle.bq_load_laws.specs.Packages.Declared.{OutcomesDeclareTheirTargets, PackagesDeclareTheirTargets};
 ghost use Rattle.bq_load_laws.specs.Packages.Kept.{OutcomesStay, ResultsTellTheSame};
-ghost use Rattle.bq_load_laws.specs.Packages.Packages.{FilesMakeTheirPackages, OutcomesHaveTheirPackages, PackagesCount};
+ghost use Rattle.bq_load_laws.specs.Packages.Packages.{FilesMakeTheirPackages, OutcomesHaveTheirPackages};
 
 /// A BUILD file that runs to its end has a package, that of its own label, and a .bzl file has none, whatever either
 /// calls.
@@ -10,7 +10,8 @@ pub fn files_make_their_packages()
     ensures { FilesMakeTheirPackages }
 {}
 
-/// So have the modules of a load graph with their outcomes.
+/// So have the modules of a load graph with their outcomes: what a workspace has as the package of a BUILD file that ran to its end is the
+/// file's own.
 pub fn outcomes_have_their_packages()
     ensures { OutcomesHaveTheirPackages }
 {}
@@ -21,11 +22,6 @@ pub fn outcomes_have_their_packages()
 pub fn packages_declare_their_targets()
     ensures outcomes { OutcomesDeclareTheirTargets }
     ensures loaded { PackagesDeclareTheirTargets }
-{}
-
-/// A BUILD file that ran to its end is in the workspace with the package that it made; none is left out as another's.
-pub fn packages_count()
-    ensures { PackagesCount }
 {}
 
 /// Whatever the modules of BUILD files keep of their globals and of the cells that they made, each module has its outcome: nobody loads

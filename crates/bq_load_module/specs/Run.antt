@@ -1,6 +1,6 @@
 -- What the run of a file ends in: its module, or why it failed. The host has the package of the file. What a BUILD file made is given up
 -- once its package is finished: nobody loads one.
-use Rattle.std.specs.Prelude.{ℕ, List, [], Option, Some, None, Result, Ok, Err, option_map}
+use Rattle.std.specs.Prelude.{ℕ, List, [], Option, Some, None, Result, Ok, Err, option_map, option_and_then}
 use Rattle.bq_base.specs.Fault.{fault_as, kind_of_eval}
 use Rattle.bq_resolve_scope.specs.declared.file.ResolvedFile.{ResolvedFile}
 use Rattle.bq_value.specs.Cells.{FrozenView, frozen}
@@ -26,10 +26,6 @@ abbrev pub module_by : Ended → Option PackageTargets → Result ModuleView Fai
 module_by (evaluated made prints) p = Ok (module_with made prints (option_map finished p))
 module_by (failed why prints) p = Err (record { fault = fault_as kind_of_eval why; prints = prints })
 
--- the package that an evaluation declares
-abbrev pub package_left : Option HeldPackage → Option PackageTargets
-package_left None = None
-package_left (Some kept) = package_in kept
-
+-- what the run of a file ends in, with the package that it declares
 unfoldable pub module_after : ResolvedFile → List Datum → Run (State × HeldPackage) Frame → Result ModuleView FailedView
-module_after file values run = module_by (ended file values run) (package_left (kept_after run))
+module_after file values run = module_by (ended file values run) (option_and_then package_in (kept_after run))

@@ -51,7 +51,10 @@ impl BuiltIns {
                 }
             }
             Predeclared::RuleFunction(function) => Ok(Value::rule_function(function)),
-            function => Ok(Value::built_in(function)),
+            function => match function.name() {
+                None => Ok(Value::none()),
+                Some(_) => Ok(Value::built_in(function)),
+            },
         }
     }
 }

@@ -2,15 +2,12 @@
 -- spaces. A line is skipped that is blank or begins with `#`. No attribute of a schema has a default.
 use Rattle.std.specs.Prelude.{ℕ, List, [], ◌∷◌, Bool, true, false, not, ◌&&◌, ◌||◌, ◌==◌, Some, None, is_some, codes, bytes_eq, if◌then◌else◌}
 use Rattle.std.specs.List.{list_all, slice_split}
+use Rattle.bq_source.specs.Lexis.{is_blank}
 use Rattle.bq_parse_grammar.specs.Literals.{is_identifier}
 use Rattle.bq_resolve_predeclared.specs.Predeclared.{predeclared_named}
 use Rattle.bq_value_rule_class.specs.AttributeType.{type_named, common_attribute}
 use Rattle.bq_package_schema.specs.declared.line.Line.{Line}
 use Rattle.bq_package_schema.specs.declared.line.Line.TheVariants as line
-
--- a space or a tab
-abbrev pub is_blank : ℕ → Bool
-is_blank b = b == 32 || b == 9
 
 -- blank, or a comment
 unfoldable pub is_skipped : List ℕ → Bool

@@ -2,7 +2,8 @@
 
 ghost use Rattle.std.specs.Prelude.{◌≡◌, ◌==◌, map, codes, bytes_eq, if◌then◌else◌, IfOk};
 ghost use Rattle.std.specs.List.{list_all, slice_split};
-ghost use Rattle.bq_package_schema.specs.Line.{is_blank, is_skipped, words, rule_line, attribute_line, words_line, line_of};
+ghost use Rattle.bq_source.specs.Lexis.{is_blank};
+ghost use Rattle.bq_package_schema.specs.Line.{is_skipped, words, rule_line, attribute_line, words_line, line_of};
 ghost use Rattle.bq_package_schema.specs.declared.line.Line.TheVariants as line;
 
 use bq_base::Bytes;

@@ -5,7 +5,6 @@ use Rattle.bq_source.specs.declared.token.TokenKind.TheVariants as k
 use Rattle.bq_source.specs.Token.{same_kind}
 use Rattle.bq_source.specs.Lexis.{is_letter, is_word, word_kind}
 use Rattle.bq_parse_grammar.specs.declared.tree.Identifier.{Identifier}
-use Rattle.bq_parse_grammar.specs.declared.tree.Referent.{Referent}
 use Rattle.bq_parse_grammar.specs.declared.tree.Referent.TheVariants as referent
 use Rattle.bq_parse_grammar.specs.Lexeme.{Lexeme}
 
@@ -13,14 +12,9 @@ use Rattle.bq_parse_grammar.specs.Lexeme.{Lexeme}
 abbrev pub named : List ℕ → ℕ → Identifier
 named name line = record { name = name; referent = referent.Unresolved line }
 
--- on which line something stands that isn't resolved
-abbrev pub unresolved_line : Referent → ℕ
-unresolved_line (referent.Unresolved line) = line
-unresolved_line _ = 0
-
 -- on which line a name stands, until it is resolved
 abbrev pub name_line : Identifier → ℕ
-name_line n = unresolved_line n.referent
+name_line n = elim n.referent [ referent.Unresolved line ↦ line | _ ↦ 0 ]
 
 -- a word names by its spelling
 abbrev pub identifier : Lexeme → Identifier

@@ -10,10 +10,6 @@ use Rattle.bq_parse_grammar.specs.Statements.{IsTopLevel}
 use Rattle.bq_parse_grammar.specs.Nesting.{max_nesting, Nests}
 use Rattle.bq_parse_grammar.specs.LeftOut.{leaves_out, nested_def, barred_in_build}
 
--- the statement's tree is one that the language leaves out; with a `lambda` there are many trees, and all are left out
-abbrev pub IsLeftOut : List Lexeme → TopLevel → Type 0
-IsLeftOut ts x = (leaves_out ts || nested_def max_nesting false x.statement) ≡ true
-
 -- the statement's tokens and its tree have nothing that the language leaves out
 abbrev pub IsKept : List Lexeme → TopLevel → Type 0
 IsKept ts x = (leaves_out ts || nested_def max_nesting false x.statement) ≡ false
@@ -22,11 +18,12 @@ IsKept ts x = (leaves_out ts || nested_def max_nesting false x.statement) ≡ fa
 abbrev pub IsBarred : FileKind → List Lexeme → Type 0
 IsBarred kind ts = (kind ≡ file.Build) × (barred_in_build ts ≡ true)
 
--- F11 takes precedence over F10, F10 over F12, F12 over F13.
+-- F11 takes precedence over F10, F10 over F12, F12 over F13. With a `lambda` there are many trees, and all are left out.
 pub data ReadsAs (kind : FileKind) : List Lexeme → Result TopLevel StatementFault → Type 0 where
   too_deep : {ts : List Lexeme} → (Nests 0 ts → ⊥) → ReadsAs kind ts (Err f.Nesting)
   no_tree : {ts : List Lexeme} → Nests 0 ts → ((x : TopLevel) → IsTopLevel max_nesting ts x → ⊥) → ReadsAs kind ts (Err f.Syntax)
-  left_out : {ts : List Lexeme} {x : TopLevel} → Nests 0 ts → IsTopLevel max_nesting ts x → IsLeftOut ts x → ReadsAs kind ts (Err f.LeftOut)
+  left_out : {ts : List Lexeme} {x : TopLevel} → Nests 0 ts → IsTopLevel max_nesting ts x → (leaves_out ts || nested_def max_nesting false x.statement) ≡ true
+      → ReadsAs kind ts (Err f.LeftOut)
   not_in_build : {ts : List Lexeme} {x : TopLevel} → Nests 0 ts → IsTopLevel max_nesting ts x → IsKept ts x → IsBarred kind ts
       → ReadsAs kind ts (Err f.NotInBuild)
   read : {ts : List Lexeme} {x : TopLevel} → Nests 0 ts → IsTopLevel max_nesting ts x → IsKept ts x → (IsBarred kind ts → ⊥) → ReadsAs kind ts (Ok x)

@@ -6,8 +6,7 @@ use Rattle.bq_label.specs.Label.{PackageParts}
 use Rattle.bq_package_target.specs.declared.target.Target.{Target}
 use Rattle.bq_query_graph.specs.Marks.{IsSet, Marked}
 use Rattle.bq_query_lex.specs.declared.query_error.QueryErr.{QueryErr}
-use Rattle.bq_query_check.specs.declared.formula.Unary.{Unary}
-use Rattle.bq_query_check.specs.declared.formula.Binary.{Binary}
+use Rattle.bq_query_function.specs.Sets.{SetOfOne, SetOfTwo, OfOne, OfTwo}
 use Rattle.bq_query_check.specs.Formula.{Formula, named, let_in, one, two}
 use Rattle.bq_query_lex.specs.QueryError.{Meets}
 use Rattle.bq_query_target_pattern.specs.declared.pattern.TargetPattern.{TargetPattern}
@@ -15,7 +14,6 @@ use Rattle.bq_query_target_sets.specs.Words.{Those, one_names}
 use Rattle.bq_query_target_sets.specs.Missing.{first_missing}
 use Rattle.bq_query_target_graph.specs.Graph.{GraphParts}
 use Rattle.bq_query.specs.Stands.{Stands, Bound}
-use Rattle.bq_query.specs.Functions.{OfOne, OfTwo}
 use Rattle.bq_query.specs.Faults.{Has, Answers, fault_in}
 use Rattle.bq_query.proofs.Same.{one_stands, two_stand}
 use Rattle.bq_query.proofs.Formulas.{let_stands, popped}
@@ -46,18 +44,18 @@ named_answered marks w packages targets patterns bound result e f fault stands =
 
 -- ---- functions
 
-pub has_one : (w : GraphParts) (bound : Bound) (f : Unary) (a : Formula) (x r : List Bool) → Has w bound a x → IsSet (length w.targets) r (OfOne w f (Marked x)) → Has w bound (one f a) r
+pub has_one : (w : GraphParts) (bound : Bound) (f : SetOfOne) (a : Formula) (x r : List Bool) → Has w bound a x → IsSet (length w.targets) r (OfOne w f (Marked x)) → Has w bound (one f a) r
 has_one w bound f a x r h t = record { none = h.none; stands = one_stands (length w.targets) (length w.targets) x r (Stands w a bound) h.stands w f t }
 
 -- the first of two sets fails, or the second
-pub first_fails : (w : GraphParts) (f : Binary) (a b : Formula) (why : QueryErr) → fault_in w a ≡ Some why → fault_in w (two f a b) ≡ Some why
+pub first_fails : (w : GraphParts) (f : SetOfTwo) (a b : Formula) (why : QueryErr) → fault_in w a ≡ Some why → fault_in w (two f a b) ≡ Some why
 first_fails w f a b why h = ap (λ e. option_or e (fault_in w b)) h
 
-pub second_fails : (w : GraphParts) (f : Binary) (a b : Formula) (why : QueryErr) → fault_in w a ≡ None → fault_in w b ≡ Some why → fault_in w (two f a b) ≡ Some why
+pub second_fails : (w : GraphParts) (f : SetOfTwo) (a b : Formula) (why : QueryErr) → fault_in w a ≡ None → fault_in w b ≡ Some why → fault_in w (two f a b) ≡ Some why
 second_fails w f a b why none h = ap (λ e. option_or e (fault_in w b)) none ∙ h
 
 -- both have sets
-pub both_answered : (w : GraphParts) (f : Binary) (a b : Formula) (before middle after : Bound) (x y r : List Bool) → Has w before a x × (middle ≡ before)
+pub both_answered : (w : GraphParts) (f : SetOfTwo) (a b : Formula) (before middle after : Bound) (x y r : List Bool) → Has w before a x × (middle ≡ before)
     → Has w middle b y × (after ≡ middle) → IsSet (length w.targets) r (OfTwo w f (Marked x) (Marked y)) → Has w before (two f a b) r × (after ≡ before)
 both_answered w f a b before middle after x y r h k t =
     let second : Has w before b y = subst (λ (bs : Bound). Has w bs b y) h.1 k.0 in (

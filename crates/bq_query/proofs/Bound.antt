@@ -4,8 +4,7 @@ use Rattle.std.proofs.lemmas.List.{length-append}
 use Rattle.std.proofs.lemmas.List.Elements.{All-push}
 use Rattle.bq_query_graph.specs.Marks.{Marked}
 use Rattle.bq_query_check.specs.declared.formula.ChainStep.{ChainStep}
-use Rattle.bq_query_check.specs.declared.formula.Unary.{Unary}
-use Rattle.bq_query_check.specs.declared.formula.Binary.{Binary}
+use Rattle.bq_query_function.specs.Sets.{SetOfOne, SetOfTwo}
 use Rattle.bq_query_check.specs.Formula.{Formula, step_of, variable, let_in, one, two, chained, IsClosed, AreClosed}
 use Rattle.bq_query_check.proofs.Closed.{first_closed, further_closed}
 use Rattle.bq_query_target_graph.specs.Graph.{GraphParts}
@@ -26,14 +25,14 @@ variable_has w bound k r there sets same = record {
 pub bound_as : (w : GraphParts) (x y : Formula) (before after : Bound) → x ≡ y → after ≡ before → AreBound w x before → AreBound w y after
 bound_as w x y before after e f h = subst (λ (b : Bound). AreBound w y b) (sym f) (subst (λ (z : Formula). AreBound w z before) e h)
 
-pub one_bound : (w : GraphParts) (f : Unary) (a : Formula) (bound : Bound) → AreBound w (one f a) bound → AreBound w a bound
-one_bound w f a bound h = record { closed = h.closed; sets = h.sets }
+pub one_bound : (w : GraphParts) (s : SetOfOne) (a : Formula) (bound : Bound) → AreBound w (one s a) bound → AreBound w a bound
+one_bound w s a bound h = record { closed = h.closed; sets = h.sets }
 
-pub first_bound : (w : GraphParts) (f : Binary) (a b : Formula) (bound : Bound) → AreBound w (two f a b) bound → AreBound w a bound
-first_bound w f a b bound h = record { closed = h.closed.0; sets = h.sets }
+pub first_bound : (w : GraphParts) (s : SetOfTwo) (a b : Formula) (bound : Bound) → AreBound w (two s a b) bound → AreBound w a bound
+first_bound w s a b bound h = record { closed = h.closed.0; sets = h.sets }
 
-pub second_bound : (w : GraphParts) (f : Binary) (a b : Formula) (bound : Bound) → AreBound w (two f a b) bound → AreBound w b bound
-second_bound w f a b bound h = record { closed = h.closed.1; sets = h.sets }
+pub second_bound : (w : GraphParts) (s : SetOfTwo) (a b : Formula) (bound : Bound) → AreBound w (two s a b) bound → AreBound w b bound
+second_bound w s a b bound h = record { closed = h.closed.1; sets = h.sets }
 
 pub value_bound : (w : GraphParts) (a b : Formula) (bound : Bound) → AreBound w (let_in a b) bound → AreBound w a bound
 value_bound w a b bound h = record { closed = h.closed.0; sets = h.sets }

@@ -6,7 +6,7 @@ use Rattle.bq_query_target_graph.specs.Graph.{GraphParts}
 use Rattle.bq_query_check.specs.Formula.{Formula, let_in, combined, Step, chained}
 use Rattle.bq_query_lex.specs.declared.query_error.QueryErr.{QueryErr}
 use Rattle.bq_query.specs.Stands.{Stands, Bound}
-use Rattle.bq_query.specs.Functions.{Combined}
+use Rattle.bq_query.specs.Operators.{Combined}
 use Rattle.bq_query.specs.Faults.{fault_in, Has}
 use Rattle.bq_query.proofs.Same.{set_as, one_list, combined_stands}
 use Rattle.bq_query.proofs.Firsts.{fault_stays}

@@ -16,8 +16,8 @@ fault_in w (named patterns) = first_missing w.packages w.targets patterns
 fault_in w (variable k) = None
 fault_in w (let_in a b) = option_or (fault_in w a) (fault_in w b)
 fault_in w (combined o a b) = option_or (fault_in w a) (fault_in w b)
-fault_in w (one f a) = fault_in w a
-fault_in w (two f a b) = option_or (fault_in w a) (fault_in w b)
+fault_in w (one s a) = fault_in w a
+fault_in w (two s a b) = option_or (fault_in w a) (fault_in w b)
 
 -- nothing that the formula names is missing, and these are the marks of its set
 pub record Has (w : GraphParts) (bound : Bound) (x : Formula) (marks : List Bool) : Type 0 where

@@ -1,10 +1,10 @@
 -- What the definitions of queries say together.
-use Rattle.std.specs.Prelude.{◌≡◌, ◌↔◌, ◌⊎◌, ℕ, ◌<◌, Bool, List, length, slice_index_or}
+use Rattle.std.specs.Prelude.{◌≡◌, ◌↔◌, ◌⊎◌, ℕ, ◌<◌, Bool, List, length, slice_index_or, Some, None}
 use Rattle.std.specs.declared.cmp.Ordering.TheVariants.{Less}
 use Rattle.bq_query_graph.specs.Marks.{IsSet}
 use Rattle.bq_query_tree.specs.declared.tree.SetOperator.TheVariants as op
-use Rattle.bq_query_check.specs.declared.formula.Unary.TheVariants as unary
-use Rattle.bq_query_check.specs.declared.formula.Binary.TheVariants as binary
+use Rattle.bq_query_function.specs.declared.functions.QueryFunction.TheVariants as f
+use Rattle.bq_query_function.specs.Functions.{set_of_one, set_of_two}
 use Rattle.bq_query_check.specs.Formula.{Formula, variable, let_in, combined, one, two}
 use Rattle.bq_package_target.specs.declared.target.Target.{Target}
 use Rattle.bq_query_target_sets.specs.Order.{by_text}
@@ -19,17 +19,17 @@ pub record AreOfSets (w : GraphParts) (a b : Formula) (bound : Bound) (y : ℕ) 
 
 -- dependencies hold their argument, dependents and paths lie among dependencies, and by at most n edges there are no more
 pub record LieWithin (w : GraphParts) (a b : Formula) (n : ℕ) (bound : Bound) (y : ℕ) : Type 0 where
-  pub argument : Stands w a bound y → Stands w (one unary.Deps a) bound y
-  pub near : Stands w (one (unary.DepsWithin n) a) bound y → Stands w (one unary.Deps a) bound y
-  pub dependents : Stands w (two binary.Rdeps a b) bound y → Stands w (one unary.Deps a) bound y
-  pub near_dependents : Stands w (two (binary.RdepsWithin n) a b) bound y → Stands w (two binary.Rdeps a b) bound y
-  pub paths : Stands w (two binary.Allpaths a b) bound y → Stands w (one unary.Deps a) bound y
+  pub argument : Stands w a bound y → Stands w (one (set_of_one f.Deps None None None) a) bound y
+  pub near : Stands w (one (set_of_one f.Deps None None (Some n)) a) bound y → Stands w (one (set_of_one f.Deps None None None) a) bound y
+  pub dependents : Stands w (two (set_of_two f.Rdeps None None None) a b) bound y → Stands w (one (set_of_one f.Deps None None None) a) bound y
+  pub near_dependents : Stands w (two (set_of_two f.Rdeps None None (Some n)) a b) bound y → Stands w (two (set_of_two f.Rdeps None None None) a b) bound y
+  pub paths : Stands w (two (set_of_two f.Allpaths None None None) a b) bound y → Stands w (one (set_of_one f.Deps None None None) a) bound y
 
 -- `kind`, `filter` and `attr` keep members of their argument
 pub record Keep (w : GraphParts) (a : Formula) (name pattern : List ℕ) (bound : Bound) (y : ℕ) : Type 0 where
-  pub kind : Stands w (one (unary.Kind pattern) a) bound y → Stands w a bound y
-  pub filter : Stands w (one (unary.Filter pattern) a) bound y → Stands w a bound y
-  pub attr : Stands w (one (unary.Attr name pattern) a) bound y → Stands w a bound y
+  pub kind : Stands w (one (set_of_one f.Kind None (Some pattern) None) a) bound y → Stands w a bound y
+  pub filter : Stands w (one (set_of_one f.Filter None (Some pattern) None) a) bound y → Stands w a bound y
+  pub attr : Stands w (one (set_of_one f.Attr (Some name) (Some pattern) None) a) bound y → Stands w a bound y
 
 -- `let name = a in $name` is a
 abbrev pub IsItself : GraphParts → Formula → Bound → Type 0

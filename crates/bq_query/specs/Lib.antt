@@ -1,4 +1,4 @@
-pub mod Functions
+pub mod Operators
 pub mod Stands
 pub mod Faults
 pub mod Answer

@@ -8,7 +8,7 @@
 //! In reading order:
 //!
 //! - `bindings`: the sets that lets bind;
-//! - `functions`: functions and operators on sets;
+//! - `operators`: operators on sets;
 //! - `sets`: the sets of queries;
 //! - `whole`: whole queries;
 //! - `print`: the text of an answer;
@@ -16,8 +16,8 @@
 #![tactic(auto)]
 
 mod bindings;
-mod functions;
 pub mod laws;
+mod operators;
 mod print;
 mod sets;
 mod whole;

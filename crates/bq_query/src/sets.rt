@@ -1,31 +1,33 @@
 //! The sets of queries. A chain of operators is a list, so the calls are no deeper than the parentheses, lets and functions of the text.
 
 ghost use Rattle.std.specs.Prelude.{◌≡◌, ◌++◌, ◌∷◌, [], length, map};
+ghost use Rattle.bq_query_function.specs.Calls as call;
 ghost use Rattle.bq_query_check.specs.Formula as formula;
 ghost use Rattle.bq_query_check.specs.Formula.{Formula, formula_of, step_of, chained, AreClosed};
 ghost use Rattle.bq_query.specs.Stands.{AreSets};
 ghost use Rattle.bq_query.specs.Faults.{Answers, AreBound, Has};
 
 use crate::bindings::{bind, set_bound};
-use crate::functions::{combined, of_one, of_two};
-use bq_query_check::{ChainStep, SetExpr, Unary};
+use crate::operators::combined;
+use bq_query_check::{ChainStep, SetExpr};
+use bq_query_function::{Call, of_one, of_two};
 use bq_query_lex::QueryErr;
 use bq_query_target_graph::TargetGraph;
 use bq_query_target_sets::targets_named;
 use sqlite_items::Items;
 use std::alloc::Global;
 
-/// Returns the set of a function of one set.
+/// Returns the set of a call of a function of one set.
 #[cycle(sets)]
 fn one_of(
     alloc: Global,
     graph: &TargetGraph,
     bound: &mut Items<Items<bool>>,
-    function: &Unary,
+    function: &Call,
     argument: &SetExpr,
 ) -> Result<Vec<bool>, QueryErr>
     requires { AreBound graph.now (formula_of argument.now) bound.old }
-    ensures { Answers (λ v. v.items) graph.now (formula.one function.now (formula_of argument.now)) bound.old bound.old result bound.new }
+    ensures { Answers (λ v. v.items) graph.now (formula.one (call.of_one function.now) (formula_of argument.now)) bound.old bound.old result bound.new }
 {
     let x = set_of(alloc, graph, bound, argument)?;
     Ok(of_one(alloc, graph, function, &x)?)
@@ -109,7 +111,7 @@ pub fn set_of(
             let second = y.get();
             let x = set_of(alloc, graph, bound, first)?;
             let y = set_of(alloc, graph, bound, second)?;
-            Ok(of_two(alloc, graph, *function, &x, &y)?)
+            Ok(of_two(alloc, graph, function, &x, &y)?)
         }
     }
 }

@@ -6,7 +6,7 @@ use Rattle.std.proofs.lemmas.Bool.{cases_eq, false≢true}
 use Rattle.std.proofs.lemmas.Slice.Eq.{bytes_eq-Decides}
 use Rattle.bq_query_tree.specs.declared.tree.SetOperation.{SetOperation}
 use Rattle.bq_query_tree.specs.declared.tree.Query.{Query}
-use Rattle.bq_query_lex.specs.declared.function.QueryArgumentKind.{QueryArgumentKind}
+use Rattle.bq_query_function.specs.declared.signature.QueryArgumentKind.{QueryArgumentKind}
 use Rattle.bq_query_check.specs.Call.{Given}
 use Rattle.bq_query_check.proofs.Calls.{none_some, same_some, IsApplied, called_is_applied}
 use Rattle.bq_query_check.specs.Formula.{Formula, Step, named, variable, let_in, combined, chained, step_of, formula_of, IsClosed, AreClosed}
@@ -103,7 +103,7 @@ mutual
   formula_closed (IsFormulaOf.bound {ns = ns} {y = y} {n = n} e b) = as_said (length ns) y (variable b.0) b.2 (place_below ns b.0 n b.1.there)
   formula_closed (IsFormulaOf.parenthesized e h) = formula_closed h
   formula_closed (IsFormulaOf.set_of {ns = ns} {y = y} e f) = as_said (length ns) y (named f.0) f.2 tt
-  formula_closed (IsFormulaOf.call {ns = ns} {y = y} {f = f} {g = g} e k h c) = applied_closed (length ns) (called_is_applied f g y c) (arguments_closed h tt)
+  formula_closed (IsFormulaOf.call {ns = ns} {y = y} {row = row} {g = g} e k h c) = applied_closed (length ns) (called_is_applied row g y c) (arguments_closed h tt)
   formula_closed (IsFormulaOf.binding {ns = ns} {y = y} {a = a} {b = b} {n = n} e h k f) =
       as_said (length ns) y (let_in a b) f (formula_closed h, subst (λ (m : ℕ). IsClosed m b) (length-append ns (n ∷ [])) (formula_closed k))
   formula_closed (IsFormulaOf.chain {ns = ns} {y = y} {a = a} {steps = ss} e h s f) =

@@ -1,11 +1,11 @@
 -- What a query that was checked says: sets made of sets. Contracts see this of a `SetExpr`: a chain of operators is done from left to
--- right, and a regular expression is its bytes.
+-- right, a call is the set that its function stands for, and a regular expression is its bytes.
 use Rattle.std.specs.Prelude.{ℕ, ◌+◌, ◌<◌, List, [], ◌∷◌}
 use Rattle.std.specs.Coded.{×_prop, Unit-prop, le_prop}
 use Rattle.bq_query_target_pattern.specs.declared.pattern.TargetPattern.{TargetPattern}
 use Rattle.bq_query_tree.specs.declared.tree.SetOperator.{SetOperator}
-use Rattle.bq_query_check.specs.declared.formula.Unary.{Unary}
-use Rattle.bq_query_check.specs.declared.formula.Binary.{Binary}
+use Rattle.bq_query_function.specs.Sets.{SetOfOne, SetOfTwo}
+use Rattle.bq_query_function.specs.Calls.{of_one, of_two}
 use Rattle.bq_query_check.specs.declared.formula.SetExpr.{SetExpr, fold-SetExpr}
 use Rattle.bq_query_check.specs.declared.formula.ChainStep.{ChainStep, fold-ChainStep}
 use Rattle.bq_query_check.specs.declared.formula.SetExpr.TheOpen as query
@@ -21,10 +21,10 @@ pub data Formula : Type 0 where
   let_in : Formula → Formula → Formula
   -- `x + y`, `x ^ y`, `x - y`
   combined : SetOperator → Formula → Formula → Formula
-  -- a function of one set: `deps(x)`, `kind(pattern, x)`, ..
-  one : Unary → Formula → Formula
-  -- a function of two: `rdeps(u, x)`, `allpaths(x, y)`
-  two : Binary → Formula → Formula → Formula
+  -- a set that is made of one: `deps(x)`, `kind(pattern, x)`, ..
+  one : SetOfOne → Formula → Formula
+  -- a set that is made of two: `rdeps(u, x)`, `allpaths(x, y)`
+  two : SetOfTwo → Formula → Formula → Formula
 
 -- a further operand of a chain
 pub record Step : Type 0 where
@@ -46,8 +46,8 @@ query_step (query.Named ps) = named ps
 query_step (query.Variable k) = variable k
 query_step (query.Let x y) = let_in x y
 query_step (query.Chain x os) = chained x os
-query_step (query.One f x) = one f x
-query_step (query.Two f x y) = two f x y
+query_step (query.One call x) = one (of_one call) x
+query_step (query.Two call x y) = two (of_two call) x y
 
 -- the formula of a checked query
 abbrev pub formula_of : SetExpr → Formula
@@ -62,16 +62,16 @@ IsClosed n (named patterns) = Unit {0}
 IsClosed n (variable k) = k < n
 IsClosed n (let_in x y) = IsClosed n x × IsClosed (n + 1) y
 IsClosed n (combined o x y) = IsClosed n x × IsClosed n y
-IsClosed n (one f x) = IsClosed n x
-IsClosed n (two f x y) = IsClosed n x × IsClosed n y
+IsClosed n (one s x) = IsClosed n x
+IsClosed n (two s x y) = IsClosed n x × IsClosed n y
 
 pub IsClosed-prop : (n : ℕ) (x : Formula) → IsProp (IsClosed n x)
 IsClosed-prop n (named patterns) = Unit-prop
 IsClosed-prop n (variable k) = le_prop
 IsClosed-prop n (let_in x y) = ×_prop (IsClosed-prop n x) (IsClosed-prop (n + 1) y)
 IsClosed-prop n (combined o x y) = ×_prop (IsClosed-prop n x) (IsClosed-prop n y)
-IsClosed-prop n (one f x) = IsClosed-prop n x
-IsClosed-prop n (two f x y) = ×_prop (IsClosed-prop n x) (IsClosed-prop n y)
+IsClosed-prop n (one s x) = IsClosed-prop n x
+IsClosed-prop n (two s x y) = ×_prop (IsClosed-prop n x) (IsClosed-prop n y)
 
 -- so is each of the further operands of a chain
 abbrev pub AreClosed : ℕ → List Step → Type 0

@@ -1,9 +1,9 @@
 -- Which tree has which formula: a case for each form of query (Bazel query reference, "Expressions" and "Functions").
 use Rattle.std.specs.Prelude.{◌≡◌, ◌≢◌, ℕ, ◌+◌, ◌*◌, ◌-◌, ◌^◌, ◌<◌, min, List, [], ◌∷◌, ◌++◌, Some, slice_get}
-use Rattle.bq_query_lex.specs.declared.function.QueryFunction.{QueryFunction}
-use Rattle.bq_query_lex.specs.declared.function.QueryArgumentKind.{QueryArgumentKind}
-use Rattle.bq_query_lex.specs.declared.function.QueryArgumentKind.TheVariants as kind
-use Rattle.bq_query_lex.specs.Functions.{function_named, parameters_of}
+use Rattle.bq_query_function.specs.declared.signature.QueryArgumentKind.{QueryArgumentKind}
+use Rattle.bq_query_function.specs.declared.signature.QueryArgumentKind.TheVariants as kind
+use Rattle.bq_query_function.specs.Functions.{Row}
+use Rattle.bq_query_function.specs.Calls.{function_named}
 use Rattle.bq_query_target_pattern.specs.declared.pattern.TargetPattern.{TargetPattern}
 use Rattle.bq_query_target_pattern.specs.Reading.{ArePatternsOf}
 use Rattle.bq_query_tree.specs.declared.tree.Query.{Query}
@@ -62,8 +62,8 @@ mutual
     -- `set(word ..)`
     set_of : {ns : List (List ℕ)} {x : Query} {y : Formula} {ws : List (List ℕ)} → x ≡ tree.Set ws → IsNamed ws y → IsFormulaOf ns x y
     -- `function(argument, ..)`
-    call : {ns : List (List ℕ)} {x : Query} {y : Formula} {name : List ℕ} {xs : List Query} {f : QueryFunction} {g : Given} → x ≡ tree.Call name xs
-        → function_named name ≡ Some f → AreArgumentsOf ns (parameters_of f) xs nothing g → called f g ≡ Some y → IsFormulaOf ns x y
+    call : {ns : List (List ℕ)} {x : Query} {y : Formula} {name : List ℕ} {xs : List Query} {row : Row} {g : Given} → x ≡ tree.Call name xs
+        → function_named name ≡ Some row → AreArgumentsOf ns row.parameters xs nothing g → called row g ≡ Some y → IsFormulaOf ns x y
     -- `let n = value in body`
     binding : {ns : List (List ℕ)} {x value body : Query} {y a b : Formula} {n : List ℕ} → x ≡ tree.Let n value body → IsFormulaOf ns value a
         → IsFormulaOf (ns ++ n ∷ []) body b → y ≡ let_in a b → IsFormulaOf ns x y
@@ -96,4 +96,4 @@ mutual
 
 -- the function of this name with these arguments
 abbrev pub IsCallNamed : List ℕ → List (List ℕ) → List Query → Formula → Type 0
-IsCallNamed name ns xs y = (f : QueryFunction) × (g : Given) × (function_named name ≡ Some f) × AreArgumentsOf ns (parameters_of f) xs nothing g × (called f g ≡ Some y)
+IsCallNamed name ns xs y = (row : Row) × (g : Given) × (function_named name ≡ Some row) × AreArgumentsOf ns row.parameters xs nothing g × (called row g ≡ Some y)

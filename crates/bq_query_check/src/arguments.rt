@@ -1,6 +1,6 @@
 //! Arguments that are one word: patterns, names of attributes, and numbers of edges.
 
-ghost use Rattle.bq_query_lex.specs.declared.function.QueryArgumentKind.TheVariants as kind;
+ghost use Rattle.bq_query_function.specs.declared.signature.QueryArgumentKind.TheVariants as kind;
 ghost use Rattle.bq_query_verdict.specs.Verdict.{argument, part_of};
 ghost use Rattle.bq_query_check.specs.Checked.{Reads};
 ghost use Rattle.bq_query_check.specs.FormulaOf.{IsNumber, IsWord};

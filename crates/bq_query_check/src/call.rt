@@ -1,12 +1,13 @@
 //! Calls of functions, once their arguments are read.
 
 ghost use Rattle.std.specs.Prelude.{◌≡◌, Some, true, is_some};
-ghost use Rattle.bq_query_check.specs.Call.{set_function, called, given, nothing};
+ghost use Rattle.bq_query_function.specs.Calls.{row_of};
+ghost use Rattle.bq_query_check.specs.Call.{called, given, nothing};
 ghost use Rattle.bq_query_check.specs.Formula.{formula_of};
 
-use crate::formula::{Binary, SetExpr, Unary};
+use crate::formula::SetExpr;
 use bq_base::Bytes;
-use bq_query_lex::QueryFunction;
+use bq_query_function::{Call, Signature};
 use bq_query_pattern::QueryPattern;
 use sqlite_items::{Boxed, Items};
 use std::alloc::Global;
@@ -35,44 +36,11 @@ impl Arguments {
     }
 }
 
-/// A function with its arguments that aren't sets: one of one set or of two.
-#[derive(Drop)]
-pub enum SetFunction {
-    One(Unary),
-    Two(Binary),
-}
-
-/// Returns the function with these arguments. Returns `None` if one that it needs isn't there.
-fn set_function(
-    function: QueryFunction,
-    attribute: Option<Bytes>,
-    pattern: Option<QueryPattern>,
-    limit: Option<usize>,
-) -> Option<SetFunction>
-    ensures { result ≡ set_function function attribute pattern limit }
-{
-    Some(match function {
-        QueryFunction::Allpaths => SetFunction::Two(Binary::Allpaths),
-        QueryFunction::Attr => SetFunction::One(Unary::Attr(attribute?, pattern?)),
-        QueryFunction::Deps => match limit {
-            None => SetFunction::One(Unary::Deps),
-            Some(limit) => SetFunction::One(Unary::DepsWithin(limit)),
-        },
-        QueryFunction::Filter => SetFunction::One(Unary::Filter(pattern?)),
-        QueryFunction::Kind => SetFunction::One(Unary::Kind(pattern?)),
-        QueryFunction::Labels => SetFunction::One(Unary::Labels(attribute?)),
-        QueryFunction::Rdeps => match limit {
-            None => SetFunction::Two(Binary::Rdeps),
-            Some(limit) => SetFunction::Two(Binary::RdepsWithin(limit)),
-        },
-    })
-}
-
-/// Returns what the call of a function says. Where arguments are read by the table of functions, none that it needs is
-/// missing (`proofs/Calls.antt`).
-pub fn called(function: QueryFunction, arguments: Arguments) -> SetExpr
-    requires { is_some (called function (given arguments)) ≡ true }
-    ensures { called function (given arguments) ≡ Some (formula_of result) }
+/// Returns what the call of a function says. Where arguments are read by its parameters, it has one set or two
+/// (`proofs/Calls.antt`).
+pub fn called(signature: Signature, arguments: Arguments) -> SetExpr
+    requires { is_some (called (row_of signature) (given arguments)) ≡ true }
+    ensures { called (row_of signature) (given arguments) ≡ Some (formula_of result) }
 {
     let Arguments {
         mut sets,
@@ -80,11 +48,15 @@ pub fn called(function: QueryFunction, arguments: Arguments) -> SetExpr
         pattern,
         limit,
     } = arguments;
-    match set_function(function, attribute, pattern, limit).unwrap() {
-        SetFunction::One(function) => SetExpr::One(function, sets.pop().unwrap()),
-        SetFunction::Two(function) => {
-            let second = sets.pop().unwrap();
-            SetExpr::Two(function, sets.pop().unwrap(), second)
-        }
+    let call = Call {
+        function: signature.function,
+        attribute,
+        pattern,
+        limit,
+    };
+    let last = sets.pop().unwrap();
+    match sets.pop() {
+        Some(first) => SetExpr::Two(call, first, last),
+        None => SetExpr::One(call, last),
     }
 }

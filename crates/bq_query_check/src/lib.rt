@@ -27,5 +27,5 @@ mod parse;
 mod trees;
 
 pub use checked::CheckedQuery;
-pub use formula::{Binary, ChainStep, SetExpr, Unary};
+pub use formula::{ChainStep, SetExpr};
 pub use parse::parse_query;

@@ -14,7 +14,8 @@ use crate::call::{Arguments, called};
 use crate::formula::{ChainStep, SetExpr};
 use crate::names::{innermost, with_name};
 use bq_base::Bytes;
-use bq_query_lex::{QueryArgumentKind, QueryErr};
+use bq_query_function::QueryArgumentKind;
+use bq_query_lex::QueryErr;
 use bq_query_target_pattern::read_patterns;
 use bq_query_tree::{Query, SetOperation};
 use bq_query_verdict::function;
@@ -108,9 +109,9 @@ fn call(
 ) -> Result<SetExpr, QueryErr>
     ensures { Reads (spec.call name.now (map part_of queries.now) names.now) (λ r. IsCallNamed name.now names.now queries.now (formula_of r)) result }
 {
-    let function = function(name, queries.len())?;
-    let arguments = arguments(alloc, names, function.parameters(), queries)?;
-    Ok(called(function, arguments))
+    let signature = function(name, queries.len())?;
+    let arguments = arguments(alloc, names, signature.parameters, queries)?;
+    Ok(called(signature, arguments))
 }
 
 /// Reads the further operands of a chain.

@@ -2,5 +2,4 @@ pub mod QueryError
 pub mod Lexis
 pub mod Reading
 pub mod Laws
-pub mod Functions
 pub mod TargetPatterns

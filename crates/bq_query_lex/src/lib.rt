@@ -1,4 +1,4 @@
-//! The bytes of a query come in; its tokens go out. The table of functions and the errors that users see are here too.
+//! The bytes of a query come in; its tokens go out. The errors that users see are here too.
 //!
 //! The promise: `lex_query` returns the tokens that the text is cut into, and Q1 exactly if it can't be cut
 //! (`specs/Reading.antt`).
@@ -9,12 +9,10 @@
 //! - `token`: the kinds of tokens;
 //! - `lexis`: which bytes are a token at the front of a text;
 //! - `lexer`: the tokens of a whole text;
-//! - `function`: the functions and their parameters;
 //! - `target_pattern`: which form a word has as a target pattern;
 //! - `laws`: what the tokens of a text are, said of the text.
 #![tactic(auto)]
 
-mod function;
 pub mod laws;
 mod lexer;
 mod lexis;
@@ -22,7 +20,6 @@ mod query_error;
 mod target_pattern;
 mod token;
 
-pub use function::{QueryArgumentKind, QueryFunction, function_named, is_left_out};
 pub use lexer::lex_query;
 pub use lexis::is_variable_name;
 pub use query_error::QueryErr;

@@ -10,5 +10,5 @@ pub mod Packages
 pub mod Named
 -- packages and targets that are found, or not
 pub mod Found
--- the targets that attributes name, one rule after another
-pub mod LabelSets
+-- the targets to which those of a set are related, one after another
+pub mod RelatedSets

@@ -8,7 +8,7 @@ use Rattle.std.proofs.lemmas.List.{get_or_past, get_or_push, get_or_append_left,
 use Rattle.bq_query_graph.specs.Marks.{IsSet, Marked}
 use Rattle.bq_package_target.specs.declared.target.Target.{Target}
 use Rattle.bq_query_target_sets.specs.Words.{Those, Adds, Range}
-use Rattle.bq_query_target_sets.specs.Matching.{Keeps}
+use Rattle.bq_query_target_sets.specs.Matching.{Chosen, Keeps}
 
 -- which targets pass, as marks
 abbrev pub passes : (Target → Bool) → List Target → ℕ → Bool
@@ -166,7 +166,7 @@ both_true : (a b c : Bool) → a ≡ (b && c) → (a ≡ true → (b ≡ true) �
 both_true a true c e = (λ h. (refl, sym e ∙ h), λ p. e ∙ p.1)
 both_true a false c e = (λ h. absurd (cc (h, e)), λ p. absurd (cc p.0))
 
-pub set_from_kept : (f : Target → Bool) (targets : List Target) (x kept : List Bool) → Keeps f targets x kept → IsSet (length targets) kept (λ y. Marked x y × Those f targets y)
+pub set_from_kept : (f : Target → Bool) (targets : List Target) (x kept : List Bool) → Keeps f targets x kept → IsSet (length targets) kept (Chosen f targets (Marked x))
 set_from_kept f targets x kept keeps = (keeps.0, λ y. both_true (get_or kept y false) (get_or x y false) (passes f targets y) (keeps.1 y))
 
 -- what holds of a call that succeeds

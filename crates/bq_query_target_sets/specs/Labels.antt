@@ -25,6 +25,14 @@ labels_named name t = if is_rule t then elim (given name t) [ Some a ↦ labels_
 abbrev pub is_among : List LabelParts → Target → Bool
 is_among ls t = list_any (λ l. is_text (full_form l) t) ls
 
+-- the attribute of this name of the first target names the second
+abbrev pub is_named_by : List ℕ → Target → Target → Bool
+is_named_by name t = is_among (labels_named name t)
+
+-- the targets to which one of the set is related
+abbrev pub Related : (Target → Target → Bool) → List Target → (ℕ → Type 0) → ℕ → Type 0
+Related names targets X y = (k : ℕ) × X k × IsSomeAnd (slice_get targets k) (λ t. Those (names t) targets y)
+
 -- `labels(name, x)`: the targets whose labels are in the attribute of a target of the set
 abbrev pub Labels : List ℕ → List Target → (ℕ → Type 0) → ℕ → Type 0
-Labels name targets X y = (k : ℕ) × X k × IsSomeAnd (slice_get targets k) (λ t. Those (is_among (labels_named name t)) targets y)
+Labels name targets X y = Related (is_named_by name) targets X y

@@ -4,6 +4,7 @@ use Rattle.bq_query_pattern.specs.Patterns.{is_found}
 use Rattle.bq_package_target.specs.declared.target.Target.{Target}
 use Rattle.bq_query_target_sets.specs.Order.{text_of}
 use Rattle.bq_query_target_sets.specs.Texts.{kind_text, attribute_text}
+use Rattle.bq_query_target_sets.specs.Words.{Those}
 
 -- the pattern is found anywhere in the text, if there is one
 abbrev pub is_match : List ℕ → Option (List ℕ) → Bool
@@ -21,6 +22,10 @@ has_text pattern t = is_found pattern (text_of t)
 -- `attr(name, pattern, ..)`
 abbrev pub has_attribute : List ℕ → List ℕ → Target → Bool
 has_attribute name pattern t = elim (attribute_text name t) [ Some text ↦ is_found pattern text | None ↦ false ]
+
+-- `kind`, `filter`, `attr`: the targets of the set that pass a test
+abbrev pub Chosen : (Target → Bool) → List Target → (ℕ → Type 0) → ℕ → Type 0
+Chosen test targets X y = X y × Those test targets y
 
 -- of the set x, the targets that pass the test
 abbrev pub Keeps : (Target → Bool) → List Target → List Bool → List Bool → Type 0

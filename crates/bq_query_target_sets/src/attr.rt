@@ -4,8 +4,7 @@
 
 ghost use Rattle.std.specs.Prelude.{◌≡◌, length, IfOk};
 ghost use Rattle.bq_query_graph.specs.Marks.{IsSet, Marked};
-ghost use Rattle.bq_query_target_sets.specs.Words.{Those};
-ghost use Rattle.bq_query_target_sets.specs.Matching.{has_attribute};
+ghost use Rattle.bq_query_target_sets.specs.Matching.{Chosen, has_attribute};
 
 use crate::matching::matching;
 use crate::text::Subject;
@@ -21,7 +20,7 @@ pub fn attr(
     x: &[bool],
 ) -> Result<Vec<bool>, AllocError>
     requires { length x.now ≡ length targets.now }
-    ensures { IfOk result (λ r. IsSet (length targets.now) r.items (λ y. Marked x.now y × Those (has_attribute name.now pattern.now) targets.now y)) }
+    ensures { IfOk result (λ r. IsSet (length targets.now) r.items (Chosen (has_attribute name.now pattern.now) targets.now (Marked x.now))) }
 {
     matching(alloc, targets, Subject::Attribute(name), pattern, x)
 }

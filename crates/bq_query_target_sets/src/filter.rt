@@ -2,8 +2,7 @@
 
 ghost use Rattle.std.specs.Prelude.{◌≡◌, length, IfOk};
 ghost use Rattle.bq_query_graph.specs.Marks.{IsSet, Marked};
-ghost use Rattle.bq_query_target_sets.specs.Words.{Those};
-ghost use Rattle.bq_query_target_sets.specs.Matching.{has_text};
+ghost use Rattle.bq_query_target_sets.specs.Matching.{Chosen, has_text};
 
 use crate::matching::matching;
 use crate::text::Subject;
@@ -18,7 +17,7 @@ pub fn filter(
     x: &[bool],
 ) -> Result<Vec<bool>, AllocError>
     requires { length x.now ≡ length targets.now }
-    ensures { IfOk result (λ r. IsSet (length targets.now) r.items (λ y. Marked x.now y × Those (has_text pattern.now) targets.now y)) }
+    ensures { IfOk result (λ r. IsSet (length targets.now) r.items (Chosen (has_text pattern.now) targets.now (Marked x.now))) }
 {
     matching(alloc, targets, Subject::Label, pattern, x)
 }

@@ -28,5 +28,6 @@ mod pattern;
 mod set;
 mod text;
 
+pub use pattern::add_package;
 pub use set::{no_target, targets_named};
 pub use text::{write_kind, write_label};

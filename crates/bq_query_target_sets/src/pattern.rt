@@ -134,7 +134,7 @@ fn add_beneath(
 }
 
 /// Adds the targets of a package, and with `deep` those of the packages beneath it; with `rules` only the rules.
-fn add_package(
+pub fn add_package(
     alloc: Global,
     targets: &[Target],
     id: &PackageId,

@@ -10,13 +10,9 @@ pub record Lexeme : Type 0 where
   pub kind : QueryTokenKind
   pub spelling : List ℕ
 
--- a token of a text
-abbrev pub lexeme : List ℕ → QueryToken → Lexeme
-lexeme text t = record { kind = t.kind; spelling = slice_range text t.start t.end }
-
 -- the tokens of a text, with their spellings
 abbrev pub lexemes : List ℕ → List QueryToken → List Lexeme
-lexemes text ts = map (lexeme text) ts
+lexemes text ts = map (λ t. record { kind = t.kind; spelling = slice_range text t.start t.end }) ts
 
 unfoldable pub same_kind : QueryTokenKind → QueryTokenKind → Bool
 same_kind = sameb the_type

@@ -6,10 +6,10 @@ use Rattle.std.specs.Option.{option_map, option_or, unwrap_or}
 use Rattle.bq_source.specs.Lexis.{is_digit}
 use Rattle.bq_query_lex.specs.declared.query_error.QueryErr.{QueryErr}
 use Rattle.bq_query_lex.specs.declared.query_error.QueryErr.TheVariants as e
-use Rattle.bq_query_lex.specs.declared.function.QueryFunction.{QueryFunction}
-use Rattle.bq_query_lex.specs.declared.function.QueryArgumentKind.{QueryArgumentKind}
-use Rattle.bq_query_lex.specs.declared.function.QueryArgumentKind.TheVariants as kind
-use Rattle.bq_query_lex.specs.Functions.{function_named, is_left_out, parameters_of, mandatory_of}
+use Rattle.bq_query_function.specs.declared.signature.QueryArgumentKind.{QueryArgumentKind}
+use Rattle.bq_query_function.specs.declared.signature.QueryArgumentKind.TheVariants as kind
+use Rattle.bq_query_function.specs.Functions.{Row}
+use Rattle.bq_query_function.specs.Calls.{function_named, is_left_out, mandatory}
 use Rattle.bq_query_target_pattern.specs.Reading.{word_fault, words_fault}
 use Rattle.bq_query_tree.specs.declared.tree.Query.{Query, fold-Query}
 use Rattle.bq_query_tree.specs.declared.tree.SetOperation.{SetOperation, fold-SetOperation}
@@ -31,12 +31,12 @@ abbrev pub unknown : List ℕ → QueryErr
 unknown name = if is_left_out name then e.LeftOut name else e.UnknownFunction name
 
 -- a function takes so many arguments
-abbrev pub fits : QueryFunction → ℕ → Bool
-fits f n = nat_le (mandatory_of f) n && nat_le n (length (parameters_of f))
+abbrev pub fits : Row → ℕ → Bool
+fits row n = nat_le (mandatory row.parameters) n && nat_le n (length row.parameters)
 
 -- the fault of the call of a function with a number of arguments
 abbrev pub function : List ℕ → ℕ → Fault
-function name n = elim (function_named name) [ Some f ↦ if fits f n then None else Some e.Arguments | None ↦ Some (unknown name) ]
+function name n = elim (function_named name) [ Some row ↦ if fits row n then None else Some e.Arguments | None ↦ Some (unknown name) ]
 
 -- a number of edges: 1 to 9 digits
 abbrev pub is_number : List ℕ → Bool
@@ -83,7 +83,7 @@ parts xs names = flat_map (λ x. x.all names) xs
 
 -- a call needs a function that takes so many arguments, and what they need
 abbrev pub call : List ℕ → List Part → List (List ℕ) → List Need
-call name xs names = no_fault (function name (length xs)) ∷ arguments (unwrap_or (option_map parameters_of (function_named name)) []) xs names
+call name xs names = no_fault (function name (length xs)) ∷ arguments (unwrap_or (option_map (λ row. row.parameters) (function_named name)) []) xs names
 
 -- a part that is no word, with no fault at its first token
 abbrev pub larger : (List (List ℕ) → List Need) → Part

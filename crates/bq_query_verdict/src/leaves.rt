@@ -2,14 +2,16 @@
 
 ghost use Rattle.std.specs.Prelude.{◌≡◌, Some, IfOk, bytes_eq};
 ghost use Rattle.std.specs.List.{list_any, list_all};
-ghost use Rattle.bq_query_lex.specs.Functions as table;
+ghost use Rattle.bq_query_function.specs.Calls as table;
+ghost use Rattle.bq_query_function.specs.Calls.{row_of};
 ghost use Rattle.bq_query_lex.specs.QueryError.{Meets};
 ghost use Rattle.bq_query_target_pattern.specs.Reading.{word_fault};
 ghost use Rattle.bq_source.specs.Lexis.{is_digit};
 ghost use Rattle.bq_query_verdict.specs.Verdict as spec;
 
 use bq_base::Bytes;
-use bq_query_lex::{QueryErr, QueryFunction, function_named, is_left_out};
+use bq_query_function::{Signature, function_named, is_left_out};
+use bq_query_lex::QueryErr;
 use bq_query_target_pattern::read_pattern;
 use std::alloc::{AllocError, Global};
 
@@ -54,22 +56,22 @@ fn unknown(name: &Bytes) -> Result<QueryErr, AllocError>
     Ok(QueryErr::UnknownFunction(name.share()?))
 }
 
-fn fits(function: QueryFunction, count: usize) -> bool
-    ensures { result ≡ spec.fits function count }
+fn fits(signature: Signature, count: usize) -> bool
+    ensures { result ≡ spec.fits (row_of signature) count }
 {
-    function.mandatory() <= count && count <= function.parameters().len()
+    signature.mandatory() <= count && count <= signature.parameters.len()
 }
 
-/// Returns the function of a call. Fails with Q2 or Q3 if the name isn't that of a function that can be answered, with
+/// Returns the function of a call, and what its arguments must be. Fails with Q2 or Q3 if the name isn't that of a function that can be answered, with
 /// Q8 if the number of its arguments is wrong.
-pub fn function(name: &Bytes, count: usize) -> Result<QueryFunction, QueryErr>
+pub fn function(name: &Bytes, count: usize) -> Result<Signature, QueryErr>
     ensures fault { Meets (spec.function name.now count) result }
-    ensures function { IfOk result (λ f. table.function_named name.now ≡ Some f) }
+    ensures function { IfOk result (λ s. table.function_named name.now ≡ Some (row_of s)) }
 {
     match function_named(name.as_slice()) {
-        Some(function) => {
-            if fits(function, count) {
-                Ok(function)
+        Some(signature) => {
+            if fits(signature, count) {
+                Ok(signature)
             } else {
                 Err(QueryErr::Arguments)
             }

@@ -44,7 +44,7 @@ use Rattle.bq_resolve_by_name.specs.Violations.{first, in_turn, when, Before, no
 use Rattle.bq_resolve_by_name.proofs.Cases.{after_by}
 use Rattle.bq_resolve_by_name.proofs.Binds.{function_binds, file_binds}
 use Rattle.bq_resolve_by_name.proofs.Finds.{before, Finding, Tells, Finds, Holds, all_on, first_left, tells_bind, tells_map, tells_two, tells_as, tells_each, tells_all, finds_map, finds_two, finds_bind, finds_held}
-use Rattle.bq_resolve_by_name.proofs.UnknownNames.{one_kind, global_tells}
+use Rattle.bq_resolve_by_name.proofs.UnknownNames.{global_tells}
 use Rattle.bq_resolve_by_name.proofs.FaultyExpressions.{expr_finds}
 use Rattle.bq_resolve_by_name.proofs.FaultyStatements.{an_expr_finds, in_loop_finds, stmt_finds}
 
@@ -111,9 +111,7 @@ module _ (file : FileParts) where
       let rebound : Fault NameFault = fault_of f.Rebound x.local in
       let names : List Name = with_name u.loaded x.local.name in
       let before_it : Bool = has u.bound x.local.name in
-      subst (λ k. Finding {A = LoadedSymbol} (if has u.loaded x.local.name then twice ∷ [] else when (k && before_it) rebound) (record (before u) { loaded = names })
-      (if has u.loaded x.local.name then Err twice else (if is_bzl file.universe.kind && before_it then Err rebound else Ok (y, record u { loaded = names }))))
-      (one_kind file.universe.kind) (clause_by (has u.loaded x.local.name) (is_bzl file.universe.kind && before_it) twice rebound y names u)
+      clause_by (has u.loaded x.local.name) (is_bzl file.universe.kind && before_it) twice rebound y names u
 
   loaded_by : (line : ℕ) (l : Load) (r : Result (List LoadedSymbol × Passed) (Fault NameFault)) (faults : List (Fault NameFault)) (b : Before) → Finding {A = List LoadedSymbol} faults b r
       → Finding {A = SmallKind} faults b (following r (λ xs. st.with_load file line l xs >>= λ _. pure (small.Load l)))

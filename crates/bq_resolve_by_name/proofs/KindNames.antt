@@ -7,7 +7,7 @@ use Rattle.bq_resolve_predeclared.specs.declared.host_function.HostFunction.{Hos
 use Rattle.bq_resolve_predeclared.specs.declared.predeclared.Predeclared.{Predeclared}
 use Rattle.bq_resolve_predeclared.specs.declared.predeclared.Predeclared.TheVariants as pre
 use Rattle.bq_resolve_predeclared.specs.declared.rule_function.RuleFunction.{RuleFunction}
-use Rattle.bq_resolve_predeclared.specs.Predeclared.{first_named, predeclared_named}
+use Rattle.bq_resolve_predeclared.specs.Predeclared.{place_from, first_named, predeclared_named}
 use Rattle.bq_resolve_predeclared.proofs.Found.{nothing_else, same_name}
 use Rattle.bq_resolve_scope.specs.declared.universe.Namespace.{Namespace}
 use Rattle.bq_resolve_scope.specs.declared.universe.Namespace.TheVariants as space
@@ -34,7 +34,7 @@ unfolding universe_has
 build_files_declare_none rules name f h = in_build_by rules name (predeclared_named name) f (no_rule_function name f) h
 
 pub bzl_files_have_rule : BzlFilesHaveRule
-unfolding universe_has predeclared_named first_named
+unfolding universe_has predeclared_named place_from first_named
 bzl_files_have_rule rules = refl
 
 -- ---- namespaces
@@ -49,11 +49,11 @@ abbrev IsNoValue : List Name → Name → Type 0
 IsNoValue rules name = universe_has (record { kind = kinds.Bzl; rules = rules }) name ≡ None
 
 native_is_none : (rules : List Name) → IsNoValue rules native
-unfolding universe_has predeclared_named first_named
+unfolding universe_has predeclared_named place_from first_named
 native_is_none rules = refl
 
 attr_is_none : (rules : List Name) → IsNoValue rules attr
-unfolding universe_has predeclared_named first_named
+unfolding universe_has predeclared_named place_from first_named
 attr_is_none rules = refl
 
 by_name : (rules : List Name) (name : Name) → (bytes_eq name native ≡ true) ⊎ (bytes_eq name attr ≡ true) → IsNoValue rules name

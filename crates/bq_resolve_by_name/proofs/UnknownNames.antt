@@ -6,8 +6,6 @@ use Rattle.std.specs.List.{list_any}
 use Rattle.bq_base.specs.declared.fault.NameFault.{NameFault}
 use Rattle.bq_base.specs.declared.fault.Fault.{Fault}
 use Rattle.bq_base.specs.declared.fault.NameFault.TheVariants as f
-use Rattle.bq_parse_grammar.specs.declared.tree.FileKind.{FileKind}
-use Rattle.bq_parse_grammar.specs.declared.tree.FileKind.TheVariants as kinds
 use Rattle.bq_parse_grammar.specs.declared.tree.Argument.TheOpen.{Expr-F}
 use Rattle.bq_parse_grammar.specs.declared.tree.Identifier.{Identifier}
 use Rattle.bq_parse_grammar.specs.Targets.{ExprLayer}
@@ -20,7 +18,7 @@ use Rattle.bq_resolve_scope.specs.Names.{Name, has, with_name, place_among, glob
 use Rattle.bq_resolve_scope.specs.Scope.{BlockParts, FileParts, or_else, slot_in, slot_of, file_has, use_of}
 use Rattle.bq_resolve_scope.specs.Visit.{Passed, following, ◌>>=◌, pure, given, fault_of}
 use Rattle.bq_resolve_scope.specs.Expressions.{refer, place_of, is_bzl, bind_global, NamedSpace, is_unbound, space_of, with_space, namespace_at, use_at, bound_at}
-use Rattle.bq_resolve_by_name.specs.Violations.{Around, Before, unless, when, no_double, is_known, in_use, in_binding, as_namespace}
+use Rattle.bq_resolve_by_name.specs.Violations.{Around, Before, unless, when, is_known, in_use, in_binding, as_namespace}
 use Rattle.bq_resolve_by_name.proofs.Binds.{loads_bind}
 use Rattle.bq_resolve_by_name.proofs.Bound.{there, local_at, global_at}
 use Rattle.bq_resolve_by_name.proofs.Uses.{place_within}
@@ -92,19 +90,13 @@ use_finds file blocks n =
 
 -- ---- `native` and `attr`
 
-pub one_kind : (kind : FileKind) → is_bzl kind ≡ no_double kind
-one_kind kinds.Build = refl
-one_kind kinds.Bzl = refl
-
 unbound : (o : Option Referent) → is_unbound o ≡ not (is_some o)
 unbound None = refl
 unbound (Some x) = refl
 
 one_test : (file : FileParts) (blocks : List BlockParts) (name : Name)
-    → (is_bzl file.universe.kind && is_unbound (use_of file blocks name)) ≡ (no_double file.universe.kind && not (is_known file (around_of blocks) name))
-one_test file blocks name =
-    ap (λ t. t && is_unbound (use_of file blocks name)) (one_kind file.universe.kind)
-    ∙ ap (λ t. no_double file.universe.kind && t) (unbound (use_of file blocks name) ∙ ap not (known file blocks name))
+    → (is_bzl file.universe.kind && is_unbound (use_of file blocks name)) ≡ (is_bzl file.universe.kind && not (is_known file (around_of blocks) name))
+one_test file blocks name = ap (λ t. is_bzl file.universe.kind && t) (unbound (use_of file blocks name) ∙ ap not (known file blocks name))
 
 -- the namespace, without the name that stands for it
 abbrev pub the_space : Option NamedSpace → Option Namespace
@@ -154,8 +146,7 @@ unfolding in_binding bind_global
 bind_tells file n s =
     let twice : Bool = has s.bound n.name || has s.loaded n.name in
     let why : Fault NameFault = fault_of f.Rebound n in
-    subst (λ t. Finding {A = Unit {0}} (when (t && twice) why) (record (before s) { bound = with_name s.bound n.name }) (if is_bzl file.universe.kind && twice then Err why else Ok (tt, record s { bound = with_name s.bound n.name })))
-    (one_kind file.universe.kind) (bound_by (is_bzl file.universe.kind && twice) why (with_name s.bound n.name) s)
+    bound_by (is_bzl file.universe.kind && twice) why (with_name s.bound n.name) s
 
 given_by : (r : Result (Unit {0} × Passed) (Fault NameFault)) (why : Fault NameFault) (n : Identifier) (t : Referent) (o : Option Referent) (faults : List (Fault NameFault)) (after : Before) → o ≡ Some t → Finding {A = Unit {0}} faults after r
     → Finding {A = Identifier} faults after (following r (λ _. given why o >>= λ x. pure (refer n x)))

@@ -7,8 +7,6 @@ use Rattle.bq_base.specs.declared.fault.NameFault.{NameFault}
 use Rattle.bq_base.specs.declared.fault.Fault.{Fault}
 use Rattle.bq_base.specs.declared.fault.NameFault.TheVariants as f
 use Rattle.bq_base.specs.Fault.{fault_at}
-use Rattle.bq_parse_grammar.specs.declared.tree.FileKind.{FileKind}
-use Rattle.bq_parse_grammar.specs.declared.tree.FileKind.TheVariants as kinds
 use Rattle.bq_parse_grammar.specs.declared.tree.Identifier.{Identifier}
 use Rattle.bq_parse_grammar.specs.declared.tree.Argument.TheOpen.{Expr-F, Suffix-F, Argument-F, Clause-F, TargetExpr-F}
 use Rattle.bq_parse_grammar.specs.declared.tree.Argument.{Argument, out-Argument}
@@ -36,6 +34,7 @@ use Rattle.bq_resolve_scope.specs.Universe.{UniverseParts, member_named, namespa
 use Rattle.bq_resolve_scope.specs.Names.{Name, TargetLayer, ClauseLayer, max_layers, has, with_name, with_each, with_target_to, with_small, with_load, with_load_clause, with_parameter, comprehension_names, function_names}
 use Rattle.bq_resolve_scope.specs.Scope.{FileParts}
 use Rattle.bq_resolve_scope.specs.Visit.{fault_of}
+use Rattle.bq_resolve_scope.specs.Expressions.{is_bzl}
 use Rattle.bq_resolve_scope.specs.Files.{file_names}
 
 -- the first of these
@@ -69,11 +68,6 @@ too_deep = fault_at f.Nesting 0 ∷ []
 -- a statement that may not stand on this line
 abbrev pub misplaced_at : ℕ → List (Fault NameFault)
 misplaced_at line = fault_at f.BadFlow line ∷ []
-
--- a file of this kind binds no name twice
-abbrev pub no_double : FileKind → Bool
-no_double kinds.Bzl = true
-no_double kinds.Build = false
 
 -- the names of the blocks around a place, innermost first
 abbrev pub Around : Type 0
@@ -117,20 +111,20 @@ module _ (file : FileParts) where
 
   -- `native` and `attr` are namespaces in .bzl files that don't bind them
   abbrev pub as_namespace : Around → ExprLayer → Option Namespace
-  as_namespace around (Expr-F.Expr::Name n) = if no_double file.universe.kind && not (is_known around n.name) then namespace_named n.name else None
+  as_namespace around (Expr-F.Expr::Name n) = if is_bzl file.universe.kind && not (is_known around n.name) then namespace_named n.name else None
   as_namespace around _ = None
 
   -- ---- F21 and F22: a name that is bound twice
 
   -- A statement outside functions binds the name: in a .bzl file no statement and no load before it may.
   unfoldable pub in_binding : Before → Identifier → List (Fault NameFault)
-  in_binding before n = when (no_double file.universe.kind && (has before.bound n.name || has before.loaded n.name)) (fault_of f.Rebound n)
+  in_binding before n = when (is_bzl file.universe.kind && (has before.bound n.name || has before.loaded n.name)) (fault_of f.Rebound n)
 
   -- A load binds the name: no load before it may, and in a .bzl file no statement.
   unfoldable pub in_load_clause : Before → LoadClause → List (Fault NameFault)
   in_load_clause before c =
       if has before.loaded c.local.name then fault_of f.BoundTwice c.local ∷ []
-      else when (no_double file.universe.kind && has before.bound c.local.name) (fault_of f.Rebound c.local)
+      else when (is_bzl file.universe.kind && has before.bound c.local.name) (fault_of f.Rebound c.local)
 
   -- ---- expressions: `inner` has those of the expressions in them
 

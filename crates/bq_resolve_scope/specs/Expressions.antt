@@ -88,15 +88,11 @@ abbrev pub member_by : NamedSpace → SuffixLayer → List Suffix → Option Mem
 member_by space (Suffix-F.Method m xs) ss = Some (space, m, xs, ss)
 member_by space _ ss = None
 
--- the member that the first suffix calls, if it is a method
-abbrev pub member_in : NamedSpace → List Suffix → Option MemberCall
-member_in space [] = None
-member_in space (s ∷ ss) = member_by space (out-Suffix s) ss
-
--- the member of a namespace that is called, if a name is that of a namespace
+-- the member of a namespace that is called, if a name is that of a namespace and its first suffix a method
 abbrev pub member_call : Option NamedSpace → List Suffix → Option MemberCall
 member_call None ss = None
-member_call (Some space) ss = member_in space ss
+member_call (Some space) [] = None
+member_call (Some space) (s ∷ ss) = member_by space (out-Suffix s) ss
 
 -- a name has no meaning here
 abbrev pub is_unbound : Option Referent → Bool

@@ -3,7 +3,7 @@
 -- inner `def` or a comprehension binds is no name of the block.
 use Rattle.std.specs.Prelude.{ℕ, zero, suc, List, [], ◌∷◌, ◌++◌, Bool, Option, Some, None, bytes_eq, if◌then◌else◌}
 use Rattle.std.specs.Option.{option_map}
-use Rattle.std.specs.List.{list_any}
+pub use Rattle.bq_base_names.specs.Names.{has}
 use Rattle.bq_parse_grammar.specs.declared.tree.Argument.TheOpen.{Clause-F, TargetExpr-F}
 use Rattle.bq_parse_grammar.specs.declared.tree.Argument.{Argument}
 use Rattle.bq_parse_grammar.specs.declared.tree.Choice.{Choice}
@@ -31,10 +31,6 @@ Name = List ℕ
 -- 14 layers of operators in each.
 unfoldable pub max_layers : ℕ
 max_layers = 1024
-
--- the block binds the name
-abbrev pub has : List Name → Name → Bool
-has names name = list_any (bytes_eq name) names
 
 -- the place of the name among these
 unfoldable pub place_among : Name → List Name → Option ℕ

@@ -5,7 +5,8 @@ use Rattle.std.proofs.lemmas.Bool.Decides.{nat_tests}
 use Rattle.std.proofs.lemmas.List.{drop_all}
 use Rattle.std.specs.List.{list_all}
 use Rattle.bq_label.specs.declared.workspace.File.{File}
-use Rattle.bq_label.specs.Workspace.{max_files, workspace_of}
+use Rattle.bq_label.specs.Workspace.{workspace_within}
+use Rattle.bq_base_limits.specs.declared.limits.Limits.{Limits}
 use Rattle.bq_run.specs.Bundle.{lines, Cut, cut, is_header, is_whole, file_of, is_bundle, files_of, BeginsWith}
 
 -- a line ends at the first newline
@@ -91,15 +92,16 @@ parts_more text rest path content after done h b =
       front = b.front;
     }
 
--- with one file more than a workspace may have, there is none
-pub too_many : (text rest path content after : List ℕ) (done : List File) → Parts text done rest → BeginsWith rest path content after → length done ≡ max_files → option_and_then workspace_of (files_of text) ≡ None
-unfolding workspace_of
-too_many text rest path content after done h b full =
+-- with one file more than the limits allow, there is no workspace
+pub too_many : (limits : Limits) (text rest path content after : List ℕ) (done : List File) → Parts text done rest → BeginsWith rest path content after → limits.files ≤ length done
+    → option_and_then (workspace_within limits) (files_of text) ≡ None
+unfolding workspace_within
+too_many limits text rest path content after done h b full =
     let h' = parts_more text rest path content after done h b in
     let one : List File = record { path = path; content = content } ∷ [] in
     let files : List File = map file_of (cut (lines text)).parts in
-    let many : max_files < length files = omega (arith, full, ap length h'.files, length-append (done ++ one) (map file_of (cut (lines after)).parts), length-append done one) in
-    let few : nat_le (length files) max_files ≡ false = grind (arith, nat_tests) in
+    let many : limits.files < length files = omega (arith, full, ap length h'.files, length-append (done ++ one) (map file_of (cut (lines after)).parts), length-append done one) in
+    let few : nat_le (length files) limits.files ≡ false = grind (arith, nat_tests) in
     elim (cases_Bool (is_bundle (cut (lines text)))) [
       | inl is_one ↦ rw (is_one, few) refl
       | inr is_none ↦ rw is_none refl

@@ -31,9 +31,9 @@ loaded_inside bs os l is =
     ∙ ap (λ (c : List PackageTargets). inside_of (inside_by bs os).prints (inside_by bs os).faults c) is.packages
 
 pub loaded_report : (o : Options) (files : List File) (x : Formula) (rules : Rules) (l : Loaded) (r : ReportView) → IsChecked o.query.items x → schema_in files ≡ Ok rules
-    → LoadsByNames files rules o.max_steps (Ok l) → Reports (inside l) x o.output r → IsReportOn o files r
+    → LoadsByNames files rules o.limits (Ok l) → Reports (inside l) x o.output r → IsReportOn o files r
 loaded_report o files x rules l r checked schema loads reports =
-    IsReportOn.loaded x rules loads.0 loads.2 loads.3 checked schema loads.1 loads.4 (subst (λ (i : Inside). Reports i x o.output r) (loaded_inside _ _ l loads.5) reports)
+    IsReportOn.loaded x rules loads.0 loads.2 loads.3 checked schema loads.1 loads.4 loads.6 (subst (λ (i : Inside). Reports i x o.output r) (loaded_inside _ _ l loads.5) reports)
 
 -- what is inside a workspace whose modules gave this by slots is what they give by names
 module _ (files : List File) (rules : Rules) (limit : ℕ) (g : GraphParts) (is : IsReadGraph (inputs_of files rules) g) where

@@ -1,7 +1,9 @@
 -- The text form of a workspace: header lines, each followed by its file.
 use Rattle.std.specs.Prelude.{◌≡◌, ◌<◌, ◌-◌, ◌++◌, ◌==◌, ◌&&◌, ℕ, Bool, true, nat_le, nat_eq, List, [], ◌∷◌, Option, None, Some, length, take, drop, map, slice_index, codes, option_and_then, if◌then◌else◌}
 use Rattle.std.specs.List.{starts_with, list_all, onto_first}
-use Rattle.bq_label.specs.Workspace.{workspace_of}
+use Rattle.bq_base_limits.specs.declared.limits.Limits.{Limits}
+use Rattle.bq_base_limits.specs.Limits.{standard}
+use Rattle.bq_label.specs.Workspace.{workspace_within}
 use Rattle.bq_label.specs.declared.workspace.File.{File}
 
 -- the lines of a text, each with its newline, which the last may lack
@@ -64,10 +66,10 @@ is_bundle c = nat_eq (length c.before) 0 && list_all is_whole c.parts
 abbrev pub files_of : List ℕ → Option (List File)
 files_of text = let c = cut (lines text) in if is_bundle c then Some (map file_of c.parts) else None
 
--- the most bytes that a bundle has
-abbrev pub max_bundle_bytes : ℕ
-max_bundle_bytes = 1073741824
+-- the workspace that a text holds by these limits
+unfoldable pub bundle_within : Limits → List ℕ → Option (List File)
+bundle_within limits text = if nat_le (length text) limits.bundle_bytes then option_and_then (workspace_within limits) (files_of text) else None
 
--- the workspace that a text holds
-unfoldable pub bundle_of : List ℕ → Option (List File)
-bundle_of text = if nat_le (length text) max_bundle_bytes then option_and_then workspace_of (files_of text) else None
+-- by the standard limits
+abbrev pub bundle_of : List ℕ → Option (List File)
+bundle_of text = bundle_within standard text

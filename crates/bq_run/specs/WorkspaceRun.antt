@@ -7,7 +7,7 @@ use Rattle.bq_label.specs.declared.workspace.File.{File}
 use Rattle.bq_label.specs.Label.{LabelParts}
 use Rattle.bq_label.specs.Packages.{packages_of}
 use Rattle.bq_package_schema.specs.Schema.{Rules}
-pub use Rattle.bq_board.specs.Graph.{Loads}
+pub use Rattle.bq_board.specs.Graph.{Loads, Fits}
 use Rattle.bq_load_by_name.specs.LoadGraph.{IsLoadGraph, inputs_of}
 use Rattle.bq_load_by_name.specs.Modules.{AreTooMany}
 use Rattle.bq_load_by_name.specs.Schema.{schema_in}
@@ -46,7 +46,7 @@ pub data IsReportOn (o : Options) (files : List File) (r : ReportView) : Type 0 
   wrong_schema : (x : Formula) (line : ℕ) → IsChecked o.query.items x → schema_in files ≡ Err line → r ≡ refused (Schema line) → IsReportOn o files r
   -- E7
   too_many : (x : Formula) (rules : Rules) (fronts : Fronts) → IsChecked o.query.items x → schema_in files ≡ Ok rules → AreFronts (inputs_of files rules) fronts
-      → AreTooMany (packages_of files) fronts → r ≡ refused TooManyModules → IsReportOn o files r
+      → AreTooMany o.limits (packages_of files) fronts → r ≡ refused TooManyModules → IsReportOn o files r
   loaded : (x : Formula) (rules : Rules) (fronts : Fronts) (labels : List LabelParts) (edges : Loads) → IsChecked o.query.items x → schema_in files ≡ Ok rules
-      → AreFronts (inputs_of files rules) fronts → IsLoadGraph (packages_of files) fronts labels edges
-      → Reports (loaded_in files rules fronts o.max_steps labels edges) x o.output r → IsReportOn o files r
+      → AreFronts (inputs_of files rules) fronts → IsLoadGraph (packages_of files) fronts labels edges → Fits o.limits edges
+      → Reports (loaded_in files rules fronts o.limits.steps labels edges) x o.output r → IsReportOn o files r

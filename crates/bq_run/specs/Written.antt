@@ -1,10 +1,12 @@
 -- How files are written as a bundle, in words of the text alone. The law `one_reading_of_a_bundle` says that `files_of` reads
--- just these texts, as just these files, and `bundle_of` just those that hold a workspace.
+-- just these texts, as just these files, and `bundle_within` just those that hold a workspace.
 use Rattle.std.specs.Prelude.{◌≡◌, ◌⊎◌, ◌≤◌, ◌==◌, ◌++◌, ℕ, false, List, [], ◌∷◌, Some, length, codes}
 use Rattle.std.specs.List.{AllByRecursion}
-use Rattle.bq_label.specs.Workspace.{workspace_of}
+use Rattle.bq_base_limits.specs.declared.limits.Limits.{Limits}
+use Rattle.bq_base_limits.specs.Limits.{standard}
+use Rattle.bq_label.specs.Workspace.{workspace_within}
 use Rattle.bq_label.specs.declared.workspace.File.{File}
-use Rattle.bq_run.specs.Bundle.{lines, is_header, max_bundle_bytes}
+use Rattle.bq_run.specs.Bundle.{lines, is_header}
 
 -- the bytes are of one line
 abbrev pub HasNoNewline : List ℕ → Type 0
@@ -27,6 +29,10 @@ pub data IsWritten : List ℕ → List File → Type 0 where
   file : {text rest : List ℕ} {fs : List File} (f : File) → text ≡ codes "=== " ++ (f.path ++ (codes "\n" ++ (f.content ++ rest)))
       → HasNoNewline f.path → HasNoHeader f.content → EndsLine f.content ⊎ (rest ≡ []) → IsWritten rest fs → IsWritten text (f ∷ fs)
 
--- the text holds this workspace: it isn't too long, and is written by files that make the workspace
+-- the text holds this workspace by these limits: it isn't too long, and is written by files that make the workspace
+abbrev pub IsBundleWithin : Limits → List ℕ → List File → Type 0
+IsBundleWithin limits text files = (length text ≤ limits.bundle_bytes) × (written : List File) × IsWritten text written × (workspace_within limits written ≡ Some files)
+
+-- by the standard limits
 abbrev pub IsBundleOf : List ℕ → List File → Type 0
-IsBundleOf text files = (length text ≤ max_bundle_bytes) × (written : List File) × IsWritten text written × (workspace_of written ≡ Some files)
+IsBundleOf text files = IsBundleWithin standard text files

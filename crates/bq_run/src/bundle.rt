@@ -2,11 +2,13 @@
 
 ghost use Rattle.std.specs.Prelude.{◌≡◌, ◌⊎◌, ◌+◌, ◌-◌, ◌^◌, ◌<◌, ◌≤◌, ◌∷◌, [], Some, None, true, false, take, drop, length, option_and_then, IfOk, IfSome, IfNone, IsErr, IsErrOf};
 ghost use Rattle.std.specs.List.{list_all};
-ghost use Rattle.bq_label.specs.Workspace.{workspace_of};
-ghost use Rattle.bq_run.specs.Bundle.{BeginsWith, max_bundle_bytes, bundle_of, cut, files_of, is_whole, lines};
+ghost use Rattle.bq_base_limits.specs.Limits.{AreBounded};
+ghost use Rattle.bq_label.specs.Workspace.{workspace_within};
+ghost use Rattle.bq_run.specs.Bundle.{BeginsWith, bundle_of, bundle_within, cut, files_of, is_whole, lines};
 
 use bq_base::Bytes;
-use bq_label::{File, MAX_FILES, Workspace};
+use bq_base_limits::Limits;
+use bq_label::{File, Workspace};
 use bq_run_device::{ByteSource, ReadFault, read_all};
 use bq_run_write::RunErr;
 use memchr::{memchr, memmem};
@@ -17,9 +19,6 @@ const MARKER: &[u8] = b"=== ";
 
 /// The end of a line, and then what a header line begins with.
 const NEXT_HEADER: &[u8] = b"\n=== ";
-
-/// The most bytes that a bundle has.
-pub const MAX_BUNDLE_BYTES: usize = 1 << 30;
 
 /// Returns the length of the first line, with its newline.
 fn line_len(text: &[u8]) -> usize
@@ -88,9 +87,9 @@ fn make_file(alloc: Global, path: &[u8], content: &[u8]) -> Result<File, AllocEr
 }
 
 /// Returns the files of a text in their order there. At the first that is one too many it ends, so that no more are kept.
-fn files_in(alloc: Global, text: &[u8]) -> Result<Vec<File>, RunErr>
+fn files_in(alloc: Global, limits: Limits, text: &[u8]) -> Result<Vec<File>, RunErr>
     ensures found { IfOk result (λ files. files_of text.now ≡ Some files.items) }
-    ensures none { IsErrOf result RunErr.Bundle → option_and_then workspace_of (files_of text.now) ≡ None }
+    ensures none { IsErrOf result RunErr.Bundle → option_and_then (workspace_within limits) (files_of text.now) ≡ None }
     ensures only { IsErr result → IsErrOf result RunErr.Bundle ⊎ IsErrOf result RunErr.Memory }
 {
     if lead(text) != 0 {
@@ -102,7 +101,7 @@ fn files_in(alloc: Global, text: &[u8]) -> Result<Vec<File>, RunErr>
         let Some(piece) = first_piece(rest) else {
             return Err(RunErr::Bundle);
         };
-        if files.len() == MAX_FILES {
+        if files.len() >= limits.files {
             return Err(RunErr::Bundle);
         }
         files.push(make_file(alloc, piece.path, piece.content)?)?;
@@ -112,26 +111,26 @@ fn files_in(alloc: Global, text: &[u8]) -> Result<Vec<File>, RunErr>
 }
 
 /// Makes the workspace of a bundle. The text is dropped before the files are put in order.
-#[tactic(auto, unfolding(crate::specs::Bundle::bundle_of))]
-fn workspace_in(alloc: Global, text: Vec<u8>) -> Result<Workspace, RunErr>
-    requires { length text.items ≤ max_bundle_bytes }
-    ensures found { IfOk result (λ w. bundle_of text.items ≡ Some w) }
-    ensures none { IsErrOf result RunErr.Bundle → bundle_of text.items ≡ None }
+#[tactic(auto, unfolding(crate::specs::Bundle::bundle_within))]
+fn workspace_in(alloc: Global, limits: Limits, text: Vec<u8>) -> Result<Workspace, RunErr>
+    requires bounded { AreBounded limits }
+    requires short { length text.items ≤ limits.bundle_bytes }
+    ensures found { IfOk result (λ w. bundle_within limits text.items ≡ Some w) }
+    ensures none { IsErrOf result RunErr.Bundle → bundle_within limits text.items ≡ None }
     ensures only { IsErr result → IsErrOf result RunErr.Bundle ⊎ IsErrOf result RunErr.Memory }
 {
-    let files = files_in(alloc, &text)?;
+    let files = files_in(alloc, limits, &text)?;
     drop(text);
-    match Workspace::new(files) {
+    match Workspace::within(limits, files) {
         Ok(workspace) => Ok(workspace),
         Err(_) => Err(RunErr::Bundle),
     }
 }
 
-/// Reads a bundle to its end.
+/// Reads a bundle to its end, by the standard limits.
 ///
-/// E2: a read failed; it is not tried again. E4: the bytes are no bundle, or are more than 1,073,741,824, as they are
-/// of a reader that never ends. E1: memory was refused.
-#[tactic(auto, unfolding(crate::specs::Bundle::bundle_of))]
+/// E2: a read failed; it is not tried again. E4: the bytes are no bundle, or are more than the limit, as they are of a
+/// reader that never ends. E1: memory was refused.
 pub fn read_bundle<R: ByteSource>(alloc: Global, reader: &mut R) -> Result<Workspace, RunErr>
     requires { R.failed reader.old < 2 ^ 64 - 1 }
     ensures found { IfOk result (λ w. IfSome (R.remaining reader.old) (λ input. bundle_of input ≡ Some w)) }
@@ -140,8 +139,26 @@ pub fn read_bundle<R: ByteSource>(alloc: Global, reader: &mut R) -> Result<Works
     ensures quiet { (IsErrOf result RunErr.Read → ⊥) → R.failed reader.new ≡ R.failed reader.old }
     ensures only { IsErr result → IsErrOf result RunErr.Bundle ⊎ IsErrOf result RunErr.Memory ⊎ IsErrOf result RunErr.Read }
 {
-    match read_all(alloc, reader, MAX_BUNDLE_BYTES) {
-        Ok(text) => workspace_in(alloc, text),
+    read_bundle_within(alloc, Limits::standard(), reader)
+}
+
+/// Reads a bundle to its end, as [`read_bundle`] does, by these limits.
+#[tactic(auto, unfolding(crate::specs::Bundle::bundle_within))]
+pub fn read_bundle_within<R: ByteSource>(
+    alloc: Global,
+    limits: Limits,
+    reader: &mut R,
+) -> Result<Workspace, RunErr>
+    requires bounded { AreBounded limits }
+    requires reader { R.failed reader.old < 2 ^ 64 - 1 }
+    ensures found { IfOk result (λ w. IfSome (R.remaining reader.old) (λ input. bundle_within limits input ≡ Some w)) }
+    ensures none { IsErrOf result RunErr.Bundle → IfSome (R.remaining reader.old) (λ input. bundle_within limits input ≡ None) }
+    ensures device { IsErrOf result RunErr.Read → R.failed reader.new ≡ R.failed reader.old + 1 }
+    ensures quiet { (IsErrOf result RunErr.Read → ⊥) → R.failed reader.new ≡ R.failed reader.old }
+    ensures only { IsErr result → IsErrOf result RunErr.Bundle ⊎ IsErrOf result RunErr.Memory ⊎ IsErrOf result RunErr.Read }
+{
+    match read_all(alloc, reader, limits.bundle_bytes) {
+        Ok(text) => workspace_in(alloc, limits, text),
         Err(ReadFault::Memory) => Err(RunErr::Memory),
         Err(ReadFault::Device) => Err(RunErr::Read),
         Err(ReadFault::TooLong) => Err(RunErr::Bundle),

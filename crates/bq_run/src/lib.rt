@@ -30,7 +30,7 @@ pub use bq_run_write::{
     ANSWERED, DEVICE_FAILED, NO_MEMORY, REFUSED, RunErr, Status, WITH_FAULTS, end_run, send_report,
     status_code, status_of, write_status_line,
 };
-pub use bundle::{MAX_BUNDLE_BYTES, read_bundle};
+pub use bundle::{read_bundle, read_bundle_within};
 pub use loading::{load_graph, load_workspace};
 pub use options::{MAX_JOBS, Options};
 pub use reports::refused_report;

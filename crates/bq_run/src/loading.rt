@@ -10,7 +10,7 @@ ghost use Rattle.bq_run.specs.WorkspaceRun.{loaded_in};
 
 use crate::options::Options;
 use bq_label::Workspace;
-use bq_load_by_name::{LoadErr, LoadGraph, Loaded, OpenGate, load_graph_with, load_with};
+use bq_load_by_name::{LoadErr, LoadGraph, Loaded, OpenGate, load_graph_with, load_within};
 use bq_package_schema::Schema;
 use bq_value_seed::Seed;
 use std::alloc::{AllocError, Global};
@@ -28,14 +28,14 @@ pub fn load_workspace<T: Threads + Wait + RandomSource + Sync>(
     options: &Options,
 ) -> Result<Loaded, LoadErr>
     requires { IsInRange options.now }
-    ensures { LoadsByNames workspace.now schema.now options.now.max_steps result }
+    ensures { LoadsByNames workspace.now schema.now options.now.limits result }
 {
-    load_with(
+    load_within(
         rt,
         alloc,
         workspace,
         schema,
-        options.max_steps,
+        options.limits,
         Seed::draw(rt),
         options.jobs as usize,
         &OpenGate,
@@ -55,7 +55,7 @@ pub fn load_graph<T: Threads + Wait + RandomSource + Sync>(
 ) -> Result<Loaded, AllocError>
     requires in_range { IsInRange options.now }
     requires graph { IsReadGraph (inputs_of workspace.now schema.now) graph }
-    ensures { IfOk result (λ l. inside l ≡ loaded_in workspace.now schema.now (parsed_of (inputs_of workspace.now schema.now)) options.now.max_steps graph.labels graph.edges) }
+    ensures { IfOk result (λ l. inside l ≡ loaded_in workspace.now schema.now (parsed_of (inputs_of workspace.now schema.now)) options.now.limits.steps graph.labels graph.edges) }
 {
     // PROOF: what it gives is inside the workspace
     Ok(load_graph_with(
@@ -63,7 +63,7 @@ pub fn load_graph<T: Threads + Wait + RandomSource + Sync>(
         alloc,
         workspace,
         schema,
-        options.max_steps,
+        options.limits.steps,
         Seed::draw(rt),
         graph,
         options.jobs as usize,

@@ -1,5 +1,6 @@
 //! What a run is asked to do.
 
+use bq_base_limits::Limits;
 use bq_load_workers::MAX_WORKERS;
 use bq_query::OutputForm;
 
@@ -15,6 +16,6 @@ pub struct Options {
     pub jobs: u32,
     /// What is printed of a target.
     pub output: OutputForm,
-    /// How many steps a module may take, 1 to 1,000,000,000.
-    pub max_steps: u64,
+    /// How large the workspace may be, and how many steps a module may take, 1 to 1,000,000,000.
+    pub limits: Limits,
 }

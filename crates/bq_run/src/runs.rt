@@ -6,7 +6,7 @@ ghost use Rattle.bq_run_device.specs.Device.{OneFailed};
 ghost use Rattle.bq_run_write.specs.Deeds.{DoesOne, IsSilent};
 ghost use Rattle.bq_run.specs.Run.{IsInRange, IsRunOf, IsRunOver};
 
-use crate::bundle::read_bundle;
+use crate::bundle::read_bundle_within;
 use crate::options::Options;
 use crate::reports::report_workspace;
 use bq_label::Workspace;
@@ -70,6 +70,6 @@ pub fn run<T: Threads + Wait + RandomSource + Sync, R: ByteSource, W: ByteSink, 
     ensures write { IsErrOf result RunErr.Write → OneFailed (F.failed faults_writer.old) (F.failed faults_writer.new) (W.failed writer.old) (W.failed writer.new) }
     ensures quiet { (IsErrOf result RunErr.Write → ⊥) → (F.failed faults_writer.new ≡ F.failed faults_writer.old) × (W.failed writer.new ≡ W.failed writer.old) }
 {
-    let workspace = read_bundle(alloc, reader)?;
+    let workspace = read_bundle_within(alloc, options.limits, reader)?;
     run_files(rt, alloc, &workspace, writer, faults_writer, options)
 }

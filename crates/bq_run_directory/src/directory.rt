@@ -1,27 +1,31 @@
 //! The workspace of a directory.
 
+ghost use Rattle.bq_base_limits.specs.Limits.{AreBounded};
+
 use crate::directory_err::DirectoryErr;
 use crate::walk::DirectoryWalk;
+use bq_base_limits::Limits;
 use bq_label::Workspace;
 use std::alloc::Global;
 use std::fs;
 use std::fs::Files;
 
-/// The most directories that are read. One that links lead to is read once for each way to it, and links are soon many ways:
-/// of 41 directories with two links to the next there are a trillion.
-const MAX_DIRECTORIES: u32 = 1_048_576;
-
-/// Returns the workspace of the files in the directory at `root` and below it. Their paths are those from `root` on.
+/// Returns the workspace of the files in the directory at `root` and below it, by these limits. Their paths are those from
+/// `root` on.
 /// Files whose bytes no run reads have none in it.
 pub fn read_directory<R: Files + Alloc<A = Global> + Clone + Drop>(
     rt: &R,
     root: &str,
-) -> Result<Workspace, DirectoryErr> {
-    let mut walk = DirectoryWalk::new(rt, root)?;
-    // the last turn is the one that finds no directory left
-    for _ in 0..=MAX_DIRECTORIES {
+    limits: Limits,
+) -> Result<Workspace, DirectoryErr>
+    requires { AreBounded limits }
+{
+    let mut walk = DirectoryWalk::new(rt, root, limits.files)?;
+    // the last turn is the one that finds no directory left. A directory that links lead to is read once for each way to it, and
+    // links are soon many ways: of 41 directories with two links to the next there are a trillion
+    for _ in 0..=limits.directories {
         let Some(directory) = walk.pending.pop() else {
-            return Ok(Workspace::new(walk.files)?);
+            return Ok(Workspace::within(limits, walk.files)?);
         };
         walk.around.truncate(directory.depth);
         walk.around.push(directory.identity)?;

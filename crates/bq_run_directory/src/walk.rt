@@ -4,7 +4,7 @@ use crate::content::has_content;
 use crate::directory_err::DirectoryErr;
 use crate::ignored::{IGNORE_FILE, ignored_directories};
 use bq_base::Bytes;
-use bq_label::{File, MAX_FILES, is_path};
+use bq_label::{File, is_path};
 use std::alloc::Global;
 use std::fs::{DirEntry, Files, Metadata};
 use std::os::unix::fs::MetadataExt;
@@ -50,6 +50,8 @@ pub struct DirectoryWalk {
     pub around: Vec<Identity>,
     /// The files so far.
     pub files: Vec<File>,
+    /// The most files.
+    most_files: usize,
 }
 
 impl DirectoryWalk {
@@ -57,6 +59,7 @@ impl DirectoryWalk {
     pub fn new<R: Files + Alloc<A = Global>>(
         rt: &R,
         root: &str,
+        most_files: usize,
     ) -> Result<DirectoryWalk, DirectoryErr> {
         let alloc = rt.alloc();
         let identity = Identity::of(&fs::metadata(rt, root)?);
@@ -78,6 +81,7 @@ impl DirectoryWalk {
             pending: Vec::new(alloc),
             around: Vec::new(alloc),
             files: Vec::new(alloc),
+            most_files,
         };
         walk.push(root, identity)?;
         Ok(walk)
@@ -141,7 +145,7 @@ impl DirectoryWalk {
         path: Path<'_>,
         inner: &[u8],
     ) -> Result<(), DirectoryErr> {
-        if self.files.len() == MAX_FILES {
+        if self.files.len() >= self.most_files {
             return Err(DirectoryErr::TooManyFiles);
         }
         let content = if has_content(inner) {

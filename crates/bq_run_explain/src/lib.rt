@@ -3,7 +3,7 @@
 //! The promise: [`explain`] has an entry, with the right name, for each fault of a file, each error of a query and each error of a run
 //! that can be printed, and for nothing else (`specs/Laws.antt`).
 //!
-//! The texts are this crate's tables, from which tools/faults makes docs/FAULTS.md; bench/faults runs their examples.
+//! The texts are this crate's tables, from which dev/faults makes docs/FAULTS.md; tests/scripts/faults runs their examples.
 //!
 //! - `explanation`: what is printed for a number, and the look-up in a table of errors;
 //! - `faults`: the faults and their texts; `queries`, `runs`: the tables of errors;

@@ -58,12 +58,12 @@ reports packages modules i query form r tells =
 abbrev read : List File → Rules → Fronts
 read files rules = parsed_of (inputs_of files rules)
 
-by_query : (o : Options) (files : List File) (query : CheckedQuery) (r : ReportView) → IsChecked o.query.items (formula_of query.set) → IsFactsBy o.max_steps files (Some query) r → HasAnswer o files r
+by_query : (o : Options) (files : List File) (query : CheckedQuery) (r : ReportView) → IsChecked o.query.items (formula_of query.set) → IsFactsBy o.limits files (Some query) r → HasAnswer o files r
 by_query o files query r checked (IsFactsBy.wrong_schema line e is) = ([], IsReportOn.wrong_schema (formula_of query.set) line checked e (refusal r _ is))
 by_query o files query r checked (IsFactsBy.too_many rules e many is) = ([], IsReportOn.too_many (formula_of query.set) rules (read files rules) checked e (are_fronts (inputs_of files rules)) many (refusal r _ is))
-by_query o files query r checked (IsFactsBy.loaded rules g e found tells) =
-    let answered = reports _ _ (loaded_in files rules (read files rules) o.max_steps g.labels g.edges) query o.output r tells in
-    (answered.0, IsReportOn.loaded (formula_of query.set) rules (read files rules) g.labels g.edges checked e (are_fronts (inputs_of files rules)) found.graph answered.1)
+by_query o files query r checked (IsFactsBy.loaded rules g e found fits tells) =
+    let answered = reports _ _ (loaded_in files rules (read files rules) o.limits.steps g.labels g.edges) query o.output r tells in
+    (answered.0, IsReportOn.loaded (formula_of query.set) rules (read files rules) g.labels g.edges checked e (are_fronts (inputs_of files rules)) found.graph fits answered.1)
 
 same_text : (a b : List ℕ) → Some a ≡ Some b → a ≡ b
 same_text a b e = cc

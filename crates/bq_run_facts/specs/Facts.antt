@@ -3,6 +3,7 @@
 use Rattle.std.specs.Prelude.{◌≡◌, ℕ, ◌++◌, List, [], Option, Some, None, Ok, Err, length}
 use Rattle.std.specs.List.{range_with_len}
 use Rattle.bq_label.specs.declared.packages.BuildFile.{BuildFile}
+use Rattle.bq_base_limits.specs.declared.limits.Limits.{Limits}
 use Rattle.bq_label.specs.declared.workspace.File.{File}
 use Rattle.bq_label.specs.Packages.{packages_of}
 use Rattle.bq_package_schema.specs.Schema.{Rules}
@@ -26,7 +27,7 @@ use Rattle.bq_run_write.specs.declared.ending.NoAnswer.TheVariants.{Query, Schem
 use Rattle.bq_run_write.specs.declared.ending.Status.{Status}
 use Rattle.bq_run.specs.declared.options.Options.{Options}
 use Rattle.bq_run_write.specs.Deeds.{Run, run_report}
-use Rattle.bq_run.specs.WorkspaceRun.{loaded_in, refused}
+use Rattle.bq_run.specs.WorkspaceRun.{Fits, loaded_in, refused}
 use Rattle.bq_run_facts.specs.Lines.{target_lines, module_lines, fault_objects}
 
 -- ---- which targets
@@ -76,21 +77,21 @@ TellsGraph files rules limit g asked r = TellsFacts (packages_of files) (module_
 
 -- ---- the run
 
--- the report of a run over these files whose query is read, where each module may take `limit` steps
-pub data IsFactsBy (limit : ℕ) (files : List File) (asked : Option CheckedQuery) (r : ReportView) : Type 0 where
+-- the report of a run over these files whose query is read, by these limits
+pub data IsFactsBy (limits : Limits) (files : List File) (asked : Option CheckedQuery) (r : ReportView) : Type 0 where
   -- E6
-  wrong_schema : (line : ℕ) → schema_in files ≡ Err line → r ≡ refused (Schema line) → IsFactsBy limit files asked r
+  wrong_schema : (line : ℕ) → schema_in files ≡ Err line → r ≡ refused (Schema line) → IsFactsBy limits files asked r
   -- E7
-  too_many : (rules : Rules) → schema_in files ≡ Ok rules → AreTooMany (packages_of files) (parsed_of (inputs_of files rules)) → r ≡ refused TooManyModules → IsFactsBy limit files asked r
-  loaded : (rules : Rules) (g : LoadParts) → schema_in files ≡ Ok rules → IsReadGraph (inputs_of files rules) g
-      → TellsGraph files rules limit g asked r → IsFactsBy limit files asked r
+  too_many : (rules : Rules) → schema_in files ≡ Ok rules → AreTooMany limits (packages_of files) (parsed_of (inputs_of files rules)) → r ≡ refused TooManyModules → IsFactsBy limits files asked r
+  loaded : (rules : Rules) (g : LoadParts) → schema_in files ≡ Ok rules → IsReadGraph (inputs_of files rules) g → Fits limits g.edges
+      → TellsGraph files rules limits.steps g asked r → IsFactsBy limits files asked r
 
 -- the report of a run with the query of this text, if there is one
-pub data IsFactsOn (limit : ℕ) (files : List File) (text : Option (List ℕ)) (r : ReportView) : Type 0 where
+pub data IsFactsOn (limits : Limits) (files : List File) (text : Option (List ℕ)) (r : ReportView) : Type 0 where
   -- Q1 to Q4, Q7, Q8
-  wrong_query : (query : List ℕ) (why : QueryErr) → text ≡ Some query → IsWrong query why → r ≡ refused (Query why) → IsFactsOn limit files text r
-  read : (asked : Option CheckedQuery) → IsAsked text asked → IsFactsBy limit files asked r → IsFactsOn limit files text r
+  wrong_query : (query : List ℕ) (why : QueryErr) → text ≡ Some query → IsWrong query why → r ≡ refused (Query why) → IsFactsOn limits files text r
+  read : (asked : Option CheckedQuery) → IsAsked text asked → IsFactsBy limits files asked r → IsFactsOn limits files text r
 
 -- what is written, and how the run ends
 abbrev pub IsFactsOver : Options → List File → Option (List ℕ) → Run → Type 0
-IsFactsOver options files text what = (r : ReportView) × IsFactsOn options.max_steps files text r × (what ≡ run_report r)
+IsFactsOver options files text what = (r : ReportView) × IsFactsOn options.limits files text r × (what ≡ run_report r)

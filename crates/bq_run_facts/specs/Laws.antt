@@ -17,5 +17,5 @@ DirectIsDeps = (w : GraphParts) (x y : ℕ) → AreBelow w.edges → length w.ed
 -- a run that is asked for facts has the faults, and the ending, of a run that is asked for the answer
 abbrev pub EndsAsAnswer : Type 0
 EndsAsAnswer =
-    (o : Options) (files : List File) (r : ReportView) → IsFactsOn o.max_steps files (Some o.query.items) r
+    (o : Options) (files : List File) (r : ReportView) → IsFactsOn o.limits files (Some o.query.items) r
     → (answer : List ℕ) × IsReportOn o files (record { faults = r.faults; answer = answer; end = r.end })

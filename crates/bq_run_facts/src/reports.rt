@@ -140,7 +140,7 @@ fn report_graph<T: Threads + Wait + RandomSource + Sync>(
 ) -> Result<Report, AllocError>
     requires in_range { IsInRange options.now }
     requires graph { IsReadGraph (inputs_of workspace.now schema.now) graph }
-    ensures { IfOk result (λ r. TellsGraph workspace.now schema.now options.now.max_steps graph (option_copied asked.entry) (report_view r)) }
+    ensures { IfOk result (λ r. TellsGraph workspace.now schema.now options.now.limits.steps graph (option_copied asked.entry) (report_view r)) }
 {
     let Ok(before) = read_before(alloc, workspace, graph.modules()) else {
         drop(graph); // PROOF: one call lets the graph go
@@ -172,9 +172,16 @@ fn report_schema<T: Threads + Wait + RandomSource + Sync>(
 ) -> Result<Report, AllocError>
     requires in_range { IsInRange options.now }
     requires schema { schema_in workspace.now ≡ Ok schema.now }
-    ensures { IfOk result (λ r. IsFactsBy options.now.max_steps workspace.now (option_copied asked.entry) (report_view r)) }
+    ensures { IfOk result (λ r. IsFactsBy options.now.limits workspace.now (option_copied asked.entry) (report_view r)) }
 {
-    match discover_by_workers(rt, alloc, workspace, schema, options.jobs as usize) {
+    match discover_by_workers(
+        rt,
+        alloc,
+        workspace,
+        schema,
+        options.limits,
+        options.jobs as usize,
+    ) {
         Ok(graph) => report_graph(rt, alloc, workspace, schema, graph, asked, options),
         Err(why) => without_graph(alloc, why), // PROOF: nothing is left to let go of
     }
@@ -199,7 +206,7 @@ fn report_asked<T: Threads + Wait + RandomSource + Sync>(
     options: &Options,
 ) -> Result<Report, AllocError>
     requires in_range { IsInRange options.now }
-    ensures { IfOk result (λ r. IsFactsBy options.now.max_steps workspace.now (option_copied asked.entry) (report_view r)) }
+    ensures { IfOk result (λ r. IsFactsBy options.now.limits workspace.now (option_copied asked.entry) (report_view r)) }
 {
     match schema_of(alloc, workspace) {
         Ok(schema) => {
@@ -221,7 +228,7 @@ pub(crate) fn report_facts<T: Threads + Wait + RandomSource + Sync>(
     options: &Options,
 ) -> Result<Report, AllocError>
     requires in_range { IsInRange options.now }
-    ensures { IfOk result (λ r. IsFactsOn options.now.max_steps workspace.now (option_copied query.entry) (report_view r)) }
+    ensures { IfOk result (λ r. IsFactsOn options.now.limits workspace.now (option_copied query.entry) (report_view r)) }
 {
     let Some(query) = query else {
         return report_asked(rt, alloc, workspace, None, options);

@@ -124,7 +124,7 @@ reports : (packages : List BuildFile) (modules : List Module) (i : Inside) (aske
 reports packages modules i asked r tells = replies (fault_by tells.graph asked) packages modules tells.graph asked (all_faults i) _ tells.reply
 
 pub targets_come_first : TargetsComeFirst
-targets_come_first limit files query r (IsFactsOn.wrong_query text why e wrong is) = refusal r _ is
-targets_come_first limit files query r (IsFactsOn.read asked is (IsFactsBy.wrong_schema line e bad)) = refusal r _ bad
-targets_come_first limit files query r (IsFactsOn.read asked is (IsFactsBy.too_many rules e many bad)) = refusal r _ bad
-targets_come_first limit files query r (IsFactsOn.read asked is (IsFactsBy.loaded rules g e found tells)) = reports _ g.modules _ asked r tells
+targets_come_first limits files query r (IsFactsOn.wrong_query text why e wrong is) = refusal r _ is
+targets_come_first limits files query r (IsFactsOn.read asked is (IsFactsBy.wrong_schema line e bad)) = refusal r _ bad
+targets_come_first limits files query r (IsFactsOn.read asked is (IsFactsBy.too_many rules e many bad)) = refusal r _ bad
+targets_come_first limits files query r (IsFactsOn.read asked is (IsFactsBy.loaded rules g e found fits tells)) = reports _ g.modules _ asked r tells

@@ -70,19 +70,19 @@ module _ (o : Options) (files : List File) (what : Run) (over : IsRunOver o file
   wrong_first why wrong other (IsReportOn.wrong_query first is e) = ends_wrong first is e
   wrong_first why wrong other (IsReportOn.wrong_schema query line c s e) = absurd (not_both o.query.items why query other wrong c)
   wrong_first why wrong other (IsReportOn.too_many query rules fronts c s a m e) = absurd (not_both o.query.items why query other wrong c)
-  wrong_first why wrong other (IsReportOn.loaded query rules fronts labels edges c s a l r) = absurd (not_both o.query.items why query other wrong c)
+  wrong_first why wrong other (IsReportOn.loaded query rules fronts labels edges c s a l g r) = absurd (not_both o.query.items why query other wrong c)
 
   right : (line : ℕ) → what.end ≡ Err (run.Schema line) → IsReportOn o files over.0 → (query : Formula) × IsChecked o.query.items query
   right line e (IsReportOn.wrong_query why is f) = absurd (no_query line why (sym (end_as (refused (refusal.Query why)) f) ∙ e))
   right line e (IsReportOn.wrong_schema query l c s f) = (query, c)
   right line e (IsReportOn.too_many query rules fronts c s a m f) = (query, c)
-  right line e (IsReportOn.loaded query rules fronts labels edges c s a l r) = (query, c)
+  right line e (IsReportOn.loaded query rules fronts labels edges c s a l g r) = (query, c)
 
   schema_first : (line : ℕ) → schema_in files ≡ Err line → IsReportOn o files over.0 → (what.end ≡ Err (run.Schema line)) ⊎ EndsWithWrongQuery o what
   schema_first line bad (IsReportOn.wrong_query why is e) = inr (ends_wrong why is e)
   schema_first line bad (IsReportOn.wrong_schema query k c s e) = inl (end_as (refused (refusal.Schema k)) e ∙ ap (λ l. ended (run.Schema l)) (one_line k line (sym s ∙ bad)))
   schema_first line bad (IsReportOn.too_many query rules fronts c s a m e) = absurd (no_rules line rules (sym bad ∙ s))
-  schema_first line bad (IsReportOn.loaded query rules fronts labels edges c s a l r) = absurd (no_rules line rules (sym bad ∙ s))
+  schema_first line bad (IsReportOn.loaded query rules fronts labels edges c s a l g r) = absurd (no_rules line rules (sym bad ∙ s))
 
 pub wrong_query_first : (o : Options) (files : List File) (what : Run) (why : QueryErr) → IsWrong o.query.items why → why ≢ BadRegex → IsRunOver o files what → EndsWithWrongQuery o what
 wrong_query_first o files what why wrong other over = wrong_first o files what over why wrong other over.1

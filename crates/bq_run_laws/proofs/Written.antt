@@ -11,7 +11,7 @@ use Rattle.bq_run_write.specs.declared.ending.NoAnswer.TheVariants as refusal
 use Rattle.bq_run_write.specs.declared.ending.Status.{Status}
 use Rattle.bq_run_write.specs.Deeds.{Run, run_by, IsSilent}
 use Rattle.bq_run.specs.Run.{IsRunOver, IsRunOf}
-use Rattle.bq_run.specs.Written.{IsBundleOf}
+use Rattle.bq_run.specs.Written.{IsBundleWithin}
 use Rattle.bq_run_write.specs.declared.error.RunErr.{RunErr}
 use Rattle.bq_run_write.specs.declared.error.RunErr.TheVariants as run
 use Rattle.bq_run.specs.declared.options.Options.{Options}
@@ -19,7 +19,7 @@ use Rattle.bq_run_laws.specs.Order.{WritesFaultsAlone}
 
 -- ---- bundles
 
-pub bundle_first : (o : Options) (input : List ℕ) (what : Run) → ((files : List File) → ¬ IsBundleOf input files) → IsRunOf o input what
+pub bundle_first : (o : Options) (input : List ℕ) (what : Run) → ((files : List File) → ¬ IsBundleWithin o.limits input files) → IsRunOf o input what
     → (what.end ≡ Err run.Bundle) × (what.faults ≡ []) × (what.answer ≡ [])
 bundle_first o input what none (IsRunOf.no_bundle absent e) = (ap (λ (r : Run). r.end) e, ap (λ (r : Run). r.faults) e, ap (λ (r : Run). r.answer) e)
 bundle_first o input what none (IsRunOf.bundle files is over) = absurd (none files is)

@@ -1,6 +1,7 @@
 -- In which order a run that is asked for facts (`--facts`) writes them: a reader of JSON finds objects of targets, then of modules, then of faults.
 use Rattle.std.specs.Prelude.{◌≡◌, ℕ, List, [], ◌∷◌, ◌++◌, Option, codes}
 use Rattle.std.specs.List.{AllByRecursion, flat_map}
+use Rattle.bq_base_limits.specs.declared.limits.Limits.{Limits}
 use Rattle.bq_label.specs.declared.workspace.File.{File}
 use Rattle.bq_facts_json.specs.Json.{Json, Named, fields_of, object, value_text}
 use Rattle.bq_run_write.specs.Report.{ReportView}
@@ -30,4 +31,4 @@ pub record AreTargetsModulesFaults (text : List ℕ) : Type 0 where
 
 -- so is what a run writes that is asked for facts
 abbrev pub TargetsComeFirst : Type 0
-TargetsComeFirst = (limit : ℕ) (files : List File) (query : Option (List ℕ)) (r : ReportView) → IsFactsOn limit files query r → AreTargetsModulesFaults r.answer
+TargetsComeFirst = (limits : Limits) (files : List File) (query : Option (List ℕ)) (r : ReportView) → IsFactsOn limits files query r → AreTargetsModulesFaults r.answer

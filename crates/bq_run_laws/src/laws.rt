@@ -13,7 +13,7 @@ ghost use Rattle.bq_run.specs.declared.options.Options.{Options};
 ghost use Rattle.bq_run_write.specs.declared.error.RunErr.TheVariants as run;
 ghost use Rattle.bq_run_write.specs.Deeds.{Run, IsSilent};
 ghost use Rattle.bq_run.specs.Run.{IsRunOver, IsRunOf};
-ghost use Rattle.bq_run.specs.Written.{IsBundleOf};
+ghost use Rattle.bq_run.specs.Written.{IsBundleWithin};
 ghost use Rattle.bq_run_laws.specs.Lines.{FaultLinesStandOnLines, DanglingLinesAreOfStatements};
 ghost use Rattle.bq_run_laws.specs.FactsOrder.{TargetsComeFirst};
 ghost use Rattle.bq_run_laws.specs.Workspaces.{PathsAreApart, GibibyteAtMost};
@@ -21,7 +21,7 @@ ghost use Rattle.bq_run_laws.specs.Order.{EndsWithWrongQuery, WritesFaultsAlone}
 
 /// A bundle that makes no workspace is E4, whatever the query and the schema are, and nothing is written.
 pub fn bundles_come_first()
-    ensures { (o : Options) (input : List ℕ) (what : Run) → ((files : List File) → ¬ IsBundleOf input files) → IsRunOf o input what → (what.end ≡ Err run.Bundle) × (what.faults ≡ []) × (what.answer ≡ []) }
+    ensures { (o : Options) (input : List ℕ) (what : Run) → ((files : List File) → ¬ IsBundleWithin o.limits input files) → IsRunOf o input what → (what.end ≡ Err run.Bundle) × (what.faults ≡ []) × (what.answer ≡ []) }
 {}
 
 /// A wrong query ends the run with an error of a query, whatever the schema is. Whether a pattern is too big is not

@@ -17,7 +17,8 @@ use Rattle.bq_run_write.specs.Report.{ReportView}
 use Rattle.bq_run_report.specs.Report.{IsAnswer, Inside, ReplyView, Replies, all_faults}
 use Rattle.bq_run_report.proofs.Parts.{RepliesBy}
 use Rattle.bq_run_report.proofs.OneList.{one_list}
-use Rattle.bq_run_report.proofs.SamePairs.{PairsIn, same_fault, same_set, graph}
+use Rattle.bq_query_function.proofs.Within.{PairsIn, graph}
+use Rattle.bq_run_report.proofs.SamePairs.{same_fault, same_set}
 
 reply_at : List ℕ → Result Status NoAnswer → ReplyView
 reply_at text end = record { text = text; end = end }

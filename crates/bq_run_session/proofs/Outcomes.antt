@@ -37,12 +37,12 @@ pub keeps_itself : (known : Option (List ℕ)) → Keeps known known
 keeps_itself None = tt
 keeps_itself (Some xs) = refl
 
-module _ (o : Options) (files : List File) (s : Session) (on : IsOn files o.max_steps s) (known : Option (List ℕ)) (f f' a a' : Option (List ℕ)) where
+module _ (o : Options) (files : List File) (s : Session) (on : IsOn files o.limits s) (known : Option (List ℕ)) (f f' a a' : Option (List ℕ)) where
   pub all_written : (result : Result SessionStatus RunErr) → Appends f f' s.faults → Answers (IsAnswerIn s o.output) s.status known result a a' → DoesAnswer o files known result f f' a a'
   all_written result faults done =
       let i = on.inside in
       DoesAnswer.answered i on.loaded (subst (Appends f f') on.over.faults faults)
-      (answers (IsAnswerIn s o.output) (IsAnswerTo files o.max_steps i o.output) (λ query reply is. is files o.max_steps i on.loaded on.over) s.status (status_by (all_faults i)) on.over.status known result a a' done)
+      (answers (IsAnswerIn s o.output) (IsAnswerTo files o.limits i o.output) (λ query reply is. is files o.limits i on.loaded on.over) s.status (status_by (all_faults i)) on.over.status known result a a' done)
 
   pub faults_cut : Begins f f' s.faults → Keeps a a' → DoesAnswer o files known (Err run.Write) f f' a a'
   faults_cut begins keeps = DoesAnswer.faults_cut on.inside on.loaded refl (subst (Begins f f') on.over.faults begins) keeps

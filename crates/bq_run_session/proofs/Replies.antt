@@ -1,5 +1,7 @@
 -- What a session answers is what a run with the query alone reports.
 use Rattle.std.proofs.Common.{◌≤◌, ℕ, List, [], Err, refl, sym, subst, inl, inr, length}
+use Rattle.bq_base_limits.specs.declared.limits.Limits.{Limits}
+use Rattle.bq_run.specs.WorkspaceRun.{Fits}
 use Rattle.bq_query.specs.declared.print.OutputForm.{OutputForm}
 use Rattle.bq_query_check.specs.Checked.{IsChecked, IsWrong}
 use Rattle.bq_query_check.specs.Formula.{Formula}
@@ -18,7 +20,7 @@ use Rattle.bq_run_report.specs.declared.session.Session.{Session}
 
 pub answered : (s : Session) (form : OutputForm) (text : List ℕ) (x : Formula) (reply : ReplyView) → length text ≤ max_query_bytes → IsChecked text x
     → Replies s.graph x form s.status reply → IsAnswerIn s form text reply
-answered s form text x reply fits checked replies files limit i loaded over =
+answered s form text x reply fits checked replies files limits i loaded over =
     let report : ReportView = record { faults = fault_text i; answer = reply.text; end = reply.end } in
     let inside : Replies s.graph x form (status_by (all_faults i)) reply = subst (λ (status : Status). Replies s.graph x form status reply) over.status replies in
     IsAnswerTo.ran fits (fault_text i) (inr refl) (λ o asks.
@@ -28,9 +30,10 @@ answered s form text x reply fits checked replies files limit i loaded over =
       faults = refl;
       reply = subst (λ (f : OutputForm). Replies s.graph x f (status_by (all_faults i)) reply) (sym asks.output) inside;
     } in
-    let over_files : Reports (loaded_in files loaded.rules loaded.fronts limit loaded.labels loaded.edges) x o.output report = subst (λ (j : Inside). Reports j x o.output report) loaded.inside reports in
+    let over_files : Reports (loaded_in files loaded.rules loaded.fronts limits.steps loaded.labels loaded.edges) x o.output report = subst (λ (j : Inside). Reports j x o.output report) loaded.inside reports in
     IsReportOn.loaded x loaded.rules loaded.fronts loaded.labels loaded.edges (subst (λ t. IsChecked t x) (sym asks.text) checked) loaded.schema loaded.read loaded.discovered
-    (subst (λ (n : ℕ). Reports (loaded_in files loaded.rules loaded.fronts n loaded.labels loaded.edges) x o.output report) (sym asks.steps) over_files))
+    (subst (λ (all : Limits). Fits all loaded.edges) (sym asks.limits) loaded.fits)
+    (subst (λ (all : Limits). Reports (loaded_in files loaded.rules loaded.fronts all.steps loaded.labels loaded.edges) x o.output report) (sym asks.limits) over_files))
 
 -- the reply to a query that is refused
 abbrev pub refused_view : NoAnswer → ReplyView
@@ -38,5 +41,5 @@ refused_view why = record { text = []; end = Err why }
 
 pub wrong : (s : Session) (form : OutputForm) (text : List ℕ) (why : QueryErr) → length text ≤ max_query_bytes → IsWrong text why
     → IsAnswerIn s form text (refused_view (Query why))
-wrong s form text why fits is files limit i loaded over =
+wrong s form text why fits is files limits i loaded over =
     IsAnswerTo.ran fits [] (inl (why, is, refl)) (λ o asks. IsReportOn.wrong_query why (subst (λ t. IsWrong t why) (sym asks.text) is) refl)

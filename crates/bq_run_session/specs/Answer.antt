@@ -1,5 +1,6 @@
 -- What a query is answered: what a run with that query alone is.
 use Rattle.std.specs.Prelude.{◌≡◌, ◌⊎◌, ◌<◌, ◌≤◌, ◌++◌, ◌||◌, ℕ, Bool, false, List, [], ◌∷◌, Ok, Err, length}
+use Rattle.bq_base_limits.specs.declared.limits.Limits.{Limits}
 use Rattle.bq_label.specs.declared.workspace.File.{File}
 use Rattle.bq_label.specs.Label.{LabelParts}
 use Rattle.bq_label.specs.Packages.{packages_of}
@@ -12,13 +13,13 @@ use Rattle.bq_query_lex.specs.declared.query_error.QueryErr.{QueryErr}
 use Rattle.bq_query_lex.specs.declared.query_error.QueryErr.TheVariants.{Syntax}
 use Rattle.bq_run_report.specs.Report.{Inside, ReplyView, fault_text}
 use Rattle.bq_run_write.specs.declared.ending.NoAnswer.TheVariants.{Query}
-use Rattle.bq_run.specs.WorkspaceRun.{IsReportOn, Loads, Fronts, AreFronts, loaded_in}
+use Rattle.bq_run.specs.WorkspaceRun.{IsReportOn, Loads, Fits, Fronts, AreFronts, loaded_in}
 use Rattle.bq_run.specs.declared.options.Options.{Options}
 use Rattle.bq_run_session.specs.Queries.{max_query_bytes}
 use Rattle.bq_run_session.specs.Block.{block, is_refused}
 
--- the workspace has this in it once it is loaded, where each module may take `limit` steps
-pub record IsLoadedAs (files : List File) (limit : ℕ) (i : Inside) : Type 0 where
+-- the workspace has this in it once it is loaded, by these limits
+pub record IsLoadedAs (files : List File) (limits : Limits) (i : Inside) : Type 0 where
   pub rules : Rules
   pub fronts : Fronts
   pub labels : List LabelParts
@@ -26,25 +27,26 @@ pub record IsLoadedAs (files : List File) (limit : ℕ) (i : Inside) : Type 0 wh
   pub schema : schema_in files ≡ Ok rules
   pub read : AreFronts (inputs_of files rules) fronts
   pub discovered : IsLoadGraph (packages_of files) fronts labels edges
-  pub inside : i ≡ loaded_in files rules fronts limit labels edges
+  pub fits : Fits limits edges
+  pub inside : i ≡ loaded_in files rules fronts limits.steps labels edges
 
--- a run with this query, this form and this limit, and with any number of jobs
-pub record Asks (query : List ℕ) (form : OutputForm) (limit : ℕ) (o : Options) : Type 0 where
+-- a run with this query, this form and these limits, and with any number of jobs
+pub record Asks (query : List ℕ) (form : OutputForm) (l : Limits) (o : Options) : Type 0 where
   pub text : o.query.items ≡ query
   pub output : o.output ≡ form
-  pub steps : o.max_steps ≡ limit
+  pub limits : o.limits ≡ l
 
 -- the faults of a run with this query are those of the session; a run with a wrong query loads nothing
 abbrev pub HasFaults : Inside → List ℕ → List ℕ → Type 0
 HasFaults i query faults = ((why : QueryErr) × IsWrong query why × (faults ≡ [])) ⊎ (faults ≡ fault_text i)
 
 -- over a workspace with this in it
-pub data IsAnswerTo (files : List File) (limit : ℕ) (i : Inside) (form : OutputForm) (query : List ℕ) (reply : ReplyView) : Type 0 where
+pub data IsAnswerTo (files : List File) (limits : Limits) (i : Inside) (form : OutputForm) (query : List ℕ) (reply : ReplyView) : Type 0 where
   -- Q1
-  too_long : max_query_bytes < length query → reply ≡ record { text = []; end = Err (Query Syntax) } → IsAnswerTo files limit i form query reply
+  too_long : max_query_bytes < length query → reply ≡ record { text = []; end = Err (Query Syntax) } → IsAnswerTo files limits i form query reply
   ran : length query ≤ max_query_bytes → (faults : List ℕ) → HasFaults i query faults
-      → ((o : Options) → Asks query form limit o → IsReportOn o files (record { faults = faults; answer = reply.text; end = reply.end }))
-      → IsAnswerTo files limit i form query reply
+      → ((o : Options) → Asks query form limits o → IsReportOn o files (record { faults = faults; answer = reply.text; end = reply.end }))
+      → IsAnswerTo files limits i form query reply
 
 -- the text of the blocks of all these queries, in order, and whether one was refused
 pub data AreAnswered (IsAnswer : List ℕ → ReplyView → Type 0) : List (List ℕ) → List ℕ → Bool → Type 0 where

@@ -63,9 +63,9 @@ pub record Answers (IsAnswer : List ℕ → ReplyView → Type 0) (status : Stat
 -- writer of faults held before and after it, a and a' the other writer.
 pub data DoesAnswer (o : Options) (files : List File) (known : Option (List ℕ)) (result : Result SessionStatus RunErr) (f f' a a' : Option (List ℕ)) : Type 0 where
   -- E1, E6, E7: nothing is written
-  not_loaded : (why : RunErr) → result ≡ Err why → IsRefused files why → Keeps f f' → Keeps a a' → DoesAnswer o files known result f f' a a'
+  not_loaded : (why : RunErr) → result ≡ Err why → IsRefused o.limits files why → Keeps f f' → Keeps a a' → DoesAnswer o files known result f f' a a'
   -- E3: a beginning of the faults is written, and no answer
-  faults_cut : (i : Inside) → IsLoadedAs files o.max_steps i → result ≡ Err run.Write → Begins f f' (fault_text i) → Keeps a a' → DoesAnswer o files known result f f' a a'
+  faults_cut : (i : Inside) → IsLoadedAs files o.limits i → result ≡ Err run.Write → Begins f f' (fault_text i) → Keeps a a' → DoesAnswer o files known result f f' a a'
   -- the faults are written, and then the blocks
-  answered : (i : Inside) → IsLoadedAs files o.max_steps i → Appends f f' (fault_text i)
-      → Answers (IsAnswerTo files o.max_steps i o.output) (status_by (all_faults i)) known result a a' → DoesAnswer o files known result f f' a a'
+  answered : (i : Inside) → IsLoadedAs files o.limits i → Appends f f' (fault_text i)
+      → Answers (IsAnswerTo files o.limits i o.output) (status_by (all_faults i)) known result a a' → DoesAnswer o files known result f f' a a'

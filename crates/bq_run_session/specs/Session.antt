@@ -1,5 +1,6 @@
 -- A session: a workspace that is loaded, with the graph of its targets.
 use Rattle.std.specs.Prelude.{◌≡◌, ℕ, List, Ok, Err, Result}
+use Rattle.bq_base_limits.specs.declared.limits.Limits.{Limits}
 use Rattle.bq_label.specs.declared.workspace.File.{File}
 use Rattle.bq_label.specs.Packages.{packages_of}
 use Rattle.bq_package_schema.specs.Schema.{Rules}
@@ -15,25 +16,25 @@ use Rattle.bq_run_write.specs.declared.error.RunErr.TheVariants as run
 use Rattle.bq_run_session.specs.Answer.{IsAnswerTo, IsLoadedAs}
 
 -- the session is over these files
-pub record IsOn (files : List File) (limit : ℕ) (s : Session) : Type 0 where
+pub record IsOn (files : List File) (limits : Limits) (s : Session) : Type 0 where
   pub inside : Inside
-  pub loaded : IsLoadedAs files limit inside
+  pub loaded : IsLoadedAs files limits inside
   pub over : IsOver inside s
 
 -- there is no session over these files: E6, E7; memory aside
-abbrev pub IsRefused : List File → RunErr → Type 0
-IsRefused files run.Memory = Unit {0}
-IsRefused files (run.Schema line) = schema_in files ≡ Err line
-IsRefused files run.TooManyModules = (rules : Rules) × (schema_in files ≡ Ok rules) × (fronts : Fronts) × AreFronts (inputs_of files rules) fronts × AreTooMany (packages_of files) fronts
-IsRefused files run.Read = ⊥
-IsRefused files run.Write = ⊥
-IsRefused files run.Bundle = ⊥
-IsRefused files (run.Query why) = ⊥
+abbrev pub IsRefused : Limits → List File → RunErr → Type 0
+IsRefused limits files run.Memory = Unit {0}
+IsRefused limits files (run.Schema line) = schema_in files ≡ Err line
+IsRefused limits files run.TooManyModules = (rules : Rules) × (schema_in files ≡ Ok rules) × (fronts : Fronts) × AreFronts (inputs_of files rules) fronts × AreTooMany limits (packages_of files) fronts
+IsRefused limits files run.Read = ⊥
+IsRefused limits files run.Write = ⊥
+IsRefused limits files run.Bundle = ⊥
+IsRefused limits files (run.Query why) = ⊥
 
-abbrev pub Opens : List File → ℕ → Result Session RunErr → Type 0
-Opens files limit (Ok s) = IsOn files limit s
-Opens files limit (Err why) = IsRefused files why
+abbrev pub Opens : List File → Limits → Result Session RunErr → Type 0
+Opens files limits (Ok s) = IsOn files limits s
+Opens files limits (Err why) = IsRefused limits files why
 
 -- over whatever files the session is, this is an answer to the query
 abbrev pub IsAnswerIn : Session → OutputForm → List ℕ → ReplyView → Type 0
-IsAnswerIn s form query reply = (files : List File) (limit : ℕ) (i : Inside) → IsLoadedAs files limit i → IsOver i s → IsAnswerTo files limit i form query reply
+IsAnswerIn s form query reply = (files : List File) (limits : Limits) (i : Inside) → IsLoadedAs files limits i → IsOver i s → IsAnswerTo files limits i form query reply

@@ -31,7 +31,7 @@ fn open_with<T: Threads + Wait + RandomSource + Sync>(
 ) -> Result<Session, RunErr>
     requires in_range { IsInRange options.now }
     requires schema { schema_in workspace.now ≡ Ok schema.now }
-    ensures { Opens workspace.now options.now.max_steps result }
+    ensures { Opens workspace.now options.now.limits result }
 {
     match load_workspace(rt, alloc, workspace, schema, options) {
         Ok(loaded) => Ok(session_over(rt, alloc, loaded, options.jobs as usize)?),
@@ -49,7 +49,7 @@ pub fn open_session<T: Threads + Wait + RandomSource + Sync>(
     options: &Options,
 ) -> Result<Session, RunErr>
     requires { IsInRange options.now }
-    ensures { Opens workspace.now options.now.max_steps result }
+    ensures { Opens workspace.now options.now.limits result }
 {
     match schema_of(alloc, workspace) {
         Ok(schema) => {

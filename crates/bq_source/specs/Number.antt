@@ -6,19 +6,15 @@ use Rattle.std.specs.Str.Parse.{digits_value, digits_value_after, IsNumeral}
 use Rattle.bq_source.specs.Lexis as lexis
 use Rattle.bq_source.specs.Lexis.{is_word}
 
--- a decimal digit
-abbrev pub is_decimal : ℕ → Bool
-is_decimal b = lexis.is_digit b
-
 -- a text begins with a decimal digit
 abbrev pub begins_decimal : List ℕ → Bool
 begins_decimal [] = false
-begins_decimal (b ∷ bs) = is_decimal b
+begins_decimal (b ∷ bs) = lexis.is_digit b
 
 -- A number begins with a digit, or with a dot before a digit.
 abbrev pub begins_number : List ℕ → Bool
 begins_number [] = false
-begins_number (b ∷ bs) = is_decimal b || b == 46 && begins_decimal bs
+begins_number (b ∷ bs) = lexis.is_digit b || b == 46 && begins_decimal bs
 
 -- what a number is spelled with: letters, digits, `_` and `.`, so that `1.5`, `1_000` and `08` are one number each, and no valid one
 abbrev pub is_number_byte : ℕ → Bool

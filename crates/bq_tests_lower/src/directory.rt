@@ -4,6 +4,7 @@
 //! link to where it leads; and `read` gives the files below a path, a line each, or says that they are refused.
 
 use crate::rows::{Row, Subject, check_rows};
+use bq_base_limits::Limits;
 use bq_label::{File, Workspace};
 use bq_run_directory::{DirectoryErr, read_directory};
 use std::alloc::{AllocError, Global};
@@ -30,7 +31,7 @@ fn shown(alloc: Global, workspace: &Workspace) -> Result<Vec<u8>, AllocError> {
 
 /// The files of a directory.
 fn read(rt: &HostRuntime, root: &str) -> Result<Vec<u8>, AllocError> {
-    let found = read_directory(rt, root);
+    let found = read_directory(rt, root, Limits::standard());
     let text = match &found {
         Ok(workspace) => shown(rt.alloc(), workspace),
         Err(DirectoryErr::Read) => b"refused".to_vec(rt.alloc()),

@@ -142,7 +142,7 @@ fn functions_that_declare_rules_are_equal_by_which_they_are(
     let int = Value::rule_function(RuleFunction::AttrInt);
     assert!(rt; are_unlike(alloc, Value::rule_function(RuleFunction::Rule), int));
     let int = Value::rule_function(RuleFunction::AttrInt);
-    assert!(rt; are_unlike(alloc, int, Value::built_in(Predeclared::Int)));
+    assert!(rt; are_unlike(alloc, int, Value::built_in(Predeclared::BuiltIn(6))));
     Ok(())
 }
 

@@ -56,7 +56,7 @@ fn are_taken(words: &Words, taken: &Ask) -> bool {
         && place_of(words) == place
         && is_form(options.output, form)
         && options.jobs == jobs
-        && options.max_steps == steps
+        && options.limits.steps == steps
 }
 
 fn name_of(explanation: &Explanation) -> &'static str {

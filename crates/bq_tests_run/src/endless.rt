@@ -2,7 +2,8 @@
 
 ghost use Rattle.std.specs.Prelude.{◌≡◌};
 
-use bq_run::{MAX_BUNDLE_BYTES, Metered, ReadFault, read_all};
+use bq_base_limits::Limits;
+use bq_run::{Metered, ReadFault, read_all};
 use std::io;
 use std::io::Read;
 
@@ -48,5 +49,5 @@ const LIMITS: &[usize] = &[0, 1, 4095, 4096, 1_000_000];
 /// A bundle of so many bytes would take as much memory, so the number alone is tried.
 #[test]
 fn the_limit_of_a_bundle(rt: HostRuntime) {
-    assert!(rt; MAX_BUNDLE_BYTES == 1_073_741_824);
+    assert!(rt; Limits::standard().bundle_bytes == 1_073_741_824);
 }

@@ -3,6 +3,7 @@
 ghost use Rattle.std.specs.Prelude.{IfOk};
 ghost use Rattle.bq_run.specs.Run.{IsInRange};
 
+use bq_base_limits::Limits;
 use bq_run::{MAX_JOBS, Options, OutputForm};
 use std::alloc::{AllocError, Global};
 
@@ -19,6 +20,6 @@ pub fn options(
         query: query.to_vec(alloc)?,
         jobs: jobs.clamp(1, MAX_JOBS),
         output: OutputForm::Label,
-        max_steps: max_steps.clamp(1, 1_000_000_000),
+        limits: Limits::standard_with(max_steps.clamp(1, 1_000_000_000)),
     })
 }

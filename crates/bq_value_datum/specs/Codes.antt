@@ -53,46 +53,27 @@ host_number host.ExportsFiles = 11
 host_number host.PackageGroup = 12
 host_number (host.Rule place) = 13
 
--- a number for what each predeclared name stands for, but one for all rules
+-- a number for what each predeclared name stands for, but one for all built-in functions, and one for all rules
 abbrev pub predeclared_number : Predeclared → ℕ
 predeclared_number p.None = 14
 predeclared_number p.True = 15
 predeclared_number p.False = 16
-predeclared_number p.All = 17
-predeclared_number p.Any = 18
-predeclared_number p.Bool = 19
-predeclared_number p.Dict = 20
-predeclared_number p.Enumerate = 21
-predeclared_number p.Fail = 22
-predeclared_number p.Int = 23
-predeclared_number p.Len = 24
-predeclared_number p.List = 25
-predeclared_number p.Max = 26
-predeclared_number p.Min = 27
-predeclared_number p.Print = 28
-predeclared_number p.Range = 29
-predeclared_number p.Repr = 30
-predeclared_number p.Reversed = 31
-predeclared_number p.Select = 32
-predeclared_number p.Sorted = 33
-predeclared_number p.Str = 34
-predeclared_number p.Tuple = 35
-predeclared_number p.Type = 36
-predeclared_number p.Zip = 37
+predeclared_number (p.BuiltIn place) = 17
 predeclared_number (p.Host g) = host_number g
 predeclared_number (p.RuleFunction g) = number_of g
 
--- the place of a rule in the schema
+-- the place of a built-in function in the table of their names, and of a rule in the schema
 abbrev pub place_of : Predeclared → ℕ
+place_of (p.BuiltIn place) = place
 place_of (p.Host (host.Rule place)) = place
 place_of _ = 0
 
--- those of these numbers, where a rule has this place
+-- those of these numbers, where a built-in function or a rule has this place
 abbrev all_numbered : ℕ → List Predeclared
 all_numbered place =
     p.RuleFunction f.Rule ∷ p.RuleFunction f.AttrString ∷ p.RuleFunction f.AttrInt ∷ p.RuleFunction f.AttrBool ∷ p.RuleFunction f.AttrStringList ∷ p.RuleFunction f.AttrLabel ∷ p.RuleFunction f.AttrLabelList
     ∷ p.Host host.Glob ∷ p.Host host.PackageName ∷ p.Host host.Package ∷ p.Host host.Licenses ∷ p.Host host.ExportsFiles ∷ p.Host host.PackageGroup ∷ p.Host (host.Rule place)
-    ∷ p.None ∷ p.True ∷ p.False ∷ p.All ∷ p.Any ∷ p.Bool ∷ p.Dict ∷ p.Enumerate ∷ p.Fail ∷ p.Int ∷ p.Len ∷ p.List ∷ p.Max ∷ p.Min ∷ p.Print ∷ p.Range ∷ p.Repr ∷ p.Reversed ∷ p.Select ∷ p.Sorted ∷ p.Str ∷ p.Tuple ∷ p.Type ∷ p.Zip ∷ []
+    ∷ p.None ∷ p.True ∷ p.False ∷ p.BuiltIn place ∷ []
 
 abbrev nth_or : List Predeclared → ℕ → Predeclared
 nth_or [] n = p.None
@@ -106,27 +87,7 @@ predeclared_at-number : (x : Predeclared) → predeclared_at (place_of x) (prede
 predeclared_at-number p.None = refl
 predeclared_at-number p.True = refl
 predeclared_at-number p.False = refl
-predeclared_at-number p.All = refl
-predeclared_at-number p.Any = refl
-predeclared_at-number p.Bool = refl
-predeclared_at-number p.Dict = refl
-predeclared_at-number p.Enumerate = refl
-predeclared_at-number p.Fail = refl
-predeclared_at-number p.Int = refl
-predeclared_at-number p.Len = refl
-predeclared_at-number p.List = refl
-predeclared_at-number p.Max = refl
-predeclared_at-number p.Min = refl
-predeclared_at-number p.Print = refl
-predeclared_at-number p.Range = refl
-predeclared_at-number p.Repr = refl
-predeclared_at-number p.Reversed = refl
-predeclared_at-number p.Select = refl
-predeclared_at-number p.Sorted = refl
-predeclared_at-number p.Str = refl
-predeclared_at-number p.Tuple = refl
-predeclared_at-number p.Type = refl
-predeclared_at-number p.Zip = refl
+predeclared_at-number (p.BuiltIn place) = refl
 predeclared_at-number (p.Host host.Glob) = refl
 predeclared_at-number (p.Host host.PackageName) = refl
 predeclared_at-number (p.Host host.Package) = refl

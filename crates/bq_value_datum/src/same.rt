@@ -126,7 +126,7 @@ fn host_number(function: HostFunction) -> u8
     }
 }
 
-/// Returns a number for what each predeclared name stands for, but one for all rules.
+/// Returns a number for what each predeclared name stands for, but one for all built-in functions, and one for all rules.
 fn predeclared_number(predeclared: Predeclared) -> u8
     ensures { result ≡ predeclared_number predeclared }
 {
@@ -134,37 +134,18 @@ fn predeclared_number(predeclared: Predeclared) -> u8
         Predeclared::None => 14,
         Predeclared::True => 15,
         Predeclared::False => 16,
-        Predeclared::All => 17,
-        Predeclared::Any => 18,
-        Predeclared::Bool => 19,
-        Predeclared::Dict => 20,
-        Predeclared::Enumerate => 21,
-        Predeclared::Fail => 22,
-        Predeclared::Int => 23,
-        Predeclared::Len => 24,
-        Predeclared::List => 25,
-        Predeclared::Max => 26,
-        Predeclared::Min => 27,
-        Predeclared::Print => 28,
-        Predeclared::Range => 29,
-        Predeclared::Repr => 30,
-        Predeclared::Reversed => 31,
-        Predeclared::Select => 32,
-        Predeclared::Sorted => 33,
-        Predeclared::Str => 34,
-        Predeclared::Tuple => 35,
-        Predeclared::Type => 36,
-        Predeclared::Zip => 37,
+        Predeclared::BuiltIn(_) => 17,
         Predeclared::Host(function) => host_number(function),
         Predeclared::RuleFunction(function) => number_of(function),
     }
 }
 
-/// Returns the place of a rule in the schema, and 0 of all else.
+/// Returns the place of a built-in function in the table of their names, or of a rule in the schema, and 0 of all else.
 fn place_of(predeclared: Predeclared) -> u32
     ensures { result ≡ place_of predeclared }
 {
     match predeclared {
+        Predeclared::BuiltIn(place) => place,
         Predeclared::Host(HostFunction::Rule(place)) => place,
         _ => 0,
     }

@@ -102,8 +102,8 @@ impl Drop for Value {
     }
 }
 
-// What drops a value looks at its kind in place. The kinds that own memory are functions of their own, since the room that they need
-// would be made for an integer too.
+// The drop of a value is inlined, so all that it does is to test the kind. A kind that owns memory has a function of its own, which is
+// not inlined: if it were, each drop of an integer would reserve the stack that the other kinds need.
 
 #[inline(never)]
 fn drop_text(_text: Bytes) {}
@@ -313,7 +313,7 @@ impl Value {
     }
 }
 
-// As for drops, the kinds that own memory are shared out of line.
+// As with drops, each kind that owns memory is shared by a function of its own, which is not inlined.
 
 #[inline(never)]
 fn share_text(text: &Bytes) -> Result<Value, AllocError>

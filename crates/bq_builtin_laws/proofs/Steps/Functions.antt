@@ -1,5 +1,5 @@
 -- Built-in functions have numbers of steps and outcomes of their own.
-use Rattle.std.proofs.Common.{List, Result}
+use Rattle.std.proofs.Common.{ℕ, zero, suc, List, [], ◌∷◌, Result, slice_get}
 use Rattle.bq_base.specs.declared.fault.EvalFault.{EvalFault}
 use Rattle.bq_base.specs.declared.fault.EvalFault.TheVariants as fault
 use Rattle.bq_resolve_predeclared.specs.declared.predeclared.Predeclared.{Predeclared}
@@ -12,12 +12,8 @@ use Rattle.bq_builtin_machine.specs.Cells.{new_list}
 use Rattle.bq_builtin_machine.specs.Machine as machine
 use Rattle.bq_builtin_machine.specs.Machine.{walk}
 use Rattle.bq_builtin.specs.Arguments.{by_place, only_argument}
-use Rattle.bq_builtin.specs.Call.{given_by, call_function}
-use Rattle.bq_builtin.specs.Choosing.{chosen, sorted}
-use Rattle.bq_builtin.specs.Integers.{int, len, range}
-use Rattle.bq_builtin.specs.Sequences as sequences
-use Rattle.bq_builtin.specs.Truths.{all, any, bool}
-use Rattle.bq_builtin.specs.Texts.{type_of, str, repr, space, separator_in, joined_texts, print, fail}
+use Rattle.bq_builtin.specs.Call.{Calling, gives, lists, does, functions, called_if_any, call_function}
+use Rattle.bq_builtin.specs.Texts.{str, repr, space, separator_in, joined_texts, print, fail}
 use Rattle.bq_builtin_laws.specs.Steps.Laws.{Own}
 use Rattle.bq_builtin_laws.proofs.Steps.Machine.{pure_owns, stop_owns, given_owns, bind_owns, then_owns, look_owns, walk_owns, print_owns, fail_owns}
 use Rattle.bq_builtin_laws.proofs.Steps.Operators.{text_owns, repr_owns}
@@ -52,31 +48,27 @@ failing_owns args =
 listed_owns : (values : StoreView → Result (List Datum) EvalFault) → Own (look (λ s. values s.store) >>= λ xs. new_list xs)
 listed_owns values = bind_owns (look (λ s. values s.store)) (λ xs. new_list xs) (look_owns values) (λ xs. new_list_owns xs)
 
--- an answer that the store gives, for a choice that is named elsewhere
-chosen_owns : {E : Type 0} (e : E) (r : E → StoreView → Result Datum EvalFault) → Own (look (λ s. r e s.store))
-chosen_owns e r = look_owns (r e)
+-- what is left to show of functions: that those own their steps which neither give a value nor a list
+abbrev ActionsOwn : List (List ℕ × Calling) → Type 0
+ActionsOwn [] = Unit {0}
+ActionsOwn ((name, gives value) ∷ others) = ActionsOwn others
+ActionsOwn ((name, lists values) ∷ others) = ActionsOwn others
+ActionsOwn ((name, does action) ∷ others) = ((args : Passed) → Own (action args)) × ActionsOwn others
+
+called_owns : (table : List (List ℕ × Calling)) (place : ℕ) (args : Passed) → ActionsOwn table → Own (called_if_any (slice_get table place) args)
+called_owns [] place args own = stop_owns Datum fault.WrongType
+called_owns ((name, gives value) ∷ others) zero args own = look_owns (λ s. value s args)
+called_owns ((name, lists values) ∷ others) zero args own = listed_owns (λ s. values s args)
+called_owns ((name, does action) ∷ others) zero args own = own.0 args
+called_owns ((name, gives value) ∷ others) (suc place) args own = called_owns others place args own
+called_owns ((name, lists values) ∷ others) (suc place) args own = called_owns others place args own
+called_owns ((name, does action) ∷ others) (suc place) args own = called_owns others place args own.1
+
+-- `dict`, `fail`, `print`, `repr`, `select` and `str`
+actions_own : ActionsOwn functions
+actions_own = (dict_made_owns, (failing_owns, (printed_owns, (shown_owns, ((λ args. stop_owns Datum fault.Select), (str_owns, tt))))))
 
 pub function_owns : (function : Predeclared) (args : Passed) → Own (call_function function args)
-unfolding call_function given_by
-function_owns p.All args = look_owns (λ s. all s args)
-function_owns p.Any args = look_owns (λ s. any s args)
-function_owns p.Bool args = look_owns (λ s. bool s args)
-function_owns p.Dict args = dict_made_owns args
-function_owns p.Enumerate args = listed_owns (λ s. sequences.enumerate s args)
-function_owns p.Fail args = failing_owns args
-function_owns p.Int args = look_owns (λ s. int args)
-function_owns p.Len args = look_owns (λ s. len s args)
-function_owns p.List args = listed_owns (λ s. sequences.list s args)
-function_owns p.Max args = chosen_owns _ (λ e s. chosen e s args)
-function_owns p.Min args = chosen_owns _ (λ e s. chosen e s args)
-function_owns p.Print args = printed_owns args
-function_owns p.Range args = look_owns (λ s. range args)
-function_owns p.Repr args = shown_owns args
-function_owns p.Reversed args = listed_owns (λ s. sequences.reversed s args)
-function_owns p.Select args = stop_owns Datum fault.Select
-function_owns p.Sorted args = listed_owns (λ s. sorted s args)
-function_owns p.Str args = str_owns args
-function_owns p.Tuple args = look_owns (λ s. sequences.tuple s args)
-function_owns p.Type args = look_owns (λ s. type_of s args)
-function_owns p.Zip args = listed_owns (λ s. sequences.zip s args)
+unfolding call_function
+function_owns (p.BuiltIn place) args = called_owns functions place args actions_own
 function_owns function args = stop_owns Datum fault.WrongType

@@ -1,6 +1,6 @@
 -- Along loads each module can call the functions of those that it loads, of those that these load, and so on.
 use Rattle.std.proofs.Common.{◌≡◌, ◌∙◌, ℕ, zero, suc, inl, inr, List, [], ◌∷◌, map, Option, Some, None, Result, Ok, Err, slice_get, option_map, Contains, refl, sym, ap, subst}
-use Rattle.std.specs.Prelude.{IfOk}
+use Rattle.std.specs.Prelude.{IfOk, option_and_then}
 use Rattle.bq_base.specs.declared.fault.FaultKind.{FaultKind}
 use Rattle.bq_base.specs.declared.fault.LoadFault.{LoadFault}
 use Rattle.bq_base.specs.declared.fault.Fault.{Fault}
@@ -17,7 +17,7 @@ use Rattle.bq_eval.specs.Module.{Ended, evaluated, failed, ended, module_run, ke
 use Rattle.bq_eval_laws.specs.Evaluations.Callable.{IsCallable}
 use Rattle.bq_eval_laws.specs.Evaluations.Files.{FrozenAre}
 use Rattle.bq_eval_laws.proofs.Evaluations.Callable.{stay_callable}
-use Rattle.bq_package.specs.Calls.{meaning}
+use Rattle.bq_package.specs.Calls.{meaning, package_in}
 use Rattle.bq_eval_package_laws.proofs.BuildFiles.Calls.{calls_own}
 use Rattle.bq_package_target.specs.Package.{PackageTargets, finished}
 use Rattle.bq_load_front.specs.Parsed.{kind_of}
@@ -27,7 +27,7 @@ use Rattle.bq_load_discover.specs.LoadGraph.{GraphParts, IsReadGraph, inputs_of}
 use Rattle.bq_load_discover.specs.Module.{module_of}
 use Rattle.bq_load_outcome_spec.specs.Outcome.{outcome}
 use Rattle.bq_load_discover.specs.declared.modules.Module.{Module}
-use Rattle.bq_load.specs.Evaluation.{kept_first, evaluation, package_left, module_with, module_by, module_after, loaded_parts, by_imports, file_means, by_front, by_module, means}
+use Rattle.bq_load.specs.Evaluation.{kept_first, evaluation, module_with, module_by, module_after, loaded_parts, by_imports, file_means, by_front, by_module, means}
 use Rattle.bq_load.specs.Imports.{imports}
 use Rattle.bq_load.specs.ResolvedFiles.{front_file, resolved_files}
 use Rattle.bq_load.specs.Loading.{LoadingParts, loading_in}
@@ -84,7 +84,7 @@ module _ (x : LoadingParts) (k : ℕ) (home : ℕ) where
     unfolding module_after evaluation
     by_run l file at imported is =
         by_end (ended file imported (module_run x.names meaning (resolved_files x.modules) k file (map frozen_of modules) imported x.limit (kept_first x l)))
-        (package_left (kept_after (module_run x.names meaning (resolved_files x.modules) k file (map frozen_of modules) imported x.limit (kept_first x l)))) v
+        (option_and_then package_in (kept_after (module_run x.names meaning (resolved_files x.modules) k file (map frozen_of modules) imported x.limit (kept_first x l)))) v
         (stay_callable x.names meaning calls_own (resolved_files x.modules) k file at (map frozen_of modules) imported (kept_first x l) x.limit home callable) is none
 
     by_values : (l : LabelParts) (file : ResolvedFile) → slice_get (resolved_files x.modules) k ≡ Some (Some file) → (r : Result (List Datum) (Fault LoadFault)) → by_imports x k l file modules r ≡ Ok v → ForLoaders v.frozen

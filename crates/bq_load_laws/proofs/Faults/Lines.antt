@@ -23,7 +23,8 @@ use Rattle.bq_base_fault_line.specs.declared.fault_line.FaultLine.{FaultLine}
 use Rattle.bq_base_fault_line.specs.FaultLine.{sorted_lines}
 use Rattle.bq_base_fault_line.proofs.LineOrder.{same_lines}
 use Rattle.bq_load.specs.declared.loaded.Loaded.{Loaded}
-use Rattle.bq_load.specs.Loaded.{line_of, lines_by, lines_of, fault_lines, LoadsWorkspace}
+use Rattle.bq_base_limits.specs.declared.limits.Limits.{Limits}
+use Rattle.bq_load.specs.Loaded.{line_of, lines_by, fault_lines, LoadsWithin}
 use Rattle.bq_load.specs.Results.{outcomes}
 use Rattle.bq_load.specs.Loading.{loading_in}
 use Rattle.bq_load.specs.Views.{ModuleView, FailedView, OutcomeView}
@@ -126,7 +127,7 @@ module _ (Q : FaultKind → ℕ → Type 0) (holds : (inputs : InputParts) (l : 
 
     by_outcomes : (os : List OutcomeView) → AllByRecursion (FailsInItsPart inputs) os → Contains (fault_lines os) line → Q line.kind line.line
     by_outcomes [] all c = absurd (none_in line c)
-    by_outcomes (o ∷ os) all c = elim (Contains-append_cases (lines_of o) (fault_lines os) line c) [
+    by_outcomes (o ∷ os) all c = elim (Contains-append_cases (lines_by o.label o.result) (fault_lines os) line c) [
       | inl here ↦ by_result o.label o.result all.0 here
       | inr later ↦ by_outcomes os all.1 later
     ]
@@ -137,9 +138,9 @@ module _ (Q : FaultKind → ℕ → Type 0) (holds : (inputs : InputParts) (l : 
       let os = outcomes (loading_in files rules limit g) g.edges in
       by_outcomes (inputs_of files rules) line os (outcomes_fail files rules limit g w is) ((same_lines (fault_lines os) line).0 c)
 
-  pub lines_loaded : (files : List File) (rules : Rules) (limit : ℕ) (l : Loaded) → IsWorkspace files → LoadsWorkspace files rules limit (Ok l) → (line : FaultLine) → Contains l.faults line
+  pub lines_loaded : (files : List File) (rules : Rules) (limits : Limits) (l : Loaded) → IsWorkspace files → LoadsWithin files rules limits (Ok l) → (line : FaultLine) → Contains l.faults line
       → Q line.kind line.line
-  lines_loaded files rules limit l w h line c = lines_in_graph files rules limit h.0 w h.1 line (subst (λ (z : List FaultLine). Contains z line) h.2.faults c)
+  lines_loaded files rules limits l w h line c = lines_in_graph files rules limits.steps h.0 w h.1 line (subst (λ (z : List FaultLine). Contains z line) h.2.faults c)
 
 pub lines_of_modules : FaultLinesAreOfModules
 lines_of_modules = lines_loaded (λ kind line. is_of_module kind ≡ true) of_module

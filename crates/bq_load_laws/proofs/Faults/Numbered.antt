@@ -113,4 +113,4 @@ in_package inputs p t c (inr d) =
     on_a_line d.resolved.statements t (file_numbered inputs p.build_file d.file.content d.resolved d.has).0 (by_statements d.resolved.statements p d.declared t c)
 
 pub targets_stand : TargetsStandOnLines
-targets_stand files rules limit l w h p c t d = in_package (inputs_of files rules) p t d (packages_declare files rules limit l w h p c)
+targets_stand files rules limits l w h p c t d = in_package (inputs_of files rules) p t d (packages_declare files rules limits l w h p c)

@@ -1,6 +1,6 @@
 -- The outcome of each module is a value, whose package its own file declares, or a fault of one of its parts.
 use Rattle.std.proofs.Common.{◌≡◌, ◌∙◌, ℕ, suc, ◌+◌, ◌++◌, ◌&&◌, not, length, Bool, true, false, cond, List, [], ◌∷◌, map, Option, Some, None, Result, Ok, Err, slice_get, is_some, Contains, refl, sym, ap, subst, arith, IfErr, IfOk}
-use Rattle.std.specs.Prelude.{if◌then◌else◌}
+use Rattle.std.specs.Prelude.{option_and_then, if◌then◌else◌}
 use Rattle.std.specs.List.{AllByRecursion, list_any}
 use Rattle.std.proofs.lemmas.Option.{get_or_from_slice_get}
 use Rattle.bq_base.specs.declared.fault.Fault.{Fault}
@@ -15,7 +15,7 @@ use Rattle.bq_eval.specs.Module.{Ended, evaluated as ran, failed, ended, kept_af
 use Rattle.bq_label.specs.declared.workspace.File.{File}
 use Rattle.bq_label.specs.Label.{LabelParts}
 use Rattle.bq_label.specs.Workspace.{IsWorkspace}
-use Rattle.bq_load.specs.Evaluation.{kept_first, evaluation, package_left, module_by, module_after, loaded_parts, by_imports, file_means, by_front, by_module, means}
+use Rattle.bq_load.specs.Evaluation.{kept_first, evaluation, module_by, module_after, loaded_parts, by_imports, file_means, by_front, by_module, means}
 use Rattle.bq_load.specs.Imports.{is_private, global_by, or_no_symbol, exported, at_symbol, clause_values, module_named, imports, LoadedParts}
 use Rattle.bq_load.specs.Results.{load_fault, result_of, outcomes_from, outcomes}
 use Rattle.bq_load.specs.ResolvedFiles.{resolved_files}
@@ -44,7 +44,7 @@ use Rattle.bq_parse_grammar.specs.declared.tree.FileKind.{FileKind}
 use Rattle.bq_parse_grammar.specs.declared.tree.FileKind.TheVariants as kinds
 use Rattle.bq_eval_laws.specs.Evaluations.Files.{FailsAtAStatement}
 use Rattle.bq_eval_laws.proofs.Evaluations.Lines.{files_fail_at}
-use Rattle.bq_package.specs.Calls.{meaning}
+use Rattle.bq_package.specs.Calls.{meaning, package_in}
 use Rattle.bq_eval_package_laws.proofs.BuildFiles.Calls.{calls_own}
 use Rattle.bq_package_target.specs.Package.{PackageTargets}
 use Rattle.bq_resolve_scope.specs.Names.{Name}
@@ -150,7 +150,7 @@ module _ (inputs : InputParts) (x : LoadingParts) where
     unfolding module_after evaluation
     run_fails values =
         by_end (ended front.file values (module_run x.names meaning (resolved_files x.modules) m front.file (map (λ v. v.frozen) modules) values x.limit (kept_first x l)))
-        (package_left (kept_after (module_run x.names meaning (resolved_files x.modules) m front.file (map (λ v. v.frozen) modules) values x.limit (kept_first x l))))
+        (option_and_then package_in (kept_after (module_run x.names meaning (resolved_files x.modules) m front.file (map (λ v. v.frozen) modules) values x.limit (kept_first x l))))
         (files_fail_at x.names meaning calls_own (resolved_files x.modules) m front.file (map (λ v. v.frozen) modules) values (kept_first x l) x.limit)
 
     by_package : (k : FileKind) (p : Option PackageTargets) → IsOwnOf k l p → Declares front.file.statements p → DeclaresAllIn inputs l p
@@ -304,5 +304,5 @@ outcomes_declare files rules limit g w is =
     weaker (IsComeTo inputs) (DeclaresItsTargets inputs) (λ o h. package_of inputs o.label o.result h) (outcomes (loading_in files rules limit g) g.edges) (outcomes_come files rules limit g w is)
 
 pub loaded_fail : LoadedModulesFailInTheirParts
-loaded_fail files rules limit l w h =
-    subst (AllByRecursion (FailsInItsPart (inputs_of files rules))) (sym h.2.modules) (outcomes_fail files rules limit h.0 w h.1)
+loaded_fail files rules limits l w h =
+    subst (AllByRecursion (FailsInItsPart (inputs_of files rules))) (sym h.2.modules) (outcomes_fail files rules limits.steps h.0 w h.1)

@@ -24,7 +24,6 @@ use Rattle.bq_load_outcome_spec.specs.declared.outcome.Outcome.TheVariants as o
 use Rattle.bq_load_outcome_spec.proofs.Solution.{values_same, outcome_is, solved}
 use Rattle.bq_load_discover.specs.declared.modules.Module.{Module}
 use Rattle.bq_load.specs.Evaluation.{means}
-use Rattle.bq_load.specs.Loaded.{own_package}
 use Rattle.bq_load.specs.Results.{result_of}
 use Rattle.bq_load.specs.Loading.{LoadingParts, loading_in}
 use Rattle.bq_load.specs.Views.{ModuleView, FailedView}
@@ -127,4 +126,4 @@ printed_by made v (Some q) = refl
 
 pub results_tell : ResultsTellTheSame
 results_tell l made (Err why) = record { package_is = refl; lines = refl; prints = refl }
-results_tell l made (Ok v) = record { package_is = ap (own_package l) (package_by_it made v v.package); lines = refl; prints = printed_by made v v.package }
+results_tell l made (Ok v) = record { package_is = package_by_it made v v.package; lines = refl; prints = printed_by made v v.package }

@@ -1,8 +1,7 @@
 -- The package that a file makes is its own, and its statements declare its targets.
-use Rattle.std.proofs.Common.{◌≡◌, ◌++◌, ◌∷◌, ℕ, Bool, true, false, List, [], Option, Some, None, Result, Ok, Err, refl, sym, ap, subst}
+use Rattle.std.proofs.Common.{◌≡◌, ◌++◌, ◌∷◌, ℕ, List, [], Option, Some, None, Result, Ok, Err, refl, sym, ap, subst}
 use Rattle.std.proofs.lemmas.Option.{none-some}
-use Rattle.std.specs.Prelude.{IfOk, bytes_eq, option_map, ◌&&◌, if◌then◌else◌}
-use Rattle.std.specs.Cmp.Lexicographic.{bytes_decides}
+use Rattle.std.specs.Prelude.{IfOk, option_map}
 use Rattle.bq_base.specs.declared.fault.FaultKind.{FaultKind}
 use Rattle.bq_base.specs.declared.fault.LoadFault.{LoadFault}
 use Rattle.bq_base.specs.declared.fault.Fault.{Fault}
@@ -15,7 +14,6 @@ use Rattle.bq_value.specs.Datum.{Datum}
 use Rattle.bq_builtin_machine.specs.Action.{Run, done, stopped}
 use Rattle.bq_builtin_machine.specs.State.{State}
 use Rattle.bq_eval_meaning_spec.specs.Frame.{Frame}
-use Rattle.bq_package_target.specs.Target.{is_of}
 use Rattle.bq_package_target.specs.declared.target.Target.{Target}
 use Rattle.bq_package_target.specs.Package.{PackageTargets, no_targets, files, own_labels, finished}
 use Rattle.bq_package.specs.Calls.{Declaring, HeldPackage, outside, declaring, package_in}
@@ -25,9 +23,8 @@ use Rattle.bq_load.specs.Views.{ModuleView, FailedView}
 use Rattle.bq_load.specs.Loading.{LoadingParts}
 use Rattle.bq_load.specs.Imports.{imports}
 use Rattle.bq_load.specs.Evaluation.{kept_by, evaluation, module_after, loaded_parts, by_imports, file_means, by_front, by_module, means}
-use Rattle.bq_load.specs.Loaded.{own_package}
 use Rattle.bq_load_laws.specs.Packages.Declared.{HasDeclared}
-use Rattle.bq_load_laws.specs.Packages.Packages.{IsOwnOf, FilesMakeTheirPackages, PackagesCount}
+use Rattle.bq_load_laws.specs.Packages.Packages.{IsOwnOf, FilesMakeTheirPackages}
 use Rattle.bq_load_laws.proofs.Packages.Keeping.{Left, Goes}
 use Rattle.bq_load_laws.proofs.Packages.Lines.{files_are_files}
 use Rattle.bq_load_laws.proofs.Packages.Calls.{Held}
@@ -106,28 +103,3 @@ front_own x m l modules (Ok front) = file_own x m l front modules
 pub made : FilesMakeTheirPackages
 unfolding means
 made x m modules s e = subst (λ o. IfOk (by_module x m modules o) (Own (kind_of s.label) s.label)) (sym e) (front_own x m s.label modules s.front)
-
--- ---- packages as they count
-
-both_true : (a b : Bool) → a ≡ true → b ≡ true → (a && b) ≡ true
-both_true true true e f = refl
-both_true true false e f = cc
-both_true false b e f = cc
-
-its_own : (l : LabelParts) → is_of (package_of l) l ≡ true
-unfolding is_of
-its_own l = both_true (bytes_eq l.repo l.repo) (bytes_eq l.package l.package) ((bytes_decides l.repo l.repo).1 refl) ((bytes_decides l.package l.package).1 refl)
-
-chosen : (b : Bool) (p q : PackageTargets) → b ≡ true → (if b then p else q) ≡ p
-chosen true p q e = refl
-chosen false p q e = absurd (cc)
-
-counted : (l : LabelParts) (p : Option PackageTargets) → IsOwnOf kinds.Build l p → Some (own_package l p) ≡ p
-counted l None h = absurd h
-counted l (Some p) h =
-    let own : is_of (package_of l) p.build_file ≡ true = subst (λ b. is_of (package_of l) b ≡ true) (sym h) (its_own l) in
-    let same = chosen (is_of (package_of l) p.build_file) p (no_targets l) own in
-    cc
-
-pub packages_are_counted : PackagesCount
-packages_are_counted l v h = counted l v.package h

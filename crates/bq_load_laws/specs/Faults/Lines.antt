@@ -14,7 +14,8 @@ use Rattle.bq_base_fault_line.specs.declared.fault_line.FaultLine.{FaultLine}
 use Rattle.bq_load_front.specs.Inputs.{InputParts}
 use Rattle.bq_load_discover.specs.LoadGraph.{GraphParts, IsReadGraph, inputs_of}
 use Rattle.bq_load.specs.declared.loaded.Loaded.{Loaded}
-use Rattle.bq_load.specs.Loaded.{LoadsWorkspace}
+use Rattle.bq_base_limits.specs.declared.limits.Limits.{Limits}
+use Rattle.bq_load.specs.Loaded.{LoadsWithin}
 use Rattle.bq_load.specs.Results.{outcomes}
 use Rattle.bq_load.specs.Loading.{loading_in}
 use Rattle.bq_load.specs.Views.{OutcomeView}
@@ -36,10 +37,10 @@ OutcomesStandOnLines =
 -- each fault line of a workspace that is loaded
 abbrev pub FaultLinesStandOnLines : Type 0
 FaultLinesStandOnLines =
-    (files : List File) (rules : Rules) (limit : ℕ) (l : Loaded) → IsWorkspace files → LoadsWorkspace files rules limit (Ok l) → (line : FaultLine) → Contains l.faults line → 1 ≤ line.line
+    (files : List File) (rules : Rules) (limits : Limits) (l : Loaded) → IsWorkspace files → LoadsWithin files rules limits (Ok l) → (line : FaultLine) → Contains l.faults line → 1 ≤ line.line
 
 -- each target of a workspace that is loaded, if it isn't a source file
 abbrev pub TargetsStandOnLines : Type 0
 TargetsStandOnLines =
-    (files : List File) (rules : Rules) (limit : ℕ) (l : Loaded) → IsWorkspace files → LoadsWorkspace files rules limit (Ok l)
+    (files : List File) (rules : Rules) (limits : Limits) (l : Loaded) → IsWorkspace files → LoadsWithin files rules limits (Ok l)
     → (p : PackageTargets) → Contains l.packages p → (t : Target) → Contains p.targets t → (t ≡ source t.label t.line) ⊎ (1 ≤ t.line)

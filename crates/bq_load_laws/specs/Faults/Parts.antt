@@ -32,7 +32,8 @@ use Rattle.bq_load_front.specs.Inputs.{InputParts, universe_of}
 use Rattle.bq_load_front.specs.Laws.{TextResolvesTo}
 use Rattle.bq_load_discover.specs.LoadGraph.{GraphParts, IsReadGraph, inputs_of}
 use Rattle.bq_load.specs.declared.loaded.Loaded.{Loaded}
-use Rattle.bq_load.specs.Loaded.{LoadsWorkspace}
+use Rattle.bq_base_limits.specs.declared.limits.Limits.{Limits}
+use Rattle.bq_load.specs.Loaded.{LoadsWithin}
 use Rattle.bq_load.specs.Results.{outcomes}
 use Rattle.bq_load.specs.Loading.{loading_in}
 use Rattle.bq_load.specs.Views.{OutcomeView, outcome_view}
@@ -84,7 +85,7 @@ OutcomesFailInTheirParts =
 -- each module of a workspace that is loaded
 abbrev pub LoadedModulesFailInTheirParts : Type 0
 LoadedModulesFailInTheirParts =
-    (files : List File) (rules : Rules) (limit : ℕ) (l : Loaded) → IsWorkspace files → LoadsWorkspace files rules limit (Ok l) → AllByRecursion (FailsInItsPart (inputs_of files rules)) (map outcome_view l.modules.items)
+    (files : List File) (rules : Rules) (limits : Limits) (l : Loaded) → IsWorkspace files → LoadsWithin files rules limits (Ok l) → AllByRecursion (FailsInItsPart (inputs_of files rules)) (map outcome_view l.modules.items)
 
 -- whatever part it is, the fault is one of these
 abbrev pub FaultsAreOfModules : Type 0
@@ -93,4 +94,4 @@ FaultsAreOfModules = (inputs : InputParts) (l : LabelParts) (why : Fault FaultKi
 -- each fault line of a workspace that is loaded
 abbrev pub FaultLinesAreOfModules : Type 0
 FaultLinesAreOfModules =
-    (files : List File) (rules : Rules) (limit : ℕ) (l : Loaded) → IsWorkspace files → LoadsWorkspace files rules limit (Ok l) → (line : FaultLine) → Contains l.faults line → is_of_module line.kind ≡ true
+    (files : List File) (rules : Rules) (limits : Limits) (l : Loaded) → IsWorkspace files → LoadsWithin files rules limits (Ok l) → (line : FaultLine) → Contains l.faults line → is_of_module line.kind ≡ true

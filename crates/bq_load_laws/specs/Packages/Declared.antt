@@ -16,7 +16,8 @@ use Rattle.bq_load_front.specs.Inputs.{InputParts}
 use Rattle.bq_load_front.specs.Laws.{TextResolvesTo}
 use Rattle.bq_load_discover.specs.LoadGraph.{GraphParts, IsReadGraph, inputs_of}
 use Rattle.bq_load.specs.declared.loaded.Loaded.{Loaded}
-use Rattle.bq_load.specs.Loaded.{LoadsWorkspace}
+use Rattle.bq_base_limits.specs.declared.limits.Limits.{Limits}
+use Rattle.bq_load.specs.Loaded.{LoadsWithin}
 use Rattle.bq_load.specs.Results.{outcomes}
 use Rattle.bq_load.specs.Loading.{loading_in}
 use Rattle.bq_load.specs.Views.{OutcomeView}
@@ -75,5 +76,5 @@ OutcomesDeclareTheirTargets =
 -- each package of a workspace that is loaded, if it has targets: it has none where its BUILD file failed
 abbrev pub PackagesDeclareTheirTargets : Type 0
 PackagesDeclareTheirTargets =
-    (files : List File) (rules : Rules) (limit : ℕ) (l : Loaded) → IsWorkspace files → LoadsWorkspace files rules limit (Ok l)
+    (files : List File) (rules : Rules) (limits : Limits) (l : Loaded) → IsWorkspace files → LoadsWithin files rules limits (Ok l)
     → (p : PackageTargets) → Contains l.packages p → (p.targets ≡ []) ⊎ DeclaresIn (inputs_of files rules) p.build_file p

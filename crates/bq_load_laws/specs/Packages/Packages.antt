@@ -1,5 +1,5 @@
 -- Which package a module has that was evaluated (Bazel, "Repositories, workspaces, packages, and targets": a package is a BUILD file's).
-use Rattle.std.specs.Prelude.{◌≡◌, ℕ, List, Option, Some, None, Ok, slice_get, IfOk}
+use Rattle.std.specs.Prelude.{◌≡◌, ℕ, List, Option, Some, None, slice_get, IfOk}
 use Rattle.bq_parse_grammar.specs.declared.tree.FileKind.{FileKind}
 use Rattle.bq_parse_grammar.specs.declared.tree.FileKind.TheVariants as kinds
 use Rattle.bq_label.specs.Label.{LabelParts}
@@ -10,7 +10,6 @@ use Rattle.bq_load_discover.specs.declared.modules.Module.{Module}
 use Rattle.bq_load.specs.Views.{ModuleView}
 use Rattle.bq_load.specs.Loading.{LoadingParts}
 use Rattle.bq_load.specs.Evaluation.{means}
-use Rattle.bq_load.specs.Loaded.{package_by}
 use Rattle.bq_load.specs.Results.{outcome_of}
 
 -- a BUILD file's package is that of its own label; a .bzl file has none
@@ -26,6 +25,3 @@ FilesMakeTheirPackages =
 abbrev pub OutcomesHaveTheirPackages : Type 0
 OutcomesHaveTheirPackages =
     (x : LoadingParts) (p : Loads) (m : ℕ) (s : Module) → slice_get x.modules m ≡ Some s → IfOk (outcome_of x p m s).result (λ v. IsOwnOf (kind_of s.label) s.label v.package)
-
-abbrev pub PackagesCount : Type 0
-PackagesCount = (l : LabelParts) (v : ModuleView) → IsOwnOf kinds.Build l v.package → Some (package_by l (Ok v)) ≡ v.package

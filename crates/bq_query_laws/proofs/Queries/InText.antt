@@ -1,9 +1,9 @@
 -- The target patterns of a query are read from words of its text, in its order: by the words of its tree.
 use Rattle.std.proofs.Common.{◌≡◌, ◌∙◌, ℕ, zero, suc, List, [], ◌∷◌, ◌++◌, map, Option, Some, None, refl, sym, ap, subst, append-nil, append_assoc, rules}
-use Rattle.bq_query_lex.specs.declared.function.QueryArgumentKind.{QueryArgumentKind}
-use Rattle.bq_query_lex.specs.declared.function.QueryArgumentKind.TheVariants as kind
-use Rattle.bq_query_lex.specs.declared.function.QueryFunction.{QueryFunction}
-use Rattle.bq_query_lex.specs.Functions.{function_named, parameters_of}
+use Rattle.bq_query_function.specs.declared.signature.QueryArgumentKind.{QueryArgumentKind}
+use Rattle.bq_query_function.specs.declared.signature.QueryArgumentKind.TheVariants as kind
+use Rattle.bq_query_function.specs.Functions.{Row}
+use Rattle.bq_query_function.specs.Calls.{function_named}
 use Rattle.bq_query_target_pattern.specs.declared.pattern.TargetPattern.{TargetPattern}
 use Rattle.bq_query_target_pattern.specs.Reading.{ArePatternsOf, pattern_of}
 use Rattle.bq_query_tree.specs.Grammar.{IsWord, AreArguments, IsOperand, IsLet, AreOperations, IsQueryOver, IsQueryTo, max_open, chain_of, operation}
@@ -36,9 +36,9 @@ picked (kind.Pattern ∷ ks) (x ∷ xs) = picked ks xs
 picked (kind.Attribute ∷ ks) (x ∷ xs) = picked ks xs
 picked (kind.Number ∷ ks) (x ∷ xs) = picked ks xs
 
-abbrev call_words : Option QueryFunction → List Words → Words
+abbrev call_words : Option Row → List Words → Words
 call_words None xs = []
-call_words (Some f) xs = picked (parameters_of f) xs
+call_words (Some f) xs = picked f.parameters xs
 
 abbrev joined : List Words → Words
 joined [] = []
@@ -138,9 +138,9 @@ mutual
   formula_words (IsFormulaOf.parenthesized {x = x} {inner = z} {y = y} e h) =
       same_words (tree_words x) (tree_words z) (target_patterns y) (target_patterns y) refl (ap tree_words e ∙ of_parenthesized z) (formula_words h)
   formula_words (IsFormulaOf.set_of {x = x} {y = y} {ws = ws} e f) = same_words (tree_words x) ws f.0 (target_patterns y) (ap target_patterns f.2) (ap tree_words e ∙ of_set ws) f.1
-  formula_words (IsFormulaOf.call {x = x} {y = y} {name = name} {xs = xs} {f = f} {g = g} e known h c) =
-      same_words (tree_words x) (picked (parameters_of f) (all_words xs)) (sets_patterns g.sets) (target_patterns y) (applied_patterns (called_is_applied f g y c))
-      (ap tree_words e ∙ (of_call name xs ∙ ap (λ (o : Option QueryFunction). call_words o (map tree_words xs)) known)) (arguments_formula h [] refl)
+  formula_words (IsFormulaOf.call {x = x} {y = y} {name = name} {xs = xs} {row = f} {g = g} e known h c) =
+      same_words (tree_words x) (picked f.parameters (all_words xs)) (sets_patterns g.sets) (target_patterns y) (applied_patterns (called_is_applied f g y c))
+      (ap tree_words e ∙ (of_call name xs ∙ ap (λ (o : Option Row). call_words o (map tree_words xs)) known)) (arguments_formula h [] refl)
   formula_words (IsFormulaOf.binding {x = x} {value = v} {body = b} {y = y} {a = a} {b = c} {n = n} e h k f) =
       same_words (tree_words x) (tree_words v ++ tree_words b) (target_patterns a ++ target_patterns c) (target_patterns y) (ap target_patterns f) (ap tree_words e ∙ of_let n v b)
       (both (target_patterns a) (tree_words v) (target_patterns c) (tree_words b) (formula_words h) (formula_words k))
@@ -215,9 +215,9 @@ module _ (depth : ℕ) (Inner : Phrase Query) (inner : (ts rest : List Lexeme) (
   arguments (AreArguments.no_arguments c) ks = WriteWords.other WriteWords.no_more
   arguments (AreArguments.arguments {x = x} {xs = xs} i more c) ks = ended (one_argument ks x xs (inner _ _ _ i) (more_arguments more))
 
-  call_written : {ts rest : List Lexeme} {xs : List Query} → AreArguments Inner ts rest xs → (o : Option QueryFunction) → WriteWords ts rest (call_words o (all_words xs))
+  call_written : {ts rest : List Lexeme} {xs : List Query} → AreArguments Inner ts rest xs → (o : Option Row) → WriteWords ts rest (call_words o (all_words xs))
   call_written h None = skipped (arguments h [])
-  call_written h (Some f) = arguments h (parameters_of f)
+  call_written h (Some f) = arguments h f.parameters
 
   operand : {ts rest : List Lexeme} {x : Query} → IsOperand depth Inner ts rest x → WriteWords ts rest (tree_words x)
   operand (IsOperand.word {w = w} h) = in_words (w ∷ []) (tree_words (tree.Word w)) (of_word w) (one_word h)

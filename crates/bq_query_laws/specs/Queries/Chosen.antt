@@ -1,9 +1,10 @@
 -- What `kind`, `filter`, `attr` and `labels` choose, in words of targets (Bazel query reference, "kind", "filter", "attr", "labels").
-use Rattle.std.specs.Prelude.{◌≡◌, ◌≢◌, ◌↔◌, ℕ, ◌++◌, ◌∷◌, true, List, Some, slice_get, codes}
+use Rattle.std.specs.Prelude.{◌≡◌, ◌≢◌, ◌↔◌, ℕ, ◌++◌, ◌∷◌, true, List, Some, None, slice_get, codes}
 use Rattle.std.specs.List.{AllByRecursion, Contains}
 use Rattle.bq_label.specs.Label.{LabelParts, full_form}
 use Rattle.bq_query_pattern.specs.Patterns.{is_found}
-use Rattle.bq_query_check.specs.declared.formula.Unary.TheVariants as unary
+use Rattle.bq_query_function.specs.declared.functions.QueryFunction.TheVariants as f
+use Rattle.bq_query_function.specs.Functions.{set_of_one}
 use Rattle.bq_query_check.specs.Formula.{Formula, one}
 use Rattle.bq_value_rule_class.specs.Class.{Class}
 use Rattle.bq_value_rule_class.specs.declared.value.AttributeValue.{AttributeValue}
@@ -80,10 +81,10 @@ pub record RuleNames (name : List ℕ) (r t : Target) : Type 0 where
 
 pub record Choose (w : GraphParts) (a : Formula) (pattern name : List ℕ) (bound : Bound) (y : ℕ) : Type 0 where
   -- kind(pattern, a)
-  pub kind : Stands w (one (unary.Kind pattern) a) bound y ↔ (Stands w a bound y × IsTargetWith w.targets y (KindMatches pattern))
+  pub kind : Stands w (one (set_of_one f.Kind None (Some pattern) None) a) bound y ↔ (Stands w a bound y × IsTargetWith w.targets y (KindMatches pattern))
   -- filter(pattern, a)
-  pub filter : Stands w (one (unary.Filter pattern) a) bound y ↔ (Stands w a bound y × IsTargetWith w.targets y (λ t. is_found pattern (full_form t.label) ≡ true))
+  pub filter : Stands w (one (set_of_one f.Filter None (Some pattern) None) a) bound y ↔ (Stands w a bound y × IsTargetWith w.targets y (λ t. is_found pattern (full_form t.label) ≡ true))
   -- attr(name, pattern, a)
-  pub attr : Stands w (one (unary.Attr name pattern) a) bound y ↔ (Stands w a bound y × IsTargetWith w.targets y (AttributeMatches pattern name))
+  pub attr : Stands w (one (set_of_one f.Attr (Some name) (Some pattern) None) a) bound y ↔ (Stands w a bound y × IsTargetWith w.targets y (AttributeMatches pattern name))
   -- labels(name, a)
-  pub labels : Stands w (one (unary.Labels name) a) bound y ↔ ((z : ℕ) × Stands w a bound z × IsTargetWith w.targets z (λ r. IsTargetWith w.targets y (RuleNames name r)))
+  pub labels : Stands w (one (set_of_one f.Labels (Some name) None None) a) bound y ↔ ((z : ℕ) × Stands w a bound z × IsTargetWith w.targets z (λ r. IsTargetWith w.targets y (RuleNames name r)))

@@ -1,8 +1,8 @@
 -- What the functions over edges stand for, in words of targets and the labels that they write (Bazel query reference, "deps", "rdeps",
 -- "allpaths").
-use Rattle.std.specs.Prelude.{◌≡◌, ◌↔◌, ℕ, zero, suc, ◌≤◌, List, Some, slice_get}
-use Rattle.bq_query_check.specs.declared.formula.Unary.TheVariants as unary
-use Rattle.bq_query_check.specs.declared.formula.Binary.TheVariants as binary
+use Rattle.std.specs.Prelude.{◌≡◌, ◌↔◌, ℕ, zero, suc, ◌≤◌, List, Some, None, slice_get}
+use Rattle.bq_query_function.specs.declared.functions.QueryFunction.TheVariants as f
+use Rattle.bq_query_function.specs.Functions.{set_of_one, set_of_two}
 use Rattle.bq_query_check.specs.Formula.{Formula, one, two}
 use Rattle.bq_package_target.specs.declared.target.Target.{Target}
 use Rattle.bq_package_target.specs.Package.{PackageTargets}
@@ -39,15 +39,15 @@ pub record LeadsInto (ts : List Target) (n : ℕ) (X : ℕ → Type 0) (y : ℕ)
 -- over the graph of packages, what each of them stands for by the edges
 pub record AreByEdges (w : GraphParts) (a b : Formula) (n : ℕ) (bound : Bound) (y : ℕ) : Type 0 where
   -- deps(a)
-  pub deps : Stands w (one unary.Deps a) bound y ↔ ((k : ℕ) × IsReached w.targets k (Stands w a bound) y)
+  pub deps : Stands w (one (set_of_one f.Deps None None None) a) bound y ↔ ((k : ℕ) × IsReached w.targets k (Stands w a bound) y)
   -- deps(a, n)
-  pub deps_within : Stands w (one (unary.DepsWithin n) a) bound y ↔ ((k : ℕ) × (k ≤ n) × IsReached w.targets k (Stands w a bound) y)
+  pub deps_within : Stands w (one (set_of_one f.Deps None None (Some n)) a) bound y ↔ ((k : ℕ) × (k ≤ n) × IsReached w.targets k (Stands w a bound) y)
   -- rdeps(a, b)
-  pub rdeps : Stands w (two binary.Rdeps a b) bound y ↔ (Stands w (one unary.Deps a) bound y × ((k : ℕ) × LeadsInto w.targets k (Stands w b bound) y))
+  pub rdeps : Stands w (two (set_of_two f.Rdeps None None None) a b) bound y ↔ (Stands w (one (set_of_one f.Deps None None None) a) bound y × ((k : ℕ) × LeadsInto w.targets k (Stands w b bound) y))
   -- rdeps(a, b, n)
-  pub rdeps_within : Stands w (two (binary.RdepsWithin n) a b) bound y ↔ (Stands w (one unary.Deps a) bound y × ((k : ℕ) × (k ≤ n) × LeadsInto w.targets k (Stands w b bound) y))
+  pub rdeps_within : Stands w (two (set_of_two f.Rdeps None None (Some n)) a b) bound y ↔ (Stands w (one (set_of_one f.Deps None None None) a) bound y × ((k : ℕ) × (k ≤ n) × LeadsInto w.targets k (Stands w b bound) y))
   -- allpaths(a, b)
-  pub allpaths : Stands w (two binary.Allpaths a b) bound y ↔ (Stands w (one unary.Deps a) bound y × ((k : ℕ) × LeadsInto w.targets k (Stands w b bound) y))
+  pub allpaths : Stands w (two (set_of_two f.Allpaths None None None) a b) bound y ↔ (Stands w (one (set_of_one f.Deps None None None) a) bound y × ((k : ℕ) × LeadsInto w.targets k (Stands w b bound) y))
 
 abbrev pub FunctionsByEdges : Type 0
 FunctionsByEdges = (ps : List PackageTargets) (w : GraphParts) (a b : Formula) (n : ℕ) (bound : Bound) (y : ℕ) → IsGraphOf ps w → AreByEdges w a b n bound y

@@ -1,7 +1,7 @@
 use Rattle.std.proofs.Common.{◌≡◌, [], map, drop}
 use Rattle.bq_label_set.specs.Labels.{with_labels}
 use Rattle.bq_load.specs.Views.{outcome_view}
-use Rattle.bq_load.specs.Loaded.{labels_of}
+use Rattle.bq_load.specs.Packages.{labels_of}
 use Rattle.bq_load.proofs.packages.labels_of.Given as goal
 
 abbrev pub invariant-loop-each : goal.invariant-loop-each

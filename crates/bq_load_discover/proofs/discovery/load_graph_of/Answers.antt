@@ -15,10 +15,10 @@ other_error line e = cc
 pub returns-in-None : goal.returns-in-None
 returns-in-None c =
     let inputs : InputParts = inputs_of c.args.workspace.now c.args.schema.now in
-    let many : AreTooMany inputs.packages (parsed_of inputs) = subst (λ (o : Option (Vec Module Global)). Finds (inputs_of c.args.workspace.now c.args.schema.now) o) c.in-None.is c.requires.found in
+    let many : AreTooMany c.args.limits inputs.packages (parsed_of inputs) = subst (λ (o : Option (Vec Module Global)). Finds c.args.limits (inputs_of c.args.workspace.now c.args.schema.now) o) c.in-None.is c.requires.found in
     (λ t. many, other_error)
 
 pub returns-in-Some : goal.returns-in-Some
 returns-in-Some c =
-    let found : AreFound (inputs_of c.args.workspace.now c.args.schema.now) c.in-Some.modules.items = subst (λ (o : Option (Vec Module Global)). Finds (inputs_of c.args.workspace.now c.args.schema.now) o) c.in-Some.is c.requires.found in
+    let found : AreFound c.args.limits (inputs_of c.args.workspace.now c.args.schema.now) c.in-Some.modules.items = subst (λ (o : Option (Vec Module Global)). Finds c.args.limits (inputs_of c.args.workspace.now c.args.schema.now) o) c.in-Some.is c.requires.found in
     c.load_graph.ensures (inputs_of c.args.workspace.now c.args.schema.now) found c.requires.packages

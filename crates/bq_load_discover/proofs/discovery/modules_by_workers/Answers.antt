@@ -11,4 +11,4 @@ returns g c =
     let read = c.in_ok-inputs.ensures in
     let same : inputs ≡ inputs_of c.args.workspace.now c.args.schema.now =
     are_inputs inputs c.args.workspace.now c.args.schema.now c.args.packages.now read.files read.packages c.requires.packages (read.rules ∙ c.in_ok-names.ensures) in
-    subst (λ (z : InputParts). IfOk c.explore_by_workers.result (Finds z)) same c.explore_by_workers.ensures
+    subst (λ (z : InputParts). IfOk c.explore_by_workers.result (Finds c.args.limits z)) same c.explore_by_workers.ensures

@@ -10,5 +10,5 @@ returns c =
     let inputs = c.in_ok-inputs.inputs in
     let read = c.in_ok-inputs.ensures in
     let same : inputs ≡ inputs_of c.args.workspace.now c.args.schema.now =
-    are_inputs inputs c.args.workspace.now c.args.schema.now c.args.packages.now read.files read.packages c.requires (read.rules ∙ c.in_ok-names.ensures) in
-    subst (λ (z : InputParts). IfOk c.explore.result (Finds z)) same c.explore.ensures
+    are_inputs inputs c.args.workspace.now c.args.schema.now c.args.packages.now read.files read.packages c.requires.packages (read.rules ∙ c.in_ok-names.ensures) in
+    subst (λ (z : InputParts). IfOk c.explore.result (Finds c.args.limits z)) same c.explore.ensures

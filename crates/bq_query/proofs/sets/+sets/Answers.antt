@@ -5,7 +5,9 @@ use Rattle.std.proofs.lemmas.Result.{err_from_is_err_and}
 use Rattle.bq_query_graph.specs.Marks.{IsSet, Marked}
 use Rattle.bq_query_check.specs.declared.formula.SetExpr.TheFolds.{the_lemmas}
 use Rattle.bq_query_check.specs.Formula.{Formula, Step, formula_of, step_of, chained, named, variable, let_in, one, two, AreClosed}
-use Rattle.bq_query.specs.Functions.{OfOne, OfTwo, Combined}
+use Rattle.bq_query_function.specs.Calls.{of_one, of_two}
+use Rattle.bq_query_function.specs.Sets.{OfOne, OfTwo}
+use Rattle.bq_query.specs.Operators.{Combined}
 use Rattle.bq_query.specs.Stands.{Bound, AreSets}
 use Rattle.bq_query.specs.Faults.{Has, AreBound, fault_in}
 use Rattle.bq_query.proofs.Answering.{reworded, named_answered, has_one, first_fails, second_fails, both_answered, let_answered, value_fails, kept_before, popped_kept}
@@ -26,7 +28,7 @@ one_of-returns-in_err-x t c =
 pub one_of-returns : goal.one_of-returns
 one_of-returns t c =
     let w = c.args.graph.now in
-    let f = c.args.function.now in
+    let f = of_one c.args.function.now in
     let x = c.in_ok-x.x.items in
     let r = c.in_ok-of_one.field-0.items in
     let s : IsSet (length w.targets) r (OfOne w f (Marked x)) = subst (λ (ms : List Bool). IsSet (length w.targets) r (OfOne w f (Marked ms))) c.deref.ensures.value c.in_ok-of_one.ensures in
@@ -138,8 +140,8 @@ pub set_of-one_of-requires : goal.set_of-one_of-requires
 set_of-one_of-requires t c =
     let w = c.args.graph.now in
     let x = formula_of c.get-x.result.now in
-    let says : formula_of c.args.query.now ≡ one c.in-One.function (formula_of c.get-x.result.now) = first_of (search (rules, the_lemmas), grind (arith, common_steps, one_says), grind (arith, common_steps)) in
-    (first_of (search rules, search (rules, the_lemmas), omega arith, grind (arith, common_steps)), one_bound w c.in-One.function x c.args.bound.now (bound_as w (formula_of c.args.query.now) (one c.in-One.function x) c.args.bound.now c.args.bound.now says refl c.requires))
+    let says : formula_of c.args.query.now ≡ one (of_one c.in-One.function) (formula_of c.get-x.result.now) = first_of (search (rules, the_lemmas), grind (arith, common_steps, one_says), grind (arith, common_steps)) in
+    (first_of (search rules, search (rules, the_lemmas), omega arith, grind (arith, common_steps)), one_bound w (of_one c.in-One.function) x c.args.bound.now (bound_as w (formula_of c.args.query.now) (one (of_one c.in-One.function) x) c.args.bound.now c.args.bound.now says refl c.requires))
 
 pub set_of-set_of-requires-in-Chain : goal.set_of-set_of-requires-in-Chain
 set_of-set_of-requires-in-Chain t c =
@@ -172,35 +174,35 @@ set_of-returns-in-Named t c =
 
 pub set_of-returns-in-One : goal.set_of-returns-in-One
 set_of-returns-in-One t c =
-    let says : formula_of c.args.query.now ≡ one c.in-One.function (formula_of c.get-x.result.now) = first_of (search (rules, the_lemmas), grind (arith, common_steps, one_says), grind (arith, common_steps)) in
-    reworded (λ v. v.items) c.args.graph.now (formula_of c.args.query.now) (one c.in-One.function (formula_of c.get-x.result.now)) c.args.bound.now c.args.bound.now c.one_of.result c.one_of.new.bound says c.one_of.ensures
+    let says : formula_of c.args.query.now ≡ one (of_one c.in-One.function) (formula_of c.get-x.result.now) = first_of (search (rules, the_lemmas), grind (arith, common_steps, one_says), grind (arith, common_steps)) in
+    reworded (λ v. v.items) c.args.graph.now (formula_of c.args.query.now) (one (of_one c.in-One.function) (formula_of c.get-x.result.now)) c.args.bound.now c.args.bound.now c.one_of.result c.one_of.new.bound says c.one_of.ensures
 
 pub set_of-returns-in_err-x-in-Two : goal.set_of-returns-in_err-x-in-Two
 set_of-returns-in_err-x-in-Two t c =
     let w = c.args.graph.now in
     let a = formula_of c.get-first-in-Two.result.now in
     let b = formula_of c.get-second.result.now in
-    let says : formula_of c.args.query.now ≡ two c.in-Two.function (formula_of c.get-first-in-Two.result.now) (formula_of c.get-second.result.now) = first_of (search (rules, the_lemmas), grind (arith, common_steps, two_says), grind (arith, common_steps)) in
+    let says : formula_of c.args.query.now ≡ two (of_two c.in-Two.function) (formula_of c.get-first-in-Two.result.now) (formula_of c.get-second.result.now) = first_of (search (rules, the_lemmas), grind (arith, common_steps, two_says), grind (arith, common_steps)) in
     let p = err_from_is_err_and c.from_residual-in_err-x-in-Two.result c.from_residual-in_err-x-in-Two.ensures.1 in
-    rw (p.1, p.2) (λ other. ap (fault_in w) says ∙ first_fails w c.in-Two.function a b _ (c.in_err-x-in-Two.ensures other))
+    rw (p.1, p.2) (λ other. ap (fault_in w) says ∙ first_fails w (of_two c.in-Two.function) a b _ (c.in_err-x-in-Two.ensures other))
 
 pub set_of-returns-in_err-y-in-Two : goal.set_of-returns-in_err-y-in-Two
 set_of-returns-in_err-y-in-Two t c =
     let w = c.args.graph.now in
     let a = formula_of c.get-first-in-Two.result.now in
     let b = formula_of c.get-second.result.now in
-    let says : formula_of c.args.query.now ≡ two c.in-Two.function (formula_of c.get-first-in-Two.result.now) (formula_of c.get-second.result.now) = first_of (search (rules, the_lemmas), grind (arith, common_steps, two_says), grind (arith, common_steps)) in
+    let says : formula_of c.args.query.now ≡ two (of_two c.in-Two.function) (formula_of c.get-first-in-Two.result.now) (formula_of c.get-second.result.now) = first_of (search (rules, the_lemmas), grind (arith, common_steps, two_says), grind (arith, common_steps)) in
     let p = err_from_is_err_and c.from_residual-in_err-y-in-Two.result c.from_residual-in_err-y-in-Two.ensures.1 in
-    rw (p.1, p.2) (λ other. ap (fault_in w) says ∙ second_fails w c.in-Two.function a b _ c.in_ok-x-in-Two.ensures.0.none (c.in_err-y-in-Two.ensures other))
+    rw (p.1, p.2) (λ other. ap (fault_in w) says ∙ second_fails w (of_two c.in-Two.function) a b _ c.in_ok-x-in-Two.ensures.0.none (c.in_err-y-in-Two.ensures other))
 
 pub set_of-returns-in_ok-of_two-in-Two : goal.set_of-returns-in_ok-of_two-in-Two
 set_of-returns-in_ok-of_two-in-Two t c =
     let w = c.args.graph.now in
-    let f = c.in-Two.function in
+    let f = of_two c.in-Two.function in
     let bs = c.args.bound.now in
     let a = formula_of c.get-first-in-Two.result.now in
     let b = formula_of c.get-second.result.now in
-    let says : formula_of c.args.query.now ≡ two c.in-Two.function (formula_of c.get-first-in-Two.result.now) (formula_of c.get-second.result.now) = first_of (search (rules, the_lemmas), grind (arith, common_steps, two_says), grind (arith, common_steps)) in
+    let says : formula_of c.args.query.now ≡ two (of_two c.in-Two.function) (formula_of c.get-first-in-Two.result.now) (formula_of c.get-second.result.now) = first_of (search (rules, the_lemmas), grind (arith, common_steps, two_says), grind (arith, common_steps)) in
     let x = c.in_ok-x-in-Two.x.items in
     let y = c.in_ok-y-in-Two.y.items in
     let r = c.in_ok-of_two-in-Two.field-0.items in

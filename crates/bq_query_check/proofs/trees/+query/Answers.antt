@@ -4,7 +4,7 @@ use Rattle.std.specs.List.{AllByRecursion}
 use Rattle.std.specs.Iterator.Adapters.{zip_first, zip_second}
 use Rattle.std.specs.Slice.Iter.{iter_rest}
 use Rattle.std.proofs.lemmas.Slice.Zip.{Zip-more, either_empty_from_Zip}
-use Rattle.bq_query_lex.specs.declared.function.QueryArgumentKind.{QueryArgumentKind}
+use Rattle.bq_query_function.specs.declared.signature.QueryArgumentKind.{QueryArgumentKind}
 use Rattle.std.proofs.lemmas.Result.{err_from_is_err_and}
 use Rattle.bq_query_target_pattern.specs.Reading.{word_fault, words_fault}
 use Rattle.bq_query_tree.specs.declared.tree.Query.{Query}
@@ -18,7 +18,8 @@ use Rattle.bq_query_check.specs.declared.formula.ChainStep.{ChainStep}
 use Rattle.bq_query_check.specs.Checked.{Holds, FirstFails, Reads}
 use Rattle.bq_query_check.specs.Formula.{formula_of, step_of}
 use Rattle.bq_query_check.specs.FormulaOf.{IsFormulaOf, IsBound, IsCallNamed, IsNamed, AreStepsOf, IsArgumentOf, AreArgumentsOf}
-use Rattle.bq_query_check.specs.Call.{given, nothing}
+use Rattle.bq_query_function.specs.Calls.{row_of}
+use Rattle.bq_query_check.specs.Call.{given}
 use Rattle.bq_query_check.proofs.Needs.{all_hold, fails_before, fails_after, read_as, one_word}
 use Rattle.bq_query_check.proofs.Left.{AreLeft, set_given, one_less, next_fails, none_left}
 use Rattle.bq_query_check.proofs.Calls.{is_called, function_fits}
@@ -85,12 +86,10 @@ arguments-returns t c =
 
 pub call-called-requires : goal.call-called-requires
 call-called-requires t c =
-    let f = c.in_ok-function.function in
-    let ns = c.args.names.now in
-    let xs = c.args.queries.now in
-    let g = given c.in_ok-arguments.arguments in
-    let read = subst (λ (ks : List QueryArgumentKind). AreArgumentsOf ns ks xs nothing g) c.parameters.ensures c.in_ok-arguments.ensures.1 in
-    ap is_some (is_called f read (function_fits c.args.name.now (length xs) f c.in_ok-function.ensures.fault c.in_ok-function.ensures.function)).1
+    let row = row_of c.in_ok-signature.signature in
+    let name = c.args.name.now in
+    let known = c.in_ok-signature.ensures.function in
+    ap is_some (is_called name row known c.in_ok-arguments.ensures.1 (function_fits name (length c.args.queries.now) row c.in_ok-signature.ensures.fault known)).1
 
 -- ---- chains
 

@@ -4,19 +4,19 @@ use Rattle.std.proofs.lemmas.List.{get_or_read}
 use Rattle.bq_query_graph.specs.Marks.{IsSet, Marked}
 use Rattle.bq_package_target.specs.declared.target.Target.{Target}
 use Rattle.bq_query_target_sets.specs.Words.{Adds}
-use Rattle.bq_query_target_sets.specs.Labels.{labels_named, is_among}
+use Rattle.bq_query_target_sets.specs.Labels.{is_named_by}
 use Rattle.bq_query_target_sets.proofs.Ranks.{no_one}
-use Rattle.bq_query_target_sets.proofs.LabelSets.{LabelsBelow, none_below, skip_one, take_one, all_labels}
+use Rattle.bq_query_target_sets.proofs.RelatedSets.{RelatedBelow, none_below, skip_one, take_one, all_related}
 use Rattle.bq_query_target_sets.proofs.labels.labels.Goals as goal
 
 pub loop-at-init : goal.loop-at-init
 loop-at-init c =
     let none : c.in_ok-marks.marks.items ≡ replicate (length c.args.targets.now) false = first_of (cc, search rules, grind (arith, common_steps)) in
-    none_below c.args.name.now c.args.targets.now (Marked c.args.x.now) c.in_ok-marks.marks.items none
+    none_below (is_named_by c.args.name.now) c.args.targets.now (Marked c.args.x.now) c.in_ok-marks.marks.items none
 
 pub loop-at-preserved-then-not-x-at : goal.loop-at-preserved-then-not-x-at
 loop-at-preserved-then-not-x-at c =
-    skip_one c.loop-at.at c.args.name.now c.args.targets.now c.args.x.now c.loop-at.marks.items c.if-not-x-at.true c.loop-at.invariant
+    skip_one c.loop-at.at (is_named_by c.args.name.now) c.args.targets.now c.args.x.now c.loop-at.marks.items c.if-not-x-at.true c.loop-at.invariant
 
 pub loop-at-preserved : goal.loop-at-preserved
 loop-at-preserved c =
@@ -24,12 +24,12 @@ loop-at-preserved c =
     let at = c.loop-at.at in
     let t = c.index-targets-at.result in
     let is : t ≡ get_or targets at no_one = get_or_read targets at t c.loop-at-test.true c.index-targets-at.is no_one in
-    let adds : Target → Type 0 = λ u. Adds (is_among (labels_named c.args.name.now u)) targets c.loop-at.marks.items c.add_named.new.marks.items in
-    take_one at c.args.name.now targets c.args.x.now c.loop-at.marks.items c.add_named.new.marks.items c.loop-at-test.true c.if-not-x-at.false c.loop-at.invariant (subst adds is c.add_named.ensures)
+    let adds : Target → Type 0 = λ u. Adds (is_named_by c.args.name.now u) targets c.loop-at.marks.items c.add_named.new.marks.items in
+    take_one at (is_named_by c.args.name.now) targets c.args.x.now c.loop-at.marks.items c.add_named.new.marks.items c.loop-at-test.true c.if-not-x-at.false c.loop-at.invariant (subst adds is c.add_named.ensures)
 
 pub returns : goal.returns
 returns c =
     let targets = c.args.targets.now in
     let end : c.loop-at.at ≡ length targets = omega arith in
-    all_labels c.args.name.now targets c.args.x.now c.loop-at.marks.items c.requires.long
-    (subst (λ (n : ℕ). IsSet (length targets) c.loop-at.marks.items (LabelsBelow n c.args.name.now targets (Marked c.args.x.now))) end c.loop-at.invariant)
+    all_related (is_named_by c.args.name.now) targets c.args.x.now c.loop-at.marks.items c.requires.long
+    (subst (λ (n : ℕ). IsSet (length targets) c.loop-at.marks.items (RelatedBelow n (is_named_by c.args.name.now) targets (Marked c.args.x.now))) end c.loop-at.invariant)

@@ -9,5 +9,5 @@ loop-rest-preserved c = grind (arith, common_steps)
 pub returns-clause-found : goal.returns-clause-found
 returns-clause-found c = grind (arith, common_steps)
 
-pub returns-then-len-eq-MAX_FILES-clause-none : goal.returns-then-len-eq-MAX_FILES-clause-none
-returns-then-len-eq-MAX_FILES-clause-none c _ = too_many _ _ _ _ _ _ c.loop-rest.invariant c.in-Some.ensures.found (omega (arith, c.len.ensures, c.if-len-eq-MAX_FILES.true))
+pub returns-then-len-limits-clause-none : goal.returns-then-len-limits-clause-none
+returns-then-len-limits-clause-none c _ = too_many c.args.limits _ _ _ _ _ _ c.loop-rest.invariant c.in-Some.ensures.found (omega (arith, c.len.ensures, c.if-len-limits.true))

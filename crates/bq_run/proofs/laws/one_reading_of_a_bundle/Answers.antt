@@ -7,4 +7,4 @@ pub returns-clause-files : goal.returns-clause-files
 returns-clause-files c = λ text files. (written_of_read text files, files_of_written text files)
 
 pub returns-clause-workspace : goal.returns-clause-workspace
-returns-clause-workspace c = λ text files. (holds text files, is_read text files)
+returns-clause-workspace c = λ limits text files. (holds limits text files, is_read limits text files)

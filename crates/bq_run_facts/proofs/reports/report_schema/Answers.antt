@@ -17,17 +17,17 @@ pub returns-in-Ok : goal.returns-in-Ok
 returns-in-Ok g c =
     let files = c.args.workspace.now in
     let rules = c.args.schema.now in
-    let limit = c.args.options.now.max_steps in
+    let limits = c.args.options.now.limits in
     let graph = c.in-Ok.graph in
     let asked = option_copied c.args.asked in
-    IfOk-weaker c.report_graph.result (λ r. TellsGraph files rules limit graph asked (report_view r))
-    (λ r. IsFactsBy limit files asked (report_view r))
-    (λ r h. IsFactsBy.loaded rules graph c.requires.schema c.in-Ok.ensures h) c.report_graph.ensures
+    IfOk-weaker c.report_graph.result (λ r. TellsGraph files rules limits.steps graph asked (report_view r))
+    (λ r. IsFactsBy limits files asked (report_view r))
+    (λ r h. IsFactsBy.loaded rules graph c.requires.schema c.in-Ok.ensures.0 c.in-Ok.ensures.1 h) c.report_graph.ensures
 
 pub returns-in-Err : goal.returns-in-Err
 returns-in-Err g c =
     let files = c.args.workspace.now in
-    let limit = c.args.options.now.max_steps in
+    let limits = c.args.options.now.limits in
     let asked = option_copied c.args.asked in
-    both c.without_graph.result (λ r. c.in-Err.why ≡ e.TooManyModules) (λ r. report_view r ≡ refused TooManyModules) (λ r. IsFactsBy limit files asked (report_view r))
+    both c.without_graph.result (λ r. c.in-Err.why ≡ e.TooManyModules) (λ r. report_view r ≡ refused TooManyModules) (λ r. IsFactsBy limits files asked (report_view r))
     (λ r h k. IsFactsBy.too_many c.args.schema.now c.requires.schema (c.in-Err.ensures.0 h) k) c.without_graph.ensures.why c.without_graph.ensures.report

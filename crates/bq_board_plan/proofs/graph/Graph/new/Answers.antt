@@ -1,12 +1,12 @@
-use Rattle.std.proofs.Common.{arith}
-use Rattle.std.proofs.lemmas.Grind.{common_steps}
+use Rattle.std.proofs.Common.{subst}
+use Rattle.std.specs.Prelude.{IfErr, OnOk}
+use Rattle.bq_base_limits.specs.declared.limits.Limits.{Limits}
+use Rattle.bq_board_plan.specs.Graph.{Fits, lists}
+use Rattle.bq_board_plan.specs.Refusal.{RefusedWithin}
 use Rattle.bq_board_plan.proofs.graph.Graph.new.Goals as goal
 
-pub invariant_of-result : goal.invariant_of-result
-invariant_of-result c = grind (arith, common_steps)
+pub returns-clause-fits : goal.returns-clause-fits
+returns-clause-fits c = subst (λ (l : Limits). OnOk c.within.result (Fits l (lists c.args.rows.items))) c.standard.ensures.value c.within.ensures.fits
 
-pub returns-then-not-knows_all-clause-refused : goal.returns-then-not-knows_all-clause-refused
-returns-then-not-knows_all-clause-refused c = grind (arith, common_steps)
-
-pub returns-clause-valid : goal.returns-clause-valid
-returns-clause-valid c = grind (arith, common_steps)
+pub returns-clause-refused : goal.returns-clause-refused
+returns-clause-refused c = subst (λ (l : Limits). IfErr c.within.result (λ e. RefusedWithin l (lists c.args.rows.items) e)) c.standard.ensures.value c.within.ensures.refused

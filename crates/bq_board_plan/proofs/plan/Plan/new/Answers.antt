@@ -1,10 +1,12 @@
-use Rattle.std.proofs.Common.{sym, subst, ◌∙◌, true≢false}
-use Rattle.bq_board_plan.specs.Cycles.{IsAcyclic}
-use Rattle.bq_board_plan.proofs.Paths.{some_cyclic}
+use Rattle.std.proofs.Common.{subst}
+use Rattle.std.specs.Prelude.{IfErr, OnOk}
+use Rattle.bq_base_limits.specs.declared.limits.Limits.{Limits}
+use Rattle.bq_board_plan.specs.Graph.{Fits, lists}
+use Rattle.bq_board_plan.specs.Refusal.{RefusedWithin}
 use Rattle.bq_board_plan.proofs.plan.Plan.new.Goals as goal
 
-pub returns-then-not-branch-clause-refused : goal.returns-then-not-branch-clause-refused
-returns-then-not-branch-clause-refused c = (
-  c.in_ok-graph.ensures.valid,
-  some_cyclic _ (λ a. absurd (true≢false (sym (c.in_ok-is_acyclic.ensures.1 (subst IsAcyclic (sym c.in_ok-graph.ensures.graph) a)) ∙ c.if-not-branch.true))),
-)
+pub returns-clause-fits : goal.returns-clause-fits
+returns-clause-fits c = subst (λ (l : Limits). OnOk c.within.result (Fits l (lists c.args.loads.items))) c.standard.ensures.value c.within.ensures.fits
+
+pub returns-clause-refused : goal.returns-clause-refused
+returns-clause-refused c = subst (λ (l : Limits). IfErr c.within.result (λ e. RefusedWithin l (lists c.args.loads.items) e)) c.standard.ensures.value c.within.ensures.refused

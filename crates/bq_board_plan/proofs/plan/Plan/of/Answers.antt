@@ -1,15 +1,16 @@
-use Rattle.std.proofs.Common.{◌≡◌, ℕ, ◌+◌, ◌-◌, ◌<◌, ◌≤◌, List, ◌++◌, length, take, sym, subst, ap, ◌∙◌, arith}
+use Rattle.std.proofs.Common.{◌≡◌, ℕ, ◌+◌, ◌-◌, ◌<◌, List, ◌++◌, length, take, sym, subst, ap, ◌∙◌, arith}
 use Rattle.std.specs.Prelude.{replicate, vec_len}
 use Rattle.std.proofs.lemmas.List.{take_all}
 use Rattle.std.proofs.lemmas.Grind.{common_steps}
-use Rattle.bq_board_plan.specs.Graph.{Loads, row, sources, edges, lists, max_edges}
+use Rattle.bq_board_plan.specs.Graph.{Loads, row, sources, edges, lists}
+use Rattle.bq_base_limits.specs.Limits.{number_bound}
 use Rattle.bq_board_plan.specs.Plan.{start, OutsOf, StartsBelow, TargetsBelow}
 use Rattle.bq_board_plan.proofs.Edges.{start_next, start_le}
 use Rattle.bq_board_plan.proofs.Outs.{sources_next, sources_start}
 use Rattle.bq_board_plan.proofs.Targets.{targets_none, targets_more, targets_all}
 use Rattle.bq_board_plan.proofs.plan.Plan.of.Goals as goal
 
-few : (p : Loads) (m next : ℕ) (loaded : List ℕ) → m < length p → edges p ≤ max_edges → next ≡ start p m → loaded ≡ row p m → next + length loaded ≤ max_edges
+few : (p : Loads) (m next : ℕ) (loaded : List ℕ) → m < length p → edges p < number_bound → next ≡ start p m → loaded ≡ row p m → next + length loaded < number_bound
 few p m next loaded h all is same = omega (arith, start_next p m h, start_le p (m + 1), ap (length {A = ℕ}) same)
 
 pub loop-m-init : goal.loop-m-init

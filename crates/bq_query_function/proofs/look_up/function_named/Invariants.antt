@@ -1,0 +1,12 @@
+use Rattle.std.proofs.Common.{◌≡◌, length, map}
+use Rattle.std.specs.Map.{lookup}
+use Rattle.std.specs.Str.{bytes_eq}
+use Rattle.bq_query_function.specs.Calls.{row_of}
+use Rattle.bq_query_function.specs.Functions.{functions}
+use Rattle.bq_query_function.proofs.look_up.function_named.Given as goal
+
+abbrev pub invariant-loop-table : goal.invariant-loop-table
+invariant-loop-table l = lookup (bytes_eq l.name) (map (λ e. (e.0.now, row_of e.1)) l.table) ≡ lookup (bytes_eq l.name) functions
+
+abbrev pub decreases-loop-table : goal.decreases-loop-table
+decreases-loop-table l = length l.table
