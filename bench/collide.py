@@ -22,6 +22,7 @@ def in_tables(folder, parts, count):
 
 
 def word(letters):
+    """Eight letters as a number."""
     return int.from_bytes(letters, "little")
 
 

@@ -79,6 +79,7 @@ GROUP = 900
 
 
 def macros(packages, calls=10):
+    """Packages whose targets macros declare."""
     for name in ("first", "second"):
         yield f"rules/{name}.bzl", MACROS.format(name=name).replace("range(10)", f"range({calls})")
     yield "rules/BUILD", ""
@@ -91,6 +92,7 @@ def macros(packages, calls=10):
 
 
 def declared(packages):
+    """The same with a rule of a .bzl file."""
     yield "rules/library.bzl", DECLARED
     for name, text in macros(packages):
         if name.startswith("rules/") and text:
@@ -110,10 +112,12 @@ def text(packages):
 
 
 def packages(modules):
+    """As many modules, most of them packages."""
     return macros(modules - 3)
 
 
 def chain(modules):
+    """As many files, each of which loads the one before."""
     yield "m0.bzl", "values = [0]\ndef last():\n    return values[-1]\n"
     for m in range(1, modules):
         loads = f'load(":m{m - 1}.bzl", before = "values", last_before = "last")\n'
@@ -122,6 +126,7 @@ def chain(modules):
 
 
 def fan(modules):
+    """As many files, each of which loads several."""
     for m in range(modules):
         first = m // GROUP * GROUP
         below = range(max(first, m - FAN), m)
@@ -133,6 +138,7 @@ def fan(modules):
 
 
 def steps(files=900, packages=1000, turns=1000):
+    """Files and packages that take many steps."""
     yield "chain/BUILD", ""
     yield "chain/m0.bzl", f"{LOOP}value = turns({2 * turns})\n"
     for m in range(1, files):
@@ -151,17 +157,20 @@ def steps_whole(files=900, packages=1000, turns=1000):
 
 
 def loop(name, times=1):
+    """A package that runs a loop, by its name."""
     turns, work = LOOPS[name]
     yield "BUILD", f'load("//:work.bzl", "work")\nfilegroup(name = "t" + str(work({times * turns})))\n'
     yield "work.bzl", work
 
 
 def file(turns=200000):
+    """One file that takes many steps."""
     yield "BUILD", f'load("//:loop.bzl", "turns")\nfilegroup(name = "t" + str(turns({turns})))\n'
     yield "loop.bzl", LOOP
 
 
 def wide():
+    """Packages that each take some steps."""
     yield "rules/BUILD", ""
     yield "rules/loop.bzl", LOOP
     for p in range(4000):
@@ -169,6 +178,7 @@ def wide():
 
 
 def write_bundle(path, files):
+    """Writes the bundle of files; gives its size."""
     with open(path, "w", encoding="ascii") as out:
         for name, text in files:
             out.write(f"=== {name}\n{text}")

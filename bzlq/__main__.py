@@ -9,8 +9,8 @@ the current folder: `:x`, `...`, `lib:x`, `lib/x.c` (the label of that file). Th
 are kept in $XDG_CACHE_HOME/bzlq (~/.cache/bzlq), and made anew when a BUILD, .bzl or schema file has changed, by names, sizes and times; a
 workspace with a rules.schema at its root is read as it is. Fault lines pass through `bzlq hints`.
 
-Options are those of bq: --jobs N, --output FORM, --max-steps N, --facts, --queries FILE, --explain NUMBER. Options of Bazel that say what bq
-does anyway, such as --keep_going and --noimplicit_deps, are accepted. The status is that of bq; 2 if there is no workspace.
+Options are those of bq: --jobs N, --output FORM, --max-steps N, --large, --facts, --queries FILE, --explain NUMBER. Options of Bazel that say what
+bq does anyway, such as --keep_going and --noimplicit_deps, are accepted. The status is that of bq; 2 if there is no workspace.
 """
 import signal
 import sys
@@ -30,6 +30,7 @@ from bzlq.cli.subcommands import run, print_help  # noqa: E402
 
 
 def main():
+    """Runs a call of bzlq; gives the status."""
     if sys.argv[1:2] in (["-h"], ["--help"]):
         return print_help()
     return run(sys.argv[1:])

@@ -36,6 +36,8 @@ ERROR = re.compile(r"bq: (?P<number>[QE]\d) (?P<name>\w+) ?(?P<detail>.*)")
 HEADER = re.compile(rb"=== (?P<status>[023]) (?P<count>\d{1,18}) (?P<query>.*)", re.DOTALL)
 # a header has no more of a query
 MAX_QUERY_BYTES = 1 << 20
+# what bzlq says of a bundle that it has made
+LARGE = "bq reads a bundle of this size with --large"
 # a query that is answered once the workspace is loaded
 NOTHING = b"set()"
 # how many bytes are read at once
@@ -107,6 +109,7 @@ def is_program(path: str) -> bool:
 
 
 def text_of(line: bytes) -> str:
+    """A line as a text; bytes that are no UTF-8 stand for themselves."""
     return line.decode("utf-8", "surrogateescape")
 
 
@@ -164,8 +167,8 @@ def where_of(place: str) -> tuple[list[str], str | None]:
     return (["--dir", "."], place) if os.path.isdir(place) else (["--bundle", os.path.abspath(place)], None)
 
 
-def with_overlay(root: str, program: str) -> tuple[str, list[str]]:
-    """The bundle that bzlq keeps of a workspace, made fresh, and what it says of that."""
+def with_overlay(root: str, program: str) -> tuple[str, bool, list[str]]:
+    """The bundle that bzlq keeps of a workspace, made fresh, whether bq reads it with --large, and what else bzlq says of it."""
     beside = f"{HERE}/__main__.py"
     bzlq = [sys.executable, beside] if os.path.isfile(beside) else [shutil.which("bzlq") or ""]
     if not bzlq[0]:
@@ -177,12 +180,14 @@ def with_overlay(root: str, program: str) -> tuple[str, list[str]]:
     lines = text_of(ended.stderr).splitlines()
     if ended.returncode:
         raise ProcessError(lines[-1] if lines else f"bzlq has ended with status {ended.returncode}")
-    return text_of(ended.stdout).removesuffix("\n"), lines
+    large = f"bzlq: {LARGE}"
+    return text_of(ended.stdout).removesuffix("\n"), large in lines, [it for it in lines if it != large]
 
 
-def options_of(jobs: int | None, max_steps: int | None) -> list[str]:
+def options_of(jobs: int | None, max_steps: int | None, large: bool) -> list[str]:
+    """The options of bq that are given."""
     given = {"--jobs": jobs, "--max-steps": max_steps}
-    return [f"{word}={value}" for word, value in given.items() if value is not None]
+    return [f"{word}={value}" for word, value in given.items() if value is not None] + (["--large"] if large else [])
 
 
 class Deadline:
@@ -244,20 +249,21 @@ class Workspace:
     """A workspace that a process of bq has loaded: a directory, or the file of a bundle.
 
     Options: the program (else program_of says which), those of bq, and how many seconds the loading and each query may take; without a
-    number they may take any time. `faults` are the fault lines, `printed` the lines that files print, and `warnings` what bzlq says of an
+    number they may take any time. With an overlay `large` is found out. `faults` are the fault lines, `printed` the lines that files print, and `warnings` what bzlq says of an
     overlay: of calls that declare nothing over it.
     """
 
     def __init__(self, place: str | os.PathLike[str], *, overlay: bool = False, program: str = "", output: str = "label",
-                 jobs: int | None = None, max_steps: int | None = None, load_timeout: float | None = None,
+                 jobs: int | None = None, max_steps: int | None = None, large: bool = False, load_timeout: float | None = None,
                  timeout: float | None = None) -> None:
         self.program, self.timeout = program_of(program), timeout
         self.warnings: list[str] = []
         if overlay:
-            place, self.warnings = with_overlay(os.fspath(place), self.program)
+            place, is_large, self.warnings = with_overlay(os.fspath(place), self.program)
+            large = large or is_large
         self._lock, self._rest = threading.Lock(), b""
         self._gone: ProcessError | None = None
-        self._place, self._options = os.fspath(place), options_of(jobs, max_steps)
+        self._place, self._options = os.fspath(place), options_of(jobs, max_steps, large)
         self._start([f"--output={output}", *self._options])
         status, _ = self._answer(NOTHING, Deadline(load_timeout, "loaded the workspace"))
         lines = self._errors.lines()
@@ -472,13 +478,14 @@ class Facts:
 
 
 def facts(place: str | os.PathLike[str] | io.BufferedReader, query: str = "", *, overlay: bool = False, program: str = "",
-          jobs: int | None = None, max_steps: int | None = None, timeout: float | None = None) -> Facts:
+          jobs: int | None = None, max_steps: int | None = None, large: bool = False, timeout: float | None = None) -> Facts:
     """The facts behind a query, or behind all of the workspace: a directory, the file of a bundle, or a bundle that is open; with `overlay`
     a directory as bzlq reads it."""
     if overlay and not isinstance(place, io.BufferedReader):
-        place, _ = with_overlay(os.fspath(place), program_of(program))
+        place, is_large, _ = with_overlay(os.fspath(place), program_of(program))
+        large = large or is_large
     return run_facts(program_of(program), place if isinstance(place, io.BufferedReader) else os.fspath(place), query,
-                     options_of(jobs, max_steps), timeout)
+                     options_of(jobs, max_steps, large), timeout)
 
 
 def run_facts(program: str, place: str | io.BufferedReader, query: str, options: list[str], timeout: float | None) -> Facts:

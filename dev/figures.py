@@ -73,6 +73,7 @@ def result_file(name, day):
 
 
 def write_result(path, name, measured_on, tables, others):
+    """Writes figures into a file: what was measured, where, and the tables."""
     os.makedirs(os.path.dirname(path), exist_ok=True)
     parts = ["\n".join("\t".join(row) for row in table) for table in tables]
     with open(path, "w", encoding="utf-8") as file:

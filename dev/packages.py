@@ -98,6 +98,7 @@ def manual(name, version, day):
 
 
 def manuals(version, day):
+    """The man pages of a version, by their names."""
     return {f"{it}.1": manual(f"{it}.1", version, day) for it in COMMANDS}
 
 
@@ -107,6 +108,7 @@ def tools():
 
 
 def is_run(path, content):
+    """Whether a file of a package may be run."""
     return content.startswith(b"#!") or path in ("bq", "usr/lib/bq/bq")
 
 
@@ -136,6 +138,7 @@ def changelog(version):
 
 
 def packed(content):
+    """Bytes as gzip has them, the same at each time."""
     return gzip.compress(content, compresslevel=9, mtime=0)
 
 

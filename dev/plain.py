@@ -81,6 +81,7 @@ def helps(path, text):
 
 
 def is_python(path):
+    """Whether a file is a script in Python."""
     with open(f"{kit.ROOT}/{path}", "rb") as file:
         return b"python3" in file.readline()
 

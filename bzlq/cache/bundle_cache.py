@@ -31,6 +31,7 @@ def with_overlay(bundle, program, to):
 
 
 def make(bundle, program, folder, place):
+    """Makes the overlay and the bundle beside, and puts them into their place."""
     with room(folder, "new-") as around:
         new = f"{around}/{os.path.basename(place)}"
         os.mkdir(new, 0o700)

@@ -5,9 +5,10 @@ others. Of a file that changed in the last seconds its bytes count too: it may c
 """
 import hashlib
 import os
+import stat
 import time
 
-from bzlq.workspace.files import ROOT_FILES, SCHEMA, ignored, is_path
+from bzlq.workspace.files import ROOT_FILES, SCHEMA, counted_bytes, ignored, is_path, open_regular
 
 # files whose bytes count, besides those that end in .bzl
 COUNTED = frozenset(("BUILD", "BUILD.bazel", SCHEMA, ".bazelignore", *ROOT_FILES))
@@ -95,13 +96,16 @@ def entry_of(place, since):
     except OSError:
         return ()
     entry = (found.st_size, found.st_mtime_ns, found.st_ctime_ns, found.st_ino, found.st_dev)
+    # (of what is no regular file bq looks at nothing)
+    if not stat.S_ISREG(found.st_mode):
+        return entry
     return (*entry, sum_of(place)) if max(found.st_mtime_ns, found.st_ctime_ns) > since else entry
 
 
 def sum_of(place):
-    """A sum of the bytes of a file; of one that can't be read a text that is none."""
+    """A sum of the bytes of a file that count; of one that can't be read a text that is none."""
     try:
-        with open(place, "rb") as file:
-            return hashlib.sha256(file.read()).hexdigest()
+        with open_regular(place) as file:
+            return hashlib.sha256(counted_bytes(file, os.path.basename(place))).hexdigest()
     except OSError as error:
         return str(error.strerror)

@@ -68,8 +68,13 @@ def own(folder, tightens=False):
 
 
 def open_own(path, mode):
-    """Opens a file of the cache, and no other one that a link leads to."""
-    return open(path, mode, encoding=None if "b" in mode else "utf-8", opener=lambda name, flags: os.open(name, flags | os.O_NOFOLLOW, 0o600))
+    """Opens a file of the cache that is the user's own, and no other one that a link leads to."""
+    file = open(path, mode, encoding=None if "b" in mode else "utf-8", opener=lambda name, flags: os.open(name, flags | os.O_NOFOLLOW | os.O_NONBLOCK, 0o600))
+    found = os.fstat(file.fileno())
+    if found.st_uid != os.geteuid() or not stat.S_ISREG(found.st_mode):
+        file.close()
+        raise Unsafe(f"{path} isn't used: it is {'no file' if found.st_uid == os.geteuid() else 'of another user'}")
+    return file
 
 
 @contextlib.contextmanager

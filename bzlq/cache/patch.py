@@ -22,7 +22,7 @@ from bzlq.overlay.arguments import LABEL as GIVEN
 from bzlq.overlay.copies import copied
 from bzlq.overlay.extra_targets import phantoms
 from bzlq.overlay.reading import read
-from bzlq.workspace.bundle import MOST_FILES, has_header, written
+from bzlq.workspace.bundle import has_header, written
 from bzlq.workspace.files import SCHEMA, Unreadable, content, has_content, is_path, likely_root
 
 DANGLING = re.compile(rb" F79 DanglingLabel ([^\n]+)$", re.M)
@@ -48,7 +48,7 @@ class Patch:
     def __init__(self, root, overlay, seen, made, readings, warnings):
         self.root, self.overlay, self.seen, self.made, self.readings, self.warnings = root, overlay, seen, made, readings, warnings
         self.copies, self.texts, self.laid, self.files, self.is_deep = {}, {}, {}, {}, False
-        if seen.odd != made["odd"] or seen.files.keys() != made["files"].keys() or sum(map(len, seen.names.values())) > MOST_FILES:
+        if seen.odd != made["odd"] or seen.files.keys() != made["files"].keys() or not made["is_whole"]:
             raise TooMuch
         changed = [path for path in seen.files if self.is_changed(path)]
         self.came, self.gone = self.names()
@@ -100,6 +100,7 @@ class Patch:
         return directory if self.is_package(directory) else None
 
     def is_package(self, directory):
+        """Whether a directory has a BUILD file."""
         before = f"{directory}/" if directory else ""
         return before + "BUILD" in self.seen.files or before + "BUILD.bazel" in self.seen.files
 
@@ -128,6 +129,8 @@ class Patch:
         count = sum(map(len, facts.stubs.values()))
         found = {path: copied(facts, self.files[path]) for path in paths}
         self.copies = {path: stubs.marked(facts, path, it[0]) for path, it in found.items() if it}
+        if any(self.files[path].broken for path in paths):
+            raise TooMuch
         # (a name that nothing asked for before)
         if sum(map(len, facts.stubs.values())) != count:
             raise TooMuch
@@ -150,7 +153,11 @@ class Patch:
         if facts.kept()["further"] != made["facts"]["further"] or any(not NAMED.fullmatch(path) or path in self.seen.files for path in others):
             raise TooMuch
         self.texts |= others
-        self.warnings = list(stubs.told(self.root, likely_root(self.seen.files), stubs.silences(facts), False))
+        unread = facts.unread()
+        if {it.path for it in unread} - set(made["unread"]):
+            raise TooMuch
+        self.warnings = list(stubs.told(self.root, likely_root(self.seen.files), stubs.silences(facts), [it for it in unread if it.path in made["told_unread"]],
+                                       facts.further_left, False))
         self.made = {**made, "facts": facts.kept(), "overlay": list(overlay.files), "refused": sorted(facts.refused),
                      "copied": sorted({*made["copied"], *self.copies} - {path for path in paths if path not in self.copies})}
 

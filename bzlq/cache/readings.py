@@ -72,6 +72,7 @@ def packed(file):
 
 
 def unpacked(path, text):
+    """The `File` of a path that these bytes are of."""
     values, kinds = marshal.loads(text)
     file = File(path, values["is_build"])
     for name, value in values.items():

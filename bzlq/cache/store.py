@@ -18,20 +18,23 @@ from bzlq.cache.folder import cache_of, is_at, locked, open_own, own
 from bzlq.cache.plain import keep_at, kept_at
 from bzlq.overlay.approximations import ask_all
 from bzlq.overlay.arguments import BY_NAMES, DIRECTORY
-from bzlq.overlay.assembly import MAX_STEPS, make_bundle, make_overlay
+from bzlq.overlay.assembly import make_bundle, make_overlay, run_options
+from bzlq.workspace.bundle import is_large, is_large_at
 from bzlq.workspace.files import SCHEMA, Refused
 
 ROOT = os.path.dirname(os.path.dirname(os.path.dirname(os.path.realpath(__file__))))
 # the folders of what makes and keeps an overlay
 SCRIPTS = ("bzlq/overlay", "bzlq/workspace", "bzlq/cache")
+# those of what hints are made by
+HINTS = ("bzlq/hints", "bzlq/overlay", "bzlq/cache", "bzlq/facts")
 # after how many seconds a folder goes in which nothing was ever made
 EMPTY = 24 * 3600
 
 
-def version(program):
+def version(program, scripts=SCRIPTS):
     """What the scripts are that make an overlay, and the program: another version makes it anew."""
     found = hashlib.sha256(sys.version.encode())
-    for folder in SCRIPTS:
+    for folder in scripts:
         for name in sorted(os.listdir(f"{ROOT}/{folder}")):
             if name.endswith(".py"):
                 entry = os.stat(f"{ROOT}/{folder}/{name}")
@@ -42,11 +45,11 @@ def version(program):
 
 
 class Kept:
-    """What is kept of a workspace."""
+    """What is kept of a workspace. `is_large` says of the bundle that was opened whether a run over it wants --large."""
 
     def __init__(self, root, program):
         self.root, self.program, self.folder = root, program, cache_of(root)
-        self.overlay = os.path.join(self.folder, "overlay")
+        self.overlay, self.is_large = os.path.join(self.folder, "overlay"), False
 
     def open(self, ask=None):
         """The bundle, fresh, and the warnings of what it was made of. `ask` is given an open bundle and queries, and gives their blocks and the run's
@@ -60,11 +63,12 @@ class Kept:
                 if not self.is_patched(seen, now, before, ask or self.ask):
                     self.make(seen, now, before)
                 before = self.state()
+            self.is_large = before["large"]
             return open_own(self.path("bundle"), "rb"), before["warnings"] + before["said"]
 
     def ask(self, bundle, queries):
         """Runs queries over an open bundle."""
-        return ask_all(self.program, [f"--max-steps={MAX_STEPS}"], bundle, queries)
+        return ask_all(self.program, run_options(self.is_large), bundle, queries)
 
     def is_patched(self, seen, now, before, ask):
         """Patches the bundle where little has changed; gives whether it did."""
@@ -88,6 +92,7 @@ class Kept:
 
     def is_right(self, patch, bundle, ask):
         """Writes the patched bundle beside, and asks whether all else stays as it is."""
+        self.is_large = is_large(bundle)
         shutil.rmtree(self.path("new"), ignore_errors=True)
         os.makedirs(self.path("new"))
         try:
@@ -113,7 +118,7 @@ class Kept:
         keep_at(self.path("readings"), now["version"], patch.read_now())
         keep_at(self.path("made"), now["version"], {**patch.made, **seen_of(patch.seen)})
         with open_own(self.path("state.new"), "w") as file:
-            json.dump({**before, **now, "bundle": self.size(), "warnings": patch.warnings}, file)
+            json.dump({**before, **now, **({"large": self.is_large} if is_new else {}), "bundle": self.size(), "warnings": patch.warnings}, file)
         os.rename(self.path("state.new"), self.path("state"))
 
     def lay(self, path, text):
@@ -176,6 +181,16 @@ class Kept:
                 json.dump({"key": key, "lines": lines}, file)
             os.rename(self.path("said.new"), self.path("said"))
 
+    def hints(self, sources, around):
+        """The hints of fault lines that are kept, for runs from this folder."""
+        from bzlq.cache.kept_hints import KeptHints  # (not at the top: most runs don't need them)
+        return KeptHints(self.path("hints"), version(self.program, HINTS), around, sources)
+
+    def keep_hints(self, hints):
+        """Keeps the hints of a run."""
+        with locked(self.folder):
+            hints.keep()
+
     def make(self, seen, now, before):
         """Makes what changed: the bundle alone, if only names did."""
         new = self.path("new")
@@ -188,6 +203,7 @@ class Kept:
         remove_gone(os.path.dirname(self.folder))
 
     def make_in(self, new, seen, now, before):
+        """Makes what changed in a folder of its own, and puts it into its place."""
         made = None
         warnings, said = before.get("warnings", []), []
         is_same = all(before.get(key) == now[key] for key in ("contents", "version")) and os.path.isdir(self.overlay) and not self.depends_on_names()
@@ -203,7 +219,7 @@ class Kept:
             print("bzlq: reading the workspace", file=sys.stderr, flush=True)
             warnings, said, made = make_overlay(self.root, self.program, new, Readings(self.root, self.path("readings"), now["version"]))
         with open(f"{new}/state", "w", encoding="utf-8") as file:
-            json.dump({**now, "bundle": os.path.getsize(f"{new}/bundle"), "warnings": warnings, "said": said}, file)
+            json.dump({**now, "bundle": os.path.getsize(f"{new}/bundle"), "large": is_large_at(f"{new}/bundle"), "warnings": warnings, "said": said}, file)
         with contextlib.suppress(FileNotFoundError):
             os.remove(self.path("made"))
         if made:

@@ -14,6 +14,10 @@ The list has each changed target, and all that depend on one, directly or not. W
 of `select`, is compared by its text. After a change of MODULE.bazel, WORKSPACE or .bazelrc, or of a file that these name, such as a lock
 file, all targets that depend on another repository are listed. Only the cache is written to, $XDG_CACHE_HOME/bzlq (~/.cache/bzlq).
 
+With --audit N it writes the list of each of the last N commits of HEAD, the oldest first, below a line with how many of all targets that are,
+and what all lists come to: so you see on your own history what you would have run. --bazel COMMAND (such as bazel) also runs `bazel query` on
+the files of each commit, in a folder of the cache, and lists the targets that follow from its answers and that a list lacks.
+
 Status: 0 if the list is complete; 3 if a file of either side has a fault, or calls declare nothing over the overlay: then targets may be
 missing, so run everything (--all-on-fault lists all, and ends with 0); 2 if nothing can be answered; 4, 5 as for bq. A label that names no
 target (F79) is a fault too, unless --allow-dangling is given: where its package has no other fault, it hides no target.
@@ -25,6 +29,7 @@ import sys
 
 from bzlq.bq import program_of
 from bzlq.cache.folder import cache, room
+from bzlq.cli.audit import audit
 from bzlq.cli.process import ended, write
 from bzlq.cli.request import SHOWN, pattern
 from bzlq.diff.comparison import compare, users_in
@@ -47,17 +52,11 @@ OF_TESTS = ("size", "timeout", "shard_count", "flaky", "test_class")
 class Affected:
     """What a change concerns: each target with the one before it on a shortest way from a changed one."""
 
-    def __init__(self, words, room):
-        program, self.kind, self.allows_dangling = program_of(words.program), pattern(TESTS if words.tests else words.kind), words.allow_dangling
+    def __init__(self, words, git, base, head):
+        self.git, self.base, self.head = git, base, head
+        self.kind, self.allows_dangling = pattern(TESTS if words.tests else words.kind), words.allow_dangling
         # with --all-on-fault too, what may be a test is listed rather than told to be missing
         self.has_made = words.tests or words.all_on_fault
-        for folder in words.overlay:
-            if not os.path.isdir(folder):
-                raise Refused(f"there is no directory {folder}")
-        git = self.git = Git(words.tree, room)
-        base = git.commit(words.base) if words.base else git.base()
-        trees = git.tree(base), git.tree(words.head)
-        self.base, self.head = (Side(it, f"{room}/{name}", program, words.overlay) for it, name in zip(trees, ("base", "head")))
         if not self.head.packages:
             raise Refused(f"there is no BUILD file in {words.tree}" + (f" of {words.head}" if words.head else ""))
         self.change = compare(self.base, self.head)
@@ -86,6 +85,7 @@ class Affected:
         return "test" in self.kind.pattern and is_like_one and any(text.startswith(("kind: ", "targets: ")) for text in target.lost)
 
     def matches(self, target):
+        """Whether a target is of the kinds that are asked for."""
         return bool(self.kind.search(target.kind)) or self.has_made and self.may_be_test(target)
 
     def lost(self):
@@ -133,6 +133,7 @@ class Affected:
 
 
 def lines_of(found, labels, words):
+    """The lines of the list, in the form that the words ask for."""
     if words.owners:
         yield from (" ".join(it) for it in found.owners(labels, words.head))
         return
@@ -163,10 +164,24 @@ def told(found, labels, unsafe, is_all):
         yield f"and {len(unsafe) - SHOWN} more such lines"
 
 
+def compared(words, folder):
+    """What the change between the two revisions concerns."""
+    git, program = Git(words.tree, folder), program_of(words.program)
+    base = git.commit(words.base) if words.base else git.base()
+    trees = git.tree(base), git.tree(words.head)
+    return Affected(words, git, *(Side(it, f"{folder}/{name}", program, words.overlay) for it, name in zip(trees, ("base", "head"))))
+
+
 def affected(words, name):
+    """Writes the list, and what there is to say of it; gives the status."""
     sort_words(words)
+    for folder in words.overlay:
+        if not os.path.isdir(folder):
+            raise Refused(f"there is no directory {folder}")
     with room(cache(), "affected-") as folder:
-        found = Affected(words, folder)
+        if words.audit:
+            return audit(words, name, folder, lambda *sides: Affected(words, *sides))
+        found = compared(words, folder)
         unsafe = found.unsafe()
         is_all = bool(unsafe) and words.all_on_fault
         labels = found.labels(is_all)
@@ -193,13 +208,22 @@ def sort_words(words):
 
 
 def root():
+    """The root of the workspace that one stands in; where there is none, the folder itself."""
     try:
         return root_of(os.getcwd())
     except NoRoot:
         return "."
 
 
+def count(word):
+    """A number of commits."""
+    if not word.isascii() or not word.isdecimal() or not 1 <= int(word[:9]) <= 100_000:
+        raise argparse.ArgumentTypeError(f"it takes a number of 1 to 100,000, and not '{word}'")
+    return int(word)
+
+
 def main():
+    """Reads the words of a call, and runs it."""
     parser = argparse.ArgumentParser(description=__doc__, formatter_class=argparse.RawDescriptionHelpFormatter)
     parser.add_argument("words", metavar="TREE|BASE|HEAD", nargs="*", help="the workspace's root, and the revisions to compare")
     parser.add_argument("--base", default="", metavar="REV", help="the revision to compare with")
@@ -213,6 +237,8 @@ def main():
     how.add_argument("--json", action="store_true", help="a JSON object for each target")
     parser.add_argument("--all-on-fault", action="store_true", help="list all targets where some may be missing")
     parser.add_argument("--allow-dangling", action="store_true", help="ignore labels that name no target (F79)")
+    parser.add_argument("--audit", type=count, default=0, metavar="N", help="the lists of the last N commits, and what they come to")
+    parser.add_argument("--bazel", default="", metavar="COMMAND", help="with --audit: run the query of this Bazel for these commits, such as bazel")
     parser.add_argument("--program", default="", metavar="PROGRAM", help="the program bq (else $BZLQ_BQ, else the one of this repository)")
     words = parser.parse_args()
     words.tree = ""

@@ -1,18 +1,20 @@
 """Asks bq about the workspace that one stands in: takes the words of a call and the program, writes the answer and what there is to say of it,
 gives the status."""
+import contextlib
 import hashlib
 import os
 import subprocess
 import sys
+import threading
 
-from bzlq.bq import Facts
+from bzlq.bq import LARGE, Facts
 from bzlq.cache.store import Kept
 from bzlq.cli.formats import FORMS
 from bzlq.cli.labels import Labels
-from bzlq.cli.process import write, write_bytes
+from bzlq.cli.process import Unwritten, write, write_bytes
 from bzlq.cli.relative_labels import BadWord, absolute
 from bzlq.overlay.approximations import ask, of_targets
-from bzlq.overlay.assembly import MAX_STEPS
+from bzlq.overlay.assembly import MAX_STEPS, run_options
 from bzlq.workspace.root import folder_of, root_of
 
 
@@ -33,7 +35,7 @@ class Answer:
         with bundle:
             if "--bundle-path" in self.call.flags:
                 write([self.kept.path("bundle")], sys.stdout)
-                self.tell([], warnings)
+                self.tell([f"bzlq: {LARGE}"] if self.kept.is_large else [], warnings)
                 return 0
             if "--queries" in self.call.values:
                 self.tell([], warnings)
@@ -84,25 +86,36 @@ class Answer:
 
     def options(self):
         """The options of the call that each run of bq gets."""
-        return self.call.of_bq("--jobs", "--max-steps") + ([] if "--max-steps" in self.call.values else [f"--max-steps={MAX_STEPS}"])
+        is_large = self.kept.is_large or "--large" in self.call.flags
+        return [*self.call.of_bq("--jobs"), *run_options(is_large, self.call.values.get("--max-steps", MAX_STEPS))]
 
     def many(self, bundle, name):
         """Answers the queries of a file, or those of standard input, each as soon as it is there."""
         words = [self.program, *self.options(), *self.call.of_bq("--output"), "--bundle", f"/dev/fd/{bundle.fileno()}", "--queries", "-"]
         with open(sys.stdin.fileno() if name == "-" else name, "rb", closefd=name != "-") as lines:
-            run = subprocess.Popen(words, stdin=subprocess.PIPE, pass_fds=[bundle.fileno()])
+            # (SIGXFSZ stays ignored, as Python has it: a limit of file sizes is an error of a write)
+            outputs = [subprocess.PIPE if it.isatty() else None for it in (sys.stdout, sys.stderr)]
+            run = subprocess.Popen(words, stdin=subprocess.PIPE, stdout=outputs[0], stderr=outputs[1], pass_fds=[bundle.fileno()],
+                                   restore_signals=False)
+            readers = [threading.Thread(target=passed_on, args=it) for it in ((run.stdout, sys.stdout), (run.stderr, sys.stderr)) if it[0]]
+            for it in readers:
+                it.start()
             try:
                 for line in lines:
                     run.stdin.write(self.full(line))
                     run.stdin.flush()
                 run.stdin.close()
-                return run.wait()
+                run.wait()
             except BrokenPipeError:
-                return run.wait()  # (it has ended, and said why)
+                run.wait()  # (it has ended, and said why)
             except BaseException:
                 run.kill()
                 run.wait()
                 raise
+            finally:
+                for it in readers:
+                    it.join()
+            return run.returncode
 
     def full(self, line):
         """A line of queries with labels in full; one that leads out of the workspace is left to bq, which refuses it in its place."""
@@ -131,7 +144,9 @@ class Answer:
         from bzlq.hints.sources import Sources
         sources = Sources.of_bundle(self.kept.path("bundle"), self.path)
         if lines is None:
-            lines, _ = hinted(text.splitlines(), sources, self.query, is_all, not is_all)
+            hints = self.kept.hints(sources, f"{os.getcwd()}\0{is_all}")
+            lines, _ = hinted(text.splitlines(), sources, self.query, is_all, not is_all, hints)
+            self.kept.keep_hints(hints)
             if ended.returncode == 3:
                 self.kept.keep_said(key, lines)
         return lines + ([f"bzlq: nothing matches{empty(sources, self.query)}"] if is_empty else [])
@@ -145,6 +160,15 @@ class Answer:
         if found:
             lines = lines + [f"bzlq: {it}" for it in found.lines()]
         write(lines, sys.stderr)
+
+
+def passed_on(pipe, to):
+    """Writes what comes from a pipe to a terminal, a line as soon as it is there. (Where the terminal has gone, the rest is read all the same, so
+    that the process can end.)"""
+    with pipe:
+        for line in pipe:
+            with contextlib.suppress(OSError, Unwritten):
+                write_bytes(line, to)
 
 
 def text_of(lines):

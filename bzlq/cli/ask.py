@@ -10,7 +10,7 @@
 Each line is a query, as in bzlq, or another command of bzlq without `bzlq` before it. The workspace is loaded once, and again only after a file
 has changed, so answers are always right for the files as they are. On a terminal there is a prompt, the tab key completes labels, Ctrl-C stops an
 answer, and Ctrl-D, `exit` or `quit` end it. From a pipe or a file only the answers are written, without headers (bzlq queries has them). It
-takes the options --output label or label_kind, --jobs, --max-steps, --all and --strict.
+takes the options --output label or label_kind, --jobs, --max-steps, --large, --all and --strict.
 
 Status, where lines come from a pipe or a file: 2 if one couldn't be answered, else 3 if an answer may lack something, else 0.
 """
@@ -85,7 +85,7 @@ class Session:
         self.close()
         options = self.call.values
         self.workspace = Workspace(answer.kept.path("bundle"), program=self.program, output=options.get("--output", "label"), jobs=options.get("--jobs"),
-                                   max_steps=options.get("--max-steps", MAX_STEPS))
+                                   max_steps=options.get("--max-steps", MAX_STEPS), large=answer.kept.is_large or "--large" in self.call.flags)
         self.identity = found
         with open(answer.kept.path("bundle"), "rb") as bundle:
             labels = Labels(answer.kept, bundle)
@@ -97,6 +97,7 @@ class Session:
 
 
 def identity_of(bundle):
+    """What tells an open bundle from another one."""
     found = os.fstat(bundle.fileno())
     return found.st_ino, found.st_size, found.st_mtime_ns
 
@@ -157,6 +158,7 @@ def answered(session, line, is_terminal):
 
 
 def ask(words):
+    """Answers the lines of standard input; gives the status."""
     call = Call(words)
     if call.queries or call.raw or {"--facts", "--bundle-path", "--clean", "--version"} & call.flags or {"--queries", "--explain"} & call.values.keys() \
             or call.values.get("--output", "label") not in ("label", "label_kind"):

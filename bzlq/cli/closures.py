@@ -62,6 +62,7 @@ def in_order(deps):
 
 
 def closures(asked):
+    """The lines of the targets that depend on most others."""
     words = asked.words
     if words.count < 1:
         raise Refused("-n takes a number of 1 or more")
@@ -74,6 +75,7 @@ def closures(asked):
 
 
 def main():
+    """Reads the words of a call, and runs it."""
     parser = parser_of(__doc__)
     parser.add_argument("-n", dest="count", type=int, default=LISTED, metavar="COUNT", help=f"how many are listed ({LISTED})")
     parser.add_argument("query", metavar="QUERY", nargs="?", default="")

@@ -7,12 +7,14 @@ import sys
 
 from bzlq.cache.folder import cache_of
 from bzlq.cli.labels import kept_labels
-from bzlq.workspace.files import Refused, ignored
+from bzlq.workspace.files import Refused, ignored, is_path, read_file
 from bzlq.workspace.root import build_file, folder_of, root_of
 
 NAME = re.compile(rb"""\bname\s*=\s*["']([^"'\n%{}]+)["']""")
 # how many are given at most
 MOST = 2000
+# the labels that a shell takes as they are: one with `$(..)` in it would be run
+PLAIN = re.compile(r"[\w@%+=:,./~^-]+", re.ASCII)
 
 
 def names_of(root, package):
@@ -23,8 +25,7 @@ def names_of(root, package):
     if package.startswith("//"):
         for name in ("BUILD.bazel", "BUILD"):
             try:
-                with open(os.path.join(root, package[2:], name), "rb") as file:
-                    found.update(NAME.findall(file.read()))
+                found.update(NAME.findall(read_file(os.path.join(root, package[2:]), name)))
                 break
             except OSError:
                 continue
@@ -34,6 +35,8 @@ def names_of(root, package):
 def packages_of(root, path):
     """What a path below `//` may go on to: packages, directories, and all below."""
     directory, _, start = path.rpartition("/")
+    if directory and not is_path(directory):
+        return
     before, without = f"//{directory}/" if directory else "//", ignored(root)
     try:
         with os.scandir(os.path.join(root, directory)) as entries:
@@ -54,6 +57,7 @@ def packages_of(root, path):
 
 
 def has_directories(place):
+    """Whether a directory has others in it."""
     try:
         with os.scandir(place) as entries:
             return any(it.is_dir() and not it.name.startswith(".") for it in entries)
@@ -72,6 +76,8 @@ def candidates(word, root, folder):
         labels = kept_labels(cache_of(root)).decode("utf-8", "surrogateescape").splitlines()
         return sorted({it.partition(":")[0] for it in labels if it.startswith(word)} | {f"{it.partition(':')[0]}:" for it in labels if it.startswith(word)})
     full = package if package.startswith(("//", "@")) else "//" + os.path.normpath(os.path.join(folder, package)).removeprefix(".")
+    if full.startswith("//") and full != "//" and not is_path(full[2:]):
+        return []  # (it would lead out of the workspace)
     return [f"{package}:{it}" for it in (*names_of(root, full), "all") if it.startswith(start)]
 
 
@@ -79,7 +85,7 @@ def complete(word):
     """Writes them, a line each; gives the status. Nothing else is written: a shell shows it in the middle of a line."""
     try:
         root = root_of(os.getcwd())
-        lines = itertools.islice(candidates(word, root, folder_of(root)), MOST)
+        lines = itertools.islice(filter(PLAIN.fullmatch, candidates(word, root, folder_of(root))), MOST)
         sys.stdout.buffer.write("".join(f"{it}\n" for it in lines).encode("utf-8", "surrogateescape"))
         sys.stdout.flush()
     except (Refused, OSError):
@@ -91,5 +97,5 @@ def complete_line(word, at, found=[]):  # noqa: B006
     """The same for readline, which asks for one at a time."""
     if at == 0:
         root = root_of(os.getcwd())
-        found[:] = list(candidates(word, root, folder_of(root)))[:MOST]
+        found[:] = list(filter(PLAIN.fullmatch, candidates(word, root, folder_of(root))))[:MOST]
     return found[at] if at < len(found) else None

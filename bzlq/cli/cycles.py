@@ -15,6 +15,7 @@ from bzlq.facts.graph import components, edges, shortest_cycle
 
 
 def cycles(asked):
+    """The lines of the cycles."""
     targets = asked.facts(asked.query(asked.words.query)).targets
 
     def next_of(label):
@@ -26,6 +27,7 @@ def cycles(asked):
 
 
 def main():
+    """Reads the words of a call, and runs it."""
     parser = parser_of(__doc__)
     parser.add_argument("query", metavar="QUERY", nargs="?", default="")
     return run(cycles, parser.parse_args())

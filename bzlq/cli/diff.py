@@ -21,7 +21,7 @@ from bzlq.cli.relative_labels import absolute
 from bzlq.cli.request import SHOWN
 from bzlq.diff.git import WORK_TREE, Git
 from bzlq.diff.side import Side
-from bzlq.overlay.assembly import MAX_STEPS
+from bzlq.overlay.assembly import run_options
 from bzlq.workspace.files import Refused
 from bzlq.workspace.root import folder_of, root_of
 
@@ -33,7 +33,7 @@ def answer(words, room, name, revision, query, git):
     """The lines of the answer of one revision, and what there is to say of it."""
     side = Side(git.tree(revision), f"{room}/{name}", words.program, ())
     said = [f"{name}: {it}" for it in [*side.facts.faults, *side.warnings]]
-    command = [words.program, f"--max-steps={MAX_STEPS}", f"--output={words.output}", "--bundle", f"{room}/{name}/both", "--", query]
+    command = [words.program, *run_options(side.is_large), f"--output={words.output}", "--bundle", f"{room}/{name}/both", "--", query]
     run = subprocess.run(command, capture_output=True, check=False)
     text = run.stderr.decode("utf-8", "surrogateescape").splitlines()
     if run.returncode not in (0, 3):
@@ -46,6 +46,7 @@ def answer(words, room, name, revision, query, git):
 
 
 def diff(words):
+    """Writes what differs; gives the status."""
     *revisions, query = words.words
     if not 1 <= len(revisions) <= 2:
         raise Refused("diff takes BASE, HEAD and a query")
@@ -66,6 +67,7 @@ def diff(words):
 
 
 def main():
+    """Reads the words of a call, and runs it."""
     parser = argparse.ArgumentParser(description=__doc__, formatter_class=argparse.RawDescriptionHelpFormatter)
     parser.add_argument("--output", choices=("label", "label_kind"), default="label", help="with kinds too")
     parser.add_argument("--program", default="", metavar="PROGRAM", help="the program bq (else $BZLQ_BQ, else the one of this repository)")

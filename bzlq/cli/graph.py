@@ -42,6 +42,7 @@ def colours_of(targets):
 
 
 def legend(colours):
+    """The lines of the legend."""
     yield '  subgraph cluster_legend {\n    label="kinds" fontname="Helvetica" fontsize="11" color="#bbbbbb"'
     for kind, colour in colours.items():
         yield f"    {quoted(f'kind {kind}')} [label={quoted(kind.removesuffix(' rule'))} fillcolor=\"{colour}\"]"
@@ -49,6 +50,7 @@ def legend(colours):
 
 
 def of_targets(targets, colours, path):
+    """The lines of a graph with a node for each target."""
     for label, target in targets.items():
         yield f"  {quoted(label)} [fillcolor=\"{colours[target.kind]}\" tooltip={quoted(f'{target.kind}, {path(target.file)}:{target.line or 1}')}]"
     for label, target in targets.items():
@@ -74,6 +76,7 @@ def of_packages(targets, colours):
 
 
 def graph(asked):
+    """The lines of the graph; none where it is drawn into a file."""
     words, form = asked.words, os.path.splitext(asked.words.output)[1].lower()
     if words.output and form not in FORMS:
         raise Refused(f"{words.output}: a picture's name ends in {', '.join(FORMS[:-1])} or {FORMS[-1]}")
@@ -94,6 +97,7 @@ def graph(asked):
 
 
 def draw(lines, form, path):
+    """Has `dot` draw the graph into a file."""
     text = "".join(f"{line}\n" for line in lines).encode("utf-8")
     ended = subprocess.run(["dot", f"-T{form[1:]}"], input=text, capture_output=True, check=False)
     if ended.returncode:
@@ -104,6 +108,7 @@ def draw(lines, form, path):
 
 
 def main():
+    """Reads the words of a call, and runs it."""
     parser = parser_of(__doc__)
     how = parser.add_mutually_exclusive_group()
     how.add_argument("--targets", action="store_true", help="a node for each target, however many there are")

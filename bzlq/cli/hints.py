@@ -30,6 +30,7 @@ def sources_of(tree, overlays):
 
 
 def hints(words):
+    """Explains the lines of standard input; gives the status."""
     texts = sys.stdin.buffer.read().decode("utf-8", "surrogateescape").splitlines()
     written, data = hinted(texts, sources_of(words.tree, words.overlay), words.query, words.all)
     write([json.dumps(it) for it in data] if words.json else written, sys.stdout)
@@ -37,6 +38,7 @@ def hints(words):
 
 
 def main():
+    """Reads the words of a call, and runs it."""
     parser = argparse.ArgumentParser(description=__doc__, formatter_class=argparse.RawDescriptionHelpFormatter)
     parser.add_argument("tree", nargs="?", metavar="TREE", help="the workspace: a directory, or the file of a bundle")
     parser.add_argument("--overlay", action="append", default=[], metavar="DIR", help="a folder to lay over TREE")

@@ -15,8 +15,8 @@ from bzlq.cli.process import write
 from bzlq.hints.fault_lines import Error, Fault, read
 from bzlq.hints.faults import Hints
 from bzlq.hints.sources import Sources
-from bzlq.overlay.assembly import MAX_STEPS, make_overlay
-from bzlq.workspace.bundle import has_header, written
+from bzlq.overlay.assembly import make_overlay, run_options
+from bzlq.workspace.bundle import has_header, is_large, written
 from bzlq.workspace.files import SCHEMA, Refused, has_content
 from bzlq.workspace.root import root_of
 
@@ -26,8 +26,10 @@ ROUNDS = 3
 
 def lint(words):
     """Writes the faults of these files; gives the status."""
-    if odd := [it for it in words if it.startswith("-")]:
-        raise Refused(f"there is no option {odd[0]} of lint: it takes files")
+    if words[:1] == ["--"]:
+        words = words[1:]
+    elif odd := [it for it in words if it.startswith("-")]:
+        raise Refused(f"there is no option {odd[0]} of lint: it takes files (after -- also one of such a name)")
     root, program = root_of(os.getcwd()), program_of()
     paths = named(words, root) if words else {it for it in changed(root) if is_counted(it)}
     if not paths:
@@ -61,12 +63,14 @@ def named(words, root):
 
 
 def is_counted(path):
+    """Whether a path is that of a BUILD or .bzl file."""
     return has_content(path) and path != SCHEMA
 
 
 def faults_in(program, bundle):
     """The fault lines of a bundle."""
-    said = subprocess.run([program, f"--max-steps={MAX_STEPS}", "set()"], stdin=bundle, stdout=subprocess.DEVNULL, stderr=subprocess.PIPE, check=False)
+    text = bundle.read()
+    said = subprocess.run([program, *run_options(is_large(text)), "set()"], input=text, stdout=subprocess.DEVNULL, stderr=subprocess.PIPE, check=False)
     lines = [read(text) for text in said.stderr.decode("utf-8", "surrogateescape").splitlines()]
     if errors := [it for it in lines if isinstance(it, Error)]:
         raise Refused(f"{errors[0].number} {errors[0].name} {errors[0].detail}".rstrip())

@@ -16,6 +16,7 @@ from bzlq.workspace.files import Refused
 
 
 def loads(asked):
+    """The lines of the files that load the one that is asked for."""
     modules = asked.facts().modules
     label = asked.label(asked.words.file)
     if label not in modules:
@@ -35,6 +36,7 @@ def loads(asked):
 
 
 def main():
+    """Reads the words of a call, and runs it."""
     parser = parser_of(__doc__)
     parser.add_argument("--direct", action="store_true", help="only those that load it themselves")
     parser.add_argument("file", metavar="FILE.bzl")

@@ -4,7 +4,7 @@ from bzlq.hints.suggestions import did_you_mean
 from bzlq.workspace.files import Refused
 
 WITH_VALUE = ("--jobs", "--output", "--max-steps", "--explain", "--queries", "--program")
-FLAGS = ("--facts", "--bundle-path", "--all", "--clean", "--raw", "--strict", "--version")
+FLAGS = ("--large", "--facts", "--bundle-path", "--all", "--clean", "--raw", "--strict", "--version")
 # words of Bazel's that say what bq does anyway
 IGNORED = ("-k", "--keep_going", "--noimplicit_deps", "--noimplicit_deps=true", "--implicit_deps=false", "--notool_deps", "--noshow_progress",
            "--show_progress=false", "--noshow_loading_progress", "--color=no", "--order_output=full", "--order_output=auto")
@@ -16,6 +16,7 @@ MOST = {"--jobs": 256, "--max-steps": 1_000_000_000}
 OWN = """  --output FORM      label, label_kind; package, location, graph, or jsonl: the facts of each target
   --facts [QUERY]    the facts of the targets of the answer, or of the whole workspace, as JSON
   --queries FILE     answer each line of a file (- is standard input) over one load; words are relative as in a query
+  --large            give bq --large, which bzlq does by itself where a workspace needs it
   --bundle-path      bring the bundle up to date, and print its path
   --raw              run bq with the other arguments as they are
   --strict           status 3 where the answer is an approximation in any way (docs/REAL_WORKSPACES.md)

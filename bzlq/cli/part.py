@@ -6,7 +6,7 @@ These are the BUILD files of the packages, with the names of the files that the 
 import os
 import re
 
-from bzlq.workspace.files import ROOT_FILES, SCHEMA, Refused, ignored, is_path, unreadable
+from bzlq.workspace.files import ROOT_FILES, SCHEMA, Refused, ignored, is_path, read_file, unreadable
 
 LOAD = re.compile(rb"""\bload\(\s*["']([^"'\n]+)["']""")
 LABEL = re.compile(rb"""["'](?:@|@@)?//([^"':\n]*)(?::[^"'\n]*)?["']""")
@@ -30,8 +30,7 @@ class Part:
     def text(self, path):
         """The bytes of a file, or what stands for them where it can't be read."""
         try:
-            with open(os.path.join(self.root, path), "rb") as file:
-                return file.read()
+            return read_file(self.root, path)
         except OSError as error:
             return unreadable(path, error.strerror)
 
@@ -97,16 +96,17 @@ class Part:
         return {self.package_of(it) if self.build_file(it) else it for it in named if is_path(it) or not it}
 
     def path_of(self, label, path):
-        """The path of a file that is loaded; nothing for one of another repository that isn't there."""
+        """The path of a file that is loaded; nothing for a label that is none, and for a file of another repository that isn't there."""
         repository, slashes, rest = label.partition("//")
         package, colon, name = rest.partition(":")
-        if not slashes:
-            return os.path.normpath(os.path.join(self.package_of(os.path.dirname(path)), label.removeprefix(":")))
         name = name if colon else os.path.basename(package)
         other = repository.lstrip("@")
         before = "" if not other or other.encode() == self.own else f"external/{other}"
-        found = os.path.join(before, package, name)
-        return found if not other or os.path.isfile(os.path.join(self.root, found)) else ""
+        if not slashes:
+            before, package, name, other = self.package_of(os.path.dirname(path)), "", label.removeprefix(":"), ""
+        # (a name that is no path, as one with `..`, would lead out of the workspace)
+        found = "/".join(it for it in (before, package, name) if it)
+        return found if is_path(found) and (not other or os.path.isfile(os.path.join(self.root, found))) else ""
 
 
 def part_of(root, paths):

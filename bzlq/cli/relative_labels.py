@@ -51,6 +51,7 @@ def is_target(text, before, after, stack):
 
 
 def quoted(text, before):
+    """A text in the quotes that the word had, or in some where it needs them."""
     if before[0] in "\"'":
         return before[0] + text + before[0]
     return text if UNQUOTED.fullmatch(text) else f'"{text}"'

@@ -29,6 +29,7 @@ def parser_of(about):
     where = parser.add_mutually_exclusive_group()
     where.add_argument("--dir", metavar="DIR", help="the workspace, read as it is (else the one that you are in, as bzlq reads it)")
     where.add_argument("--bundle", metavar="FILE", help="the file of a bundle that holds the workspace")
+    parser.add_argument("--large", action="store_true", help="with --dir or --bundle: allow more than 65,536 files and 16,384 modules (else that is found out)")
     parser.add_argument("--program", default="", metavar="PROGRAM", help="the program bq (else $BZLQ_BQ, else the one of this repository)")
     return parser
 
@@ -51,11 +52,11 @@ class Asked:
     def facts(self, query=""):
         """The facts behind a query, or behind all of the workspace."""
         if self.words.dir or self.words.bundle:
-            found = facts(self.words.dir or self.words.bundle, query, program=self.program)
+            found = facts(self.words.dir or self.words.bundle, query, program=self.program, large=self.words.large)
         else:
             bundle, self.warnings = self.kept.open()
             with bundle:
-                found = facts(bundle, query, program=self.program, max_steps=MAX_STEPS)
+                found = facts(bundle, query, program=self.program, max_steps=MAX_STEPS, large=self.kept.is_large or self.words.large)
         self.faults, self.lost = found.faults, of_targets(query, found.targets.values()) if self.is_of_targets else None
         return found
 

@@ -15,6 +15,7 @@ SOURCES = ("srcs", "hdrs")
 
 
 def shared(asked):
+    """The lines of the files that several rules have as sources."""
     users = {}
     files = asked.facts().targets
     rules = asked.facts(asked.query(asked.words.query)).targets if asked.words.query else files
@@ -30,6 +31,7 @@ def shared(asked):
 
 
 def main():
+    """Reads the words of a call, and runs it."""
     parser = parser_of(__doc__)
     parser.add_argument("query", metavar="QUERY", nargs="?", default="")
     return run(shared, parser.parse_args())

@@ -5,11 +5,11 @@ import shutil
 import subprocess
 import sys
 
-from bzlq.bq import program_of
+from bzlq.bq import LARGE, program_of
 from bzlq.cache.store import Kept
 from bzlq.cli.answer import Answer
 from bzlq.cli.options import OWN, Call
-from bzlq.cli.process import Unwritten, ended, write
+from bzlq.cli.process import Output, Unwritten, ended, write
 from bzlq.workspace.files import Refused
 from bzlq.workspace.root import root_of
 
@@ -86,16 +86,30 @@ def answered(words):
 
 def queries(words):
     """The options stand before or after the file."""
-    files = [it for it in words if not it.startswith("--")]
-    return answered([*(it for it in words if it.startswith("--")), "--queries", files[0] if files else "-"])
+    files, options = divided(words, "--")
+    return answered([*options, "--queries", files[0] if files else "-"])
+
+
+def divided(words, mark="-"):
+    """The words that are names, and those that are options: of those after `--` none is one."""
+    at = words.index("--") if "--" in words else len(words)
+    return [it for it in words[:at] if not it.startswith(mark)] + words[at + 1:], [it for it in words[:at] if it.startswith(mark)]
+
+
+def quoted(name):
+    """A name as a word of a query."""
+    quote = next((it for it in "\"'" if it not in name), "")
+    if not quote:
+        raise Refused(f"{name} has both kinds of quotes, so no query can name it")
+    return quote + name + quote
 
 
 def owner(words):
     """The targets of which files are a part."""
-    files, options = [it for it in words if not it.startswith("-")], [it for it in words if it.startswith("-")]
+    files, options = divided(words)
     if not files:
         raise Refused("owner wants a file")
-    named = " ".join(f'"{it}"' for it in files)
+    named = " ".join(map(quoted, files))
     return answered([*options, "--", f"rdeps(//..., set({named}), 1) - set({named})"])
 
 
@@ -103,20 +117,24 @@ def bundle(words):
     """Writes the bundle that is kept of this workspace."""
     if words:
         return script("bundle", words)
-    opened, warnings = Kept(root_of(os.getcwd()), program_of()).open()
+    kept = Kept(root_of(os.getcwd()), program_of())
+    opened, warnings = kept.open()
     try:
         with opened:
-            shutil.copyfileobj(opened, sys.stdout.buffer)
-            sys.stdout.buffer.flush()
+            to = Output(sys.stdout)
+            shutil.copyfileobj(opened, to)
+            to.flush()
     except BrokenPipeError:
         raise
     except OSError as error:
         raise Unwritten(f"standard output: {error.strerror}") from error
+    write([f"bzlq: {LARGE}"] if kept.is_large else [], sys.stderr)
     write([f"bzlq: targets may be missing: {it}" for it in warnings], sys.stderr)
     return 0
 
 
 def linted(words):
+    """Writes the faults of files; gives the status."""
     # (not at the top: what explains faults takes long to be there)
     from bzlq.cli.lint import lint
     return lint(words)
@@ -161,4 +179,5 @@ def run(words):
 
 
 def refuse(word):
+    """Refuses a word of Bazel's that builds something."""
     raise Refused(f"there is no {word}: bzlq answers questions about what BUILD files declare, and builds nothing (`bzlq query {word}` asks for a target of that name)")

@@ -26,6 +26,7 @@ def unloaded(asked):
 
 
 def unused(asked):
+    """The lines of the rules, or of the .bzl files, that nothing uses."""
     if asked.words.bzl:
         yield from unloaded(asked)
         return
@@ -42,6 +43,7 @@ def unused(asked):
 
 
 def main():
+    """Reads the words of a call, and runs it."""
     parser = parser_of(__doc__)
     which = parser.add_mutually_exclusive_group()
     which.add_argument("--kind", default="", metavar="PATTERN", help="list only these kinds")

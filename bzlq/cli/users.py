@@ -83,6 +83,7 @@ def users_of_target(asked, targets):
 
 
 def users(asked):
+    """The lines of the calls of a macro, or of the users of a target."""
     facts = asked.facts()
     word = asked.words.macro
     if "%" not in word and ("/" in word or ":" in word):
@@ -108,6 +109,7 @@ def users(asked):
 
 
 def main():
+    """Reads the words of a call, and runs it."""
     parser = parser_of(__doc__)
     parser.add_argument("--direct", action="store_true", help="only calls of the macro itself")
     parser.add_argument("macro", metavar="MACRO|LABEL")

@@ -20,8 +20,8 @@ import subprocess
 from bzlq.cli.request import parser_of, run
 from bzlq.facts.graph import edge
 from bzlq.facts.visibility import Visibility
-from bzlq.overlay.assembly import MAX_STEPS
-from bzlq.workspace.bundle import merged, written
+from bzlq.overlay.assembly import run_options
+from bzlq.workspace.bundle import is_large, merged, written
 from bzlq.workspace.files import Refused, content, has_content, parts
 
 PROBE = "bzlq_probe_"
@@ -34,7 +34,7 @@ def evaluated(asked, hidden):
     for number, (path, text) in enumerate(expressions):
         found[path] += f'\nfilegroup(name = "{PROBE}{number}", tags = ({text}))\n'.encode("latin-1")
     bundle = b"".join(written(path, text) for path, text in found.items())
-    ended = subprocess.run([asked.program, f"--max-steps={MAX_STEPS}", "--facts"], input=bundle, capture_output=True, check=False)
+    ended = subprocess.run([asked.program, *run_options(is_large(bundle)), "--facts"], input=bundle, capture_output=True, check=False)
     told = [json.loads(line) for line in ended.stdout.splitlines() if PROBE.encode() in line and line.startswith(b'{"target"')]
     return {expressions[int(it["attributes"]["name"].removeprefix(PROBE))]: it["attributes"].get("tags", []) for it in told if PROBE in it["target"]}
 
@@ -50,6 +50,7 @@ def settled(asked, facts, look):
 
 
 def package_of(label):
+    """The package of a label, as its first part."""
     return label.partition(":")[0]
 
 
@@ -135,6 +136,7 @@ def of_two(asked, one, two):
 
 
 def visible(asked):
+    """The lines of the answer."""
     words = asked.words.words
     if len(words) > 2:
         raise Refused("visible takes A and B, or one query")
@@ -142,6 +144,7 @@ def visible(asked):
 
 
 def main():
+    """Reads the words of a call, and runs it."""
     parser = parser_of(__doc__)
     parser.add_argument("words", metavar="A B | QUERY", nargs="*")
     return run(visible, parser.parse_args())

@@ -60,6 +60,7 @@ class Watch:
 
 
 def watch(words):
+    """Answers a query after each change; gives the status."""
     call = Call(words)
     if not call.queries or {"--bundle-path", "--clean", "--version", "--facts"} & call.flags or {"--queries", "--explain"} & call.values.keys() or call.raw:
         raise Refused("watch takes a query, and options of its answer")

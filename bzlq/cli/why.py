@@ -18,6 +18,7 @@ from bzlq.facts.graph import edges, shortest
 
 
 def why(asked):
+    """The lines of a shortest path."""
     targets = asked.facts().targets
     start, end = (asked.target(word, targets).label for word in (asked.words.a, asked.words.b))
     found = shortest(start, end, lambda label: targets[label].deps)
@@ -29,6 +30,7 @@ def why(asked):
 
 
 def main():
+    """Reads the words of a call, and runs it."""
     parser = parser_of(__doc__)
     parser.add_argument("a", metavar="A")
     parser.add_argument("b", metavar="B")

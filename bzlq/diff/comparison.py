@@ -90,6 +90,7 @@ def reason_of(target, before, base, head):
 
 
 def differ(one, two):
+    """Whether two values of an attribute differ."""
     # (True is 1 in Python)
     return type(one) is not type(two) or one != two
 

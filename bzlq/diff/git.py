@@ -56,6 +56,15 @@ class Git:
             pass
         raise NoRevision(f"there is no revision {revision}")
 
+    def commits(self, revision, count):
+        """The last commits of a branch, the oldest first, each with its subject: of merges the side that they were merged into."""
+        found = self.run("log", "--first-parent", f"--max-count={count}", "--reverse", "--format=%H %s", self.commit(revision))
+        return [tuple(line.split(" ", 1)) for line in found.decode("utf-8", "surrogateescape").splitlines()]
+
+    def directory(self):
+        """The folder of the repository itself."""
+        return self.text("rev-parse", "--absolute-git-dir")
+
     def file(self, revision, path):
         """The bytes of a file of a revision, or of the work tree, by its path from the repository's root."""
         if revision != WORK_TREE:

@@ -53,6 +53,7 @@ class Files:
         return {it.first: self.used(it, of_names) for it in statements if not it.is_load}
 
     def used(self, statement, of_names):
+        """The labels among the keys of a statement's dicts, and of the names that it has."""
         return in_dicts(statement.node).union(*(of_names[name] for name in statement.names & {*of_names}))
 
     def of(self, label):
@@ -87,6 +88,7 @@ def in_dicts(node):
 
 
 def texts_of_key(key):
+    """The texts in the key of a dict."""
     match key:
         case ast.Constant(value=str() as text):
             return [text]
@@ -101,6 +103,7 @@ def texts_of_key(key):
 
 
 def is_label(value):
+    """Whether a value is the text of a label of this workspace."""
     return isinstance(value, str) and value.startswith((":", "//"))
 
 

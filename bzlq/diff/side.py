@@ -5,6 +5,7 @@ import re
 from bzlq.bq import facts
 from bzlq.cache.bundle_cache import with_overlay
 from bzlq.overlay.assembly import MAX_STEPS, make_bundle
+from bzlq.workspace.bundle import is_large_at
 from bzlq.workspace.files import ROOT_FILES, SCHEMA, has_content, parts
 
 # a line that can't be in a bundle; in a copy too a space stands before it
@@ -13,7 +14,8 @@ HEADER = re.compile(rb"^=== ", re.M)
 NO_ROOT = " has no WORKSPACE or MODULE.bazel"
 
 class Side:
-    """`overlay` is what lies over the tree's files, by their paths; `warnings` tell of calls that declare nothing over it."""
+    """`overlay` is what lies over the tree's files, by their paths; `warnings` tell of calls that declare nothing over it; `is_large` says whether a
+    run over the bundle wants --large."""
 
     def __init__(self, tree, room, program, overlays):
         self.tree, self.warnings = tree, []
@@ -35,5 +37,6 @@ class Side:
             self.warnings = [it for it in said if NO_ROOT not in it]
         laid = parts(f"{room}/both")
         self.overlay = {path: text for path, text in laid.items() if text.rstrip(b"\n") != HEADER.sub(b" === ", self.texts.get(path, b"")).rstrip(b"\n")}
+        self.is_large = is_large_at(f"{room}/both")
         with open(f"{room}/both", "rb") as given:
-            self.facts = facts(given, program=program, max_steps=MAX_STEPS)
+            self.facts = facts(given, program=program, max_steps=MAX_STEPS, large=self.is_large)

@@ -20,6 +20,8 @@ DROPPING = re.compile(rb"^def (\w+)\(\*args, \*\*kwargs\)", re.M)
 
 
 class Statement:
+    """A statement of a file: its lines, what it says, the names in it, and whether the overlay has something else for a part of it."""
+
     def __init__(self, node, text, copied, stubs):
         self.first, self.last, self.node = node.lineno, node.end_lineno, node
         self.said = ast.dump(without_comments(node))
@@ -69,6 +71,7 @@ def function_of(node):
 
 
 def is_comment(node):
+    """Whether a statement is a text alone, which says nothing."""
     return isinstance(node, ast.Expr) and isinstance(node.value, ast.Constant)
 
 
@@ -121,6 +124,7 @@ class Texts:
         return any(it.is_copied for it in statements) if statements is not None else path in self.side.overlay and path in self.side.texts
 
     def has_dict(self, path):
+        """Whether a statement of a file makes a value that no attribute takes."""
         return any(it.has_dict for it in self.statements(path) or ())
 
 
@@ -141,6 +145,7 @@ def hidden(base, head):
 
 
 def said(texts, path):
+    """What the statements of a file say; its text where they can't be read here."""
     statements = texts.statements(path)
     return texts.side.texts.get(path) if statements is None else [it.said for it in statements]
 

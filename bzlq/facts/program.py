@@ -7,7 +7,7 @@ import subprocess
 ROOT = os.path.dirname(os.path.dirname(os.path.dirname(os.path.realpath(__file__))))
 PACKED = "bq-x86_64-linux.xz"
 # what to do without a toolchain
-WAY_OUT = f"`xz -dc dist/{PACKED} > /tmp/bq; chmod +x /tmp/bq` unpacks that one, and BZLQ_BQ=/tmp/bq names it"
+WAY_OUT = f"`mkdir -p out; xz -dc dist/{PACKED} > out/bq; chmod +x out/bq` in {ROOT} unpacks that one, and BZLQ_BQ={ROOT}/out/bq names it"
 
 
 class NotUnpacked(Exception):

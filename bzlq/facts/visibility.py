@@ -127,6 +127,7 @@ class Visibility:
         return self.default(package)
 
     def of_file(self, package, name):
+        """What the visibility of a source file is."""
         texts = self.texts(package)
         if name in texts.exported:
             labels, line = texts.exported[name]
@@ -170,6 +171,7 @@ class Visibility:
         return self.by_group(group, package, (*around, label))
 
     def by_group(self, group, package, around):
+        """Which labels of a package group let a package in; nothing where that isn't known."""
         of, _, name = group.label.partition(":")
         packages, _ = self.texts(of).groups.get(name, (None, 0))
         repository = of.partition("//")[0]
@@ -185,10 +187,12 @@ class Visibility:
 
 
 def is_call(node):
+    """Whether an expression calls one of the functions that count."""
     return isinstance(node, ast.Call) and isinstance(node.func, ast.Name) and node.func.id in FUNCTIONS
 
 
 def is_below(package, above):
+    """Whether a package is one, or lies below it."""
     return package == above or package.startswith(above if above.endswith("//") else f"{above}/")
 
 
@@ -213,6 +217,7 @@ def spec_for(packages, package, repository):
 
 
 def matches(spec, package, repository):
+    """Whether one of the `packages` of a package group has a package."""
     if spec in ("public", "private"):
         return spec == "public"
     spec = spec.removeprefix("@") if spec.startswith("@//") else spec

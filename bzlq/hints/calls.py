@@ -71,6 +71,7 @@ class Calls:
         return given, named
 
     def function(self, function, node, frame, given, named):
+        """Calls a function of a file."""
         if any(it is function for it in self.running):
             raise Wrong("F50", f"{function.name} is running already: Starlark has no recursion")
         if len(self.running) >= DEPTH:
@@ -120,6 +121,7 @@ class Calls:
     # what a BUILD file declares
 
     def native(self, name, node, frame, given, named):
+        """Calls a member of `native`."""
         if name in BUILD_FUNCTIONS:
             return self.built(name, given, named)
         if name not in self.sources.schema:
@@ -134,6 +136,7 @@ class Calls:
         return getattr(self.package, name)(given, named)
 
     def declare(self, rule, node, frame, given, named):
+        """Calls a rule, which declares a target."""
         if self.package is None:
             raise Wrong("F70", f"the rule {rule.name} is called while no BUILD file is evaluated: put the call into a function that a BUILD file calls")
         if not rule.name:

@@ -22,6 +22,7 @@ class Expressions:
             raise
 
     def expression(self, node, frame):
+        """The value of an expression."""
         self.tick()
         match node:
             case ast.Constant(value=value):
@@ -81,6 +82,7 @@ class Expressions:
         raise Unknown(name)
 
     def display(self, keys, values, frame):
+        """The value of a dict that is written out."""
         found = {}
         for at, value in zip(keys, values):
             name = as_key(self.at(at, frame, key, self.value(at, frame)))
@@ -118,6 +120,7 @@ class Expressions:
         return checked(found)
 
     def boolean(self, is_and, parts, frame):
+        """The value of `and` or `or`."""
         value = None
         for part in parts:
             value = self.value(part, frame)
@@ -126,6 +129,7 @@ class Expressions:
         return value
 
     def unary(self, op, value):
+        """The value of `not`, `-`, `+` or `~`."""
         if isinstance(op, ast.Not):
             return not value
         if type(value) is not int:

@@ -8,6 +8,7 @@ from bzlq.hints import labels, names, queries, scan
 from bzlq.hints.machine import Machine
 from bzlq.hints.package import place_in
 from bzlq.hints.suggestions import did_you_mean
+from bzlq.hints.sources import TooLate
 from bzlq.overlay.arguments import DIRECTORY, PREFIX
 
 # for how many processor seconds files are evaluated again, and how many calls around a place are shown
@@ -17,6 +18,7 @@ SHOWN = 4
 
 @dataclass
 class Hint:
+    """What is said of a fault: where it is, and why."""
     fault: object
     path: str
     line: int
@@ -26,6 +28,7 @@ class Hint:
     follows: bool = False  # whether another fault is its cause
 
     def __post_init__(self):
+        self.kept = self.line, self.column, self.reason, self.inner  # as it was found, for the next run
         # (the files are read as bytes, a character each)
         self.reason = re.sub("[\x80-\xff]+", lambda found: found[0].encode("latin-1").decode("utf-8", "replace"), self.reason)
 
@@ -44,17 +47,19 @@ class Hint:
 
 
 class Hints:
-    """The hints of a run's faults. With `is_brief` nothing is looked for of those that follow from others, which only are counted."""
+    """The hints of a run's faults. With `is_brief` nothing is looked for of those that follow from others, which only are counted. `kept` has hints of
+    runs before (KeptHints), if they are kept."""
 
-    def __init__(self, sources, faults, is_brief=False):
-        self.sources, self.faults, self.is_brief = sources, faults, is_brief
-        self.meant = {}  # what may have been meant, by a name and the BUILD file of its package
+    def __init__(self, sources, faults, is_brief=False, kept=None):
+        self.sources, self.faults, self.is_brief, self.kept = sources, faults, is_brief, kept
+        self.meant = {}  # what may have been meant, by a name and the BUILD file of its package, and what was looked at for it
         self.failed = {it.label for it in faults if it.number != "F79"}
         self.first = {}  # by the path of a file, the first of its own faults
         for it in faults:
             if it.number != "F79":
                 self.first.setdefault(sources.file_of(it.label), it)
         self.until, self.skipped = time.process_time() + SECONDS, 0
+        sources.until = self.until
 
     def all(self):
         """The hints of all faults: causes in the order of the lines, then what follows from them."""
@@ -73,12 +78,27 @@ class Hints:
         path = self.sources.file_of(fault.label)
         shown = self.sources.place(path)
         follows = fault.number == "F36" and fault.detail in self.failed
+        if found := self.kept and self.kept.of(fault.text):
+            return Hint(fault, shown, *found, follows=follows)
+        if time.process_time() > self.until:
+            self.skipped += 1
+            return Hint(fault, shown, fault.line, 1, fault.detail, follows=follows)
+        with self.sources.noting() as seen:
+            found = self.looked_for(fault, path, shown, follows)
+        if self.kept and seen.is_sure:
+            self.kept.put(fault.text, found.kept, seen)
+        return found
+
+    def looked_for(self, fault, path, shown, follows):
+        """The hint of a fault, from the files."""
         try:
-            if fault.number == "F79":
-                return self.dangling(fault, path, shown)
-            found = self.fault(fault, path, shown)
-        except (labels.BadLabel, IndexError, AttributeError, ValueError, RecursionError, MemoryError):
-            found = None  # a file of another form than such files have: the line stays as it is
+            found = self.dangling(fault, path, shown) if fault.number == "F79" else self.fault(fault, path, shown)
+        except TooLate:
+            self.skipped += 1
+            found = None
+        except Exception:
+            # (a file of another form than such files have: the line stays as it is)
+            found = None
         if isinstance(found, Hint):
             return found
         line, column, reason = found or (fault.line, 1, fault.detail)
@@ -102,9 +122,7 @@ class Hints:
 
     def evaluated(self, fault, path, shown, tree):
         """What the evaluation of the file ends with, if it is this fault in this statement."""
-        is_late = time.process_time() > self.until
-        self.skipped += is_late
-        wrong = None if is_late else Machine(self.sources).run(path)
+        wrong = Machine(self.sources).run(path)
         statement = names.statement_of(tree, fault.line)
         if not wrong or wrong.number != fault.number or statement is None:
             return fault.line, statement.col_offset + 1 if statement else 1, fault.detail
@@ -125,6 +143,8 @@ class Hints:
         here = labels.split(fault.label)[:2]
         build = self.sources.build_file(labels.directory(repository, package))
         own = self.first.get(build) if build else None
+        if own:
+            self.sources.is_unsure()
         if own and self.is_brief:
             return Hint(fault, shown, fault.line, 1, "", follows=True)
         tree = self.sources.tree(path)
@@ -143,7 +163,7 @@ class Hints:
         if owner != labels.directory(repository, package) and owner.startswith(labels.directory(repository, package)):
             inner = owner[len(f"external/{repository}/" if repository else ""):]
             why = f": '{inner}' is a package of its own: write {labels.joined(repository, inner, place[len(owner):].lstrip('/'))}"
-        elif place in self.sources.paths:
+        elif self.sources.has_file(place):
             why = ": the file is there, and its package doesn't export it: use exports_files"
         else:
             why = self.did_you_mean(name, build)
@@ -153,11 +173,15 @@ class Hints:
     def did_you_mean(self, name, build):
         """What may have been meant by a name that a package hasn't."""
         if (name, build) not in self.meant:
-            self.meant[name, build] = did_you_mean(name, queries.target_names(self.sources, build, time.process_time() < self.until))
-        return self.meant[name, build]
+            with self.sources.noting() as seen:
+                self.meant[name, build] = did_you_mean(name, queries.target_names(self.sources, build)), seen
+        found, seen = self.meant[name, build]
+        self.sources.seen[-1].add(seen)
+        return found
 
     @staticmethod
     def is_label(text, here, wanted):
+        """Whether a text is this label, in a file of the repository and package `here`."""
         try:
             return isinstance(text, str) and labels.split(text, *here) == wanted
         except labels.BadLabel:

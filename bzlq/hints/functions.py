@@ -19,6 +19,7 @@ CHANGING = {list: {"append", "clear", "extend", "insert", "pop", "remove"}, dict
 
 
 def arguments(name, count, least, most):
+    """Checks how many arguments a function is given."""
     if not least <= count <= most:
         wanted = str(least) if least == most else f"{least} to {most}"
         raise Wrong("F52", f"{name} takes {wanted} argument{'s' * (wanted != '1')}, and {count} {'is' if count == 1 else 'are'} given")
@@ -44,6 +45,7 @@ def call_method(value, name, given, named):
 
 
 def of_string(value, name, given, named):
+    """Calls a method of a string."""
     if name == "elems":
         return list(value)
     if name == "format":
@@ -107,6 +109,7 @@ def formatted(value, given, named):
 
 
 def of_list(value, name, given):
+    """Calls a method of a list."""
     if name == "pop":
         if given and type(given[0]) is not int:
             raise Wrong("F40", f"pop wants an int, and gets a {type_of(given[0])}")
@@ -128,6 +131,7 @@ def of_list(value, name, given):
 
 
 def of_dict(value, name, given, named):
+    """Calls a method of a dict."""
     if name in ("get", "pop", "setdefault"):
         at = as_key(key(given[0]))
         if name == "pop" and len(given) == 1 and at not in value:
@@ -148,6 +152,7 @@ def of_dict(value, name, given, named):
 
 
 def to_int(value, base=None):
+    """The function `int`."""
     if isinstance(value, bool | int) and base is None:
         return int(value)
     if not isinstance(value, str):
@@ -168,6 +173,7 @@ def ordered(values, what):
 
 
 def greatest(what, pick):
+    """The function `max` or `min`, by its name and how it picks one."""
     def call(*given):
         found = ordered(given[0] if len(given) == 1 else list(given), what)
         if not found:
@@ -177,6 +183,7 @@ def greatest(what, pick):
 
 
 def a_range(*given):
+    """The function `range`."""
     for it in given:
         if type(it) is not int:
             raise Wrong("F40", f"range wants ints, and gets a {type_of(it)}: {shown(it)}")
@@ -186,28 +193,33 @@ def a_range(*given):
 
 
 def length(value):
+    """The function `len`."""
     if not isinstance(value, str | list | tuple | dict | range):
         raise Wrong("F40", f"len of a {type_of(value)}: {shown(value)}")
     return len(value)
 
 
 def fail(*given, **named):
+    """The function `fail`."""
     raise Wrong("F56", '"' + named.get("sep", " ").join(text_of(it) for it in given) + '"')
 
 
 def a_dict(*given, **named):
+    """The function `dict`."""
     found = {}
     of_dict(found, "update", given, named)
     return found
 
 
 def to_list(value):
+    """The function `list`."""
     if isinstance(value, range) and len(value) > LONGEST:
         raise Wrong("F54", f"a list of {len(value):,} elements, and {LONGEST:,} are allowed")
     return iterable(value)
 
 
 def select(*_):
+    """The function `select`."""
     raise Wrong("F60", "select has no value here: bq loads packages without a configuration")
 
 
@@ -225,6 +237,7 @@ NAMED = {"dict": None, "fail": {"sep"}, "print": {"sep"}, "enumerate": {"start"}
 
 
 def builtin(name):
+    """A built-in function by its name."""
     call, least, most = FUNCTIONS[name]
 
     def checked_call(given, named):

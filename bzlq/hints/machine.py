@@ -39,18 +39,29 @@ class Machine(Statements, Expressions, Calls):
         except Wrong as wrong:
             return wrong
         except (Unknown, RecursionError, Ended, MemoryError):
-            return None
+            if BUDGET.is_over():
+                self.sources.is_unsure()
         return None
 
     def evaluated(self, path):
         """The module of a file, evaluated once."""
         if path in self.sources.modules:
-            return self.sources.modules[path]
+            module, seen = self.sources.modules[path]
+            self.sources.seen[-1].add(seen)
+            return module
         if path in self.modules:
             if not isinstance(self.modules[path], Module):
                 raise Unknown(path)
             return self.modules[path]
         self.modules[path] = None
+        with self.sources.noting() as seen:
+            module = self.modules[path] = self.evaluated_once(path)
+        if not module.is_build:
+            self.sources.modules[path] = module, seen
+        return module
+
+    def evaluated_once(self, path):
+        """The module of a file."""
         tree = self.sources.tree(path)
         if tree is None:
             raise Unknown(path)
@@ -66,12 +77,10 @@ class Machine(Statements, Expressions, Calls):
             self.statement(node, Frame(module, set()))
         self.freeze(list(module.globals.values()))
         self.package, self.running, self.module = package, running, around
-        self.modules[path] = module
-        if not module.is_build:
-            self.sources.modules[path] = module
         return module
 
     def freeze(self, values):
+        """Notes that values, and all in them, can't be changed any more."""
         while values:
             value = values.pop()
             if isinstance(value, list | dict | tuple) and id(value) not in self.frozen:
@@ -102,6 +111,6 @@ class Machine(Statements, Expressions, Calls):
             found = labels.path(labels.joined(*labels.split(text, repository, package)))
         except labels.BadLabel as error:
             raise Unknown(str(error)) from None
-        if found not in self.sources.paths:
+        if not self.sources.has_file(found):
             raise Unknown(found)
         return found

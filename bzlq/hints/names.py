@@ -10,6 +10,7 @@ BUILD_NAMES = ("glob", "package", "package_name", "exports_files", "package_grou
 
 
 def at(node, reason):
+    """The place of a node, with a reason."""
     return node.lineno, node.col_offset + 1, reason
 
 
@@ -121,6 +122,7 @@ def file_with(sources, name, label):
 
 
 def rebound(sources, fault, tree):
+    """A name that is bound again at the top of a file."""
     name = fault.detail
     nodes = [it for it in tree.body if name in bound(ast.Module([it], []))]
     loaded = next((it[2] for _, _, clauses in loads(tree) for it in clauses if it[0] == name), None)
@@ -130,6 +132,7 @@ def rebound(sources, fault, tree):
 
 
 def bound_twice(sources, fault, tree):
+    """A name that is loaded twice."""
     nodes = [it[2] for _, _, clauses in loads(tree) for it in clauses if it[0] == fault.detail]
     return at(nodes[1], f"'{fault.detail}' is loaded in line {nodes[0].lineno} already") if len(nodes) > 1 else None
 
@@ -170,6 +173,7 @@ def load_at(fault, tree):
 
 
 def bad_load_label(sources, fault, tree):
+    """A label of a load that is none of a .bzl file."""
     call, text, _ = load_at(fault, tree)
     if call is None:
         return None
@@ -185,6 +189,7 @@ def bad_load_label(sources, fault, tree):
 
 
 def no_file(sources, fault, tree):
+    """A file that is loaded and isn't there."""
     call, text, _ = load_at(fault, tree)
     path = labels.path(fault.detail)
     names = [it.rpartition("/")[2] for it in sources.paths if os.path.dirname(it) == os.path.dirname(path) and it.endswith(".bzl")]
@@ -206,7 +211,7 @@ def package_missing(sources, label):
         return "labels of //external are made by bind in a WORKSPACE file, which isn't read"
     if repository and not sources.has_directory(f"external/{repository}"):
         return f"the repository @{repository} is not in the workspace: bzlq stubs writes files that stand in for it"
-    if directory in sources.paths:
+    if sources.has_file(directory):
         above = sources.owner(directory)
         return f"'{directory}' is a file: write {labels.joined(repository, package[:len(package) - len(directory) + len(above)], directory[len(above):].lstrip('/'))}"
     if sources.has_directory(directory):
@@ -216,6 +221,7 @@ def package_missing(sources, label):
 
 
 def no_symbol(sources, fault, tree):
+    """A symbol that the file which is loaded doesn't bind."""
     for _, text, clauses in loads(tree):
         for _, symbol, node in clauses:
             path = sources.file_of(loaded_label(sources, fault.label, text))
@@ -228,6 +234,7 @@ def no_symbol(sources, fault, tree):
 
 
 def loaded_label(sources, label, text):
+    """The label in full that the text of a load in a file stands for."""
     repository, package, _ = labels.split(label)
     try:
         return labels.joined(*labels.split(text, repository, package))
@@ -236,6 +243,7 @@ def loaded_label(sources, label, text):
 
 
 def private_symbol(sources, fault, tree):
+    """A symbol that is loaded and begins with `_`."""
     node = next((it[2] for _, _, clauses in loads(tree) for it in clauses if it[1] == fault.detail), None)
     return at(node, f"'{fault.detail}' is private to its file, since it begins with '_'") if node else None
 
@@ -278,11 +286,13 @@ def crosses(sources, fault, tree):
 
 
 def load_depth(sources, fault, tree):
+    """A load from which too many others lead on."""
     call, _, _ = load_at(fault, tree)
     return at(call.args[0] if call else tree.body[0], "more than 1,000 loads lead on from here, one after another")
 
 
 def load_failed(sources, fault, tree):
+    """A load of a file that has a fault."""
     call = next((call for call, text, _ in loads(tree) if loaded_label(sources, fault.label, text) == fault.detail), None)
     return (*(at(call.args[0], "")[:2] if call else (fault.line, 1)), f"{fault.detail} has a fault of its own")
 

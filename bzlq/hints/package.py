@@ -4,7 +4,8 @@ import re
 
 from bzlq.hints import labels
 from bzlq.hints.suggestions import did_you_mean
-from bzlq.hints.values import Wrong, shown, type_of
+from bzlq.hints.values import Wrong, shown, spend, type_of
+from bzlq.workspace.path_patterns import PathPattern
 
 BUILD_FUNCTIONS = ("glob", "package_name", "package", "licenses", "exports_files", "package_group")
 LISTS = ("string_list", "label_list", "output_list")
@@ -41,6 +42,7 @@ class Package:
             self.targets.setdefault(name, ("file", None))
 
     def package_group(self, given, named):
+        """The function of that name."""
         name = given[0] if given else named.get("name")
         if not isinstance(name, str):
             raise Wrong("F73", f"'name' of package_group is a string, and not a {type_of(name)}")
@@ -66,13 +68,15 @@ class Package:
             if wrong := bad_pattern(pattern):
                 raise about(Wrong("F77", f"the pattern '{pattern}' {wrong}"), "", pattern)
         files = self.sources.files_of(self.directory)
-        without = [compiled(it) for it in exclude]
+        without = [PathPattern(it.split("/")) for it in exclude]
         found = set()
         for pattern in include:
-            matches = [it for it in files if compiled(pattern).fullmatch(it)]
+            of = PathPattern(pattern.split("/"))
+            spend(len(files))
+            matches = [it for it in files if of.has(it)]
             if not matches and not named.get("allow_empty", True):
                 raise about(Wrong("F76", f"no file matches '{pattern}', and allow_empty is False{like(pattern, files)}"), "", pattern)
-            found |= {it for it in matches if not any(no.fullmatch(it) for no in without)}
+            found |= {it for it in matches if not any(no.has(it) for no in without)}
         if not found and not named.get("allow_empty", True):
             raise Wrong("F76", "no file is left, and allow_empty is False")
         return sorted(found)
@@ -100,6 +104,7 @@ class Package:
             self.targets[name] = ("rule" if at == 0 else "output", place)
 
     def double(self, name, place=None):
+        """Raises that a name is there already."""
         what, there = self.targets.get(name, ("rule", place))
         path, node = there if there else ("", None)
         where = f" at {self.sources.place(path)}:{node.lineno}" if node is not None else ""
@@ -125,6 +130,7 @@ class Package:
                 self.label(text, (name, text))
 
     def check_name(self, name, at):
+        """Checks the name of a target or file."""
         try:
             labels.check(name, "name")
         except labels.BadLabel as error:
@@ -167,24 +173,13 @@ def place_in(node, wrong):
 
 
 def bad_pattern(pattern):
+    """What is wrong with a pattern of a glob; nothing where it is one."""
     for segment in pattern.split("/"):
         if segment in ("", ".", ".."):
             return f"has a segment '{segment}'" if segment else "is empty" if not pattern else "has an empty segment"
         if "**" in segment and segment != "**":
             return f"has ** inside a longer segment: write '{pattern.replace('**', '**/*', 1)}'"
     return ""
-
-
-def compiled(pattern):
-    found = ""
-    parts = pattern.split("/")
-    for at, segment in enumerate(parts):
-        last = at == len(parts) - 1
-        if segment == "**":
-            found += ".*" if last else "(?:[^/]+/)*"
-        else:
-            found += "[^/]*".join(map(re.escape, segment.split("*"))) + ("" if last else "/")
-    return re.compile(found.replace("/.*", "(?:/.*)?") if pattern.endswith("/**") else found, re.S)
 
 
 def like(pattern, files):

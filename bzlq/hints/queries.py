@@ -24,6 +24,7 @@ def pointed(query, at, what):
 
 
 def tokens(query):
+    """The tokens of a query, each with its place."""
     return [(found.start(), found[0]) for found in TOKEN.finditer(query) if not found[0].isspace()]
 
 
@@ -61,10 +62,12 @@ def syntax(query):
 
 
 def is_value(text):
+    """Whether a token is a word that is no operator."""
     return is_word(text) and text not in KEYWORDS
 
 
 def is_word(text):
+    """Whether a token is a word, in quotes or without."""
     return bool(UNQUOTED.fullmatch(text) or re.fullmatch(r"""["'].*["']""", text, re.S))
 
 
@@ -74,6 +77,7 @@ def place_of(query, word):
 
 
 def word(query, detail, what):
+    """What is wrong with a word of a query, below the query."""
     at = place_of(query, detail)
     return pointed(query, at, what) if at >= 0 else f": {detail}: {what}"
 
@@ -125,6 +129,7 @@ def arguments(given):
 
 
 def wrong_arguments(query):
+    """The call of a query whose arguments are wrong."""
     for function, given in calls(query):
         least, most = counts(function)
         at = place_of(query, function)
@@ -144,6 +149,7 @@ def wrong_arguments(query):
 
 
 def left_out(query, detail):
+    """What to write in the place of a word that is left out."""
     if detail in LEFT_OUT:
         return word(query, detail, f"{detail} is left out: {LEFT_OUT[detail]}")
     if detail.startswith("@@"):
@@ -163,23 +169,25 @@ def no_target(sources, faults, detail):
     if own:
         return f": {detail}: package '{package}' has no targets, since its BUILD file has a fault: mend that first"
     path = f"{directory}/{name}".lstrip("/")
-    if path in sources.paths:
+    if sources.has_file(path):
         return f": {detail}: the file is there, and no target of package '{package}' names it: use exports_files"
     names = target_names(sources, build)
     near = did_you_mean(name, names)
     return f": {detail}: package '{package}' has no target '{name}'{near}"
 
 
-def target_names(sources, build, evaluates=True):
+def target_names(sources, build):
     """The names of a package's targets and files: those that its evaluation declares, or that its text gives by `name = "x"`."""
     if build not in sources.names:
-        machine = Machine(sources)
-        if evaluates:
+        with sources.noting() as seen:
+            machine = Machine(sources)
             machine.run(build)
-        declared = machine.packages[build].targets if build in machine.packages else ()
-        written = re.findall(r"\bname\s*=\s*[\"']([^\"'\n]+)[\"']", sources.text(build))
-        sources.names[build] = {*declared, *written, *sources.files_of(build.rpartition("/")[0])}
-    return sources.names[build]
+            declared = machine.packages[build].targets if build in machine.packages else ()
+            written = re.findall(r"\bname\s*=\s*[\"']([^\"'\n]+)[\"']", sources.text(build))
+            sources.names[build] = {*declared, *written, *sources.files_of(build.rpartition("/")[0])}, seen
+    found, seen = sources.names[build]
+    sources.seen[-1].add(seen)
+    return found
 
 
 def run_error(sources, error):
@@ -199,8 +207,8 @@ def run_error(sources, error):
         "E1": ": the system refused memory: give the process more, or leave directories out by .bazelignore",
         "E2": ": the directory, or a file in it, is not there or can't be read" if not sources else ": a file or directory of the workspace can't be read",
         "E3": ": the answer could not be written: the disk is full, or the reader of the pipe has ended",
-        "E4": ": standard input is no bundle: bzlq bundle TREE writes one, and --dir TREE reads a directory",
-        "E7": ": more than 16,384 BUILD and .bzl files, or 262,144 loads: leave directories out by .bazelignore",
+        "E4": ": standard input is no bundle (bzlq bundle TREE writes one, and --dir TREE reads a directory), or there are more than 65,536 files: add --large",
+        "E7": ": more than 16,384 BUILD and .bzl files, or 262,144 loads: add --large, or leave directories out by .bazelignore",
     }
     return texts.get(error.number, f": {error.detail}" if error.detail else "")
 

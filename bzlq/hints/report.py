@@ -4,12 +4,15 @@ from bzlq.hints.faults import SECONDS, Hints
 from bzlq.hints.queries import explained
 
 
-def hinted(texts, sources, query="", is_all=False, is_brief=False):
-    """The lines to write, and the same as data. With `is_brief` the data lack the reasons of what follows from other faults."""
+def hinted(texts, sources, query="", is_all=False, is_brief=False, kept=None):
+    """The lines to write, and the same as data. With `is_brief` the data lack the reasons of what follows from other faults. `kept` has hints of runs
+    before, and gets those of this one."""
     lines = [read(text) for text in texts]
     faults = [it for it in lines if isinstance(it, Fault) and sources and sources.file_of(it.label)]
-    hints = Hints(sources, faults, is_brief)
+    hints = Hints(sources, faults, is_brief, kept)
     found = hints.all() if faults else []
+    if sources:
+        sources.until = None
     in_files = {id(it) for it in faults}
     written, data = [], []
     for text, it in zip(texts, lines):

@@ -9,7 +9,8 @@ from dataclasses import dataclass
 
 PIECE = re.compile(
     r"""(?P<comment>\#[^\n]*)|(?P<string>[rR]?(?:\"\"\"(?:[^\\]|\\.)*?\"\"\"|'''(?:[^\\]|\\.)*?'''|"(?:[^"\\\n]|\\.)*"|'(?:[^'\\\n]|\\.)*'))"""
-    r"""|(?P<open>[rR]?(?:\"\"\"|'''|["']))|(?P<number>\.?\d[\w.]*)|(?P<word>\w+)|(?P<bracket>[()\[\]{}])|(?P<line>\n)|(?P<rest>.)""", re.S)
+    # (what follows quotes that are never closed is looked at once)
+    r"""|(?P<open>[rR]?(?:\"\"\"|'''|["']))(?:(?<=\"\"\")(?:[^\\]|\\.)*|(?<=''')(?:[^\\]|\\.)*|(?<=\")(?:[^"\\\n]|\\.)*|(?<=')(?:[^'\\\n]|\\.)*)|(?P<number>\.?\d[\w.]*)|(?P<word>\w+)|(?P<bracket>[()\[\]{}])|(?P<line>\n)|(?P<rest>.)""", re.S)
 PAIRS = {")": "(", "]": "[", "}": "{"}
 NUMBER = re.compile(r"0|[1-9]\d*|0[xX][0-9a-fA-F]+|0[oO][0-7]+")
 RESERVED = set("as assert async await class del except finally from global import is nonlocal raise try while with yield".split())
@@ -18,6 +19,7 @@ LIMIT = 1 << 20
 
 @dataclass
 class Piece:
+    """A piece of a text: its kind, its text and its place."""
     kind: str
     text: str
     line: int
@@ -28,12 +30,13 @@ def pieces(text):
     """The pieces of a text with their places."""
     line, start = 1, 0
     for found in PIECE.finditer(text):
-        yield Piece(found.lastgroup, found[0], line, found.start() - start + 1)
+        yield Piece(found.lastgroup, found[found.lastgroup], line, found.start() - start + 1)
         if breaks := found[0].count("\n"):
             line, start = line + breaks, found.start() + found[0].rfind("\n") + 1
 
 
 def bad_byte(text, line):
+    """A byte that begins no token."""
     for it in pieces(text):
         is_odd = it.kind == "rest" and (it.text in "$?`" or it.text == "@" or not " " <= it.text <= "~" and it.text not in "\t\r")
         if it.line == line and (is_odd or it.kind == "rest" and it.text in "!\\" or it.kind == "word" and not it.text.isascii()):
@@ -44,10 +47,12 @@ def bad_byte(text, line):
 
 
 def width(text):
+    """How far a line is indented."""
     return len(text) - len(text.lstrip(" "))
 
 
 def indent(text, line):
+    """A line that is indented as none around it is."""
     lines = text.split("\n")
     open_widths = sorted({width(it) for it in lines[:line - 1] if it.strip() and not it.strip().startswith("#")})
     at = width(lines[line - 1])
@@ -56,10 +61,12 @@ def indent(text, line):
 
 
 def tab(text, line):
+    """A tab in the indentation of a line."""
     return line, text.split("\n")[line - 1].find("\t") + 1, "a tab in the indentation, which is spaces alone"
 
 
 def open_string(text, line):
+    """A string that is never closed."""
     for it in pieces(text):
         if it.kind == "open" and it.line == line:
             return it.line, it.column, f"the string that {it.text} begins is never closed" + (" in its line" if len(it.text.lstrip("rR")) == 1 else "")
@@ -67,6 +74,7 @@ def open_string(text, line):
 
 
 def escape(text, line):
+    """A backslash that begins no escape."""
     at = 1
     for it in pieces(text):
         if it.kind != "string" or it.text[0] in "rR" or not it.line <= line <= it.line + it.text.count("\n"):
@@ -81,6 +89,7 @@ def escape(text, line):
 
 
 def bad_number(text, line):
+    """What begins as a number and is none."""
     for it in pieces(text):
         if it.kind != "number" or it.line != line:
             continue
@@ -111,6 +120,7 @@ def bracket(text, line):
 
 
 def too_long(text, line):
+    """A file with too many bytes."""
     return line, 1, f"the file has {len(text):,} bytes, and {LIMIT:,} are allowed"
 
 
@@ -186,10 +196,12 @@ def letter_before(text):
 
 
 def shown(piece):
+    """The text of a piece, cut where it is long."""
     return piece.text if len(piece.text) <= 20 else piece.text[:17] + "..."
 
 
 def trailing(text, line):
+    """A comma at the end of a statement; or that there is no such statement."""
     real = [it for it in pieces(text) if it.kind not in ("line", "comment") and it.text not in (" ", "\t")]
     if real and real[-1].text == ",":
         return real[-1].line, real[-1].column, "a trailing comma is allowed inside brackets alone"
@@ -197,6 +209,7 @@ def trailing(text, line):
 
 
 def nesting(text, line):
+    """The bracket that is one too many."""
     depth = 0
     for it in pieces(text):
         if it.line >= line and it.kind == "bracket":

@@ -1,7 +1,10 @@
 """The files that a run has read: takes a directory or a bundle, and overlays; gives their paths, texts, packages and the schema."""
 import ast
+import contextlib
+import hashlib
 import os
 import re
+import time
 import warnings
 
 from bzlq.hints import labels
@@ -19,17 +22,90 @@ COMMON = {"name": "string", "visibility": "label_list", "tags": "string_list", "
 MANDATORY = {("alias", "actual"), ("genrule", "outs")}
 
 
+class TooLate(Exception):
+    """The time for hints is over."""
+
+
+class Seen:
+    """What was looked at while a hint was made: files by their paths, questions about the names of files with their answers, and whether all
+    names were. `is_sure` says whether the hint depends on nothing else, such as other faults, or how much time there was."""
+
+    def __init__(self):
+        self.texts, self.asked, self.is_all, self.is_sure = set(), {}, False, True
+
+    def add(self, other):
+        """Adds what was looked at elsewhere."""
+        self.texts |= other.texts
+        self.asked |= other.asked
+        self.is_all |= other.is_all
+        self.is_sure &= other.is_sure
+
+
 class Sources:
     """The workspace. `places` are where its files are found for the reader of a line: a path before each path."""
 
     def __init__(self, paths, read, place):
-        self.paths, self.read, self.place = set(paths), read, place
-        self.packages = {os.path.dirname(path) for path in self.paths if os.path.basename(path) in ("BUILD", "BUILD.bazel")}
-        self.texts, self.trees, self.owned, self.above, self.bound = {}, {}, None, None, {}
-        self.names = {}  # the names of a package's targets, by its BUILD file, once they were asked for
-        # the .bzl files that were evaluated, by their paths; what is frozen, by identity; and the values, so that no other gets their identity
+        self.all_paths, self.read, self.place = set(paths), read, place
+        self.all_packages = {os.path.dirname(path) for path in self.all_paths if os.path.basename(path) in ("BUILD", "BUILD.bazel")}
+        self.texts, self.trees, self.owned, self.above, self.bound, self.sums = {}, {}, None, None, {}, {}
+        self.names = {}  # the names of a package's targets, by its BUILD file, once they were asked for, with what was looked at for them
+        # the .bzl files that were evaluated, by their paths, each with what was looked at for it; what is frozen, by identity; and the values, so
+        # that no other gets their identity
         self.modules, self.frozen, self.kept = {}, set(), []
+        self.seen, self.until = [Seen()], None  # `until` is when no more files are to be read, by the time of the process
         self.schema, self.mandatory = self.read_schema()
+
+    @property
+    def paths(self):
+        """The paths of all files."""
+        self.seen[-1].is_all = True
+        return self.all_paths
+
+    @property
+    def packages(self):
+        """The directories of all packages."""
+        self.seen[-1].is_all = True
+        return self.all_packages
+
+    @contextlib.contextmanager
+    def noting(self):
+        """Notes what is looked at meanwhile."""
+        self.seen.append(Seen())
+        try:
+            yield self.seen[-1]
+        finally:
+            inner = self.seen.pop()
+            self.seen[-1].add(inner)
+
+    def is_unsure(self):
+        """Notes that what is made now depends on more than files."""
+        self.seen[-1].is_sure = False
+
+    def asked(self, name, given, answer):
+        """Notes an answer, and gives it."""
+        self.seen[-1].asked[name, given] = answer
+        return answer
+
+    def again(self, name, given):
+        """The answer to a question now."""
+        found = getattr(self, name)(given)
+        return sum_of(found) if name == "files_of" else found
+
+    def sum_of(self, path):
+        """A sum of the bytes of a file; nothing where it isn't there."""
+        if path not in self.sums:
+            self.sums[path] = hashlib.blake2b(self.read(path), digest_size=16).digest() if path in self.all_paths else None
+        return self.sums[path]
+
+    def sum_of_schema(self):
+        """A sum of the schema."""
+        return self.sum_of(SCHEMA)
+
+    def sum_of_names(self):
+        """A sum of all names of files."""
+        if None not in self.sums:
+            self.sums[None] = sum_of(sorted(self.all_paths))
+        return self.sums[None]
 
     @staticmethod
     def of_directories(folders):
@@ -53,12 +129,17 @@ class Sources:
 
     def text(self, path):
         """A file's text; a byte that is no ASCII stands as one character."""
+        self.seen[-1].texts.add(path)
         if path not in self.texts:
-            self.texts[path] = self.read(path).decode("latin-1") if path in self.paths else ""
+            self.texts[path] = self.read(path).decode("latin-1") if path in self.all_paths else ""
         return self.texts[path]
 
     def tree(self, path):
         """Python's tree of a file; nothing where Python can't read it."""
+        self.seen[-1].texts.add(path)
+        if path not in self.trees and self.until is not None and time.process_time() > self.until:
+            self.is_unsure()
+            raise TooLate
         if path not in self.trees:
             try:
                 with warnings.catch_warnings():
@@ -70,6 +151,7 @@ class Sources:
 
     def bound_at_top(self, path):
         """The names that the statements at the top of a file bind."""
+        self.seen[-1].texts.add(path)
         if path not in self.bound:
             statements = [it for it in self.tree(path).body if isinstance(it, ast.Assign | ast.AugAssign | ast.FunctionDef)]
             self.bound[path] = {name for it in statements for name in stored(it)}
@@ -78,30 +160,46 @@ class Sources:
     def has_directory(self, directory):
         """Whether a file lies below a directory."""
         if self.above is None:
-            self.above = {path[:at] for path in self.paths for at, letter in enumerate(path) if letter == "/"}
-        return directory in self.above
+            self.above = {path[:at] for path in self.all_paths for at, letter in enumerate(path) if letter == "/"}
+        return self.asked("has_directory", directory, directory in self.above)
+
+    def has_file(self, path):
+        """Whether there is a file of this path."""
+        return self.asked("has_file", path, path in self.all_paths)
 
     def build_file(self, directory):
         """The path of a package's BUILD file; nothing where the directory is no package."""
         paths = [f"{directory}/{name}".lstrip("/") for name in ("BUILD.bazel", "BUILD")]
-        return next((path for path in paths if path in self.paths), "")
+        return self.asked("build_file", directory, next((path for path in paths if path in self.all_paths), ""))
 
     def owner(self, path):
         """The package that owns a path: the nearest above it, in its repository."""
         directory = os.path.dirname(path)
-        while directory and directory not in self.packages and not re.fullmatch("external/[^/]*", directory):
+        while directory and directory not in self.all_packages and not (directory.startswith("external/") and directory.count("/") == 1):
             directory = os.path.dirname(directory)
-        return directory
+        return self.asked("owner", path, directory)
 
     def files_of(self, directory):
         """The files that a package owns, by their paths in it."""
         if self.owned is None:
             self.owned = {}
-            for path in sorted(self.paths):
-                self.owned.setdefault(self.owner(path), []).append(path)
+            with self.apart():
+                for path in sorted(self.all_paths):
+                    self.owned.setdefault(self.owner(path), []).append(path)
         before = f"{directory}/" if directory else ""
         is_main = not directory.startswith("external/")
-        return [path[len(before):] for path in self.owned.get(directory, ()) if not (is_main and path.startswith("external/"))]
+        found = [path[len(before):] for path in self.owned.get(directory, ()) if not (is_main and path.startswith("external/"))]
+        self.asked("files_of", directory, sum_of(found))
+        return found
+
+    @contextlib.contextmanager
+    def apart(self):
+        """Leaves what is looked at meanwhile without a note: it is noted otherwise."""
+        self.seen.append(Seen())
+        try:
+            yield
+        finally:
+            self.seen.pop()
 
     def file_of(self, label):
         """The path of a label's file; nothing where there is none."""
@@ -109,11 +207,11 @@ class Sources:
             path = labels.path(label)
         except labels.BadLabel:
             return ""
-        return path if path in self.paths else ""
+        return self.asked("file_of", label, path if path in self.all_paths else "")
 
     def read_schema(self):
         """The rules with their attributes' types, and which attributes are mandatory."""
-        if SCHEMA not in self.paths:
+        if SCHEMA not in self.all_paths:
             return {rule: {**COMMON, **given} for rule, given in STANDARD.items()}, set(MANDATORY)
         found, mandatory, rule = {}, set(), ""
         for line in self.text(SCHEMA).splitlines():
@@ -126,3 +224,8 @@ class Sources:
                 if words[3:] == ["mandatory"]:
                     mandatory.add((rule, words[1]))
         return found, mandatory
+
+
+def sum_of(names):
+    """A sum of names."""
+    return hashlib.blake2b("\0".join(names).encode("utf-8", "surrogateescape"), digest_size=16).digest()

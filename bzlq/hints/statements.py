@@ -118,6 +118,7 @@ class Statements:
             raise Wrong("F40", f"an element of a {type_of(of)} can't be assigned to")
 
     def assign(self, name, value, frame):
+        """Binds a name to a value."""
         if frame.outer is None and not frame.bound:
             frame.module.globals[name] = value
             if isinstance(value, Rule) and not value.name:
@@ -126,6 +127,7 @@ class Statements:
             frame.values[name] = value
 
     def augment(self, target, op, value, frame):
+        """Carries out a statement as `x += y`."""
         before = self.value(target, frame)
         more = self.value(value, frame)
         symbol = OPERATORS.get(type(op))

@@ -37,6 +37,7 @@ class Budget:
         return self.left < 0 or time.process_time() > self.until
 
     def spend(self, count=1):
+        """Spends parts; raises `Unknown` where there are none left."""
         self.left -= count
         self.turns += 1
         # (to look at the clock takes longer than most steps)
@@ -139,6 +140,7 @@ def as_key(value):
 
 
 def quoted(text):
+    """The `repr` of a string."""
     return '"' + text.replace("\\", "\\\\").replace('"', '\\"').replace("\n", "\\n") + '"'
 
 
@@ -198,6 +200,7 @@ def percent(left, right):
 
 
 def shift(left, right, is_left):
+    """The value of `<<` or `>>`."""
     if not 0 <= right <= 63:
         raise Wrong("F57", f"a shift by {right}: 0 to 63 are allowed")
     return left << right if is_left else left >> right
@@ -256,6 +259,7 @@ def less(left, right):
 
 
 def is_in(left, right):
+    """The value of `in`."""
     if isinstance(right, dict):
         return as_key(key(left)) in right
     if isinstance(right, list | tuple):

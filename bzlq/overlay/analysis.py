@@ -1,20 +1,23 @@
 """What the files of a workspace ask of rules and of repositories that aren't there, and which of their statements `bq` can't read."""
+import heapq
 import os
 import re
 from collections import Counter, defaultdict
 
 from bzlq.overlay.definitions import definition, value_for
 from bzlq.overlay.extra_targets import text_of
+from bzlq.overlay.global_names import VALUE, GlobalNames
 from bzlq.overlay.guesses import by_values
 from bzlq.overlay.reading import BUILD_FUNCTIONS, BUILT_INS, LEFT_OUT, Statement, read
+from bzlq.overlay.replaced import Replaced
 from bzlq.overlay.replacements import NATIVE_VALUES
 from bzlq.overlay.rule_sets import TYPES
 from bzlq.overlay.skylib import MEMBERS, REPOSITORY as SKYLIB
-from bzlq.workspace.files import SCHEMA, content, files, has_content, is_path
+from bzlq.workspace.files import MAX_SIZE, SCHEMA, content, files, has_content, is_path
 
 REPOSITORY = re.compile(r"@([\w.+~-]+)(?://([^:]*)(?::(.*))?)?")
-# how many bytes a file may have
-MAX_SIZE = 1_048_576
+# how often a keyword is passed on from macro to macro
+MOST_PASSED = 500_000
 # methods of values that a stub may be, and of values that bq has
 VALUE_METHODS = set("get items keys values format".split())
 
@@ -25,7 +28,7 @@ class Workspace:
     def __init__(self, root, read_all=None):
         """`read_all` gives what the files of a list of paths say, by their texts, else they are read here."""
         odd = []
-        self.root, self.texts = root, {}
+        self.root, self.texts, self.resolved = root, {}, {}
         self.paths = set(files(root, odd))
         self.directories = {os.path.dirname(path) for path in self.paths if os.path.basename(path) in ("BUILD", "BUILD.bazel")}
         paths = sorted(path for path in self.paths if has_content(path) and path != SCHEMA)
@@ -45,7 +48,7 @@ class Workspace:
     def of_kept(cls, root, files, paths, counted, kept):
         """The workspace again: `files` gives what each file says, `counted` has the paths of those that count."""
         found = cls.__new__(cls)
-        found.root, found.texts, found.files, found.paths = root, {}, files, paths
+        found.root, found.texts, found.resolved, found.files, found.paths = root, {}, {}, files, paths
         found.directories = {os.path.dirname(path) for path in counted if os.path.basename(path) in ("BUILD", "BUILD.bazel")}
         found.left_out, repositories, found.name = kept
         found.repositories = set(repositories)
@@ -87,6 +90,12 @@ class Workspace:
 
     def resolve(self, label, path):
         """Where the label of a load leads: to the path of a file, which needn't be there, and to (repository, package, name)."""
+        if (label, path) not in self.resolved:
+            self.resolved[label, path] = self.resolve_once(label, path)
+        return self.resolved[label, path]
+
+    def resolve_once(self, label, path):
+        """The same, not looked up."""
         if found := REPOSITORY.fullmatch(label):
             repository, package, name = found[1], found[2] or "", found[3]
             name = name or package.rpartition("/")[2] or repository
@@ -109,10 +118,12 @@ class Workspace:
 
     @staticmethod
     def repository_of(path):
+        """The repository that a path lies in; empty for the workspace's own."""
         return path.split("/")[1] if path.startswith("external/") and path.count("/") > 1 else ""
 
     @staticmethod
     def directory_of(repository):
+        """The directory of a repository."""
         return f"external/{repository}" if repository else ""
 
     @staticmethod
@@ -135,10 +146,12 @@ class Stub:
         self.members = set()
 
     def kept(self):
+        """The same as plain values."""
         return self.makes_targets, self.is_called, {kind: count for kind, count in self.wanted.items() if count}, sorted(self.members)
 
     @classmethod
     def of_kept(cls, kept):
+        """A stub again, of what `kept` gave."""
         found = cls()
         found.makes_targets, found.is_called, wanted, members = kept
         found.wanted, found.members = Counter(wanted), set(members)
@@ -151,17 +164,20 @@ class Facts:
     def __init__(self, workspace):
         self.workspace = workspace
         self.given = defaultdict(lambda: defaultdict(Counter))  # what takes arguments -> keyword -> kinds
-        self.flows = defaultdict(set)  # a macro -> what it passes its `**` on to
-        self.passed = defaultdict(set)  # a macro -> (parameter, what it is passed on to, keyword)
+        self.flows = defaultdict(dict)  # a macro -> what it passes its `**` on to (keys, in order)
+        self.passed = defaultdict(dict)  # a macro -> (parameter, what it is passed on to, keyword) (keys, in order)
         self.stubs = defaultdict(dict)  # (repository, package, name), or (None, path, "") of a file that is there -> symbol -> Stub
         self.left_out = defaultdict(list)  # what -> places
-        self.stand_ins = defaultdict(set)  # a path -> the names that are bound by what stands in the place of a statement
-        self.replaced = defaultdict(list)  # a path -> those statements
+        self.names = GlobalNames(workspace)  # which have what is bound by statements in whose place others stand
+        self.replaced = Replaced()  # those statements
         self.everywhere = defaultdict(Counter)  # keyword -> kinds
         self.refused = set()  # the paths of .bzl files that are loaded, and can't be laid over the tree
         self.copies = None  # once they are made: by the path a text, and how many parts of each kind it has instead
         self.further = {}  # what else macros seem to declare, once it is known (extra_targets.py)
+        self.further_left = 0  # how many labels more may be such targets, of a macro that has too many
+        self.loaders = Counter()  # how many files load a symbol: (repository, package, name), symbol
         self.tests_in = {}  # the tests of packages that have a `test_suite` without `tests`, once they are known
+        self.inner_calls, self.binders = {}, {}  # a path -> the calls in each function, and the statements that bind each name, once they are asked for
         self.reached = self.files_reached()
         self.find_stand_ins()
         for path in sorted(self.reached):
@@ -174,8 +190,8 @@ class Facts:
     def kept(self):
         """What a copy of a file depends on, beside what files say: all of it is of plain values."""
         return {
-            "replaced": {path: [tuple(vars(it).values()) for it in found] for path, found in self.replaced.items() if found},
-            "stand_ins": {path: sorted(names) for path, names in self.stand_ins.items() if names},
+            "replaced": {path: [tuple(vars(it).values()) for it in found] for path, found in self.replaced.listed.items() if found},
+            "stand_ins": {path: sorted(names) for path, names in self.names.stand_ins.items() if names},
             "stubs": [(place, symbol, it.kept()) for place, symbols in self.stubs.items() for symbol, it in symbols.items()],
             "everywhere": {keyword: {kind: count for kind, count in kinds.items() if count} for keyword, kinds in self.everywhere.items()},
             "further": [(place, found) for place, found in self.further.items()],
@@ -185,10 +201,12 @@ class Facts:
     def of_kept(cls, workspace, kept):
         """The facts again, as far as copies depend on them."""
         found = cls.__new__(cls)
-        found.workspace = workspace
-        found.replaced = defaultdict(list, {path: [Statement(*it) for it in listed] for path, listed in kept["replaced"].items()})
-        found.stand_ins = defaultdict(set, {path: set(names) for path, names in kept["stand_ins"].items()})
-        found.stubs, found.left_out = defaultdict(dict), defaultdict(list)
+        found.workspace, found.names, found.replaced = workspace, GlobalNames(workspace), Replaced()
+        for path, listed in kept["replaced"].items():
+            for it in listed:
+                found.replaced.add(path, Statement(*it))
+        found.names.stand_ins.update((path, set(names)) for path, names in kept["stand_ins"].items())
+        found.stubs, found.left_out, found.inner_calls = defaultdict(dict), defaultdict(list), {}
         for place, symbol, it in kept["stubs"]:
             found.stubs[place][symbol] = Stub.of_kept(it)
         found.everywhere = defaultdict(Counter, {keyword: Counter(kinds) for keyword, kinds in kept["everywhere"].items()})
@@ -215,6 +233,10 @@ class Facts:
                     pending.append(loaded)
         return found
 
+    def unread(self):
+        """The files that count and aren't read here."""
+        return [self.workspace.files[path] for path in sorted(self.reached) if self.workspace.files[path].broken]
+
     def suites(self):
         """The packages that have a `test_suite` without `tests`."""
         files = [file for file in self.workspace.files.values() if file.is_build]
@@ -229,59 +251,69 @@ class Facts:
 
     def find_stand_ins(self):
         """Finds the statements of .bzl files that `bq` can't read, and those that ask for a member of what such a statement binds."""
-        for path in self.reached:
-            for call in self.workspace.files[path].calls:
-                if call.is_statement and "name" in call.keywords and not call.is_native:
-                    self.replace_rule(self.workspace.files[path], call.name)
-        pending = []  # (file, statement, names whose members it asks for)
-        for path in self.reached:
+        called = {(path, call.name) for path in self.reached for call in self.workspace.files[path].calls
+                  if call.is_statement and "name" in call.keywords and not call.is_native}
+        for path, name in sorted(called):
+            self.replace_rule(self.workspace.files[path], name)
+        waiting = defaultdict(list)  # a name -> the statements that ask for a member of it, or of one that leads to it
+        for path in sorted(self.reached):
             file = self.workspace.files[path]
-            if file.is_build or file.broken:
+            if not file.is_build and not file.broken:
+                self.replace_faulty(file, waiting)
+
+    def replace_faulty(self, file, waiting):
+        """Finds these statements of a file."""
+        faulty = self.faulty_lines(file)
+        members = defaultdict(set)
+        for name, member, line, _ in file.members:
+            if member not in (*VALUE_METHODS, "with_or") and not self.known_member(file, name, member):
+                members[line].add(name)
+        # (statements of the same lines ask for the same members)
+        together = defaultdict(list)
+        for statement in file.statements:
+            if self.replaced.has(file.path, statement):
                 continue
-            faulty = self.faulty_lines(file)
-            for statement in file.statements:
-                lines = range(statement.first, statement.last + 1)
-                is_large = file.size > MAX_SIZE and any(file.kinds.get(name) == "dict" for name in statement.names)
-                if statement in self.replaced[path]:
-                    continue
-                if is_large or not faulty.isdisjoint(lines):
-                    self.replace(file, statement)
-                elif statement.names:
-                    asked = {name for name, member, line, _ in file.members
-                             if line in lines and member not in (*VALUE_METHODS, "with_or") and not self.known_member(file, name, member)}
-                    pending.append((file, statement, asked))
-        count = -1
-        while count != len(pending):
-            count, left = len(pending), []
-            for file, statement, asked in pending:
-                if any(self.is_stub(file, name) for name in asked):
-                    self.replace(file, statement)
-                else:
-                    left.append((file, statement, asked))
-            pending = left
+            is_large = file.size > MAX_SIZE and any(file.kinds.get(name) == "dict" for name in statement.names)
+            if is_large or not faulty.isdisjoint(range(statement.first, statement.last + 1)):
+                self.replace(file, statement, waiting)
+            elif statement.names:
+                together[statement.first, statement.last].append(statement)
+        for (first, last), statements in together.items():
+            asked = {name for line in range(first, last + 1) for name in members.get(line, ())}
+            if any(self.is_stub(file, name) for name in asked):
+                for statement in statements:
+                    self.replace(file, statement, waiting)
+            else:
+                for name in asked:
+                    waiting[file.path, name].append((file, statements))
 
     def replace_rule(self, file, name):
         """Has what a call makes, and what is called as a rule, stand for a rule: `x_test = make_test(..)`."""
-        found = self.binding(file, name)
-        if found and self.origin(*found) == ("value",) and not found[0].is_build and found[1] in found[0].called:
-            for statement in found[0].statements:
-                if found[1] in statement.names and statement not in self.replaced[found[0].path]:
+        found = self.names.binding(file, name)
+        if found and not found[0].is_build and found[1] in found[0].called and self.names.origin(*found) == VALUE:
+            for statement in self.statements_of(*found):
+                if not self.replaced.has(found[0].path, statement):
                     self.replace(found[0], statement)
 
-    def binding(self, file, name, depth=8):
-        """The file and the name in it that a global stands for, through loads."""
-        if name not in file.globals or not depth:
-            return None
-        for label, _, clauses in file.loads:
-            if name in clauses:
-                loaded = self.workspace.files.get(self.workspace.resolve(label, file.path)[0])
-                return self.binding(loaded, clauses[name], depth - 1) if loaded else None
-        return file, name
+    def statements_of(self, file, name):
+        """The statements of a file that bind a name."""
+        if file.path not in self.binders:
+            found = self.binders[file.path] = defaultdict(list)
+            for statement in file.statements:
+                for it in dict.fromkeys(statement.names):
+                    found[it].append(statement)
+        return self.binders[file.path].get(name, ())
 
-    def replace(self, file, statement):
-        """Has another statement stand in the place of this one."""
-        self.replaced[file.path].append(statement)
-        self.stand_ins[file.path].update(statement.names)
+    def replace(self, file, statement, waiting=None):
+        """Has another statement stand in the place of this one, and of those that wait for what it binds."""
+        pending = [(file, statement)]
+        while pending:
+            file, statement = pending.pop()
+            if self.replaced.has(file.path, statement):
+                continue
+            self.replaced.add(file.path, statement)
+            for led in [it for name in statement.names for it in self.names.add(file.path, name)]:
+                pending += [(other, it) for other, statements in (waiting.pop(led, ()) if waiting else ()) for it in statements]
 
     def faulty_lines(self, file):
         """The lines with something that the language leaves out, or a name that a .bzl file hasn't."""
@@ -299,7 +331,11 @@ class Facts:
 
     def is_stub(self, file, name):
         """Whether a global name of a file comes from a file that isn't there."""
-        found = self.origin(file, name) if name in file.globals else None
+        if name not in file.globals:
+            return False
+        if self.names.is_led(file, name):
+            return True
+        found = self.names.origin(file, name)
         return bool(found) and found[0] == "stub"
 
     def cannot(self, what, file, line):
@@ -311,47 +347,27 @@ class Facts:
         """What is known of a symbol of a file that isn't there."""
         return self.stubs[place].setdefault(symbol, Stub())
 
-    def origin(self, file, name, seen=()):
-        """What a global name of a file stands for: ("def", path, name), ("stub", place, symbol), ("value",), or nothing."""
-        if name in file.natives:
-            return "rule", file.natives[name]
-        if name in file.macros and (file.path, name) not in seen:
-            return self.origin(file, file.macros[name][0], (*seen, (file.path, name)))
-        if name in self.stand_ins[file.path]:
-            return "stub", (None, file.path, ""), name
-        if name in file.aliases and (file.path, name) not in seen:
-            return self.origin(file, file.aliases[name], (*seen, (file.path, name)))
-        if name in file.defs:
-            return "def", file.path, name
-        for label, _, clauses in file.loads:
-            if name in clauses:
-                path, place = self.workspace.resolve(label, file.path)
-                loaded = self.workspace.files.get(path)
-                if not loaded:
-                    return "stub", place, clauses[name]
-                return self.origin(loaded, clauses[name], (*seen, (file.path, name))) if (path, clauses[name]) not in seen else None
-        return ("value",) if name in file.globals else None
+    def origin(self, file, name):
+        """What a global name of a file stands for: ("def", path, name), ("stub", place, symbol), ("rule", name), ("value",), or nothing."""
+        return self.names.origin(file, name)
 
-    def kind_of_global(self, file, name, depth=8):
+    def kind_of_global(self, file, name):
         """What the value of a global is like, as far as the text that binds it shows it."""
-        if name in file.kinds or not depth:
-            return file.kinds.get(name, "other")
-        for label, _, clauses in file.loads:
-            loaded = self.workspace.files.get(self.workspace.resolve(label, file.path)[0])
-            if name in clauses and loaded:
-                return self.kind_of_global(loaded, clauses[name], depth - 1)
-        return "other"
+        found = (file, name) if name in file.kinds else self.names.binding(file, name)
+        return found[0].kinds.get(found[1], "other") if found else "other"
 
     def look_at(self, file):
+        """Notes what a file asks for."""
         if file.broken:
             self.cannot("a file that isn't read here", file, file.broken.split(":")[0])
             return
         for label, _, clauses in file.loads:
             path, place = self.workspace.resolve(label, file.path)
             for symbol in clauses.values():
+                self.loaders[place, symbol] += 1
                 if path not in self.workspace.files or self.workspace.is_own(place[0]):
                     self.stub(place, symbol)
-        for name in sorted(self.stand_ins[file.path]):
+        for name in sorted(self.names.stand_ins.get(file.path, ())):
             self.stub((None, file.path, ""), name).makes_targets |= name in file.made
         for call in file.calls:
             self.call(file, call)
@@ -391,10 +407,10 @@ class Facts:
             given[keyword][kind] += 1
         inside = file.defs.get(call.inside)
         if inside and inside.rest in call.splats and inside.rest:
-            self.flows["def", file.path, call.inside].add(callee)
+            self.flows["def", file.path, call.inside][callee] = None
         for keyword, name in call.passed.items():
             if inside and name in inside.parameters:
-                self.passed["def", file.path, call.inside].add((name, callee, keyword))
+                self.passed["def", file.path, call.inside][name, callee, keyword] = None
         if callee[0] == "stub" and not self.is_replaced(file, call.line):
             stub = self.stub(*callee[1:])
             stub.is_called = True
@@ -403,9 +419,10 @@ class Facts:
 
     def is_replaced(self, file, line):
         """Whether another statement stands in the place of the one in this line."""
-        return any(it.first <= line <= it.last for it in self.replaced[file.path])
+        return self.replaced.has_line(file.path, line)
 
     def use(self, file, name, wanted, line):
+        """Notes that a name is used as a value."""
         if name in file.globals:
             if self.is_replaced(file, line):
                 return
@@ -439,26 +456,29 @@ class Facts:
 
     def is_loaded_from(self, file, name, place):
         """Whether a file loads a name from this very place."""
-        for label, _, clauses in file.loads:
-            if name in clauses:
-                path, loaded = self.workspace.resolve(label, file.path)
-                return place in (loaded, (None, path, ""))
-        return False
+        clause = self.names.clause(file, name)
+        if not clause:
+            return False
+        path, loaded = self.workspace.resolve(clause[0], file.path)
+        return place in (loaded, (None, path, ""))
 
     def member_stub(self, file, name, member):
         """The stub for a member that a BUILD file calls as a rule."""
         found = self.origin(file, name) if name in file.globals else None
         return self.stubs[found[1]].get(f"{found[2]}__{member}") if found and found[0] == "stub" else None
 
-    def is_plain_global(self, file, name, depth=8):
+    def is_plain_global(self, file, name):
         """Whether the text that binds a global shows its value, which is neither a dict nor has a `select`."""
-        if name in file.plain or not depth:
-            return name in file.plain
-        for label, _, clauses in file.loads:
-            loaded = self.workspace.files.get(self.workspace.resolve(label, file.path)[0])
-            if name in clauses and loaded:
-                return self.is_plain_global(loaded, clauses[name], depth - 1)
-        return False
+        found = (file, name) if name in file.plain else self.names.binding(file, name)
+        return bool(found) and found[1] in found[0].plain
+
+    def calls_in(self, path, function):
+        """The calls in a function of a file."""
+        if path not in self.inner_calls:
+            found = self.inner_calls[path] = defaultdict(list)
+            for call in self.workspace.files[path].calls:
+                found[call.inside].append(call)
+        return self.inner_calls[path].get(function, ())
 
     def stand_in(self, path, name):
         """The text that stands for what the statement of a name binds."""
@@ -487,7 +507,7 @@ class Facts:
     def members_of(self, path):
         """The texts that stand for members of what a file binds."""
         place = (None, path, "")
-        known = self.stand_ins[path]
+        known = self.names.stand_ins.get(path, ())
         return [definition("", name, stub, self.lost_of(place, name)) for name, stub in sorted(self.stubs.get(place, {}).items()) if name not in known]
 
     def lost_of(self, place, symbol):
@@ -499,23 +519,48 @@ class Facts:
         file = self.workspace.files[package]
         if symbol in file.made:
             return []
-        line = next((it.first for it in self.replaced[package] if symbol.partition("__")[0] in it.names), 1)
+        replaced = self.replaced.of_name(package, symbol.partition("__")[0])
+        line = replaced.first if replaced else 1
         return [f"targets: {symbol} of {package}:{line}, in which bq leaves something out, may declare more"]
 
     def pass_on(self):
-        """Has each macro pass what its callers give it on to what it gives its `**`, and its parameters."""
-        changed = True
-        while changed:
-            changed = False
-            for macro, callees in self.flows.items():
-                parameters = self.workspace.files[macro[1]].defs[macro[2]].parameters
-                for callee in callees:
-                    for keyword in [keyword for keyword in self.given[macro] if keyword not in parameters]:
-                        changed |= self.tell(callee, keyword, self.given[macro][keyword])
-            for macro, passed in self.passed.items():
-                defaults = self.workspace.files[macro[1]].defs[macro[2]].defaults
-                for parameter, callee, keyword in passed:
-                    changed |= self.tell(callee, keyword, self.given[macro][parameter] + Counter([defaults.get(parameter, "other")]))
+        """Has each macro pass what its callers give it on to what it gives its `**`, and its parameters: in rounds, each over those that were given
+        something since."""
+        ways = [(macro, self.pass_splats) for macro in self.flows] + [(macro, self.pass_parameters) for macro in self.passed]
+        places = defaultdict(list)
+        for at, (macro, _) in enumerate(ways):
+            places[macro].append(at)
+        now, later, left = list(range(len(ways))), set(), MOST_PASSED
+        queued = set(now)
+        while now and left > 0:
+            at = heapq.heappop(now)
+            queued.remove(at)
+            macro, passes = ways[at]
+            count, told = passes(macro)
+            left -= count
+            for place in (it for callee in told for it in places.get(callee, ())):
+                if place <= at:
+                    later.add(place)
+                elif place not in queued:
+                    queued.add(place)
+                    heapq.heappush(now, place)
+            if not now:
+                now, queued, later = sorted(later), later, set()
+        self.is_passed_on = not now
+
+    def pass_splats(self, macro):
+        """Has a macro pass keywords on to what it gives its `**`; gives how many that were, and to what any of it was new."""
+        parameters = set(self.workspace.files[macro[1]].defs[macro[2]].parameters)
+        keywords = [keyword for keyword in self.given[macro] if keyword not in parameters]
+        told = {callee: None for callee in self.flows[macro] for keyword in keywords if self.tell(callee, keyword, self.given[macro][keyword])}
+        return len(keywords) * len(self.flows[macro]), told
+
+    def pass_parameters(self, macro):
+        """The same for what it passes its parameters on to."""
+        defaults, given = self.workspace.files[macro[1]].defs[macro[2]].defaults, self.given[macro]
+        told = {callee: None for parameter, callee, keyword in self.passed[macro]
+                if self.tell(callee, keyword, given[parameter] + Counter([defaults.get(parameter, "other")]))}
+        return len(self.passed[macro]), told
 
     def tell(self, callee, keyword, kinds):
         """Has what a keyword is given elsewhere count where nothing else tells what it is like; gives whether that was new."""

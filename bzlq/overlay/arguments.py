@@ -12,8 +12,7 @@ a `select`, so the marks come to the calls as they are, and are taken out there.
 A large workspace calls these functions a hundred thousand times, so they look at elements one by one only where something is odd: `str`, `in`,
 `count` and `remove` look at a whole list in a step or a few.
 """
-import json
-
+from bzlq.overlay.definitions import starlark
 from bzlq.overlay.rule_sets import BAZEL
 
 # what may be lost, by its word; whether an answer may then lack a target
@@ -203,14 +202,43 @@ def _test(given):
 '''
 
 
+# how long a file's tables may be together, so that it isn't too long for bq, and an entry: the tests of a package, or the attributes of a rule
+MOST_OF_TABLES, MOST_OF_ENTRY = 800_000, 400_000
 # a line of an overlay that depends on which files there are
 BY_NAMES = "# Which labels are further targets depends on which files there are.\n"
 
 
 def given_files(schema, facts, mark):
-    """The files of the repository `@bzlq`, by their paths."""
+    """The files of the repository `@bzlq`, by their paths: tables that are too long for one file are in others."""
     mark += BY_NAMES if facts.further else ""
     tables = {**schema.tables(), "_TEXTS": dict.fromkeys(TEXTS), "_TESTS_IN": facts.tests_in, "_LEFT_OUT": facts.workspace.left_out}
-    lines = [f"{name} = {json.dumps(value, ensure_ascii=False).replace('null', 'None')}\n" for name, value in tables.items()]
+    parts = {name: [it for it in map(entry, table.items()) if len(it) <= MOST_OF_ENTRY] for name, table in tables.items()}
+    if sum(len(it) for part in parts.values() for it in part) <= MOST_OF_TABLES:
+        found, lines = {}, [f"{name} = {{{', '.join(part)}}}\n" for name, part in parts.items()]
+    else:
+        found, lines = divided(parts, mark)
     functions = [f"\ndef {PREFIX}{rule}(*args, **given):\n    native.{rule}(*args, **bzlq_given(\"{rule}\", [], given))\n" for rule in schema.types if rule in BAZEL]
-    return {f"{DIRECTORY}/BUILD": mark, f"{DIRECTORY}/given.bzl": mark + "".join(lines) + TEXT + "".join(functions)}
+    return {f"{DIRECTORY}/BUILD": mark, f"{DIRECTORY}/given.bzl": mark + "".join(lines) + TEXT + "".join(functions), **found}
+
+
+def entry(pair):
+    """An entry of a table, as Starlark writes it."""
+    return f"{starlark(pair[0])}: {starlark(pair[1])}"
+
+
+def divided(parts, mark):
+    """The files that tables are divided into, by their paths, and the lines that put them together."""
+    files, lines = {}, []
+    for name, entries in parts.items():
+        pieces, size = [[]], 0
+        for it in entries:
+            if size + len(it) > MOST_OF_TABLES:
+                pieces, size = [*pieces, []], 0
+            pieces[-1].append(it)
+            size += len(it) + 2
+        first = len(files)
+        files |= {f"{DIRECTORY}/table{first + at}.bzl": f"{mark}TABLE = {{{', '.join(piece)}}}\n" for at, piece in enumerate(pieces)}
+        numbers = range(first, len(files))
+        lines += [f'load("@bzlq//:table{at}.bzl", _TABLE_{at} = "TABLE")\n' for at in numbers]
+        lines.append(f"{name} = {' | '.join(f'_TABLE_{at}' for at in numbers)}\n")
+    return files, lines

@@ -6,7 +6,7 @@ import subprocess
 
 from bzlq.overlay.approximations import blocks_of
 from bzlq.overlay.extra_targets import phantoms
-from bzlq.workspace.bundle import fewer, merged, write_bundle
+from bzlq.workspace.bundle import fewer, is_large_at, merged, write_bundle
 from bzlq.workspace.files import content, likely_root
 
 # Bazel bounds no file's evaluation, and there are files that take some millions of steps
@@ -15,6 +15,13 @@ MAX_STEPS = 100_000_000
 TEST = re.compile(rb"\w+_test rule //")
 MANUAL = b'attr(tags, "[\\[ ]manual[,\\]]", //...)\n'
 DANGLING = re.compile(rb" F79 DanglingLabel ([^\n]+)$", re.M)
+# a fault of a file itself: its repository, its package and its name there
+OWN = re.compile(rb"^(?:@([^/:\n]*))?//([^:\n]*):([^:\n]*):\d+: F(?!79 )", re.M)
+
+
+def run_options(is_large, max_steps=MAX_STEPS):
+    """The options of a run over a bundle, which may be large."""
+    return [f"--max-steps={max_steps}", *(["--large"] if is_large else [])]
 
 
 def make_overlay(root, program, new, readings=None):
@@ -28,6 +35,7 @@ def make_overlay(root, program, new, readings=None):
 
 
 def made_overlay(root, program, new, readings):
+    """The same, without collections of garbage."""
     # (not at the top: most runs have their overlay)
     from bzlq.overlay import stubs
     facts = stubs.Facts(stubs.Workspace(root, readings and readings.all))
@@ -35,25 +43,33 @@ def made_overlay(root, program, new, readings):
         readings.keep()
     before = facts.for_copies()
     overlay = stubs.Overlay(facts, b"")
-    warnings = list(stubs.told(root, likely_root(facts.workspace.paths), stubs.silences(facts), False))
+    silences = stubs.silences(facts)
     said = bundle_with(overlay, f"{new}/bundle")
     faults, phantom = found_in(program, f"{new}/bundle", facts)
     if facts.suites() or b" F79 DanglingLabel " in faults + (phantom or b""):
         overlay = stubs.Overlay(facts, faults + (phantom or b""))
         bundle_with(overlay, f"{new}/bundle")
     overlay.write(f"{new}/overlay")
+    warnings = list(stubs.told(root, likely_root(facts.workspace.paths), silences, unread(facts, faults), facts.further_left, False))
     return warnings, said, made_of(overlay, before, faults, phantom) if phantom is not None else None
+
+
+def unread(facts, faults):
+    """The files that aren't read here, but for those of which bq says itself what is wrong."""
+    own = {(b"external/%s/" % it[1] if it[1] else b"") + (it[2] + b"/" if it[2] else b"") + it[3] for it in OWN.finditer(faults)}
+    return [it for it in facts.unread() if it.path.encode() not in own]
 
 
 def made_of(overlay, before, faults, phantom):
     """What was made, for a patch: all of it is of plain values. `before` is what decided about the copies."""
-    facts = overlay.facts
+    facts, found = overlay.facts, files_of(overlay)
     labels = [[it.decode("utf-8", "surrogateescape") for it in DANGLING.findall(text)] for text in (faults, phantom)]
     return {
         "facts": facts.kept(), "for_copies": before, "copied": sorted(overlay.copied), "workspace": facts.workspace.kept(), "overlay": list(overlay.files), "refused": sorted(facts.refused),
-        "dangling": sorted(set(labels[0])), "phantoms": sorted(set(labels[1])), "tests_in": facts.tests_in,
+        "unread": [it.path for it in facts.unread()], "told_unread": [it.path for it in unread(facts, faults)], "dangling": sorted(set(labels[0])), "phantoms": sorted(set(labels[1])), "tests_in": facts.tests_in,
         "named": [it for it in labels[0] if it.startswith("@") and it[1:].partition("//")[0] not in facts.workspace.repositories],
         "faults": b"".join(b"x%s\n" % it[0] for text in (faults, phantom) for it in re.finditer(rb" F79 DanglingLabel [^\n]+$", text, re.M)),
+        "is_whole": len(fewer(found)) == len(found),
         "further": [f"//{call.rpartition(':')[0]}:{name}" for found in facts.further.values() for call, name in found],
     }
 
@@ -61,14 +77,19 @@ def made_of(overlay, before, faults, phantom):
 def bundle_with(overlay, path):
     """Writes the bundle of a workspace with an overlay; gives what is to be said of it."""
     workspace = overlay.facts.workspace
-    found = {it: workspace.root for it in workspace.paths} | dict.fromkeys(overlay.files, "")
-    return write_fewer(found, workspace.root, path, lambda folder, it: workspace.content(it) if folder else overlay.files[it])
+    return write_fewer(files_of(overlay), path, lambda folder, it: workspace.content(it) if folder else overlay.files[it])
+
+
+def files_of(overlay):
+    """The paths of the files of a workspace with an overlay, each with the folder that it is in, or nothing for those of the overlay."""
+    workspace = overlay.facts.workspace
+    return {it: workspace.root for it in workspace.paths} | dict.fromkeys(overlay.files, "")
 
 
 def found_in(program, bundle, facts):
     """The fault lines of a first round, and such lines for labels that only seem to be files, or nothing where that can't be told; notes the tests
     of packages that have a suite of all."""
-    words = [program, f"--max-steps={MAX_STEPS}", "--output", "label_kind", "--bundle", bundle, "--queries", "-"]
+    words = [program, *run_options(is_large_at(bundle)), "--output", "label_kind", "--bundle", bundle, "--queries", "-"]
     ended = subprocess.run(words, input=b"//...:*\n" + MANUAL, capture_output=True, check=False)
     blocks = [lines for status, lines in blocks_of(ended.stdout) if status != 2]
     if len(blocks) != 2:
@@ -81,12 +102,12 @@ def found_in(program, bundle, facts):
 
 
 def make_bundle(folders, path):
-    """Writes the bundle of folders, the first of which is the root; gives what is to be said of it."""
-    return write_fewer(merged(folders), folders[0], path, content)
+    """Writes the bundle of folders; gives what is to be said of it."""
+    return write_fewer(merged(folders), path, content)
 
 
-def write_fewer(found, root, path, content_of):
-    found, said = fewer(found, root)
+def write_fewer(found, path, content_of):
+    """Writes the bundle of paths, as many as bq reads; gives what is to be said of it."""
     with open(path, "wb") as file:
-        left_out = write_bundle(found, file, content_of)
-    return said + [f"{it} is left out: it has a line that begins with `=== `" for it in left_out]
+        left_out = write_bundle(fewer(found), file, content_of)
+    return [f"{it} is left out: it has a line that begins with `=== `" for it in left_out]

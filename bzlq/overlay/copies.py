@@ -1,6 +1,6 @@
 """Copies of a workspace's files in which stands, in place of what `bq` leaves out, something that it reads. Lines keep their numbers."""
 import ast
-import contextlib
+import bisect
 import re
 from collections import Counter, defaultdict
 
@@ -8,7 +8,7 @@ from bzlq.overlay.analysis import VALUE_METHODS
 from bzlq.overlay.arguments import LABEL as GIVEN, PREFIX
 from bzlq.overlay.definitions import quoted, value_for
 from bzlq.overlay.guesses import BY_NAME, type_of
-from bzlq.overlay.reading import BUILD_FUNCTIONS, TRISTATES, has_name, kind_of, makers_of, names_bound, parsed
+from bzlq.overlay.reading import BUILD_FUNCTIONS, PLACEHOLDER, TRISTATES, Either, has_name, kind_of, makers_of, names_bound, nodes_of, parsed, why_not
 from bzlq.overlay.replacements import NATIVE_VALUES, REPLACED, label_in, labels_bound, replacement
 from bzlq.overlay.rule_sets import BAZEL, TESTS
 
@@ -16,6 +16,8 @@ LISTS = ("labels", "strings", "list")
 # what the language takes of escapes, beside a backslash before a line end
 ESCAPES = set("nrt\\'\"\n\r")
 
+# halves of characters
+HALVES = re.compile("[\ud800-\udfff]")
 # a line that can't be in a bundle: mostly one of a docstring or a comment
 HEADER = re.compile(rb"^=== ", re.M)
 
@@ -44,7 +46,7 @@ class Copy:
         """Goes into a function that binds these names."""
         self.locals = names
         # (`all_names` is asked for each node)
-        self.all_names = names | self.file.globals if names else self.file.globals
+        self.all_names = Either(names, self.file.globals) if names else self.file.globals
 
     def span(self, node):
         """The place of a node in the text: where it begins and ends."""
@@ -58,10 +60,12 @@ class Copy:
         """The text with its parts replaced; nothing where none is."""
         early = used_early(self.file)
         for node, statement in zip(parsed(self.text).body, self.file.statements):
-            if found := next((it for it in early if node.lineno <= it[0] <= node.end_lineno), None):
+            at = bisect.bisect_left(early, (node.lineno,))
+            if at < len(early) and early[at][0] <= node.end_lineno:
+                found = early[at]
                 self.replace(*self.span(node), f'fail("{found[1]} is used before it is loaded, in line {found[2]}")')
                 self.counts["a use before a load"] += 1
-            elif statement in self.facts.replaced[self.file.path]:
+            elif self.facts.replaced.has(self.file.path, statement):
                 self.stand_in(node, statement)
             else:
                 self.statement(node)
@@ -76,12 +80,12 @@ class Copy:
             self.counts["a line like a bundle's header"] += 1
         if not self.parts and not self.uses_given:
             return None
-        found, end = b"", 0
+        found, end = [], 0
         # (of parts at one place the outer one was put there first)
         for start, after, part in sorted(self.parts, key=lambda it: it[:2]):
-            found += self.text[end:start] + part
+            found += [self.text[end:start], part]
             end = after
-        return found + self.text[end:] + (b"" if self.text.endswith(b"\n") else b"\n") + self.more.encode()
+        return b"".join([*found, self.text[end:], b"" if self.text.endswith(b"\n") else b"\n", self.more.encode()])
 
     def stand_in(self, node, statement):
         """What stands for a statement that the language leaves out."""
@@ -133,14 +137,13 @@ class Copy:
                 pass
             case ast.Attribute() if self.file.is_build:
                 self.empty(node, wanted)
-            case ast.BinOp(op=ast.Add(), left=left, right=right):
-                wanted = "list" if self.kind(left) in LISTS or self.kind(right) in LISTS else wanted
-                self.visit(left, wanted)
-                self.visit(right, wanted)
+            case ast.BinOp(op=ast.Add()):
+                self.sum(node, wanted)
             case ast.FunctionDef():
-                self.makers, self.labels = makers_of(node), labels_bound(node)
-                self.own_names(names_bound(node))
-                self.lost, self.has_glob = self.values_lost(node), any(isinstance(it, ast.Attribute) and it.attr == "glob" for it in ast.walk(node))
+                nodes = nodes_of(node)
+                self.makers, self.labels = makers_of(node, nodes), labels_bound(nodes)
+                self.own_names(names_bound(node, nodes))
+                self.lost, self.has_glob = self.values_lost(nodes), any(isinstance(it, ast.Attribute) and it.attr == "glob" for it in nodes)
                 for part in ast.iter_child_nodes(node):
                     self.visit(part)
                 self.makers, self.labels, self.lost, self.has_glob = set(), set(), [], False
@@ -161,6 +164,17 @@ class Copy:
             case _:
                 for part in ast.iter_child_nodes(node):
                     self.visit(part, wanted if isinstance(node, ast.IfExp) else "")
+
+    def sum(self, node, wanted):
+        """Replaces parts of a sum, whose parts lie one in another."""
+        rights = []
+        while isinstance(node, ast.BinOp) and isinstance(node.op, ast.Add):
+            wanted = "list" if self.kind(node.left) in LISTS or self.kind(node.right) in LISTS else wanted
+            rights.append((node.right, wanted))
+            node = node.left
+        self.visit(node, wanted)
+        for right, of in reversed(rights):
+            self.visit(right, of)
 
     def is_empty_text(self, node):
         """Whether an empty text stands for an element of a list, or may."""
@@ -291,6 +305,7 @@ class Copy:
             self.visit(value, self.takes(keyword.arg))
 
     def put_instead(self, node, text, what):
+        """Puts a text in the place of a node, which is counted as this."""
         self.replace(*self.span(node), "", text)
         self.counts[what] += 1
 
@@ -319,17 +334,21 @@ class Copy:
 
     def is_plain(self, node):
         """Whether a value is shown, and is neither a dict nor has a `select`."""
-        match node:
-            case ast.Dict() | ast.DictComp():
-                return False
-            case ast.Name(id=name):
-                return name in self.locals or self.facts.is_plain_global(self.file, name)
-            case ast.Call(func=ast.Name(id="glob")):
-                return True
-            case ast.Call():
-                return False
-            case _:
-                return all(self.is_plain(part) for part in ast.iter_child_nodes(node) if isinstance(part, ast.expr))
+        pending = [node]
+        while pending:
+            match pending.pop():
+                case ast.Dict() | ast.DictComp():
+                    return False
+                case ast.Name(id=name):
+                    if name not in self.locals and not self.facts.is_plain_global(self.file, name):
+                        return False
+                case ast.Call(func=ast.Name(id="glob")):
+                    pass
+                case ast.Call():
+                    return False
+                case of:
+                    pending += [part for part in ast.iter_child_nodes(of) if isinstance(part, ast.expr)]
+        return True
 
     def rule(self, call, name):
         """Calls what stands for a rule, which takes dicts and marks out of what it is given: in a BUILD file by the rule's own name."""
@@ -343,8 +362,9 @@ class Copy:
 
     def tell_lost(self, call):
         """Gives a call what was made up of what it is given."""
-        lost = self.lost or self.values_lost(call)
-        if self.facts.workspace.left_out_of(self.file) and any(isinstance(it, ast.Name) and it.id == "glob" for it in ast.walk(call)):
+        nodes = nodes_of(call)
+        lost = self.lost or self.values_lost(nodes)
+        if self.facts.workspace.left_out_of(self.file) and any(isinstance(it, ast.Name) and it.id == "glob" for it in nodes):
             lost = [*lost, "files: " + self.facts.workspace.left_out_of(self.file)]
         is_by_package = self.has_glob and bool(self.facts.workspace.left_out)
         if lost or is_by_package:
@@ -352,12 +372,12 @@ class Copy:
             at = self.text.index(b"(", end) + 1
             text = f"[{', '.join(quoted(it) for it in lost)}]" + (" + bzlq_files()" if is_by_package else "")
             self.uses_given |= {"bzlq_files": "bzlq_files"} if is_by_package else {}
-            self.parts.append((at, at, f"bzlq_lost = {text}, ".encode("utf-8", "surrogateescape")))
+            self.parts.append((at, at, f"bzlq_lost = {text}, ".encode()))
 
-    def values_lost(self, node):
-        """What values a statement or expression names that aren't there."""
+    def values_lost(self, nodes):
+        """What values nodes name that aren't there."""
         found = {}
-        for part in ast.walk(node):
+        for part in nodes:
             if isinstance(part, ast.Name) and part.id not in self.locals and part.id in self.file.globals:
                 if told := self.facts.lost_value(self.file, part.id):
                     found[told] = None
@@ -402,10 +422,11 @@ class Copy:
             return
         bare = text.replace("\\\\", "")
         if any(bare[i + 1:i + 2] not in ESCAPES for i in range(len(bare)) if bare[i] == "\\"):
-            value = node.value.replace("\\", "\\\\").replace(quote, f"\\{quote}").replace("\n", "\\n").replace("\r", "\\r")
-            with contextlib.suppress(UnicodeEncodeError):  # (half a character has no bytes, and bq refuses its escape)
-                self.parts.append((start, end, f"{quote}{value}{quote}".encode("utf-8", "surrogateescape")))
             self.counts["an escape"] += 1
+            value = node.value.replace("\\", "\\\\").replace(quote, f"\\{quote}").replace("\n", "\\n").replace("\r", "\\r")
+            # (half a character has no bytes, and what isn't UTF-8 was read as something else: bq says where the escape is)
+            if PLACEHOLDER not in value and not HALVES.search(value):
+                self.parts.append((start, end, f"{quote}{value}{quote}".encode("utf-8")))
 
 
 def declares_tests(file):
@@ -428,10 +449,11 @@ def has_unknown_values(facts, file):
 def all_patterns(node):
     """Whether an expression shows patterns alone that `glob` takes; Bazel takes any where it excludes."""
     return not any(isinstance(it, ast.Name | ast.Attribute) or isinstance(it, ast.Constant) and isinstance(it.value, str) and not is_pattern(it.value)
-                   for it in ast.walk(node))
+                   for it in nodes_of(node))
 
 
 def is_pattern(text):
+    """Whether a text is a pattern that bq takes."""
     return not any(part in ("", ".", "..") or "**" in part and part != "**" for part in text.split("/"))
 
 
@@ -449,7 +471,7 @@ def empty_texts(facts, file):
 
 def has_output_as_input(call):
     """Whether a genrule may have a file as an input and as an output, which what stands for it refuses, as Bazel does."""
-    given = {key.arg: {it.value.rpartition(":")[2] for it in ast.walk(key.value) if isinstance(it, ast.Constant) and isinstance(it.value, str)}
+    given = {key.arg: {it.value.rpartition(":")[2] for it in nodes_of(key.value) if isinstance(it, ast.Constant) and isinstance(it.value, str)}
              for key in call.keywords if key.arg in ("srcs", "outs")}
     return call.func.id == "genrule" and not given.get("srcs", set()).isdisjoint(given.get("outs", ()))
 
@@ -474,7 +496,8 @@ def copied(facts, file):
     copy = Copy(facts, file, facts.workspace.content(file.path))
     try:
         text = copy.result()
-    except (RecursionError, MemoryError):
+    except Exception as error:  # (a file that nests too deep, or one of a form that wasn't thought of, stays as it is, and that is told)
+        file.broken = why_not(error)
         facts.cannot("a file that isn't read here", file, 0)
         return None
     return (text, copy.counts) if text else None

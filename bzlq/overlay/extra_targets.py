@@ -3,8 +3,11 @@
 import re
 from collections import defaultdict
 
+from bzlq.overlay.definitions import starlark
 from bzlq.workspace.files import is_path
 
+# how many further targets a macro has at most: they stand in one text
+MOST = 4000
 DANGLING = re.compile(rb" F79 DanglingLabel //([^:\n]*):([^\n]+)$", re.M)
 LISTED = re.compile(rb"^(?:source file|(.*) rule) //([^:\n]*):([^\n]+)$", re.M)
 
@@ -25,12 +28,14 @@ def phantoms(listed, paths):
 
 def owner(name, names, nothing=""):
     """The longest of the names that this one begins with, up to a letter or digit."""
-    return max((it for it in names if name.startswith(it) and name[len(it):] and not name[len(it):len(it) + 1].isalnum()), key=len, default=nothing)
+    starts = (name[:at] for at in range(len(name) - 1, 0, -1) if not name[at:at + 1].isalnum())
+    return next((it for it in starts if it in names), nothing)
 
 
 def further_targets(facts, faults):
-    """Of each such macro, by its place and name: (package and name of a call, further name) for the labels of these fault lines."""
-    dangling, found = defaultdict(set), defaultdict(list)
+    """Of each such macro, by its place and name: (package and name of a call, further name) for the labels of these fault lines. Of a macro that would
+    have too many the others are counted."""
+    dangling, found, facts.further_left = defaultdict(set), defaultdict(list), 0
     for package, name in DANGLING.findall(faults):
         dangling[package.decode("ascii", "replace")].add(name.decode("ascii", "replace"))
     for package, names in dangling.items():
@@ -39,7 +44,11 @@ def further_targets(facts, faults):
         for name in sorted(names):
             of = owner(name, calls)
             origin = facts.origin(file, calls[of]) if of else None
-            if origin and origin[0] == "stub" and facts.stub(*origin[1:]).makes_targets and is_path(name):
+            if not (origin and origin[0] == "stub" and facts.stub(*origin[1:]).makes_targets and is_path(name)):
+                continue
+            if len(found[origin[1:]]) >= MOST:
+                facts.further_left += 1
+            else:
                 found[origin[1:]].append((f"{package}:{of}", name))
     return found
 
@@ -49,4 +58,4 @@ def text_of(found):
     table = defaultdict(list)
     for call, name in found or ():
         table[call].append(name)
-    return f"; [native.filegroup(name = more, srcs = [name]) for more in {dict(table)!r}.get(native.package_name() + \":\" + name, [])]" if found else ""
+    return f"; [native.filegroup(name = more, srcs = [name]) for more in {starlark(table)}.get(native.package_name() + \":\" + name, [])]" if found else ""

@@ -2,6 +2,7 @@
 
 Takes the facts of a workspace; gives a `Silence` for each such function, and the lines that tell them.
 """
+import bisect
 import os
 from dataclasses import dataclass, field
 
@@ -29,13 +30,14 @@ def silences(facts):
     found, macros = {}, called(facts)
     for path in sorted(facts.reached):
         file = facts.workspace.files[path]
-        quiet = [(key, line, inside) for key, line, inside in statements(facts, file) if key and (not inside or (path, inside) in macros)]
+        said = list(statements(facts, file))
+        quiet = [(key, line, inside) for key, line, inside in said if key and (not inside or (path, inside) in macros)]
         for key, line, inside in quiet:
             silence = found.setdefault(key, Silence(key[1], *place_of(facts, *key)))
             silence.calls.append(f"{path}:{line}")
             if inside:
                 silence.inside.append(f"{path}:{line}")
-        if file.is_build and quiet and len(quiet) == len(list(statements(facts, file))):
+        if file.is_build and quiet and len(quiet) == len(said):
             for key in {key for key, *_ in quiet}:
                 found[key].empty.append("//" + os.path.dirname(path))
     return sorted(found.values(), key=lambda it: (-len(it.empty), -len(it.calls), it.symbol))
@@ -51,7 +53,7 @@ def called(facts):
         origin = facts.origin(file, call.name) if call.name in file.globals and not call.is_native else None
         if origin and origin[0] == "def" and origin[1:] not in found:
             found.add(origin[1:])
-            pending += [(origin[1], it) for it in facts.workspace.files[origin[1]].calls if it.inside == origin[2]]
+            pending += [(origin[1], it) for it in facts.calls_in(*origin[1:])]
     return found
 
 
@@ -83,12 +85,12 @@ def place_of(facts, place, symbol):
     if repository is not None:
         label = (f"@{repository}" if repository else "") + f"//{package}:{name}"
         return label, "it isn't there, and no call gives it a name"
-    file = facts.workspace.files[package]
-    for statement in facts.replaced[package]:
-        if symbol.partition(".")[0] in statement.names:
-            lines = range(statement.first, statement.last + 1)
-            what = next((f"{what} in line {line}" for line, what in sorted(file.faults) if line in lines), "")
-            return f"{package}:{statement.first}", f"bq leaves out {what}" if what else "it uses what bq leaves out"
+    statement = facts.replaced.of_name(package, symbol.partition(".")[0])
+    if statement:
+        faults = sorted(facts.workspace.files[package].faults)
+        first = bisect.bisect_left(faults, (statement.first, ""))
+        what = f"{faults[first][1]} in line {faults[first][0]}" if first < len(faults) and faults[first][0] <= statement.last else ""
+        return f"{package}:{statement.first}", f"bq leaves out {what}" if what else "it uses what bq leaves out"
     return package, "it uses what bq leaves out"
 
 

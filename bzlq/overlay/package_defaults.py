@@ -41,6 +41,7 @@ def members(text, line):
 
 
 def shown(node):
+    """The value of an expression that shows it; null for another one."""
     is_shown, value = literal(node)
     return value if is_shown and isinstance(value, str | bool | int | list) else None
 

@@ -3,12 +3,15 @@
 Starlark is near enough to Python that Python's own parser reads it; nothing is run. What a value is like is guessed from its form.
 """
 import ast
+import codecs
 import re
 import warnings
+from collections import defaultdict
 from dataclasses import dataclass, field
 
 from bzlq.overlay.replacements import NAMES, REPLACED, label_in, labels_bound, replacement
 from bzlq.overlay.rule_sets import BAZEL
+from bzlq.workspace.files import MAX_SIZE
 
 # names that every file knows, besides the rules
 BUILT_INS = set("""None True False all any bool dict enumerate fail int len list max min print range repr reversed select sorted str tuple
@@ -29,8 +32,38 @@ ODD = [it.encode() for it in ("select", "genrule(", "{", "\\", "=== ", " / ", "t
 ODD_PATTERN = re.compile(rb"select\b|genrule\(|[{\\]|^=== |\b(?:%s|to_list|exclude|exclude_directories)\b|\b(?:%s)\s*=| / " % ("|".join(NAMES).encode(), "|".join(TRISTATES).encode()), re.M)
 RELATIVE_LOAD = re.compile(rb"load\(\s*[\"'][^/@:]")
 LABEL = re.compile(rb"[\"']@([\w.+~-]+)(?://([^:\"'\s]*)(?::([^\"'\s]+))?)?[\"']")
+# how many attributes all rules of a file may have together
+MOST_ATTRIBUTES = 200_000
+# what stands for a byte that Python doesn't take
+PLACEHOLDER = "\x1a"
+# a return that ends no line: in a comment or a text it is a byte as any other
+LONE_RETURN = re.compile(r"\r(?!\n)")
+IDENTIFIER = re.compile(r"[A-Za-z_]\w*", re.ASCII)
 # a comprehension, or a loop (the text comes first, so that most of a file is passed over quickly)
 FOR = re.compile(rb"for(?<!\wfor)\b")
+
+
+class Either:
+    """The names of two sets."""
+
+    def __init__(self, one, two):
+        self.one, self.two = one, two
+
+    def __contains__(self, name):
+        return name in self.one or name in self.two
+
+
+def nodes_of(node):
+    """A node and all in it, but for those that have nothing in them, such as the signs of operators: in the order of `ast.walk`, and quicker."""
+    found = [node]
+    for it in found:
+        for name in it._fields:
+            value = getattr(it, name, None)
+            if value.__class__ is list:
+                found += [part for part in value if isinstance(part, ast.AST) and part._fields]
+            elif isinstance(value, ast.AST) and value._fields:
+                found.append(value)
+    return found
 
 
 def passed(value):
@@ -106,6 +139,7 @@ class File:
 
 
 def is_label(text):
+    """Whether a text begins as a label does."""
     return text.startswith(("//", ":", "@"))
 
 
@@ -124,6 +158,7 @@ def first_known(kinds):
 
 
 def kind_of_constant(value):
+    """What a constant is like."""
     if isinstance(value, str):
         return "label" if is_label(value) else "string"
     if value is None:
@@ -148,10 +183,8 @@ def kind_of(node):
             return joined({kind_of(part)})
         case ast.Dict() | ast.DictComp():
             return "dict"
-        case ast.BinOp(op=ast.Add(), left=left, right=right):
-            return first_known({kind_of(left), kind_of(right)})
-        case ast.BinOp(op=ast.Mod(), left=left):
-            return kind_of(left)
+        case ast.BinOp(op=ast.Add() | ast.Mod()):
+            return kind_of_sum(node)
         case ast.IfExp(body=body):
             return kind_of(body)
         case ast.Call(func=ast.Name(id="select") | ast.Attribute(attr="with_or"), args=[ast.Dict(values=branches), *_]):
@@ -172,6 +205,19 @@ def kind_of(node):
             return "other"
 
 
+def kind_of_sum(node):
+    """What a sum, or a text with `%`, is like. (Generated files have long ones, whose parts lie one in another: each is looked at once, and
+    says from then on what it is like.)"""
+    parts = []
+    while isinstance(node, ast.BinOp) and isinstance(node.op, ast.Add | ast.Mod) and not hasattr(node, "like"):
+        parts.append(node)
+        node = node.left
+    kind = node.like if isinstance(node, ast.BinOp) and hasattr(node, "like") else kind_of(node)
+    for it in reversed(parts):
+        kind = it.like = first_known({kind, kind_of(it.right)}) if isinstance(it.op, ast.Add) else kind
+    return kind
+
+
 class Reader(ast.NodeVisitor):
     """Walks a file's tree. `locals` are the names that the function around binds."""
 
@@ -189,7 +235,7 @@ class Reader(ast.NodeVisitor):
         """Goes into a function that binds these names."""
         self.locals = names
         # (`all_names` is asked for each node)
-        self.all_names = names | self.file.globals if names else self.file.globals
+        self.all_names = Either(names, self.file.globals) if names else self.file.globals
 
     def left_out(self, node, what):
         """Notes something that bq leaves out."""
@@ -200,6 +246,7 @@ class Reader(ast.NodeVisitor):
         return name in self.all_names
 
     def wanting(self, kind, node):
+        """Reads a node in a place that takes this."""
         before, self.wanted = self.wanted, kind
         self.visit(node)
         self.wanted = before
@@ -218,29 +265,32 @@ class Reader(ast.NodeVisitor):
             super().visit(node)
 
     def visit_FunctionDef(self, node):
+        """Reads a function at the top of a file."""
         if self.inside:
             self.left_out(node, "a function in a function")
             return
         for default in [*node.args.defaults, *node.args.kw_defaults]:
             if default is not None:
                 self.visit(default)
-        self.inside, self.makers, self.labels = node.name, makers_of(node), labels_bound(node)
-        self.own_names(names_bound(node))
-        parameters = {it.arg for it in ast.walk(node.args) if isinstance(it, ast.arg)}
+        nodes = nodes_of(node)
+        self.inside, self.makers, self.labels = node.name, makers_of(node, nodes), labels_bound(nodes)
+        self.own_names(names_bound(node, nodes))
+        parameters = {it.arg for it in nodes_of(node.args) if isinstance(it, ast.arg)}
         self.bound = {}
-        for it in ast.walk(node):
-            match it:
-                case ast.Assign(targets=[ast.Name(id=target)], value=value) if target not in parameters:
-                    self.bound.setdefault(target, kind_of(value))
+        for it in nodes:
+            if isinstance(it, ast.Assign) and len(it.targets) == 1 and isinstance(it.targets[0], ast.Name) and it.targets[0].id not in parameters:
+                self.bound.setdefault(it.targets[0].id, kind_of(it.value))
         for part in node.body:
             self.visit(part)
         self.inside, self.makers, self.labels, self.bound = "", set(), set(), {}
         self.own_names(set())
 
     def visit_Lambda(self, node):
+        """Notes a lambda."""
         self.left_out(node, "lambda")
 
     def visit_Expr(self, node):
+        """Reads an expression that is a statement: mostly a call."""
         match node.value:
             case ast.Call():
                 self.call(node.value, True)
@@ -250,6 +300,7 @@ class Reader(ast.NodeVisitor):
                 self.wanting("", node.value)
 
     def visit_Call(self, node):
+        """Reads a call whose value is used."""
         self.call(node, False)
 
     def call(self, node, is_statement):
@@ -284,11 +335,15 @@ class Reader(ast.NodeVisitor):
 
     def kind_here(self, node):
         """What a value is like; of a variable that this function binds, what it binds it to first."""
-        if isinstance(node, ast.BinOp) and isinstance(node.op, ast.Add):
-            return first_known({self.kind_here(node.left), self.kind_here(node.right)})
-        return self.bound.get(node.id, "other") if isinstance(node, ast.Name) else kind_of(node)
+        kinds = set()
+        while isinstance(node, ast.BinOp) and isinstance(node.op, ast.Add):
+            kinds.add(self.kind_here(node.right))
+            node = node.left
+        kinds.add(self.bound.get(node.id, "other") if isinstance(node, ast.Name) else kind_of(node))
+        return first_known(kinds)
 
     def named_call(self, node, name, is_native, is_statement):
+        """Notes a call of a name."""
         if name in self.locals and not is_native:
             return
         keywords = {key.arg: self.kind_here(key.value) for key in node.keywords if key.arg}
@@ -312,6 +367,7 @@ class Reader(ast.NodeVisitor):
             self.file.members.append((name, member, node.lineno, is_called))
 
     def visit_Attribute(self, node):
+        """Reads a member that isn't called."""
         if isinstance(node.value, ast.Name) and node.value.id == "native" and not self.known("native") and node.attr in BAZEL:
             self.file.calls.append(Call(node.attr, True, node.lineno, self.inside, {}, [], [], False, "", {}, ""))
             return
@@ -322,25 +378,38 @@ class Reader(ast.NodeVisitor):
             self.visit(node.value)
 
     def visit_Name(self, node):
+        """Notes the use of a name that isn't a local one."""
         if isinstance(node.ctx, ast.Load) and node.id not in self.locals:
             self.file.uses.append((node.id, self.wanted, node.lineno))
 
     def visit_BinOp(self, node):
-        sides = (kind_of(node.left), kind_of(node.right))
-        known = [kind for kind in sides if kind in ("string", "label", "strings", "labels", "list", "dict")]
-        wanted = known[0] if known else self.wanted
-        self.wanting("string" if wanted == "label" else wanted, node.left)
-        self.wanting("string" if wanted == "label" else wanted, node.right)
+        """Reads a sum or the like, whose sides take what they are like."""
+        wanted, rights = self.wanted, []
+        while True:
+            known = [kind for kind in (kind_of(node.left), kind_of(node.right)) if kind in ("string", "label", "strings", "labels", "list", "dict")]
+            wanted = known[0] if known else wanted
+            wanted = "string" if wanted == "label" else wanted
+            rights.append((wanted, node.right))
+            node = node.left
+            # (the parts of a long sum lie one in another; what is replaced is read by `visit`)
+            if not isinstance(node, ast.BinOp) or replacement(node, self.all_names, self.labels):
+                break
+        self.wanting(wanted, node)
+        for wanted, right in reversed(rights):
+            self.wanting(wanted, right)
 
     def visit_comprehension(self, node):
+        """Reads a clause of a comprehension."""
         self.wanting("list", node.iter)
         for part in node.ifs:
             self.wanting("", part)
 
     def visit_ListComp(self, node):
+        """Reads a comprehension."""
         self.in_scope(node)
 
     def visit_DictComp(self, node):
+        """Reads a comprehension."""
         self.in_scope(node)
 
     def in_scope(self, node, statement=None):
@@ -356,15 +425,18 @@ class Reader(ast.NodeVisitor):
         self.own_names(before)
 
     def visit_For(self, node):
+        """Reads a loop."""
         self.wanting("list", node.iter)
         for part in node.body:
             self.visit(part)
 
     def visit_Subscript(self, node):
+        """Reads an element of a list or dict."""
         self.wanting("dict", node.value)
         self.wanting("", node.slice)
 
     def visit_List(self, node):
+        """Reads a list, whose elements are mostly texts."""
         for part in node.elts:
             self.wanting("string", part)
 
@@ -382,27 +454,20 @@ def has_name(call):
     return any(key.arg == "name" for key in call.keywords)
 
 
-def makers_of(function):
-    """The parameters of a function whose members are called as rules: `def targets(rules): rules.cc_library(name = ..)`."""
+def makers_of(function, nodes):
+    """The parameters of a function whose members are called as rules: `def targets(rules): rules.cc_library(name = ..)`. `nodes` are those in it."""
     arguments = function.args
     parameters = {it.arg for it in [*arguments.posonlyargs, *arguments.args, *arguments.kwonlyargs]}
-    found = set()
-    for part in ast.walk(function):
-        match part:
-            case ast.Call(func=ast.Attribute(value=ast.Name(id=name))) if name in parameters and has_name(part):
-                found.add(name)
-    return found
+    called = (it for it in nodes if isinstance(it, ast.Call) and isinstance(it.func, ast.Attribute) and isinstance(it.func.value, ast.Name))
+    return {it.func.value.id for it in called if it.func.value.id in parameters and has_name(it)}
 
 
-def names_bound(function):
-    """The names that a function binds: parameters, loop variables and what is assigned to."""
+def names_bound(function, nodes):
+    """The names that a function binds: parameters, loop variables and what is assigned to. `nodes` are those in it."""
     arguments = function.args
     found = {it.arg for it in [*arguments.posonlyargs, *arguments.args, *arguments.kwonlyargs]}
     found |= {it.arg for it in (arguments.vararg, arguments.kwarg) if it}
-    for part in ast.walk(function):
-        if isinstance(part, ast.Name) and isinstance(part.ctx, ast.Store):
-            found.add(part.id)
-    return found
+    return found | {it.id for it in nodes if isinstance(it, ast.Name) and isinstance(it.ctx, ast.Store)}
 
 
 def entries(node):
@@ -417,19 +482,26 @@ def entries(node):
 
 
 def load_of(node):
-    """The label, line and clauses of a load statement."""
+    """The label, line and clauses of a load statement; what names no symbol is left out."""
     texts = [part.value for part in node.args if isinstance(part, ast.Constant) and isinstance(part.value, str)]
     if not texts:
         return None
-    clauses = {symbol: symbol for symbol in texts[1:]}
-    clauses.update({key.arg: key.value.value for key in node.keywords if key.arg and isinstance(key.value, ast.Constant)})
+    clauses = {symbol: symbol for symbol in texts[1:] if IDENTIFIER.fullmatch(symbol)}
+    named = ((key.arg, key.value.value) for key in node.keywords if key.arg and isinstance(key.value, ast.Constant))
+    clauses.update({name: symbol for name, symbol in named if isinstance(symbol, str) and IDENTIFIER.fullmatch(symbol)})
     return texts[0], node.lineno, clauses
+
+
+# what may put a key into a dict
+SETTING = (ast.Assign, ast.AugAssign, ast.Call)
 
 
 def set_keys(function):
     """Keys that a function puts into dicts by name: `kwargs["deps"] = ..`, `kwargs.setdefault("deps", ..)`, `.update({..})`."""
     found = {}
-    for node in ast.walk(function):
+    for node in nodes_of(function):
+        if not isinstance(node, SETTING):
+            continue
         match node:
             case ast.Assign(targets=[ast.Subscript(value=ast.Name(id=name), slice=ast.Constant(value=str() as key))], value=value):
                 found.setdefault(name, {})[key] = kind_of(value)
@@ -512,21 +584,24 @@ def bound_by(node):
         case ast.FunctionDef(name=name):
             return [name]
         case ast.Assign(targets=targets):
-            return [part.id for target in targets for part in ast.walk(target) if isinstance(part, ast.Name) and isinstance(part.ctx, ast.Store)]
+            return [part.id for target in targets for part in nodes_of(target) if isinstance(part, ast.Name) and isinstance(part.ctx, ast.Store)]
         case ast.AugAssign(target=ast.Name(id=name)):
             return [name]
         case _:
             return []
 
 
+UNSHOWN = (ast.Dict, ast.DictComp, ast.Call, ast.Name)
+
+
 def is_plain(node):
     """Whether a value is shown, and is no dict."""
-    return not any(isinstance(it, ast.Dict | ast.DictComp | ast.Call | ast.Name) and getattr(getattr(it, "func", it), "id", "") != "glob" for it in ast.walk(node))
+    return not any(isinstance(it, UNSHOWN) and getattr(getattr(it, "func", it), "id", "") != "glob" for it in nodes_of(node))
 
 
 def top_level(file, tree, may_bind):
     """Has a file say what its statements bind. `may_bind` says whether an expression of the file may bind names, as a comprehension does."""
-    dicts = {}
+    dicts, left = {}, MOST_ATTRIBUTES
     for node in tree.body:
         file.statements.append(Statement(node.lineno, node.end_lineno, bound_by(node), isinstance(node, ast.FunctionDef)))
         match node:
@@ -539,7 +614,7 @@ def top_level(file, tree, may_bind):
                 file.defs[name] = Def(parameters, arguments.kwarg.arg if arguments.kwarg else "", defaults_of(arguments))
                 file.globals.add(name)
             case ast.Assign(targets=targets, value=value):
-                for part in (part for target in targets for part in ast.walk(target) if isinstance(part, ast.Name)):
+                for part in (part for target in targets for part in nodes_of(target) if isinstance(part, ast.Name)):
                     file.globals.add(part.id)
                     file.kinds[part.id] = kind_of(value)
                     if is_plain(value):
@@ -556,38 +631,67 @@ def top_level(file, tree, may_bind):
                     attributes = rule_attributes(value, dicts)
                     if attributes is not None:
                         file.made[part.id] = attributes
+                        left -= len(attributes)
+                        if left < 0:
+                            raise ValueError(f"its rules have more than {MOST_ATTRIBUTES:,} attributes")
                         if any(key.arg == "test" and getattr(key.value, "value", False) is True for key in value.keywords):
                             file.tests.add(part.id)
             case ast.Expr() if not may_bind:
                 pass
             case _:
-                for part in ast.walk(node):
-                    if isinstance(part, ast.Name) and isinstance(part.ctx, ast.Store):
-                        file.globals.add(part.id)
+                file.globals.update(part.id for part in nodes_of(node) if isinstance(part, ast.Name) and isinstance(part.ctx, ast.Store))
+
+
+def one_by_one(error):
+    """What stands for bytes that are no UTF-8: as many single ones, so that columns stay."""
+    return PLACEHOLDER * (error.end - error.start), error.end
+
+
+codecs.register_error("bzlq_one_by_one", one_by_one)
 
 
 def parsed(text):
-    """The tree of a text."""
+    """The tree of a text. What bq takes in comments and texts, and Python takes nowhere, has something of the same length in its place."""
+    decoded = text.decode("utf-8", "bzlq_one_by_one").replace("\x0c", " ").replace("\0", PLACEHOLDER)
+    if "\r" in decoded:
+        decoded = LONE_RETURN.sub(" ", decoded)
     with warnings.catch_warnings():
         warnings.simplefilter("ignore")
-        return ast.parse(text.decode("utf-8", "surrogateescape").replace("\x0c", " "))
+        return ast.parse(decoded)
+
+
+def has_odd_name(tree):
+    """Whether a name is none of Starlark's, which are ASCII."""
+    return any(isinstance(name, str) and not name.isascii() for node in ast.walk(tree) for name in map(vars(node).get, ("id", "arg", "attr", "name")))
 
 
 def read(path, text):
-    """What a file says."""
+    """What a file says. Whatever its bytes are, this ends: a file that can't be read here says why (`broken`), and nothing else."""
     name = path.rpartition("/")[2]
     labels = sorted(set(LABEL.findall(text))) if b"@" in text else []
     is_build = not name.endswith(".bzl")
     is_odd = is_build and bool(any(it in text for it in ODD) and ODD_PATTERN.search(text) or RELATIVE_LOAD.search(text))
     file = File(path, is_build, size=len(text), labels=labels, is_odd=is_odd)
     try:
-        fill(file, parsed(text), b":=" in text or bool(FOR.search(text)))
-    except (SyntaxError, ValueError) as error:
-        file.broken = f"{getattr(error, 'lineno', 0) or 0}: {getattr(error, 'msg', error)}"
-    except (RecursionError, MemoryError):
+        if is_build and len(text) > MAX_SIZE:
+            raise ValueError(f"it has more than {MAX_SIZE:,} bytes")
+        tree = parsed(text)
+        if not text.isascii() and has_odd_name(tree):
+            raise ValueError("a name isn't ASCII")
+        fill(file, tree, b":=" in text or bool(FOR.search(text)))
+    except Exception as error:  # (Python's parser has limits of its own; and no file is to end the reading of the others)
         # (what was read until then is no more sure than nothing)
-        file = File(path, file.is_build, "0: it nests too deep to be read here", size=len(text), labels=labels, is_odd=is_odd)
+        file = File(path, is_build, why_not(error), size=len(text), labels=labels, is_odd=is_odd)
     return file
+
+
+def why_not(error):
+    """The line, and why a file can't be read here."""
+    if isinstance(error, RecursionError | MemoryError):
+        return "0: it nests too deep to be read here"
+    if isinstance(error, SyntaxError | ValueError):
+        return f"{getattr(error, 'lineno', 0) or 0}: {getattr(error, 'msg', error)}"
+    return f"0: it can't be read here ({type(error).__name__}: {error})"
 
 
 def fill(file, tree, may_bind):
@@ -596,10 +700,12 @@ def fill(file, tree, may_bind):
     reader = Reader(file)
     for node in tree.body:
         reader.visit(node)
+    calls = defaultdict(list)
+    for call in file.calls:
+        calls[call.inside].append(call)
     for node in tree.body:
         if isinstance(node, ast.FunctionDef):
             keys = set_keys(node)
-            for call in file.calls:
-                if call.inside == node.name:
-                    for splat in call.splats:
-                        call.keywords = {**keys.get(splat, {}), **call.keywords}
+            for call in calls[node.name]:
+                for splat in call.splats:
+                    call.keywords = {**keys.get(splat, {}), **call.keywords}

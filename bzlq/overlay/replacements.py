@@ -24,6 +24,7 @@ REPLACED = (ast.Call, ast.Attribute, ast.BinOp)
 
 @dataclass
 class Replacement:
+    """What stands in the place of a node."""
     what: str  # as the report names it
     pieces: list  # texts, and nodes whose own texts stay
     wanted: str = ""  # what the places of the nodes take
@@ -38,10 +39,16 @@ def label_in(call):
             return None
 
 
-def labels_bound(function):
-    """The names that a function binds to calls of `Label`, and to nothing else."""
+# what may bind a name
+BINDING = (ast.Assign, ast.For, ast.comprehension, ast.AugAssign, ast.arg)
+
+
+def labels_bound(nodes):
+    """The names that the nodes of a function bind to calls of `Label`, and to nothing else."""
     found, others = set(), set()
-    for part in ast.walk(function):
+    for part in nodes:
+        if not isinstance(part, BINDING):
+            continue
         match part:
             case ast.Assign(targets=[ast.Name(id=name)], value=value) if label_in(value):
                 found.add(name)

@@ -1,18 +1,20 @@
 """The schema of an overlay: the rules that files call, each attribute with its type, and what the functions of `given` have to know of them."""
 import difflib
-import re
 from collections import Counter, defaultdict
 
 from bzlq.overlay.arguments import ATTRIBUTES
 from bzlq.overlay.definitions import RESERVED, rule_of
 from bzlq.overlay.guesses import BASE, COMMON, DICTS, FAMILIES, attributes_of, type_of
-from bzlq.overlay.reading import BUILD_FUNCTIONS, BUILT_INS
+from bzlq.overlay.reading import BUILD_FUNCTIONS, BUILT_INS, IDENTIFIER
 from bzlq.overlay.rule_sets import BAZEL, CLOSED, DICTS_OF, LATER, MANDATORY, OF_BAZEL, TESTS, TEST_TYPES, TYPES
 
 # how near a name is to one that it may have been meant for: `sources` to `srcs` is
 NEAR = 0.72
 STANDARD = ("alias", "filegroup", "genrule", "test_suite")
-IDENTIFIER = re.compile(r"[A-Za-z_]\w*")
+# what no attribute may be called
+NO_ATTRIBUTES = RESERVED - BUILD_FUNCTIONS - BUILT_INS
+# of how many attributes of a rule it is looked whether they are misspelt: no rule has so many
+MOST_ATTRIBUTES = 1000
 
 
 class Schema:
@@ -33,17 +35,20 @@ class Schema:
         self.given.setdefault(rule, defaultdict(Counter))
 
     def find_types(self):
+        """Finds the type of each attribute of each rule."""
         everywhere = defaultdict(Counter)
         for given in self.given.values():
             for keyword, kinds in given.items():
                 everywhere[keyword].update(kinds)
         for rule, given in sorted(self.given.items()):
             self.types[rule] = dict(ATTRIBUTES)
-            for name in attributes_of(rule, {**given, **self.said[rule], **(TEST_TYPES if rule in self.tests else {})}):
-                if IDENTIFIER.fullmatch(name) and name not in RESERVED - BUILD_FUNCTIONS - BUILT_INS and not self.is_misspelt(rule, name):
+            names = attributes_of(rule, {**given, **self.said[rule], **(TEST_TYPES if rule in self.tests else {})})
+            for name in names:
+                if IDENTIFIER.fullmatch(name) and name not in NO_ATTRIBUTES and not (len(names) <= MOST_ATTRIBUTES and self.is_misspelt(rule, name)):
                     self.types[rule].setdefault(name, self.type_of(rule, name, everywhere))
 
     def type_of(self, rule, name, everywhere):
+        """The type of an attribute of a rule."""
         given = self.given[rule]
         kind, source = type_of(name, given.get(name, Counter()), everywhere, rule)
         said = self.said[rule].get(name) or rule in self.tests and TEST_TYPES.get(name) or rule in BAZEL and TYPES.get(rule, {}).get(name)

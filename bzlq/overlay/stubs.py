@@ -20,16 +20,22 @@ import re
 import sys
 from collections import Counter, defaultdict
 
+from bzlq.cli import process
 from bzlq.overlay.analysis import Facts, Workspace
 from bzlq.overlay.arguments import LABEL as GIVEN, given_files
 from bzlq.overlay.copies import copies
 from bzlq.overlay.definitions import definition
 from bzlq.overlay.extra_targets import further_targets, text_of
 from bzlq.overlay.macro_warnings import silences, warnings
-from bzlq.overlay.schema import IDENTIFIER, schema_of
-from bzlq.workspace.files import SCHEMA, Unreadable, files, is_path, likely_root, refused
+from bzlq.overlay.reading import IDENTIFIER
+from bzlq.overlay.schema import schema_of
+from bzlq.workspace.bundle import MOST_MODULES
+from bzlq.workspace.files import SCHEMA, Refused, files, is_path, likely_root
 
-MAX_MODULES = 16384
+# how long the lines of a stub may be together, so that it isn't too long for bq
+MOST_OF_FILE = 900_000
+# how long a label's package and name may be for which a target is made: no file has a longer path
+LONGEST = 4096
 MARK = "# A stub that tools/stubs wrote.\n"
 USES_GIVEN = f'load("{GIVEN}", "bzlq_given")\n'
 COPIED = b"# A copy that tools/stubs made.\n"
@@ -57,31 +63,62 @@ def stub_files(facts):
             text = f'load("@//{package}:{name}"{clauses})\n' + "".join(f"{symbol} = _{symbol}\n" for symbol, _ in known)
         else:
             place = (repository, package, name)
-            lines = [definition(repository, symbol, stub, facts.lost_of(place, symbol)) + text_of(facts.further.get((place, symbol))) for symbol, stub in known]
-            text = "\n".join(line.replace("): ", "):\n    ", 1) + "\n" for line in lines)
+            lines = {symbol: definition(repository, symbol, stub, facts.lost_of(place, symbol)) + text_of(facts.further.get((place, symbol))) for symbol, stub in known}
+            text = "\n".join(line.replace("): ", "):\n    ", 1) + "\n" for line in fitting(lines, lambda symbol: facts.loaders[place, symbol]))
             text = USES_GIVEN + text if "bzlq_given(" in text else text
         found[path] = MARK + text, directory
     return found
 
 
+def fitting(lines, weight):
+    """The lines by these names that a file has room for: where there are too many, those of most weight, in the order in which they stand."""
+    if sum(map(len, lines.values())) <= MOST_OF_FILE:
+        return list(lines.values())
+    kept, left = set(), MOST_OF_FILE
+    for name in sorted(lines, key=lambda it: (-weight(it), it)):
+        left -= len(lines[name]) + 8
+        if left > 0:
+            kept.add(name)
+    return [line for name, line in lines.items() if name in kept]
+
+
 DANGLING = re.compile(rb" F79 DanglingLabel @([\w.+~-]+)//([^:\n]*):([^\n]+)$", re.M)
+
+
+def decoded(parts):
+    """The parts of a label as texts; without a name it has that of its package."""
+    repository, package, name = (it.decode("ascii", "replace") for it in parts)
+    return repository, package, name or package.rpartition("/")[2] or repository
+
+
+def labels_written(facts):
+    """The labels of other repositories that stand in the texts of the workspace's files."""
+    return {decoded(label) for path in facts.reached if not path.startswith("external/") for label in facts.workspace.files[path].labels}
 
 
 def named_targets(facts, faults):
     """The labels of repositories that aren't there which the BUILD files, what they load and these fault lines name, by their packages."""
     found = defaultdict(set)
-    named = {label for path in facts.reached if not path.startswith("external/") for label in facts.workspace.files[path].labels}
-    for repository, package, name in named | set(DANGLING.findall(faults)):
-        repository, package = repository.decode(), package.decode("ascii", "replace")
-        name = name.decode("ascii", "replace") or package.rpartition("/")[2] or repository
-        is_valid = is_path(name) and (not package or is_path(package)) and not name.endswith(".bzl") and name not in ("__pkg__", "__subpackages__")
-        if is_valid and repository not in facts.workspace.repositories:
+    for repository, package, name in labels_written(facts) | set(map(decoded, DANGLING.findall(faults))):
+        is_valid = len(package) + len(name) <= LONGEST and is_path(name) and is_path(f"external/{repository}/{package}".rstrip("/"))
+        is_target = not name.endswith(".bzl") and name not in ("__pkg__", "__subpackages__")
+        if is_valid and is_target and repository not in facts.workspace.repositories:
             found[repository, package].add(name)
     return found
 
 
-def build_files(workspace, targets, bzl_files, room):
-    """BUILD files for stubs and for labels that are named, as far as there is room for modules."""
+def is_below(path, directory, packages):
+    """Whether a path lies in a package below this directory."""
+    above = os.path.dirname(path)
+    while len(above) > len(directory):
+        if above in packages:
+            return True
+        above = os.path.dirname(above)
+    return False
+
+
+def build_files(workspace, targets, bzl_files, room, written):
+    """BUILD files for stubs and for labels that are named, as far as there is room for modules. `written` are the labels that stand in texts."""
     packages = {directory: set() for _, directory in bzl_files.values() if directory not in workspace.directories}
     for (repository, package), names in sorted(targets.items()):
         directory = f"external/{repository}/{package}".rstrip("/")
@@ -89,46 +126,46 @@ def build_files(workspace, targets, bzl_files, room):
             packages.setdefault(directory, set()).update(names)
     found = {}
     for directory, names in packages.items():
-        text = MARK
+        repository = workspace.repository_of(f"{directory}/BUILD")
+        package, lines = directory.removeprefix(f"external/{repository}").lstrip("/"), {}
         for name in sorted(names):
-            inside = any(f"{directory}/{name}".startswith(other + "/") for other in packages if other != directory and other.startswith(directory + "/"))
-            if inside or f"{directory}/{name}" in bzl_files or name in ("BUILD", "BUILD.bazel"):
+            if is_below(f"{directory}/{name}", directory, packages) or f"{directory}/{name}" in bzl_files or name in ("BUILD", "BUILD.bazel"):
                 continue
-            own = directory.split("/")[1] == workspace.name
-            package = "/".join(directory.split("/")[2:])
-            text += f'alias(name = "{name}", actual = "@//{package}:{name}")\n' if own else f'filegroup(name = "{name}")\n'
-        found[f"{directory}/BUILD"] = text
+            is_own = repository == workspace.name
+            lines[name] = f'alias(name = "{name}", actual = "@//{package}:{name}")\n' if is_own else f'filegroup(name = "{name}")\n'
+        # (those that a text names go before those that a macro makes up)
+        found[f"{directory}/BUILD"] = MARK + "".join(fitting(lines, lambda name: (repository, package, name) in written))
     return found
 
 
 def report(facts, overlay, is_all):
-    """Says what is in an overlay."""
+    """What is in an overlay, as lines."""
     schema, written, stubs, copied = overlay.schema, overlay.files, overlay.bzl_files, overlay.copied
     rules = len(schema.given)
     attributes = sum(len(given) for given in schema.given.values())
     repositories = sorted({path.split("/")[1] for path in written if path.startswith("external/")})
     names = repositories if is_all else [*repositories[:SHOWN], ".."] if len(repositories) > SHOWN else repositories
-    print(f"schema: {rules} rules, {attributes} attributes that the files give them")
-    print(f"stubs: {len(repositories)} repositories, {len(stubs)} .bzl files: {' '.join(names)}")
+    yield f"schema: {rules} rules, {attributes} attributes that the files give them"
+    yield f"stubs: {len(repositories)} repositories, {len(stubs)} .bzl files: {' '.join(names)}"
     paths, counts = sorted(copied), sum((counts for _, counts in copied.values()), Counter())
-    print(f"copies: {len(paths)} files of the tree with something else in place of " + (", ".join(f"{what} ({n})" for what, n in counts.most_common()) or "nothing"))
+    yield f"copies: {len(paths)} files of the tree with something else in place of " + (", ".join(f"{what} ({n})" for what, n in counts.most_common()) or "nothing")
     sources = Counter(source for *_, source in schema.guesses)
-    print("types guessed not by name: " + (", ".join(f"{count} by {source}" for source, count in sources.most_common()) or "none"))
+    yield "types guessed not by name: " + (", ".join(f"{count} by {source}" for source, count in sources.most_common()) or "none")
     if is_all:
-        print(*(f"  {path}" for path in paths), sep="\n")
-        for rule, name, kind, source in schema.guesses:
-            print(f"  {rule}.{name} {kind} (by {source})")
+        yield from (f"  {path}" for path in paths)
+        yield from (f"  {rule}.{name} {kind} (by {source})" for rule, name, kind, source in schema.guesses)
     if schema.dicts:
-        print("given a dict, which no type of a schema takes (copies give None): " + ", ".join(f"{rule}.{name}" for rule, name in schema.dicts))
+        yield "given a dict, which no type of a schema takes (copies give None): " + ", ".join(f"{rule}.{name}" for rule, name in schema.dicts)
     left = sorted(facts.left_out.items(), key=lambda it: -len(it[1]))
     for what, places in left if is_all else left[:SHOWN]:
         shown = places if is_all else places[:2]
-        print(f"can't: {what}: {len(places)} places, {', '.join(shown)}{', ..' if len(shown) < len(places) else ''}")
+        yield f"can't: {what}: {len(places)} places, {', '.join(shown)}{', ..' if len(shown) < len(places) else ''}"
     if len(left) > SHOWN and not is_all:
-        print(f"can't: {len(left) - SHOWN} more (--all prints them)")
+        yield f"can't: {len(left) - SHOWN} more (--all prints them)"
 
 
 def write(overlay, path, text):
+    """Writes a file of the overlay."""
     place = os.path.join(overlay, path)
     os.makedirs(os.path.dirname(place), exist_ok=True)
     with open(place, "wb") as file:
@@ -153,6 +190,7 @@ def marked(facts, path, text):
 
 
 def words_of():
+    """The words of a call."""
     parser = argparse.ArgumentParser(description=__doc__, formatter_class=argparse.RawDescriptionHelpFormatter)
     parser.add_argument("tree", metavar="TREE")
     parser.add_argument("overlay", metavar="OVERLAY")
@@ -163,6 +201,7 @@ def words_of():
 
 
 def read_faults(path):
+    """The bytes of a file of fault lines."""
     with open(path, "rb") as file:
         return file.read()
 
@@ -178,9 +217,9 @@ class Overlay:
         self.copied = {}
         if copied is None:
             self.copied = copied_again(facts, {place[1] for place, _ in (*before, *facts.further) if place[0] is None})
-        room = MAX_MODULES - len(facts.reached) - len(self.bzl_files)
+        room = MOST_MODULES - len(facts.reached) - len(self.bzl_files)
         texts = {SCHEMA: self.schema.text(), **{path: text for path, (text, _) in self.bzl_files.items()}}
-        texts |= build_files(facts.workspace, named_targets(facts, faults), self.bzl_files, room)
+        texts |= build_files(facts.workspace, named_targets(facts, faults), self.bzl_files, room, labels_written(facts))
         self.files = {path: text.encode() for path, text in texts.items()}
         self.files |= {path: marked(facts, path, text) for path, (text, _) in self.copied.items()} if copied is None else copied
         if any(GIVEN.encode() in text for path, text in self.files.items() if path != SCHEMA):
@@ -193,7 +232,7 @@ class Overlay:
             for path, text in self.files.items():
                 write(folder, path, text)
         except OSError as error:
-            refused(f"stubs: the overlay can't be written: {error.filename}: {error.strerror}")
+            raise Refused(f"the overlay can't be written: {error.filename}: {error.strerror}") from error
 
 
 def copied_again(facts, paths):
@@ -205,33 +244,33 @@ def copied_again(facts, paths):
     return facts.copies
 
 
-def make(tree, facts, overlay, faults, is_all):
-    """Writes the overlay, and says what is in it; gives the directory that looks like the root, and the functions whose calls declare nothing."""
-    found = Overlay(facts, faults)
-    found.write(overlay)
-    report(facts, found, is_all)
-    return likely_root(facts.workspace.paths), silences(facts)
-
-
-def told(tree, root, found, is_all):
-    """What may be wrong with what was made."""
+def told(tree, root, found, unread, left, is_all):
+    """What may be wrong with what was made. `unread` are the files that are taken as they are; `left` says for how many labels there are no targets,
+    though a macro may declare them."""
     if root:
         yield f"{tree} has no WORKSPACE or MODULE.bazel, and {root} has one: is that the root?"
     yield from warnings(found, is_all)
+    if left:
+        yield f"{left} labels more may name targets of macros that aren't there: they lead to files, or to nothing"
+    yield from (f"{it.path} is taken as it is, since it isn't read here: {it.broken.partition(': ')[2]}" for it in unread)
+
+
+def stubs(words):
+    """Writes the overlay, and says what is in it; gives the status."""
+    tree, folder = os.path.realpath(words.tree), os.path.realpath(words.overlay)
+    if folder == tree or folder.startswith(tree + "/"):
+        raise Refused("the overlay must lie outside the tree: nothing is written into it")
+    facts = Facts(Workspace(tree))
+    overlay = Overlay(facts, read_faults(words.faults) if words.faults else b"")
+    overlay.write(folder)
+    silent = silences(facts)
+    process.write(report(facts, overlay, words.all), sys.stdout)
+    said = told(words.tree, likely_root(facts.workspace.paths), silent, facts.unread(), facts.further_left, words.all)
+    process.write([f"stubs: WARNING: {line}" for line in said], sys.stderr)
+    return 3 if silent and words.strict else 0
 
 
 def main():
+    """Reads the words of a call, and runs it."""
     words = words_of()
-    tree, overlay = os.path.realpath(words.tree), os.path.realpath(words.overlay)
-    if overlay == tree or overlay.startswith(tree + "/"):
-        refused("stubs: the overlay must lie outside the tree: nothing is written into it")
-    try:
-        root, found = make(tree, Facts(Workspace(tree)), overlay, read_faults(words.faults) if words.faults else b"", words.all)
-    except Unreadable as error:
-        refused(f"stubs: {error}")
-    except OSError as error:
-        refused(f"stubs: {error.filename}: {error.strerror}")
-    sys.stdout.flush()
-    for line in told(words.tree, root, found, words.all):
-        print(f"stubs: WARNING: {line}", file=sys.stderr)
-    sys.exit(3 if found and words.strict else 0)
+    return process.ended(lambda _: stubs(words), "stubs")

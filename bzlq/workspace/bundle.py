@@ -1,15 +1,17 @@
 """The bundle of a workspace: takes the folders, of which the last one that has a file of a path counts; writes one text with the names of all
 files, and the bytes of BUILD files, .bzl files and the schema."""
-import os
 import posixpath
-import subprocess
 from collections import Counter
 
-from bzlq.workspace.files import Refused, content, files, has_content
+from bzlq.workspace.files import MAX_BYTES, Refused, content, files, has_content
 
-# how many files bq reads
-MOST_FILES = 65536
-# how many directories are named where there are more
+# how many files bq reads without --large, of these BUILD and loaded .bzl files, loads in them, and bytes in a bundle
+FILES, MODULES, LOADS, BYTES = 65_536, 16_384, 262_144, 1 << 30
+# how many files it reads with --large, and of these BUILD and loaded .bzl files
+MOST_FILES, MOST_MODULES = 16_777_216, 4_194_304
+# the least that a bundle has in bytes for each module but one
+MODULE = len("=== a/BUILD\n")
+# how many directories are named where there are too many files
 SHOWN = 3
 
 
@@ -42,14 +44,34 @@ def write_bundle(found, out, content=content):
     """Writes the bundle of these paths; gives the paths that can't be in one. `content` gives the bytes of a file of a folder."""
     if len(found) > MOST_FILES:
         raise TooMany(f"{len(found):,} files, and bq reads {MOST_FILES:,}: name directories in .bazelignore (most are in {largest(found)})")
-    left_out = []
+    left_out, left = [], MAX_BYTES
     for path, folder in sorted(found.items()):
         text = content(folder, path) if has_content(path) else b""
         if has_header(text):
             left_out.append(path)
-        else:
-            out.write(written(path, text))
+            continue
+        part = written(path, text)
+        left -= len(part)
+        if left < 0:
+            raise TooMany(f"the BUILD and .bzl files have more bytes than the {MAX_BYTES:,} that bq reads: name directories in .bazelignore")
+        out.write(part)
     return left_out
+
+
+def is_large(text):
+    """Whether bq may read this bundle with --large alone, which changes nothing for others: the numbers are those of files, of BUILD and .bzl files
+    or of words `load` in it, so some are counted that are no modules, or no loads."""
+    if len(text) < MODULES * MODULE:
+        return False
+    # (the first header has no line before it)
+    return (len(text) > BYTES or text.count(b"\n=== ") >= FILES or text.count(b"load") > LOADS
+            or sum(text.count(it) for it in (b"BUILD\n", b"BUILD.bazel\n", b".bzl\n")) > MODULES)
+
+
+def is_large_at(path):
+    """The same of the file of a bundle."""
+    with open(path, "rb") as file:
+        return is_large(file.read())
 
 
 def largest(paths):
@@ -80,39 +102,6 @@ def in_packages(found):
     return {path: folder for path, folder in found.items() if has_content(path) or is_owned(posixpath.dirname(path))}
 
 
-def ignored_by_git(root):
-    """The files that git ignores in a folder, and the directories, which end in a slash; none where there is no git."""
-    words = ["git", "-C", root, "ls-files", "--others", "--ignored", "--exclude-standard", "--directory", "-z"]
-    try:
-        ended = subprocess.run(words, capture_output=True, check=False, env={**os.environ, "GIT_OPTIONAL_LOCKS": "0"})
-    except OSError:
-        return []
-    return [it for it in ended.stdout.decode("utf-8", "replace").split("\0") if it] if ended.returncode == 0 else []
-
-
-def without_ignored(found, root):
-    """Those of these paths that git doesn't ignore."""
-    listed = ignored_by_git(root)
-    names = {it for it in listed if not it.endswith("/")}
-    directories = {it.rstrip("/") for it in listed if it.endswith("/")}
-
-    def is_kept(path):
-        while path:
-            if path in names or path in directories:
-                return False
-            path = posixpath.dirname(path)
-        return True
-
-    return {path: folder for path, folder in found.items() if is_kept(path)} if listed else found
-
-
-def fewer(found, root):
-    """The paths that count where there are more than bq reads: those in no package, which nothing can name, are left out, and then those that
-    git ignores, which is said."""
-    count = len(found)
-    if count <= MOST_FILES:
-        return found, []
-    owned = in_packages(found)
-    left = without_ignored(owned, root) if len(owned) > MOST_FILES else owned
-    ignored = len(owned) - len(left)
-    return left, [f"{ignored:,} files that git ignores are left out, since there are {count:,}, and bq reads {MOST_FILES:,}"] if ignored else []
+def fewer(found):
+    """The paths that count where there are more than bq reads without --large: those in no package, which nothing can name, are left out."""
+    return in_packages(found) if len(found) > FILES else found

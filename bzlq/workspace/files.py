@@ -1,4 +1,5 @@
 """The files of a workspace: of a directory, as `bq --dir` finds them (docs/FORMATS.md, "The directory"), or of the file of a bundle."""
+import errno
 import functools
 import os
 import re
@@ -8,6 +9,11 @@ import sys
 SCHEMA = "rules.schema"
 # how many directories are read; one that links lead to is read once for each way to it
 MAX_DIRECTORIES = 1_048_576
+# how many bytes bq looks at of a file (F8), and how many of a .bzl file are read: a copy of one without its dicts may be short enough
+MAX_SIZE = 1_048_576
+MOST_READ = 4 * MAX_SIZE
+# how many bytes bq takes of all files together, and of a file whose lines are all read
+MAX_BYTES = 1_073_741_824
 ROOT_FILES = ("MODULE.bazel", "REPO.bazel", "WORKSPACE", "WORKSPACE.bazel")
 VALID = re.compile(r"[ -9;-\[\]-~]+")
 # a part that is empty, `.` or `..`
@@ -48,10 +54,35 @@ def has_content(path):
     return path == SCHEMA or name in ("BUILD", "BUILD.bazel") or name.endswith(".bzl")
 
 
+def open_regular(place):
+    """Opens a file for reading; nothing else that has a name there, such as a pipe, at which reading would wait."""
+    file = open(place, "rb", opener=lambda name, flags: os.open(name, flags | os.O_NONBLOCK))
+    if not stat.S_ISREG(os.fstat(file.fileno()).st_mode):
+        file.close()
+        raise OSError(errno.EINVAL, "it is no regular file", place)
+    return file
+
+
+def counted_bytes(file, path):
+    """The bytes of an open file that count: those of the schema, and of another as many as tell that it is too long."""
+    if path == SCHEMA:
+        return file.read(MAX_BYTES)
+    text = file.read(MOST_READ + 1)
+    return text[:MAX_SIZE + 1] if len(text) > (MOST_READ if path.endswith(".bzl") else MAX_SIZE) else text
+
+
+def read_file(root, path):
+    """The bytes of a file of a directory that count."""
+    with open_regular(os.path.join(root, path)) as file:
+        return counted_bytes(file, path)
+
+
 def ignored(root):
     """The directories that `.bazelignore` at the root names."""
     try:
-        with open(os.path.join(root, ".bazelignore"), "rb") as file:
+        with open_regular(os.path.join(root, ".bazelignore")) as file:
+            if os.fstat(file.fileno()).st_size > MAX_BYTES:
+                raise Unreadable(f".bazelignore has more than {MAX_BYTES:,} bytes")
             text = file.read()
     except (FileNotFoundError, NotADirectoryError, IsADirectoryError):
         return set()
@@ -69,6 +100,7 @@ def ignored_in(text):
 
 
 def name_of(entry):
+    """The name of an entry of a directory as a text."""
     if entry.isascii():
         return entry
     try:
@@ -105,6 +137,7 @@ def parts(path):
 
 @functools.lru_cache(maxsize=4)
 def parts_then(path, *_):
+    """The same, kept as long as what is told of the file stays the same."""
     try:
         with open(path, "rb") as file:
             found = re.split(rb"^=== ([^\n]*)\n", file.read(), flags=re.M)
@@ -160,8 +193,7 @@ def content(root, path):
     if os.path.isfile(root):
         return parts(root)[path]
     try:
-        with open(os.path.join(root, path), "rb") as file:
-            return file.read()
+        return read_file(root, path)
     except OSError as error:
         if path != SCHEMA and has_content(path):
             return unreadable(path, error.strerror)

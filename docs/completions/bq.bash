@@ -24,7 +24,7 @@ _bq() {
             mapfile -t COMPREPLY < <(compgen -W '1000000 10000000 100000000 1000000000' -- "$word")
             ;;
         *)
-            mapfile -t COMPREPLY < <(compgen -W '--jobs --output --max-steps --dir --bundle --queries --facts --explain --help --version' -- "$word")
+            mapfile -t COMPREPLY < <(compgen -W '--jobs --output --max-steps --large --dir --bundle --queries --facts --explain --help --version' -- "$word")
             ;;
     esac
 }

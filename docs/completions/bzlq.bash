@@ -46,7 +46,7 @@ _bzlq() {
     esac
     case $word in
         -*)
-            mapfile -t COMPREPLY < <(compgen -W '--jobs --output --max-steps --facts --queries --explain --bundle-path --all --strict --program --raw --clean --version --help' -- "$word")
+            mapfile -t COMPREPLY < <(compgen -W '--jobs --output --max-steps --large --facts --queries --explain --bundle-path --all --strict --program --raw --clean --version --help' -- "$word")
             return
             ;;
     esac

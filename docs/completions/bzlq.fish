@@ -32,6 +32,7 @@ complete -c bzlq -n __fish_use_subcommand -a hints -d 'says of fault lines where
 complete -c bzlq -l jobs -x -a '1 2 4 8 16 32 64 128 256' -d 'Number of workers that load modules, 1 to 256'
 complete -c bzlq -l output -x -a 'label label_kind package location graph jsonl' -d 'Form of the answer'
 complete -c bzlq -l max-steps -x -d 'Step limit for evaluating one module'
+complete -c bzlq -l large -d 'Allow more than 65536 files and 16384 modules, which is found out otherwise'
 complete -c bzlq -l facts -d 'JSON instead of labels'
 complete -c bzlq -l queries -r -F -d 'Answer the queries of a file, one a line'
 complete -c bzlq -l bundle-path -d 'Say which file the bundle is'

@@ -3,6 +3,7 @@ import contextlib
 import importlib
 import io
 import os
+import pty
 import re
 import shlex
 import shutil
@@ -59,11 +60,29 @@ class Bench:
                 file.seek(0)
             return *(it.read().decode(errors="surrogateescape") for it in files[1:]), status
 
+    def on_terminal(self, words, folder="", given=b""):
+        """What bzlq writes to a terminal, which is its input and both of its outputs; what is given is typed there."""
+        terminal, other = pty.openpty()
+        child = os.fork()
+        if not child:
+            os.close(terminal)
+            self.call(words, f"{self.room}/{folder}", [open(other, "r+b", buffering=0, closefd=False)] * 3)
+        os.close(other)
+        if given:
+            os.write(terminal, given)
+        found = b""
+        with contextlib.suppress(OSError):  # (the other end has closed)
+            while part := os.read(terminal, 1 << 16):
+                found += part
+        os.close(terminal)
+        return found, os.waitstatus_to_exitcode(os.waitpid(child, 0)[1])
+
     def call(self, words, folder, files):
         """Calls bzlq with these files for its input and its outputs, and ends the process."""
         status = 1
         try:
-            files[0].seek(0)
+            with contextlib.suppress(OSError):
+                files[0].seek(0)
             for number, file in enumerate(files):
                 os.dup2(file.fileno(), number)
             sys.stdin = open(0, encoding="utf-8", errors="surrogateescape", closefd=False)

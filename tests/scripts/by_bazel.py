@@ -3,13 +3,9 @@ XML of its own query `//...:*` alone. It runs in a copy with an empty WORKSPACE,
 BUILD files load stands for their repositories. Where it refuses a revision, it says nothing of a change to it or from it."""
 import os
 import subprocess
-import xml.etree.ElementTree as ElementTree
-from collections import defaultdict
 
+from bzlq.diff.by_bazel import concerned, targets_of
 from histories import GIT, bytes_at
-
-# what an attribute says of places alone
-PLACES = ("generator_location",)
 
 
 class Bazel:
@@ -44,31 +40,11 @@ class Bazel:
         ended = subprocess.run([*self.command, "query", *self.words, "//...:*"], cwd=self.tree, capture_output=True, check=False)
         if ended.returncode:
             return None
-        # (Python reads XML of version 1.0 alone)
-        return {it.get("name"): self.target(it) for it in ElementTree.fromstring(ended.stdout.partition(b"?>")[2])}
-
-    def target(self, element):
-        """What a target is, what it says, and what it depends on."""
-        if element.tag == "source-file":
-            return "", bytes_at(self.tree, element.get("name")[2:].replace(":", "/", 1).lstrip("/")), ()
-        said = [ElementTree.tostring(it).strip() for it in element if it.get("name") not in PLACES]
-        inputs = [it.get("name") for it in element if it.tag == "rule-input"] + [element.get("generating-rule")]
-        return element.get("class"), said, tuple(it for it in inputs if it)
+        return targets_of(ended.stdout, lambda path: bytes_at(self.tree, path))
 
     def concerned(self):
         """The rules and source files that the last commit concerns; None where Bazel can't say."""
         before, self.before = self.before, self.targets()
         if before is None or self.before is None:
             return None
-        now, users, found = self.before, defaultdict(list), set()
-        for label, (_, _, inputs) in now.items():
-            for it in inputs:
-                users[it].append(label)
-        pending = [label for label, it in now.items() if before.get(label) != it or any(other in before and other not in now for other in it[2])]
-        while pending:
-            label = pending.pop()
-            if label not in found:
-                found.add(label)
-                pending += users[label]
-        # (what a rule writes isn't asked for: bq knows fewer of Bazel's implicit outputs)
-        return {label for label in found if now[label][0] is not None}
+        return concerned(before, self.before)

@@ -89,7 +89,7 @@ def answers(bench):
             bench.compare("bq.py, a long query", outcome(lambda: workspace.query("x" * (2**20 + 1))), "QueryError: Q1 Syntax")
             bench.compare("bq.py, after all these", workspace.query("//log:log.c"), ["//log:log.c"])
             bench.compare("bq.py, no faults", (workspace.printed, workspace.faults), ([], []))
-    with Workspace(f"{ROOT}/examples/macros", program=bench.program, output="label_kind", jobs=1, max_steps=1000) as workspace:
+    with Workspace(f"{ROOT}/examples/macros", program=bench.program, output="label_kind", jobs=1, max_steps=1000, large=True) as workspace:
         bench.compare("bq.py, kinds", workspace.query("//log:log.c"), ["source file //log:log.c"])
 
 
@@ -177,6 +177,7 @@ def slow_workspace(bench):
 
 
 def wait_until_asked(slow):
+    """Waits until a slow program was asked."""
     while not os.path.exists(f"{slow.program}.asked"):
         time.sleep(0.01)
 

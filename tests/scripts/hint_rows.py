@@ -129,7 +129,7 @@ ROWS = {
     "E1": ['bq: E1 Memory: the system refused memory: give the process more, or leave directories out by .bazelignore'],
     "E2": ["bq: E2 Read: a file or directory of the workspace can't be read"],
     "E3": ['bq: E3 Write: the answer could not be written: the disk is full, or the reader of the pipe has ended'],
-    "E4": ['bq: E4 Bundle: standard input is no bundle: bzlq bundle TREE writes one, and --dir TREE reads a directory'],
+    "E4": ['bq: E4 Bundle: standard input is no bundle (bzlq bundle TREE writes one, and --dir TREE reads a directory), or there are more than 65,536 files: add --large'],
     "E6": ["bq: E6 Schema: rules.schema:1: 'attr' comes before any 'rule'"],
-    "E7": ['bq: E7 TooManyModules: more than 16,384 BUILD and .bzl files, or 262,144 loads: leave directories out by .bazelignore'],
+    "E7": ['bq: E7 TooManyModules: more than 16,384 BUILD and .bzl files, or 262,144 loads: add --large, or leave directories out by .bazelignore'],
 }

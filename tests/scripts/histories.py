@@ -72,6 +72,7 @@ class Project:
         os.remove(os.path.join(self.folder, path))
 
     def link(self, path, to):
+        """Puts a link in the place of a file."""
         if os.path.lexists(f"{self.folder}/{path}"):
             os.remove(f"{self.folder}/{path}")
         os.symlink(to, f"{self.folder}/{path}")

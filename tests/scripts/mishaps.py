@@ -1,35 +1,94 @@
-"""Tries bzlq and the scripts where something is odd: more files than bq reads, signals, devices that are full, caches that
+"""Tries bzlq and the scripts where something is odd: more files and modules than bq reads without --large, signals, devices that are full, caches that
 others may write to, workspaces that are gone, and no home folder."""
 import contextlib
 import os
+import re
 import shutil
 import signal
 import subprocess
 import time
+from unittest import mock
 
 from bench import ROOT
+from bzlq.bq import LARGE, BqError, Workspace, facts
+from bzlq.workspace import bundle
 
 BUILD = 'filegroup(name = "x", srcs = glob(["*/*.txt"]))\n'
 # directories of 1,000 files each, by links to one
 LINKS = 66
+# bundles at the limits without --large, and one past each
+AT_LIMITS = (
+    (b"=== a\n" * 65_536, b"=== a\n"),
+    (b"=== a/BUILD.bazel\n" * 8192 + b"=== a/f.bzl\n" * 8191 + b"=== BUILD\n", b"=== a/BUILD\n"),
+    (b"=== BUILD\n" + b'load(":f.bzl")\n' * 262_144, b'load(":f.bzl")\n'),
+)
 
 
-def too_many(bench):
-    """More files than bq reads: what no package has goes first, then what git ignores, which is said; else how many there are, and where."""
+def many_files(bench):
+    """More files than bq reads without --large, which bzlq then gives it; those that no package has are left out."""
     bench.lay_out("many", {"WORKSPACE": "", "BUILD": BUILD, "a/BUILD": 'filegroup(name = "a")\n'})
     bench.lay_out("thousand", {f"{n}.txt": "" for n in range(1000)})
     for n in range(LINKS):
         os.symlink("../thousand", f"{bench.room}/many/l{n}")
-    said = "{} files, and bq reads 65,536: name directories in .bazelignore (most are in l0 (1,000), l1 (1,000), l10 (1,000))\n"
-    bench.compare("too many files", bench.run("bzlq //a", "many"), ("", f"bzlq: reading the workspace\nbzlq: {said.format('66,004')}", 2))
-    bench.compare("a bundle of too many files", bench.run("bzlq bundle many")[1:], (f"bundle: {said.format('66,003')}", 2))
-    bench.run("git init -q; echo 'l?' > .gitignore", "many")
-    warning = "bzlq: targets may be missing: 10,000 files that git ignores are left out, since there are 66,005, and bq reads 65,536\n"
+    bench.compare("many files", bench.run("bzlq //a", "many"), ("//a:a\n", "bzlq: reading the workspace\n", 0))
     found = bench.run("bzlq 'deps(//:x)'", "many")
-    bench.compare("those that git ignores", (found[0].count("\n"), found[1:]), (56_001, ("bzlq: reading the workspace\n" + warning, 3)))
-    bench.compare("those that git ignores, again", bench.run("bzlq //a", "many"), ("//a:a\n", warning, 3))
-    bench.run("rm -rf .git BUILD", "many")
+    bench.compare("all of them", (found[0].count("\n"), found[1:]), (66_001, ("", 0)))
+    bench.compare("their facts", bench.run("bzlq facts //a", "many")[0].count("\n"), 3)
+    bench.run("touch l0/1000.txt", "many")
+    bench.compare("a path to one that has come", bench.run("bzlq why //:x //:l1/1000.txt", "many"), ("BUILD:1: //:x -> //:l1/1000.txt (srcs)\n", "", 0))
+    bench.compare("its bundle's path", bench.run("bzlq --bundle-path", "many")[1:], (f"bzlq: {LARGE}\n", 0))
+    bench.compare("its bundle", bench.run("bzlq bundle > ../many.bundle; bzlq bundle . > ../own.bundle", "many")[1:], (f"bzlq: {LARGE}\nbundle: {LARGE}\n", 0))
+    for words in ("--bundle many.bundle", "--bundle own.bundle", "--dir many"):
+        bench.compare(f"bq {words}", bench.run(f"bq {words} //a"), ("", "bq: E4 Bundle\n", 2))
+        bench.compare(f"bq {words} --large", bench.run(f"bq {words} --large //a"), ("//a:a\n", "", 0))
+    bench.compare("bzlq unused --bundle", bench.run("bzlq unused --bundle own.bundle //a"), ("", "unused: E4 Bundle\n", 2))
+    bench.compare("bzlq unused --bundle --large", bench.run("bzlq unused --bundle own.bundle --large //a"), ("a/BUILD:1: //a:a (filegroup rule)\n", "", 0))
+    in_programs(bench)
+    with mock.patch.object(bundle, "MOST_FILES", 66_000):
+        try:
+            bundle.write_bundle(bundle.merged([f"{bench.room}/many"]), None)
+            said = ""
+        except bundle.TooMany as error:
+            said = f"{error}"
+    bench.compare("more than the most", said, "66,069 files, and bq reads 66,000: name directories in .bazelignore (most are in l0 (1,001), l1 (1,001), l10 (1,001))")
+    bench.run("rm -f BUILD", "many")
     bench.compare("those in no package", bench.run("bzlq //a", "many"), ("//a:a\n", "bzlq: reading the workspace\n", 0))
+    bench.compare("the bundle without them", bench.run("bzlq --bundle-path", "many")[1:], ("", 0))
+
+
+def in_programs(bench):
+    """The same by bq.py: with an overlay it is found out, else it is said."""
+    many = f"{bench.room}/many"
+    with mock.patch.dict(os.environ, bench.environment):
+        with Workspace(many, program=bench.program, overlay=True) as workspace:
+            bench.compare("bq.py, many files", (workspace.query("//a"), workspace.warnings, list(workspace.facts("//a").targets)), (["//a:a"], [], ["//a:a"]))
+        bench.compare("bq.py, facts of many files", list(facts(many, "//a", program=bench.program, overlay=True).targets), ["//a:a"])
+    with Workspace(many, program=bench.program, large=True) as workspace:
+        bench.compare("bq.py, large", workspace.query("//a"), ["//a:a"])
+    bench.compare("bq.py, facts of a large one", list(facts(many, "//a", program=bench.program, large=True).targets), ["//a:a"])
+    try:
+        Workspace(many, program=bench.program).close()
+        said = ""
+    except BqError as error:
+        said = f"{type(error).__name__}: {error}"
+    bench.compare("bq.py, not large", said, "RunError: E4 Bundle")
+
+
+def many_modules(bench):
+    """The same of more modules; and what counts as a large bundle."""
+    bench.lay_out("modules", {"WORKSPACE": "", "rules.schema": "rule filegroup\n"})
+    bench.lay_out("packages", {f"p{n}/BUILD": 'filegroup(name = "x")\n' for n in range(1000)})
+    for n in range(17):
+        os.symlink("../packages", f"{bench.room}/modules/l{n}")
+    bench.compare("many modules", bench.run("bzlq 'filter(p999, //...)'", "modules"), ("".join(f"//l{n}/p999:x\n" for n in sorted(range(17), key=str)), "", 0))
+    bench.compare("bq over many modules", bench.run("bq --dir . //l0/p0:x", "modules"), ("", "bq: E7 TooManyModules\n", 2))
+    bench.compare("bzlq --raw --large", bench.run("bzlq --raw --large --dir . //l0/p0:x", "modules"), ("//l0/p0:x\n", "", 0))
+    bench.compare("questions over many modules", bench.run("echo '//l0/p0:x' | bzlq ask", "modules"), ("//l0/p0:x\n", "", 0))
+    bench.compare("queries over many modules", bench.run("echo '//l0/p0:x' | bzlq queries", "modules"), ("=== 0 1 //l0/p0:x\n//l0/p0:x\n", "", 0))
+    for text, more in AT_LIMITS:
+        bench.compare(f"{len(text)} bytes, and more", (bundle.is_large(text), bundle.is_large(text + more)), (False, True))
+    bench.lay_out("small", {"WORKSPACE": "", "a/BUILD": 'filegroup(name = "a")\n'})
+    bench.compare("bzlq --large", bench.run("bzlq --large //a", "small"), ("//a:a\n", "bzlq: reading the workspace\n", 0))
 
 
 SLOW = {"WORKSPACE": "", "a/BUILD": 'filegroup(name = "a")\n1 // 0\n'}
@@ -155,6 +214,7 @@ def clones(bench):
     """A clone in which nothing was built: a tool unpacks the program of dist/, also where the clone can't be written to, or says why not."""
     bench.lay_out("ws", {"WORKSPACE": "", "a/BUILD": 'filegroup(name = "a")\n'})
     bench.lay_out("clone", {"crates.txt": ""})
+    clone = os.path.realpath(f"{bench.room}/clone")
     for name in ("tools", "bzlq", "dev", "dist"):
         shutil.copytree(f"{ROOT}/{name}", f"{bench.room}/clone/{name}")
     for path, text in (("dev/sources", "#!/bin/sh\necho '1 2 crates/bq/src/main.rt'\n"), ("dist/SOURCES", "1 2 crates/bq/src/main.rt\n")):
@@ -168,7 +228,7 @@ def clones(bench):
     bench.compare("a clone that can't be written to", run(), ("//a:a\n", "", 0))
     bench.run("echo '1 2 other.rt' > clone/dist/SOURCES")
     said = ("bzlq: no bq was built of these source files, and the program in dist/ is of others (crates/bq/src/main.rt differs): `./bq` builds one, which takes "
-            "the toolchain; or `xz -dc dist/bq-x86_64-linux.xz > /tmp/bq; chmod +x /tmp/bq` unpacks that one, and BZLQ_BQ=/tmp/bq names it\n")
+            f"the toolchain; or `mkdir -p out; xz -dc dist/bq-x86_64-linux.xz > out/bq; chmod +x out/bq` in {clone} unpacks that one, and BZLQ_BQ={clone}/out/bq names it\n")
     bench.compare("other source files", run(), ("", said, 2))
     bench.run("echo x >> clone/dist/bq-x86_64-linux.xz")
     bench.compare("another file in dist", run(), ("", "bzlq: dist/bq-x86_64-linux.xz isn't what dist/SHA256SUMS says (`git checkout dist` restores it)\n", 2))
@@ -176,30 +236,65 @@ def clones(bench):
     bench.compare("no dist", run(), ("", "bzlq: there is no bq: the variable BZLQ_BQ can name it\n", 2))
 
 
-# texts that a reader in Python has its limits with, or that it takes otherwise than bq
-ODD = ("1" + "+1" * 300, "not " * 10000 + "1", '"\\0"', '"\\ud800"', "-" * 500 + "1", "a" + ".strip()" * 500, "[a" + "[:]" * 500 + "]", "1 if 1 else " * 500 + "1")
-
-
-def odd_texts(bench):
-    """Whatever a file has in it, the rest of the workspace is answered, and there is no traceback."""
-    files = {f"{kind}{at}/{'BUILD' if kind == 'b' else 'd.bzl'}": f"x = {text}\n" for at, text in enumerate(ODD) for kind in "bd"}
-    loads = {f"d{at}/BUILD": 'load(":d.bzl", "x")\n' for at in range(len(ODD))}
-    bench.lay_out("ws", {"WORKSPACE": "", "a/BUILD": 'filegroup(name = "a")\n', **files, **loads})
-    found = bench.run("bzlq //a", "ws")
-    bench.compare("odd texts", (found[0], "Traceback" in found[1], found[2]), ("//a:a\n", False, 3))
-    found = bench.run("bzlq stubs ws overlay")
-    bench.compare("stubs of odd texts", ("Traceback" in found[1], found[2]), (False, 0))
+# a BUILD file whose faults and prints have what moves a cursor, and turns the direction of a line
+ODD = 'print("\x1b]0;t\x07\x7f\u202e")\nfilegroup(name = "a", srcs = ["x.c"], tags = ["\x1b[2J\x9b"])\nfail("\x1b[1A\x9b")\n'
+# what may not come to a terminal
+CONTROL = re.compile("[\x00-\x08\x0b\x0c\x0e-\x1f\x7f-\x9f\u202e]")
 
 
 def terminals(bench):
-    """A terminal gets control bytes as texts; a pipe gets them as they are."""
-    bench.lay_out("ws", {"WORKSPACE": "", "a/BUILD": 'fail("\\033[1A")\n'})
-    found = bench.run("python3 -c 'import pty; pty.spawn([\"bzlq\", \"//a:*\"])'", "ws")[0]
-    bench.compare("control bytes on a terminal", ("\x1b" in found, "\\x1b[1A" in found), (False, True))
-    bench.compare("control bytes in a pipe", "\x1b[1A" in bench.run("bzlq //a:*", "ws")[1], True)
+    """A terminal gets control bytes as texts, whatever script writes them; a pipe gets them as they are."""
+    name = "w\x1b[31m"
+    bench.lay_out(name, {"WORKSPACE": "", "a/BUILD": ODD, "b/BUILD": 'filegroup(name = "b", srcs = glob(["*"]))\n', "b/y\x1b.txt": "", "CODEOWNERS": "* @x\x1b[1m\n",
+                         "c/BUILD": 'load("m.bzl", "m")\nm(name = "x\x1b")\n', "c/m.bzl": "def m(name):\n    fail(name)\n"})
+    bench.run("git init -q; git add -A; git -c user.name=x -c user.email=x commit -qm x; echo >> a/BUILD; echo x > b/z\x1b.txt; rm b/y*", name)
+    words = (["//a:*"], ["--facts"], ["--output", "location", "//..."], ["graph", "//..."], ["unused"], ["cycles"], ["users", "m"], ["lint", "a/BUILD", "c/BUILD"], ["bundle"],
+             ["affected", "HEAD"], ["affected", "--owners", "HEAD"], ["affected", "--json", "HEAD"], ["diff", "HEAD", "//..."], ["stubs", ".", "../overlay"], ["bundle", "."],
+             ["visible"], ["shared"], ["closures"], ["owner", "b/z\x1b.txt"], ["loads", "c/m\x1b.bzl"], ["why", "//b\x1b", "//a"], ["//a\x1b"], ["--output", "\x1b"], ["lint", "\x1b"])
+    for it in words:
+        found, _ = bench.on_terminal(it, name)
+        text = found.decode("utf-8", "replace")
+        bench.compare(f"control bytes of {' '.join(map(repr, it))} on a terminal", (CONTROL.findall(text), "Traceback" in text or "an error of" in text), ([], False))
+    found, _ = bench.on_terminal(["--queries", "-"], name, b"//a:*\n\x04")
+    text = found.decode("utf-8", "replace")
+    bench.compare("control bytes of a session on a terminal", (CONTROL.findall(text.replace("^D\b\b", "")), "\\x1b[1A" in text or "\\x1b]0" in text), ([], True))
+    found, _ = bench.on_terminal(["//a:*"], name)
+    bench.compare("what stands there instead", [it in found.decode() for it in ("\\x1b[1A\\x9b", "\\x1b]0;t\\x07\\x7f\\u202e")], [True, True])
+    bench.compare("control bytes in a pipe", "\x1b[1A" in bench.run("bzlq //a:*", name)[1], True)
+    said = subprocess.run(["bash", "-c", "bq --dir . //a:* 2>&1 | bzlq hints . | cat"], cwd=f"{bench.room}/{name}", env=bench.environment, capture_output=True, check=False)
+    bench.compare("hints in a pipe", b"\x1b[1A" in said.stdout, True)
+
+
+def folders(bench):
+    """A label never leads out of the workspace, a name is never an option, and no folder of CDPATH is taken for the one that is meant."""
+    secret = 'x = "secret"\n'
+    bench.lay_out("ws", {"WORKSPACE": "", "a/BUILD": f'load("../../secret.bzl", "x")\nload("//../:secret.bzl", y = "x")\nload("{bench.room}/secret.bzl", z = "x")\nfilegroup(name = "a")\n',
+                         "-x/BUILD": 'filegroup(name = "x", srcs = ["-y.c"])\nfilegroup(name = "x")\n', "--all/BUILD": "x\n", 'q"/BUILD': "x\n", "-x/-y.c": ""})
+    bench.lay_out("secret", {"BUILD": 'filegroup(name = "$(secret)")\n'})
+    with open(f"{bench.room}/secret.bzl", "w", encoding="utf-8") as file:
+        file.write(secret)
+    opened = bench.run("strace -f -e trace=openat,open -o opened bzlq lint a/BUILD; grep secret opened", "ws")[0] if shutil.which("strace") else ""
+    found = bench.run("bzlq lint a/BUILD", "ws")
+    bench.compare("loads that lead out", (found[0].count("F30") + found[0].count("F10"), "secret.bzl\"" in opened, found[2]), (1, False, 1))
+    bench.compare("labels that lead out, for a shell", [bench.run(f"bzlq --complete '{it}'", "ws")[0] for it in ("//../secret:", "//../", "//a/../../secret:")], [""] * 3)
+    bench.compare("names like options", bench.run("bzlq lint -- -x/BUILD --all/BUILD | wc -l; bzlq owner -- -x/-y.c; bzlq lint -x/BUILD", "ws")[0], "2\n")
+    bench.run("rm -r ./--all ./-x/BUILD q*; echo 'filegroup(name = \"x\", srcs = [\"-y.c\"])' > ./-x/BUILD", "ws")
+    bench.compare("owner of a name like an option", bench.run("bzlq owner -- -x/-y.c", "ws")[0], "//-x:x\n")
+    bench.lay_out("shell", {"WORKSPACE": "", "a/BUILD": 'filegroup(name = "x$(touch pwned)")\nfilegroup(name = "y`z`")\nfilegroup(name = "z;w")\nfilegroup(name = "plain")\n'})
+    bench.run("bzlq //...", "shell")
+    bench.compare("what a shell is given for a label", bench.run("bzlq --complete //a:", "shell")[0], "//a:plain\n//a:all\n")
+    bench.lay_out("elsewhere/clone/dev", {"x": ""})
+    shutil.rmtree(f"{bench.room}/clone", ignore_errors=True)
+    os.makedirs(f"{bench.room}/clone")
+    for it in ("bq", "dev", "dist", "crates.txt", ".ci"):
+        os.symlink(f"{ROOT}/{it}", f"{bench.room}/clone/{it}")
+    lines = [line for path in (f"{ROOT}/bq", f"{ROOT}/dev/sources", f"{ROOT}/.ci/run") for line in open(path, encoding="utf-8") if re.search(r"(^|[^\w])cd ", line)]
+    bench.compare("each cd of a script", [it for it in lines if "CDPATH='' cd -- " not in it], [])
+    found = bench.run("CDPATH=$PWD/elsewhere; export CDPATH; cp -R clone/dev real; mkdir -p dd/dev; cp clone/dev/sources dd/dev/; cp clone/crates.txt dd/; dd/dev/sources | tail -n 1")
+    bench.compare("a script that is called by a relative path", (found[0].count("elsewhere"), found[2]), (0, 0))
 
 
 def check(bench):
     """Tries all of it."""
-    for part in (too_many, places, others, kept, signals, devices, words, clones, odd_texts, terminals):
+    for part in (many_files, many_modules, places, others, kept, signals, devices, words, clones, terminals, folders):
         part(bench)

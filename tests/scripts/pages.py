@@ -32,6 +32,7 @@ def mistakes(bench):
 
 
 def cell(text):
+    """A text as a cell of a table."""
     shown = text.replace("|", "\\|")
     return (f"`` {shown} ``" if "`" in shown else f"`{shown}`") if shown else "answers"
 

@@ -37,12 +37,14 @@ def write(path, text):
 
 
 def put(room, path, text):
+    """Writes a file."""
     os.makedirs(os.path.dirname(f"{room}/{path}") or room, exist_ok=True)
     with open(f"{room}/{path}", "w", encoding="utf-8") as file:
         file.write(text)
 
 
 def edit(path, before, after):
+    """A change that puts a text in the place of another in a file."""
     def change(room):
         with open(f"{room}/{path}", encoding="utf-8") as file:
             text = file.read()
@@ -52,14 +54,17 @@ def edit(path, before, after):
 
 
 def remove(path):
+    """A change that removes a file."""
     return lambda room: os.remove(f"{room}/{path}")
 
 
 def rename(path, to):
+    """A change that renames a file."""
     return lambda room: os.rename(f"{room}/{path}", f"{room}/{to}")
 
 
 def touch(path):
+    """A change of a file's time alone."""
     return lambda room: os.utime(f"{room}/{path}")
 
 
@@ -128,6 +133,7 @@ CHANGES = [
 
 
 def files_in(folder):
+    """The bytes of all files in a folder, by their paths."""
     found = {}
     for at, _, names in os.walk(folder):
         for name in names:
@@ -151,6 +157,7 @@ def state(bench, folder):
 
 
 def check(bench):
+    """Tries each change."""
     bench.lay_out("patches", FILES)
     state(bench, "cache")
     for what, change, is_patched in CHANGES:

@@ -109,6 +109,7 @@ def trials(bench):
 
 
 def check(bench):
+    """Tries all of it."""
     trials(bench)
     for what, (log, last, status) in LOGS.items():
         found, *rest = run(bench, log + END)

@@ -41,7 +41,7 @@ Exit status:
   5  reading the input or writing the output failed"#;
 
 /// The version of the program. The man page and the packages take it from this line (`dev/release`).
-pub const VERSION: &str = "1.4.0";
+pub const VERSION: &str = "1.5.0";
 
 pub const MAX_STEPS: u64 = 1_000_000_000;
 
@@ -114,6 +114,14 @@ const ARGUMENTS: &[Argument] = &[
         ..OPTION
     },
     Argument {
+        id: "large",
+        shape: Shape::Flag,
+        value: "",
+        help: "Allow more than 65536 files and 16384 modules",
+        takes: ValueParser::Bool,
+        ..OPTION
+    },
+    Argument {
         id: "dir",
         value: "DIR",
         help: "Directory that holds the workspace",
@@ -135,7 +143,7 @@ const ARGUMENTS: &[Argument] = &[
         id: "facts",
         shape: Shape::Flag,
         value: "",
-        help: "Print the facts behind the answer as JSON, a line for each target, file and fault",
+        help: "Print JSON instead of labels: a line for each target, file and fault",
         takes: ValueParser::Bool,
         excludes: &["queries", "output"],
         ..OPTION
@@ -143,7 +151,7 @@ const ARGUMENTS: &[Argument] = &[
     Argument {
         id: "explain",
         value: "NUMBER",
-        help: "Explain a fault or error, as F47, Q5 or E4, and exit",
+        help: "Explain a fault or error, such as F47, Q5 or E4, and exit",
         excludes_all: true,
         ..OPTION
     },
@@ -151,7 +159,7 @@ const ARGUMENTS: &[Argument] = &[
         id: "query",
         shape: Shape::Value,
         value: "QUERY",
-        help: "The query, as //package:name or deps(//...)",
+        help: "The query, such as //package:name or deps(//...)",
         needed_unless: &["queries", "facts"],
         ..OPTION
     },

@@ -12,10 +12,12 @@
 //! - `words`: what words ask for;
 //! - `runs`: runs over bundles and directories, of one query and of many, and for facts;
 //! - `messages`: what is printed where there is no run;
+//! - `descriptors`: standard input, output and error, where they are closed;
 //! - `program`: the whole.
 #![tactic(auto)]
 
 mod command;
+mod descriptors;
 mod messages;
 mod program;
 mod runs;

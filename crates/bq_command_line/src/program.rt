@@ -1,5 +1,6 @@
 //! The program, from its words to its exit status.
 
+use crate::descriptors::fill_standard_descriptors;
 use crate::messages::{refuse_arguments, report_no_memory, show, show_explanation};
 use crate::runs::answer;
 use crate::words::{Asked, words_of};
@@ -11,6 +12,7 @@ use std::thread::Threads;
 /// Runs as the words of the command line say, with threads of this handle. Ends with the error line, if there is one, and
 /// returns the exit status.
 pub fn run_program<T: Threads + Wait + RandomSource + Sync>(rt: &HostRuntime, threads: &T) -> u8 {
+    fill_standard_descriptors(rt);
     let alloc = rt.alloc();
     let arguments = match env::args(rt) {
         Ok(arguments) => arguments,

@@ -42,6 +42,7 @@ fn read_files(rt: &HostRuntime, directory: &str, limits: Limits) -> Result<Works
         Err(DirectoryErr::Memory) => Err(RunErr::Memory),
         Err(DirectoryErr::Read) => Err(RunErr::Read),
         Err(DirectoryErr::TooManyFiles) => Err(RunErr::Bundle),
+        Err(DirectoryErr::TooManyBytes) => Err(RunErr::Bundle),
         Err(DirectoryErr::TooManyDirectories) => Err(RunErr::Bundle),
     }
 }

@@ -1,7 +1,9 @@
 //! What the words of a command line ask for.
 
 ghost use Rattle.std.specs.Prelude.{◌≡◌, IfOk};
+ghost use Rattle.bq_base_limits.specs.Limits.{AreBounded};
 ghost use Rattle.bq_run.specs.Run.{IsInRange};
+ghost use Rattle.bq_command_line.specs.Words.{AreLimitsFor, AreStandardOrLarge};
 ghost use Rattle.bq_command_line.specs.declared.words.Words.{Words};
 ghost use Rattle.bq_command_line.specs.declared.words.Asked.TheVariants.{Answer};
 
@@ -92,8 +94,22 @@ fn wanted_of<'a>(matches: &ArgMatches<'a>) -> Wanted<'a> {
     }
 }
 
+/// Returns how large the workspace may be: the large limits with `--large`, else the standard ones.
+fn limits_of(matches: &ArgMatches, steps: u64) -> Limits
+    ensures value { AreLimitsFor matches.now result }
+    ensures steps { result.steps ≡ steps }
+    ensures bounded { AreBounded result }
+{
+    if matches.get_flag("large") {
+        Limits::large_with(steps)
+    } else {
+        Limits::standard_with(steps)
+    }
+}
+
 fn options_of(alloc: Global, matches: &ArgMatches) -> Result<Options, AllocError>
-    ensures { IfOk result IsInRange }
+    ensures in_range { IfOk result IsInRange }
+    ensures limits { IfOk result (λ o. AreLimitsFor matches.now o.limits) }
 {
     let jobs = matches.get_one::<u32>("jobs").unwrap_or(DEFAULT_JOBS);
     let standard = Limits::standard();
@@ -109,7 +125,7 @@ fn options_of(alloc: Global, matches: &ArgMatches) -> Result<Options, AllocError
         query: query.as_bytes().to_vec(alloc)?,
         jobs: jobs.clamp(1, MAX_JOBS),
         output,
-        limits: Limits::standard_with(max_steps.clamp(1, MAX_STEPS)),
+        limits: limits_of(matches, max_steps.clamp(1, MAX_STEPS)),
     })
 }
 
@@ -119,7 +135,8 @@ fn refusal(alloc: Global, kind: ErrorKind, message: &str) -> Result<Error, Alloc
 }
 
 fn query_of<'a>(alloc: Global, matches: &ArgMatches<'a>) -> Result<Words<'a>, Error>
-    ensures { IfOk result (λ w. IsInRange w.options) }
+    ensures in_range { IfOk result (λ w. IsInRange w.options) }
+    ensures limits { IfOk result (λ w. AreLimitsFor matches.now w.options.limits) }
 {
     let place = place_of(matches);
     let wanted = wanted_of(matches);
@@ -148,7 +165,8 @@ fn explanation_of(alloc: Global, number: &str) -> Result<Explanation, Error> {
 
 /// Returns what the words ask for that clap has read.
 fn asked_of<'a>(alloc: Global, matches: &ArgMatches<'a>) -> Result<Asked<'a>, Error>
-    ensures { IfOk result (λ a. (w : Words) → a ≡ Answer w → IsInRange w.options) }
+    ensures in_range { IfOk result (λ a. (w : Words) → a ≡ Answer w → IsInRange w.options) }
+    ensures limits { IfOk result (λ a. (w : Words) → a ≡ Answer w → AreLimitsFor matches.now w.options.limits) }
 {
     match matches.get_str("explain") {
         Some(number) => Ok(Asked::Explanation(explanation_of(alloc, number)?)),
@@ -158,7 +176,8 @@ fn asked_of<'a>(alloc: Global, matches: &ArgMatches<'a>) -> Result<Asked<'a>, Er
 
 /// Reads the words. The error has clap's text, for standard error or, with `--help` and `--version`, for standard output.
 pub fn words_of<'a>(alloc: Global, words: &'a [String]) -> Result<Asked<'a>, Error>
-    ensures { IfOk result (λ a. (w : Words) → a ≡ Answer w → IsInRange w.options) }
+    ensures in_range { IfOk result (λ a. (w : Words) → a ≡ Answer w → IsInRange w.options) }
+    ensures limits { IfOk result (λ a. (w : Words) → a ≡ Answer w → AreStandardOrLarge w.options.limits) }
 {
     // PROOF: what clap has read has many parts, so it is let go of in one place, whatever is made of it
     let matches = command(alloc)?.try_get_matches_from(words)?;

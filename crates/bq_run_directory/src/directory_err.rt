@@ -17,6 +17,9 @@ pub enum DirectoryErr {
     /// There are more files than a workspace may have.
     #[error("there are more files than a workspace may have")]
     TooManyFiles,
+    /// The files have more bytes than a workspace may have, or `.bazelignore` has more than it may.
+    #[error("the files have more bytes than a workspace may have")]
+    TooManyBytes,
     /// There are more directories than are read.
     #[error("there are more directories than are read")]
     TooManyDirectories,

@@ -1,10 +1,12 @@
 //! The path of a directory comes in; the workspace of the files in it and below it goes out.
 //!
-//! The promise: what is read makes a workspace, or there is a reason why not ([`DirectoryErr`]). No contract says what
+//! The promise: what is read makes a workspace whose files have no more bytes together than a bundle may have, or there is a reason why
+//! not ([`DirectoryErr`]). No contract says what
 //! a disk holds; the tests of the program show that a directory is read as the bundle of its files would be.
 //!
 //! Only the bytes of BUILD files, of .bzl files and of the schema at the root are read, each once; of all other files
-//! the paths count. Links are followed: a link to a file is that file, a link to a directory is a directory with the
+//! the paths count. Of a BUILD or .bzl file at most as many bytes are read as a run looks at, and of all files together
+//! no more than a bundle may have, and one. Nothing is read but regular files. Links are followed: a link to a file is that file, a link to a directory is a directory with the
 //! same files. Left out are
 //!
 //! - a directory inside itself, by a link that leads back: it is known by its device and inode;
@@ -17,17 +19,22 @@
 //! In reading order:
 //!
 //! - `directory_err`: why a directory makes no workspace;
-//! - `content`: the files whose bytes a run reads;
+//! - `content`: how much a run reads of a file;
+//! - `prefix`: the first bytes of files;
 //! - `ignored`: the directories that `.bazelignore` names;
 //! - `walk`: the directories that are still to be read, and the files so far;
-//! - `directory`: the workspace.
+//! - `directory`: the workspace;
+//! - `laws`: a run makes the same of what is read of a file as of the whole file.
 #![tactic(auto)]
 
 mod content;
 mod directory;
 mod directory_err;
 mod ignored;
+mod laws;
+mod prefix;
 mod walk;
 
 pub use directory::read_directory;
 pub use directory_err::DirectoryErr;
+pub use laws::cut_files_read_the_same;

@@ -1,9 +1,15 @@
 //! A walk through a directory: the directories that are still to be read, and the files so far.
 
-use crate::content::has_content;
+ghost use Rattle.std.specs.Prelude.{◌≡◌, ◌+◌, length, IfOk, IfSome, IfNone, OnOk};
+ghost use Rattle.bq_run_directory.specs.Walk.{GoesOn, KeepsLimit};
+
+use crate::content::bytes_looked_at;
 use crate::directory_err::DirectoryErr;
-use crate::ignored::{IGNORE_FILE, ignored_directories};
+use crate::ignored::{IGNORE_FILE, read_ignored};
+use crate::prefix::read_prefix;
 use bq_base::Bytes;
+use bq_base_limits::Limits;
+use bq_base_names::NameSet;
 use bq_label::{File, is_path};
 use std::alloc::Global;
 use std::fs::{DirEntry, Files, Metadata};
@@ -43,15 +49,17 @@ pub struct DirectoryWalk {
     /// How many bytes come before the path of a file in the workspace: those of the root, with a slash.
     root_len: usize,
     /// The directories that `.bazelignore` at the root names.
-    ignored: Vec<Bytes>,
+    ignored: NameSet,
     /// The directories that are still to be read. The last one is read next.
     pub pending: Vec<Pending>,
     /// The directories around the one that is read now, the root first, and then that one itself.
     pub around: Vec<Identity>,
     /// The files so far.
     pub files: Vec<File>,
-    /// The most files.
-    most_files: usize,
+    /// How much is read at most.
+    pub limits: Limits,
+    /// How many bytes the files that are still to be read may have together.
+    bytes_left: usize,
 }
 
 impl DirectoryWalk {
@@ -59,21 +67,16 @@ impl DirectoryWalk {
     pub fn new<R: Files + Alloc<A = Global>>(
         rt: &R,
         root: &str,
-        most_files: usize,
-    ) -> Result<DirectoryWalk, DirectoryErr> {
+        limits: Limits,
+    ) -> Result<DirectoryWalk, DirectoryErr>
+        ensures keeps { IfOk result (λ w. KeepsLimit w) }
+        ensures limits { IfOk result (λ w. w.limits ≡ limits) }
+    {
         let alloc = rt.alloc();
         let identity = Identity::of(&fs::metadata(rt, root)?);
         let slash = if root.ends_with('/') { "" } else { "/" };
         let path = format!(in alloc; "{root}{slash}{IGNORE_FILE}")?;
-        let ignored = match fs::metadata(rt, path.as_str()) {
-            Ok(metadata) if metadata.is_file() => {
-                let text = fs::read(rt, path.as_str())?;
-                ignored_directories(alloc, text.as_slice())?
-            }
-            Ok(_) => Vec::new(alloc),
-            Err(error) if error.kind() == io::ErrorKind::NotFound => Vec::new(alloc),
-            Err(error) => return Err(error.into()),
-        };
+        let ignored = read_ignored(rt, path.as_str())?;
         let mut walk = DirectoryWalk {
             alloc,
             root_len: root.len().saturating_add(slash.len()),
@@ -81,14 +84,17 @@ impl DirectoryWalk {
             pending: Vec::new(alloc),
             around: Vec::new(alloc),
             files: Vec::new(alloc),
-            most_files,
+            limits,
+            bytes_left: limits.bundle_bytes,
         };
         walk.push(root, identity)?;
         Ok(walk)
     }
 
     /// Adds a directory inside the one that is read now to those that are still to be read.
-    fn push(&mut self, path: &str, identity: Identity) -> Result<(), DirectoryErr> {
+    fn push(&mut self, path: &str, identity: Identity) -> Result<(), DirectoryErr>
+        ensures { OnOk result (GoesOn self.old self.new) }
+    {
         self.pending.push(Pending {
             path: String::from_str(self.alloc, path)?,
             identity,
@@ -103,7 +109,9 @@ impl DirectoryWalk {
         &mut self,
         rt: &R,
         entry: &DirEntry<R, Global>,
-    ) -> Result<(), DirectoryErr> {
+    ) -> Result<(), DirectoryErr>
+        ensures { OnOk result (GoesOn self.old self.new) }
+    {
         let path = entry.path();
         let inner = path.as_str().as_bytes().get(self.root_len..).unwrap_or(b"");
         // Git keeps its own files in a folder of this name, or names it in such a file.
@@ -116,9 +124,10 @@ impl DirectoryWalk {
         if may_be_output && fs::symlink_metadata(rt, path)?.is_symlink() {
             return Ok(());
         }
+        let is_read = bytes_looked_at(inner) > 0;
         let metadata = match fs::metadata(rt, path) {
             Ok(metadata) => metadata,
-            Err(error) if error.kind() == io::ErrorKind::OutOfMemory || has_content(inner) => {
+            Err(error) if error.kind() == io::ErrorKind::OutOfMemory || is_read => {
                 return Err(error.into());
             }
             // A link that can't be followed, and isn't a file that has to be read, is passed over.
@@ -127,7 +136,7 @@ impl DirectoryWalk {
         };
         if metadata.is_dir() {
             let identity = Identity::of(&metadata);
-            let is_ignored = self.ignored.iter().any(|path| path.as_slice() == inner);
+            let is_ignored = self.ignored.place(inner).is_some();
             if !is_ignored && !self.around.contains(&identity) {
                 self.push(path.as_str(), identity)?;
             }
@@ -138,23 +147,50 @@ impl DirectoryWalk {
         Ok(())
     }
 
+    /// Reads the first bytes of a file, at most `most`, unless it isn't a regular file any longer.
+    fn read<R: Files + Alloc<A = Global>>(
+        &mut self,
+        rt: &R,
+        path: &str,
+        most: usize,
+    ) -> Result<Option<Vec<u8>>, DirectoryErr>
+        ensures limits { self.new.limits ≡ self.old.limits }
+        ensures files { self.new.files ≡ self.old.files }
+        ensures counted { IfOk result (λ found. IfSome found (λ bytes. self.new.bytes_left + length bytes.items ≡ self.old.bytes_left)) }
+        ensures nothing { IfOk result (λ found. IfNone found (self.new.bytes_left ≡ self.old.bytes_left)) }
+    {
+        // One byte more than may be read shows that there are too many.
+        let most = most.min(self.bytes_left.saturating_add(1));
+        let Some(bytes) = read_prefix(rt, path, most)? else {
+            return Ok(None);
+        };
+        if bytes.len() > self.bytes_left {
+            return Err(DirectoryErr::TooManyBytes);
+        }
+        self.bytes_left -= bytes.len();
+        Ok(Some(bytes))
+    }
+
     /// Keeps a file, with its bytes if a run reads them.
     fn keep<R: Files + Alloc<A = Global>>(
         &mut self,
         rt: &R,
         path: Path<'_>,
         inner: &[u8],
-    ) -> Result<(), DirectoryErr> {
-        if self.files.len() >= self.most_files {
+    ) -> Result<(), DirectoryErr>
+        ensures { OnOk result (GoesOn self.old self.new) }
+    {
+        if self.files.len() >= self.limits.files {
             return Err(DirectoryErr::TooManyFiles);
         }
-        let content = if has_content(inner) {
-            // a read asks for more memory than its text takes
-            let text = fs::read(rt, path)?;
-            Bytes::from_slice(self.alloc, &text)?
-        } else {
-            Bytes::empty()
-        };
+        let most = bytes_looked_at(inner);
+        let mut content = Bytes::empty();
+        if most > 0 {
+            let Some(bytes) = self.read(rt, path.as_str(), most)? else {
+                return Ok(());
+            };
+            content = Bytes::from_vec(self.alloc, bytes)?;
+        }
         let path = Bytes::from_slice(self.alloc, inner)?;
         self.files.push(File { path, content })?;
         Ok(())

@@ -103,9 +103,10 @@ pub fn fault_called(word: &[u8]) -> Option<FaultKind>
 pub fn text_of(kind: FaultKind) -> &'static str {
     match kind {
         FaultKind::BadByte => {
-            r#"A byte that begins no token. Outside strings and comments a file holds printable
-ASCII, spaces, tabs and line ends; there `$`, `?`, `@`, a backquote, a lone `!`
-and a backslash that does not end its line are no tokens either.
+            r#"The file has a byte that no token can start with. Outside strings and comments a
+file holds printable ASCII, spaces, tabs and line ends; `$`, `?`, `@`, a
+backquote, a lone `!` and a backslash that does not end its line are not tokens
+there either.
 
     === BUILD
     x = 1 $ 2
@@ -137,13 +138,13 @@ Indent the lines of a block by the same number of spaces.
 "#
         }
         FaultKind::Tab => {
-            r#"A tab stands in the indentation of a line. Indentation is spaces alone.
+            r#"The indentation of a line has a tab. Only spaces may indent.
 
     $ printf '=== f.bzl\ndef f():\n\tpass\n=== BUILD\nload(":f.bzl", "f")\n' | bq //...
     //:BUILD:1: F36 LoadFailed //:f.bzl
     //:f.bzl:2: F3 Tab
 
-Put spaces in place of the tab. Inside brackets, and on blank and comment lines,
+Put spaces instead of the tab. Inside brackets, and on blank and comment lines,
 tabs are allowed.
 "#
         }
@@ -163,7 +164,7 @@ Close the string. For text of several lines use triple quotes.
 "#
         }
         FaultKind::Escape => {
-            r#"A backslash in a string stands before a byte that makes no escape. There are
+            r#"A string has a backslash before a byte that makes no escape. There are
 `\n`, `\r`, `\t`, `\\`, `\'`, `\"`, and a backslash at the end of a line.
 
     === BUILD
@@ -177,7 +178,7 @@ and `\u0041` are left out.
 "#
         }
         FaultKind::BadInt => {
-            r#"Something begins like a number and is none, or is greater than
+            r#"Something starts like a number but is not one, or is greater than
 9223372036854775807. Numbers are decimal without leading zeros, hexadecimal
 after `0x`, or octal after `0o`. There are no floats.
 
@@ -218,8 +219,8 @@ Split the file, and move generated lists into .bzl files of their own.
         }
         FaultKind::Syntax => {
             r#"A statement that the grammar does not have (docs/LANGUAGE.md, "Grammar"). The
-line is the first of the top-level statement that the error is in, which may
-stand further down.
+line is the first of the top-level statement that the error is in; the error may
+be further down.
 
     === BUILD
     filegroup(
@@ -231,8 +232,8 @@ stand further down.
     //:BUILD:1: F10 Syntax
 
 Look through the statement for a missing comma, colon or operand (here the comma
-after `"x"`). Words that Python has and Starlark hasn't, such as `import`,
-`class`, `while`, `try` and `is`, are reserved.
+after `"x"`). Words of Python that Starlark lacks, such as `import`, `class`,
+`while`, `try` and `is`, are reserved.
 "#
         }
         FaultKind::Nesting => {
@@ -265,7 +266,7 @@ can (docs/REAL_WORKSPACES.md).
         }
         FaultKind::NotInBuild => {
             r#"A BUILD file has a `def`, `if` or `for` statement, or a call with a `*` or `**`
-argument. As in Bazel, these belong into .bzl files.
+argument. As in Bazel, these belong in .bzl files.
 
     === BUILD
     for n in ["a", "b"]:
@@ -281,8 +282,8 @@ code into a macro in a .bzl file.
         FaultKind::UnknownName => {
             r#"A name that nothing binds: no assignment, `def` or `load` of the file, no
 function of the language, and in a BUILD file no rule of the schema. In a .bzl
-file rules are `native.NAME`, and `attr` is no value: its functions are called as
-`attr.int(..)`. `rule` and `attr` are in .bzl files alone.
+file rules are `native.NAME`, and `attr` is not a value: its functions are called
+as `attr.int(..)`. Only .bzl files have `rule` and `attr`.
 
     === BUILD
     cc_library(name = "x", srcs = ["x.c"])
@@ -292,7 +293,7 @@ file rules are `native.NAME`, and `attr` is no value: its functions are called a
 
 For a rule: load it, or declare it in the file `rules.schema` at the root of the
 workspace, as `rule cc_library` and `attr srcs label_list`. Without that file
-only filegroup, genrule, alias and test_suite are known. tools/stubs writes a
+only filegroup, genrule, alias and test_suite are known. `bzlq stubs` writes a
 schema for a workspace (docs/REAL_WORKSPACES.md).
 "#
         }
@@ -332,7 +333,7 @@ Load it once, or under another name: `load(":g.bzl", b = "a")`.
 "#
         }
         FaultKind::BadFlow => {
-            r#"A statement stands where it may not: `return` outside a function, `break` or
+            r#"A statement is where it may not be: `return` outside a function, `break` or
 `continue` outside a loop of the same function, `load` inside a function, or an
 `if` or `for` statement at the top of a .bzl file.
 
@@ -367,8 +368,8 @@ Rename one of them.
 "#
         }
         FaultKind::BadLoadLabel => {
-            r#"The text of a load is no label of a .bzl file. It begins with `//`, `:` or `@`,
-and its name ends in `.bzl`.
+            r#"The string of a `load` is not the label of a .bzl file. A label of one begins
+with `//`, `:` or `@`, and its name ends in `.bzl`.
 
     === BUILD
     load("f.bzl", "f")
@@ -381,7 +382,7 @@ of another. Labels that begin with `@@` are left out.
 "#
         }
         FaultKind::NoSuchFile => {
-            r#"The package that a load names is there, and the file is not.
+            r#"The package that a load names exists, but the file doesn't.
 
     === BUILD
     load(":f.bzl", "f")
@@ -403,9 +404,9 @@ the repository is not in the workspace.
     $ bq //...
     //:BUILD:1: F32 NoPackage @rules_cc//cc:defs.bzl
 
-For another repository: bq fetches nothing; tools/stubs writes files that stand
-in for it below `external/` (docs/REAL_WORKSPACES.md). For a directory of your
-own: add a BUILD file to it, which may be empty.
+For another repository: bq fetches nothing; `bzlq` answers over stubs that it
+makes for it (docs/REAL_WORKSPACES.md). For a directory of your own: add a BUILD
+file to it, which may be empty.
 "#
         }
         FaultKind::NoSymbol => {
@@ -477,10 +478,9 @@ Mend the fault of the loaded file; this one then goes away by itself.
 "#
         }
         FaultKind::CrossesPackage => {
-            r#"A label names a file by way of a package that does not own it: a package further
-down, nearer to the file, does. It comes with loads, where the detail is the
-label, with labels of the own package, and with the names of targets and
-outputs.
+            r#"A label reaches into another package: a package nearer to the file owns it. It
+occurs in loads, where the detail is the label, in labels of the own package, and
+in the names of targets and outputs.
 
     === BUILD
     filegroup(name = "x", srcs = ["a/s.txt"])
@@ -499,8 +499,7 @@ Name the file in its own package: `//a:s.txt`.
     $ (echo '=== BUILD'; echo 'load(":1.bzl")'; for n in $(seq 1001); do echo "=== $n.bzl"; [ $n = 1001 ] || echo "load(\":$((n + 1)).bzl\")"; done) | bq //...
     //:BUILD:1: F38 LoadDepth //:1.bzl
 
-Load the files that are needed side by side in place of each through the one
-before it.
+Load the files directly instead of each through the one before.
 "#
         }
         FaultKind::WrongType => {
@@ -580,7 +579,7 @@ strings, and tuples of these.
     $ bq //...
     //:BUILD:1: F45 Unhashable
 
-Make a tuple of the list: `tuple(x)`. Functions and ranges are no keys here
+Make a tuple of the list: `tuple(x)`. Functions and ranges are not keys here
 either.
 "#
         }
@@ -650,7 +649,7 @@ give its own variable another name.
 "#
         }
         FaultKind::Recursion => {
-            r#"A function is called while it is already running, directly or by way of others.
+            r#"A function is called while it is already running, directly or through others.
 Starlark has no recursion.
 
     === f.bzl
@@ -674,7 +673,7 @@ Write a loop over a range or over a list of what is left to do.
     //:BUILD:1: F36 LoadFailed //:f.bzl
     //:f.bzl:102: F51 CallDepth
 
-Let functions return values in place of calling on.
+Let functions return values instead of calling on.
 "#
         }
         FaultKind::Args => {
@@ -758,7 +757,7 @@ or slice, a shift by more than 63, an empty separator, `index` or `remove` of
 what is not there, `min` or `max` of nothing, or an assignment to more or fewer
 names than there are elements. Of rules: an attribute of `rule` whose name no
 call could give or all rules have, `rule` in a macro that a BUILD file calls, and
-the call of a rule that no name of its own .bzl file stands for.
+the call of a rule that no global of its own .bzl file holds.
 
     === BUILD
     a, b = [1, 2, 3]
@@ -771,9 +770,8 @@ method.
 "#
         }
         FaultKind::NoMethod => {
-            r#"The type of the value has no method of this name. Calls of members of what
-another repository gives, as `selects.with_or(..)`, end so too, since stubs give
-plain values.
+            r#"The type of the value has no method of this name. Calls such as
+`selects.with_or(..)` end so too: a stub has plain values.
 
     === BUILD
     x = "a".append("b")
@@ -812,8 +810,8 @@ without one.
     //:BUILD:1: F60 Select
 
 The package stays without targets. To ask about it, write one branch of the
-`select` in a copy of the file that is laid over the tree (tools/bundle TREE
-OVERLAY).
+`select` in a copy of the file that is laid over the tree (`bzlq bundle TREE
+OVERLAY`).
 "#
         }
         FaultKind::NotInPackage => {
@@ -870,8 +868,8 @@ Give the attribute. `None` counts as not given.
     $ bq //...
     //:BUILD:1: F73 AttributeType
 
-Give a list where a list is declared: `["s.txt"]`. If the schema is wrong, mend
-the type there; attributes that are dicts can't be declared.
+Give a list where a list is declared: `["s.txt"]`. If the schema is wrong,
+correct the type there; attributes that are dicts can't be declared.
 "#
         }
         FaultKind::DoubleTarget => {
@@ -918,7 +916,7 @@ path, so an empty one serves; files of packages further down are never found.
 "#
         }
         FaultKind::GlobPattern => {
-            r#"A pattern of `glob` is none: it is empty, has an empty segment or one that is
+            r#"A pattern of `glob` is invalid: it is empty, has an empty segment or one that is
 `.` or `..`, or has `**` in a longer segment.
 
     === BUILD
@@ -958,7 +956,7 @@ that dependency.
     //:x
     //:BUILD:1: F79 DanglingLabel //a:y
 
-If the other package has a fault of its own, mend that first. A source file of
+If the other package has a fault of its own, correct that first. A source file of
 another package has to be exported there by `exports_files`, or be named by one
 of its targets.
 "#

@@ -9,7 +9,7 @@ const QUERIES: [ErrorEntry; 8] = [
     ErrorEntry {
         number: "Q1",
         name: "Syntax",
-        text: r#"The text is no query: a bracket or an operand is missing, or more than 64
+        text: r#"The text is not a query: a bracket or an operand is missing, or more than 64
 parentheses and lets are open at one place.
 
     $ bq 'deps(//...' < /dev/null
@@ -42,14 +42,14 @@ executables and same_pkg_direct_rdeps; words that begin with neither `//` nor
     $ bq 'deps(:x)' < /dev/null
     bq: Q3 LeftOut :x
 
-Write labels in full, as `//package:x`. `allpaths` serves for somepath, and
+Write labels in full, such as `//package:x`. `allpaths` serves for somepath, and
 `rdeps(//..., x)` for allrdeps; `kind("_test rule", x)` finds tests.
 "#,
     },
     ErrorEntry {
         number: "Q4",
         name: "BadRegex",
-        text: r#"The pattern of a `kind`, `filter` or `attr` is no regular expression.
+        text: r#"The pattern of a `kind`, `filter` or `attr` is not a regular expression.
 
     $ bq 'filter("(", //...)' < /dev/null
     bq: Q4 BadRegex
@@ -70,7 +70,7 @@ references are left out.
     bq: Q5 NoSuchTarget //:y
 
 List the package by `//:*`. If the package has a fault, which is printed before
-this line, it has no targets: mend that first. A source file is a target if a
+this line, it has no targets: correct that first. A source file is a target if a
 target of its package names it.
 "#,
     },
@@ -106,7 +106,7 @@ itself: use single ones.
         name: "Arguments",
         text: r#"A function has too few or too many arguments, or one of another kind: a number
 is 1 to 9 digits, a pattern or the name of an attribute is one word. Or a word
-begins with `//` or `@` and reads as no target pattern.
+begins with `//` or `@` and is not a target pattern.
 
     $ bq 'deps(//..., x)' < /dev/null
     bq: Q8 Arguments

@@ -23,14 +23,15 @@ empty.
         number: "E2",
         name: "Read",
         text: r#"Reading failed: of standard input, or with `--dir` of the directory, of one in
-it, or of a file whose bytes count. A name in it that is no UTF-8 is one reason.
+it, or of a file whose bytes are read. A name in it that is not UTF-8 is one
+reason.
 The exit status is 5.
 
     $ bq --dir /none //...
     bq: E2 Read
 
-Look whether the directory is there and may be read. A directory that is of no
-use can be left out by a line in `.bazelignore` at its root.
+Check that the directory exists and may be read. A line in `.bazelignore` at its
+root leaves a directory out.
 "#,
     },
     ErrorEntry {
@@ -51,18 +52,20 @@ What was written is a beginning of the text. Make room, and run it again.
     ErrorEntry {
         number: "E4",
         name: "Bundle",
-        text: r#"Standard input is no bundle. A bundle has for each file a line `=== PATH`, and
+        text: r#"Standard input is not a bundle. A bundle has for each file a line `=== PATH`, and
 then the file's bytes (docs/FORMATS.md). Bytes before the first such line are
 refused, and so are a path that is not valid, comes twice or is a directory of
 another, more than 65,536 files, and more than 1,073,741,824 bytes. With `--dir`
-it says that the directory has more files than that, or more than 1,048,576
-directories; one that links lead to counts once for each way to it.
+it says that the directory has more files than that, or more bytes in those that
+are read, or more than 1,048,576 directories; one that links lead to counts once
+for each path to it. A `.bazelignore` has at most 1,048,576 bytes. With `--large`
+the limits are 16,777,216 files and directories, and 68,719,476,736 bytes.
 
     $ echo 'filegroup(name = "x")' | bq //...
     bq: E4 Bundle
 
-tools/bundle TREE writes the bundle of a directory. Leave directories that don't
-matter out by `.bazelignore`.
+`bzlq bundle TREE` writes the bundle of a directory. If there are too many files,
+add `--large`, or leave directories that don't matter out by `.bazelignore`.
 "#,
     },
     ErrorEntry {
@@ -84,13 +87,14 @@ rule.
         number: "E7",
         name: "TooManyModules",
         text: r#"The workspace has more than 16,384 BUILD files and loaded .bzl files, or more
-than 262,144 loads of one by another.
+than 262,144 loads of one by another; with `--large`, more than 4,194,304 files
+or 67,108,864 loads.
 
     $ for n in $(seq 16385); do echo "=== $n/BUILD"; done | bq //...
     bq: E7 TooManyModules
 
-Ask about a part of the workspace: leave directories out by `.bazelignore`, or
-run one bundle for each part (docs/SCALE.md).
+Add `--large`, or ask about a part of the workspace: leave directories out by
+`.bazelignore`, or run one bundle for each part (docs/SCALE.md).
 "#,
     },
 ];

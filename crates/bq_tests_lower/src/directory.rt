@@ -1,7 +1,10 @@
 //! Directories on disk, read as the workspaces of their files.
 //!
 //! A row is a call: `new` makes an empty directory of a path, `dir` one with those around it, `file` a file of these bytes, `link` a
-//! link to where it leads; and `read` gives the files below a path, a line each, or says that they are refused.
+//! link to where it leads; `read` gives the files below a path, a line each, or says that they are refused; and `within` does so where
+//! those that are read may have so many bytes together.
+
+ghost use Rattle.bq_base_limits.specs.Limits.{AreBounded};
 
 use crate::rows::{Row, Subject, check_rows};
 use bq_base_limits::Limits;
@@ -29,12 +32,25 @@ fn shown(alloc: Global, workspace: &Workspace) -> Result<Vec<u8>, AllocError> {
     Ok(text)
 }
 
+/// The standard limits, but for the bytes.
+fn limits_of(bundle_bytes: usize) -> Limits
+    ensures { AreBounded result }
+{
+    Limits {
+        bundle_bytes,
+        ..Limits::standard()
+    }
+}
+
 /// The files of a directory.
-fn read(rt: &HostRuntime, root: &str) -> Result<Vec<u8>, AllocError> {
-    let found = read_directory(rt, root, Limits::standard());
+fn read(rt: &HostRuntime, root: &str, limits: Limits) -> Result<Vec<u8>, AllocError>
+    requires { AreBounded limits }
+{
+    let found = read_directory(rt, root, limits);
     let text = match &found {
         Ok(workspace) => shown(rt.alloc(), workspace),
         Err(DirectoryErr::Read) => b"refused".to_vec(rt.alloc()),
+        Err(DirectoryErr::TooManyBytes) => b"too many bytes".to_vec(rt.alloc()),
         Err(_) => b"no answer".to_vec(rt.alloc()),
     };
     drop(found);
@@ -69,7 +85,10 @@ struct Disk<'a>(&'a HostRuntime);
 /// What a call of a row gives, with a path and what it is made of.
 fn called(rt: &HostRuntime, word: &[u8], path: &str, of: &str) -> Result<Vec<u8>, AllocError> {
     if word == b"read".as_slice() {
-        return read(rt, path);
+        return read(rt, path, Limits::standard());
+    }
+    if word == b"within".as_slice() {
+        return read(rt, path, limits_of(of.parse::<usize>().unwrap_or(0)));
     }
     match make(rt, word, path, of) {
         Ok(()) => Ok(Vec::new(rt.alloc())),
@@ -126,7 +145,7 @@ fn links_to_pipe(rt: &HostRuntime, pipe: i32) -> bool {
 /// What is read of a directory with a file and links to a device and to the pipe of this number.
 fn read_special(rt: &HostRuntime, pipe: i32) -> Result<Vec<u8>, AllocError> {
     if links_to_pipe(rt, pipe) {
-        return read(rt, "out/special");
+        return read(rt, "out/special", Limits::standard());
     }
     b"failed".to_vec(rt.alloc())
 }
@@ -176,6 +195,10 @@ file | out/bytes/a/m.bzl | m |
 file | out/bytes/a/main.c | int main; |
 link | out/bytes/core | /proc/self/mem |
 read | out/bytes | | a/BUILD = b\na/BUILD.bazel = bazel\na/BUILD.gn = \na/m.bzl = m\na/main.c = \na/rules.schema = \ncore = \nrules.schema = rule r\n
+# 1 and 5 and 1 byte of a, and 6 of the schema
+within | out/bytes | 13 | a/BUILD = b\na/BUILD.bazel = bazel\na/BUILD.gn = \na/m.bzl = m\na/main.c = \na/rules.schema = \ncore = \nrules.schema = rule r\n
+within | out/bytes | 12 | too many bytes
+within | out/bytes | 0 | too many bytes
 link | out/bytes/core.bzl | /proc/self/mem |
 read | out/bytes | | refused
 "#;

@@ -1,5 +1,6 @@
 //! What command lines ask for. The texts that refuse others are in the rows in `tests/rows`.
 
+use bq_base_limits::Limits;
 use bq_command_line::{Asked, Place, Wanted, Words, words_of};
 use bq_run::OutputForm;
 use bq_run_explain::{Explanation, Subject};
@@ -59,6 +60,15 @@ fn are_taken(words: &Words, taken: &Ask) -> bool {
         && options.limits.steps == steps
 }
 
+fn are_same(found: &Limits, wanted: &Limits) -> bool {
+    found.files == wanted.files
+        && found.directories == wanted.directories
+        && found.modules == wanted.modules
+        && found.edges == wanted.edges
+        && found.bundle_bytes == wanted.bundle_bytes
+        && found.steps == wanted.steps
+}
+
 fn name_of(explanation: &Explanation) -> &'static str {
     match explanation.subject {
         Subject::Fault(kind) => kind.name(),
@@ -82,6 +92,31 @@ fn ask_for(alloc: Global, words: &[&str], taken: &Ask) -> Result<bool, AllocErro
     Ok(found)
 }
 
+/// Whether words ask for a run with these limits.
+fn have_limits(alloc: Global, words: &[&str], limits: &Limits) -> Result<bool, AllocError> {
+    let words = words_after(alloc, words)?;
+    let asked = words_of(alloc, &words);
+    let found = match &asked {
+        Ok(Asked::Answer(words)) => are_same(&words.options.limits, limits),
+        Ok(Asked::Explanation(_)) | Err(_) => false,
+    };
+    drop(asked);
+    drop(words);
+    Ok(found)
+}
+
+#[test]
+fn limits_are_read(rt: HostRuntime) -> Result<(), AllocError> {
+    for (words, limits) in LIMITS {
+        assert!(rt;
+            have_limits(rt.alloc(), words, limits)?,
+            "{} files",
+            limits.files
+        );
+    }
+    Ok(())
+}
+
 #[test]
 fn are_read(rt: HostRuntime) -> Result<(), AllocError> {
     for (words, taken) in TAKEN {
@@ -93,6 +128,40 @@ fn are_read(rt: HostRuntime) -> Result<(), AllocError> {
 const FORM: OutputForm = OutputForm::Label;
 
 const STEPS: u64 = 1_000_000;
+
+const STANDARD: Limits = Limits {
+    files: 65_536,
+    directories: 1_048_576,
+    modules: 16_384,
+    edges: 262_144,
+    bundle_bytes: 1_073_741_824,
+    steps: STEPS,
+};
+
+const LARGE: Limits = Limits {
+    files: 16_777_216,
+    directories: 16_777_216,
+    modules: 4_194_304,
+    edges: 67_108_864,
+    bundle_bytes: 68_719_476_736,
+    steps: STEPS,
+};
+
+/// Words, and the limits of the run that they ask for.
+const LIMITS: &[(&[&str], Limits)] = &[
+    (&["bq", "//a:x"], STANDARD),
+    (&["bq", "--", "--large"], STANDARD),
+    (&["bq", "--facts"], STANDARD),
+    (&["bq", "--large", "//a:x"], LARGE),
+    (&["bq", "//a:x", "--dir", ".", "--large"], LARGE),
+    (&["bq", "--bundle", "b.txt", "--large", "//a:x"], LARGE),
+    (&["bq", "--large", "--queries", "q.txt"], LARGE),
+    (&["bq", "--facts", "--large"], LARGE),
+    (
+        &["bq", "--large", "--max-steps", "7", "//a:x"],
+        Limits { steps: 7, ..LARGE },
+    ),
+];
 
 /// Words, and what they ask for.
 const TAKEN: &[(&[&str], Ask)] = &[

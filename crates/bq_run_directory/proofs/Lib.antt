@@ -1,0 +1,4 @@
+-- What is left out of a file that is too long.
+pub mod Cuts
+-- How many bytes the files of a workspace have.
+pub mod Bytes

@@ -1,0 +1,2 @@
+-- How much a walk keeps.
+pub mod Walk
