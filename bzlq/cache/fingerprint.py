@@ -4,6 +4,7 @@ A print is two sums: of the files whose bytes count, by what their directory ent
 others. Of a file that changed in the last seconds its bytes count too: it may change again before the clock of the disk goes on.
 """
 import hashlib
+import operator
 import os
 import stat
 import time
@@ -12,20 +13,24 @@ from bzlq.workspace.files import ROOT_FILES, SCHEMA, counted_bytes, ignored, is_
 
 # files whose bytes count, besides those that end in .bzl
 COUNTED = frozenset(("BUILD", "BUILD.bazel", SCHEMA, ".bazelignore", *ROOT_FILES))
+NAME = operator.attrgetter("name")
+# what no name has in it
+SEPARATOR = "\0"
 # for how many nanoseconds a change is recent
 RECENT = 2_000_000_000
 
 
 class Seen:
-    """`files` has the entry of each file whose bytes count, by its path; `names` the names of a directory that aren't directories; `odd` the paths that
-    bq can't have; `links` the directories that are links, or lie behind one."""
+    """`files` has the entry of each file whose bytes count, by its path; `names` by each directory the names in it that aren't directories, as one text
+    (names_in); `count` how many these are; `odd` the paths that bq can't have; `links` the directories that are links, or lie behind one."""
 
     def __init__(self, root):
         self.root, self.since = root, time.time_ns() - RECENT
-        self.files, self.names, self.odd, self.links = {}, {}, [], set()
+        self.files, self.names, self.count, self.odd, self.links = {}, {}, 0, [], set()
         contents, names = hashlib.sha256(), hashlib.sha256()
-        for directory, listed in self.walk():
-            names.update(os.fsencode("\n".join((directory, *listed))) + b"\0")
+        self.walk()
+        for directory, listed in self.names.items():
+            names.update(os.fsencode(f"{directory}\0{listed}\0\0"))
         for path, entry in self.files.items():
             contents.update(os.fsencode(f"{path} {' '.join(map(str, entry))}\n"))
         for path in self.odd:
@@ -33,20 +38,21 @@ class Seen:
         self.print = {"contents": contents.hexdigest(), "names": names.hexdigest()}
 
     def walk(self):
-        """The directories, each with the names in it that aren't directories."""
+        """Goes through the directories."""
         without = ignored(self.root)
         pending = [("", self.root, ())]
         while pending:
             directory, place, around = pending.pop()
             before = f"{directory}/" if directory else ""
             with os.scandir(place) as entries:
-                found = sorted(entries, key=lambda entry: entry.name)
+                found = sorted(entries, key=NAME)
             listed = []
+            are_plain = is_plain("".join([entry.name for entry in found]))
             for entry in found:
                 name = entry.name
-                if not is_name(name) and not is_path(name):
+                if not are_plain and not is_path(name):
                     self.odd.append(before + name)
-                if entry.is_symlink() and is_directory(entry) or entry.is_dir(follow_symlinks=False):
+                if not entry.is_file(follow_symlinks=False) and is_directory(entry):
                     inner = way_in(entry, directory, around)
                     if name != ".git" and before + name not in without and inner is not None:
                         pending.append((before + name, entry.path, inner))
@@ -56,18 +62,23 @@ class Seen:
                 listed.append(name)
                 if name.endswith(".bzl") or name in COUNTED:
                     self.files[before + name] = entry_of(entry, self.since)
-            self.names[directory] = listed
-            yield directory, listed
+            self.names[directory] = SEPARATOR.join(listed)
+            self.count += len(listed)
 
     def __contains__(self, path):
         """Whether there is a file of this path."""
         directory, _, name = path.rpartition("/")
-        return name in self.names.get(directory, ())
+        return name in names_in(self.names.get(directory, ""))
 
 
-def is_name(name):
-    """Whether a name is plain: most are."""
-    return name.isascii() and name.isprintable() and ":" not in name and "\\" not in name
+def names_in(text):
+    """The names that a text of `Seen` has."""
+    return text.split(SEPARATOR) if text else []
+
+
+def is_plain(names):
+    """Whether names, one after another, are all plain: most are."""
+    return names.isascii() and names.isprintable() and ":" not in names and "\\" not in names
 
 
 def is_directory(entry):

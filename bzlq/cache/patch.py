@@ -7,13 +7,12 @@ What depends on the targets that a package then has (which labels lead to nothin
 a target in the overlay; which tests a suite of all has) is asked of bq over the patched bundle, in the session of the query: where an answer isn't
 the one of before, all is made anew.
 """
-import bisect
 import os
 import re
 import time
 from collections.abc import Mapping
 
-from bzlq.cache.fingerprint import entry_of, sum_of
+from bzlq.cache.fingerprint import entry_of, names_in, sum_of
 from bzlq.cache.folder import open_own
 from bzlq.cache.readings import packed, unpacked
 from bzlq.overlay import stubs
@@ -73,7 +72,7 @@ class Patch:
         found = [], []
         for directory in before.keys() | now.keys():
             if before.get(directory) != now.get(directory):
-                old, new = set(before.get(directory, ())), set(now.get(directory, ()))
+                old, new = (set(names_in(it.get(directory, ""))) for it in (before, now))
                 if (new ^ old) and directory in self.made["links"] | self.seen.links and not old & new:
                     raise TooMuch
                 for names, paths in ((new - old, found[0]), (old - new, found[1])):
@@ -197,37 +196,34 @@ class Patch:
 
     def bundle(self, data):
         """The bundle with these changes."""
-        found = [(it[1].decode("utf-8", "surrogateescape"), it.start()) for it in HEADER.finditer(data)]
-        paths, starts = [path for path, _ in found], [start for _, start in found] + [len(data)]
-        if paths != sorted(paths) or not self.are_walked(paths):
+        parts, edits = Parts(data), []
+        if not self.are_walked(parts):
             raise TooMuch
-        edits = []
         for path, text in [*self.texts.items(), *((it, None) for it in self.gone)]:
-            at = bisect.bisect_left(paths, path)
+            start, end = parts.place(path)
             part = b"" if text is None else written(path, text)
-            if paths[at:at + 1] != [path]:
+            if start == end:
                 if not NAMED.fullmatch(path) or not part:
                     raise TooMuch
-                edits.append((starts[at], starts[at], part))
-                continue
-            if data[starts[at]:starts[at + 1]] != part:
-                self.check_given(path, data[starts[at]:starts[at + 1]], part)
-                edits.append((starts[at], starts[at + 1], part))
+                edits.append((start, start, part))
+            elif data[start:end] != part:
+                self.check_given(path, data[start:end], part)
+                edits.append((start, end, part))
         for path in self.came:
-            at = bisect.bisect_left(paths, path)
-            if paths[at:at + 1] == [path]:
+            start, end = parts.place(path)
+            if start != end:
                 raise TooMuch
-            edits.append((starts[at], starts[at], written(path, b"")))
+            edits.append((start, start, written(path, b"")))
         pieces, end = [], 0
         for start, after, part in sorted(edits):
             pieces += [data[end:start], part]
             end = after
         return b"".join([*pieces, data[end:]]) if edits else None
 
-    def are_walked(self, paths):
+    def are_walked(self, parts):
         """Whether the folders behind links in which files have come are those of the bundle: links in circles are followed once."""
         linked = {os.path.dirname(path) for path in self.came} & self.seen.links
-        return not linked or linked <= {os.path.dirname(path) for path in paths}
+        return not linked or linked <= {os.path.dirname(path) for path in parts.paths()}
 
     @staticmethod
     def check_given(path, before, after):
@@ -276,6 +272,45 @@ class Patch:
             tests, manual = next(answers), set(next(answers))
             return [it.partition(":")[2] for it in tests if it not in manual] == made["tests_in"][package]
         return True
+
+
+class Parts:
+    """Where the files of a bundle stand in it: they are in the order of their paths, so none has to be looked at but those on the way to one."""
+
+    def __init__(self, data):
+        self.data = data
+
+    def next(self, at):
+        """The place of the first file from here on; the end where there is none."""
+        if at == 0 and self.data.startswith(b"=== "):
+            return 0
+        found = self.data.find(b"\n=== ", max(at - 1, 0))
+        return len(self.data) if found < 0 else found + 1
+
+    def path(self, start):
+        """The path of the file at a place."""
+        return self.data[start + 4:self.data.index(b"\n", start)]
+
+    def place(self, path):
+        """Where a file begins and ends; where it isn't there, twice the place where it would begin."""
+        wanted, low, high = path.encode("utf-8", "surrogateescape"), 0, len(self.data)
+        # (what begins before `low` comes before the file, and what comes next from `high` on doesn't)
+        while low < high:
+            middle = (low + high) // 2
+            start = self.next(middle)
+            if start >= high:
+                high = middle
+            elif self.path(start) < wanted:
+                low = start + 1
+            else:
+                high = start
+        start = self.next(high)
+        is_there = start < len(self.data) and self.path(start) == wanted
+        return start, self.next(start + 1) if is_there else start
+
+    def paths(self):
+        """The paths of all files."""
+        return [it.decode("utf-8", "surrogateescape") for it in HEADER.findall(self.data)]
 
 
 class Lazy(Mapping):

@@ -49,7 +49,7 @@ class Kept:
 
     def __init__(self, root, program):
         self.root, self.program, self.folder = root, program, cache_of(root)
-        self.overlay, self.is_large = os.path.join(self.folder, "overlay"), False
+        self.overlay, self.places, self.is_large = os.path.join(self.folder, "overlay"), {}, False
 
     def open(self, ask=None):
         """The bundle, fresh, and the warnings of what it was made of. `ask` is given an open bundle and queries, and gives their blocks and the run's
@@ -148,8 +148,10 @@ class Kept:
 
     def shown(self, path):
         """A file's path from the folder that one stands in; in full for one that is only in the overlay."""
-        place = os.path.join(self.root, path)
-        return os.path.relpath(place) if os.path.lexists(place) else os.path.join(self.overlay, path)
+        if path not in self.places:
+            place = os.path.join(self.root, path)
+            self.places[path] = os.path.relpath(place) if os.path.lexists(place) else os.path.join(self.overlay, path)
+        return self.places[path]
 
     def path(self, name):
         """The path of a file that is kept."""

@@ -52,14 +52,14 @@ class Hints:
 
     def __init__(self, sources, faults, is_brief=False, kept=None):
         self.sources, self.faults, self.is_brief, self.kept = sources, faults, is_brief, kept
-        self.meant = {}  # what may have been meant, by a name and the BUILD file of its package, and what was looked at for it
         self.failed = {it.label for it in faults if it.number != "F79"}
         self.first = {}  # by the path of a file, the first of its own faults
         for it in faults:
             if it.number != "F79":
                 self.first.setdefault(sources.file_of(it.label), it)
         self.until, self.skipped = time.process_time() + SECONDS, 0
-        sources.until = self.until
+        if sources:
+            sources.until = self.until
 
     def all(self):
         """The hints of all faults: causes in the order of the lines, then what follows from them."""
@@ -172,18 +172,13 @@ class Hints:
 
     def did_you_mean(self, name, build):
         """What may have been meant by a name that a package hasn't."""
-        if (name, build) not in self.meant:
-            with self.sources.noting() as seen:
-                self.meant[name, build] = did_you_mean(name, queries.target_names(self.sources, build)), seen
-        found, seen = self.meant[name, build]
-        self.sources.seen[-1].add(seen)
-        return found
+        return self.sources.once(("meant", name, build), lambda: did_you_mean(name, queries.target_names(self.sources, build)))
 
     @staticmethod
     def is_label(text, here, wanted):
         """Whether a text is this label, in a file of the repository and package `here`."""
         try:
-            return isinstance(text, str) and labels.split(text, *here) == wanted
+            return isinstance(text, str) and wanted[2] in text and labels.split(text, *here) == wanted
         except labels.BadLabel:
             return False
 

@@ -206,6 +206,11 @@ def no_package(sources, fault, tree):
 def package_missing(sources, label):
     """Why a label's package isn't there."""
     repository, package, _ = labels.split(label)
+    return sources.once(("package", repository, package), lambda: why_missing(sources, repository, package))
+
+
+def why_missing(sources, repository, package):
+    """Why a package of a repository isn't there."""
     directory = labels.directory(repository, package)
     if package == "external" and not repository:
         return "labels of //external are made by bind in a WORKSPACE file, which isn't read"

@@ -178,16 +178,14 @@ def no_target(sources, faults, detail):
 
 def target_names(sources, build):
     """The names of a package's targets and files: those that its evaluation declares, or that its text gives by `name = "x"`."""
-    if build not in sources.names:
-        with sources.noting() as seen:
-            machine = Machine(sources)
-            machine.run(build)
-            declared = machine.packages[build].targets if build in machine.packages else ()
-            written = re.findall(r"\bname\s*=\s*[\"']([^\"'\n]+)[\"']", sources.text(build))
-            sources.names[build] = {*declared, *written, *sources.files_of(build.rpartition("/")[0])}, seen
-    found, seen = sources.names[build]
-    sources.seen[-1].add(seen)
-    return found
+    def find():
+        machine = Machine(sources)
+        machine.run(build)
+        declared = machine.packages[build].targets if build in machine.packages else ()
+        written = re.findall(r"\bname\s*=\s*[\"']([^\"'\n]+)[\"']", sources.text(build))
+        return {*declared, *written, *sources.files_of(build.rpartition("/")[0])}
+
+    return sources.once(("names", build), find)
 
 
 def run_error(sources, error):

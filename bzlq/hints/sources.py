@@ -48,10 +48,10 @@ class Sources:
         self.all_paths, self.read, self.place = set(paths), read, place
         self.all_packages = {os.path.dirname(path) for path in self.all_paths if os.path.basename(path) in ("BUILD", "BUILD.bazel")}
         self.texts, self.trees, self.owned, self.above, self.bound, self.sums = {}, {}, None, None, {}, {}
-        self.names = {}  # the names of a package's targets, by its BUILD file, once they were asked for, with what was looked at for them
         # the .bzl files that were evaluated, by their paths, each with what was looked at for it; what is frozen, by identity; and the values, so
         # that no other gets their identity
         self.modules, self.frozen, self.kept = {}, set(), []
+        self.found, self.labels = {}, {}  # what was found once, with what was looked at for it; and the paths of labels
         self.seen, self.until = [Seen()], None  # `until` is when no more files are to be read, by the time of the process
         self.schema, self.mandatory = self.read_schema()
 
@@ -76,6 +76,15 @@ class Sources:
         finally:
             inner = self.seen.pop()
             self.seen[-1].add(inner)
+
+    def once(self, key, find):
+        """What is found under a key, which is looked for once."""
+        if key not in self.found:
+            with self.noting() as seen:
+                self.found[key] = find(), seen
+        found, seen = self.found[key]
+        self.seen[-1].add(seen)
+        return found
 
     def is_unsure(self):
         """Notes that what is made now depends on more than files."""
@@ -203,11 +212,13 @@ class Sources:
 
     def file_of(self, label):
         """The path of a label's file; nothing where there is none."""
-        try:
-            path = labels.path(label)
-        except labels.BadLabel:
-            return ""
-        return self.asked("file_of", label, path if path in self.all_paths else "")
+        if label not in self.labels:
+            try:
+                path = labels.path(label)
+            except labels.BadLabel:
+                path = ""
+            self.labels[label] = path if path in self.all_paths else ""
+        return self.asked("file_of", label, self.labels[label])
 
     def read_schema(self):
         """The rules with their attributes' types, and which attributes are mandatory."""

@@ -177,6 +177,7 @@ class Facts:
         self.further_left = 0  # how many labels more may be such targets, of a macro that has too many
         self.loaders = Counter()  # how many files load a symbol: (repository, package, name), symbol
         self.tests_in = {}  # the tests of packages that have a `test_suite` without `tests`, once they are known
+        self.taken = {}  # what places take, by keyword, once they are asked for
         self.inner_calls, self.binders = {}, {}  # a path -> the calls in each function, and the statements that bind each name, once they are asked for
         self.reached = self.files_reached()
         self.find_stand_ins()
@@ -206,7 +207,7 @@ class Facts:
             for it in listed:
                 found.replaced.add(path, Statement(*it))
         found.names.stand_ins.update((path, set(names)) for path, names in kept["stand_ins"].items())
-        found.stubs, found.left_out, found.inner_calls = defaultdict(dict), defaultdict(list), {}
+        found.stubs, found.left_out, found.inner_calls, found.taken = defaultdict(dict), defaultdict(list), {}, {}
         for place, symbol, it in kept["stubs"]:
             found.stubs[place][symbol] = Stub.of_kept(it)
         found.everywhere = defaultdict(Counter, {keyword: Counter(kinds) for keyword, kinds in kept["everywhere"].items()})

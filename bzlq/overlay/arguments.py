@@ -12,8 +12,8 @@ a `select`, so the marks come to the calls as they are, and are taken out there.
 A large workspace calls these functions a hundred thousand times, so they look at elements one by one only where something is odd: `str`, `in`,
 `count` and `remove` look at a whole list in a step or a few.
 """
-from bzlq.overlay.definitions import starlark
 from bzlq.overlay.rule_sets import BAZEL
+from bzlq.overlay.starlark_text import starlark
 
 # what may be lost, by its word; whether an answer may then lack a target
 LOST = {

@@ -6,11 +6,12 @@ from collections import Counter, defaultdict
 
 from bzlq.overlay.analysis import VALUE_METHODS
 from bzlq.overlay.arguments import LABEL as GIVEN, PREFIX
-from bzlq.overlay.definitions import quoted, value_for
+from bzlq.overlay.definitions import value_for
 from bzlq.overlay.guesses import BY_NAME, type_of
-from bzlq.overlay.reading import BUILD_FUNCTIONS, PLACEHOLDER, TRISTATES, Either, has_name, kind_of, makers_of, names_bound, nodes_of, parsed, why_not
+from bzlq.overlay.reading import BUILD_FUNCTIONS, PLACEHOLDER, TRISTATES, Either, children_of, has_name, kind_of, makers_of, names_bound, nodes_of, parsed, why_not
 from bzlq.overlay.replacements import NATIVE_VALUES, REPLACED, label_in, labels_bound, replacement
 from bzlq.overlay.rule_sets import BAZEL, TESTS
+from bzlq.overlay.starlark_text import quoted
 
 LISTS = ("labels", "strings", "list")
 # what the language takes of escapes, beside a backslash before a line end
@@ -41,6 +42,7 @@ class Copy:
         self.loads_more = defaultdict(set)  # a loaded name -> members that stand as symbols of their own
         self.empty_texts = empty_texts(facts, file)
         self.more = ""  # a line at the end
+        self.has_escapes = b"\\" in text
 
     def own_names(self, names):
         """Goes into a function that binds these names."""
@@ -125,6 +127,10 @@ class Copy:
 
     def visit(self, node, wanted=""):
         """Replaces parts of an expression or statement; `wanted` is what its place takes: list, text, unknown, or empty."""
+        if node.__class__ is ast.Constant:
+            if self.has_escapes and isinstance(node.value, str):
+                self.escapes(node)
+            return
         if found := replacement(node, self.all_names, self.labels) if isinstance(node, REPLACED) else None:
             self.put(node, found)
             return
@@ -144,13 +150,13 @@ class Copy:
                 self.makers, self.labels = makers_of(node, nodes), labels_bound(nodes)
                 self.own_names(names_bound(node, nodes))
                 self.lost, self.has_glob = self.values_lost(nodes), any(isinstance(it, ast.Attribute) and it.attr == "glob" for it in nodes)
-                for part in ast.iter_child_nodes(node):
+                for part in children_of(node):
                     self.visit(part)
                 self.makers, self.labels, self.lost, self.has_glob = set(), set(), [], False
                 self.own_names(set())
             case ast.ListComp(elt=ast.Attribute()) if self.file.is_build:
                 self.around(node, "[part for part in ", " if part]")
-                for part in ast.iter_child_nodes(node):
+                for part in children_of(node):
                     self.visit(part, "text")
             case ast.List(elts=parts):
                 if any(self.is_empty_text(part) for part in parts):
@@ -159,10 +165,8 @@ class Copy:
                     self.visit(part, "text")
             case ast.AugAssign(op=ast.Add(), value=value):
                 self.visit(value, "list" if self.kind(value) == "other" else "")
-            case ast.Constant(value=str()):
-                self.escapes(node)
             case _:
-                for part in ast.iter_child_nodes(node):
+                for part in children_of(node):
                     self.visit(part, wanted if isinstance(node, ast.IfExp) else "")
 
     def sum(self, node, wanted):
@@ -347,7 +351,7 @@ class Copy:
                 case ast.Call():
                     return False
                 case of:
-                    pending += [part for part in ast.iter_child_nodes(of) if isinstance(part, ast.expr)]
+                    pending += [part for part in children_of(of) if isinstance(part, ast.expr)]
         return True
 
     def rule(self, call, name):
@@ -396,8 +400,10 @@ class Copy:
         """Whether an attribute of this name takes a list or one value, by its name or by what it is given elsewhere."""
         if not keyword:
             return ""
-        kind, source = type_of(keyword, Counter(), self.facts.everywhere)
-        return "unknown" if source == "nothing" else "list" if kind.endswith("_list") else "text"
+        if keyword not in self.facts.taken:
+            kind, source = type_of(keyword, Counter(), self.facts.everywhere)
+            self.facts.taken[keyword] = "unknown" if source == "nothing" else "list" if kind.endswith("_list") else "text"
+        return self.facts.taken[keyword]
 
     def select(self, node, wanted):
         """What takes a `select`'s dict: all branches of lists, else the default one, with marks for the conditions."""

@@ -1,16 +1,14 @@
 """What stands in a .bzl file for a symbol that isn't there: a macro that forwards to a rule of the schema, a function, or a value."""
-import re
 from collections import Counter
 
 from bzlq.overlay.guesses import type_of
 from bzlq.overlay.reading import BUILD_FUNCTIONS, BUILT_INS
 from bzlq.overlay.skylib import MEMBERS
+from bzlq.overlay.starlark_text import quoted
 
 RESERVED = set("""and break continue def elif else for if in lambda load not or pass return as assert async await class del except finally from
     global import is nonlocal raise try while with yield native""".split()) | BUILT_INS | BUILD_FUNCTIONS
 
-# control characters, and halves of characters
-UNWRITABLE = re.compile("[\0-\x1f\x7f\ud800-\udfff]")
 
 
 def rule_of(symbol):
@@ -47,24 +45,6 @@ LABELS_OF = {
     "requirement": '"@{repository}//" + name.lower().partition("[")[0].replace("-", "_").replace(".", "_")',
     "artifact": '"@maven//:" + "_".join(name.split(":")[:2]).replace("-", "_").replace(".", "_")',
 }
-
-
-def quoted(text):
-    """A text as Starlark writes it, in one line; a question mark stands for what has no escape there."""
-    return '"' + UNWRITABLE.sub("?", text.replace("\\", "\\\\").replace('"', '\\"')) + '"'
-
-
-def starlark(value):
-    """A value as Starlark writes it, in one line."""
-    match value:
-        case str():
-            return quoted(value)
-        case dict():
-            return "{" + ", ".join(f"{starlark(key)}: {starlark(it)}" for key, it in value.items()) + "}"
-        case list() | tuple():
-            return "[" + ", ".join(map(starlark, value)) + "]"
-        case _:
-            return repr(value)
 
 
 def definition(repository, symbol, stub, lost=()):

@@ -3,7 +3,7 @@
 import re
 from collections import defaultdict
 
-from bzlq.overlay.definitions import starlark
+from bzlq.overlay.starlark_text import starlark
 from bzlq.workspace.files import is_path
 
 # how many further targets a macro has at most: they stand in one text

@@ -53,16 +53,23 @@ class Either:
         return name in self.one or name in self.two
 
 
+def children_of(node):
+    """The nodes right in a node, but for those that have nothing in them, such as the signs of operators: as `ast.iter_child_nodes`, and quicker."""
+    found = []
+    for name in node._fields:
+        value = getattr(node, name, None)
+        if value.__class__ is list:
+            found += [part for part in value if isinstance(part, ast.AST) and part._fields]
+        elif isinstance(value, ast.AST) and value._fields:
+            found.append(value)
+    return found
+
+
 def nodes_of(node):
-    """A node and all in it, but for those that have nothing in them, such as the signs of operators: in the order of `ast.walk`, and quicker."""
+    """A node and all in it, in the order of `ast.walk`."""
     found = [node]
     for it in found:
-        for name in it._fields:
-            value = getattr(it, name, None)
-            if value.__class__ is list:
-                found += [part for part in value if isinstance(part, ast.AST) and part._fields]
-            elif isinstance(value, ast.AST) and value._fields:
-                found.append(value)
+        found += children_of(it)
     return found
 
 
@@ -251,8 +258,14 @@ class Reader(ast.NodeVisitor):
         self.visit(node)
         self.wanted = before
 
+    def generic_visit(self, node):
+        """Reads what is in a node; a constant says nothing by itself."""
+        for part in children_of(node):
+            if part.__class__ is not ast.Constant:
+                self.visit(part)
+
     def visit_Constant(self, node):
-        """A constant says nothing by itself. (Without this Python looks for methods of older names, which takes a tenth of all reading.)"""
+        """A constant says nothing by itself. (Without this Python looks for methods of older names.)"""
 
     def visit(self, node):
         """Reads a node, or what stands for it."""

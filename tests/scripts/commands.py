@@ -86,7 +86,7 @@ def words(bench):
     bench.run("git init -q; git add -A; git -c user.name=x -c user.email=x commit -qm x; echo >> f/BUILD", "ws")
     bench.compare("bzlq lint of what has changed", bench.run("bzlq lint", "ws")[::2], (FAULT, 1))
     for files, errors, status in (("none/BUILD", "bzlq: none/BUILD: no such file\n", 2), ("a/lib/x.c", "bzlq: a/lib/x.c is neither a BUILD file nor a .bzl file\n", 0),
-                                  ("/dev/null", "bzlq: /dev/null: no such file\n", 2), ("--all", "bzlq: there is no option --all of lint: it takes files\n", 2)):
+                                  ("/dev/null", "bzlq: /dev/null: no such file\n", 2), ("--all", "bzlq: there is no option --all of lint: it takes files (after -- also one of such a name)\n", 2)):
         bench.compare(f"bzlq lint {files}", bench.run(f"bzlq lint {files}", "ws"), ("", errors, status))
     for name in ("why", "affected", "stubs", "hints"):
         bench.compare(f"bzlq {name} --help", bench.run(f"bzlq {name} --help")[1:], ("", 0))

@@ -130,7 +130,7 @@ def shapes():
 
 
 # how many parts a shape has, and how often it is timed at most
-PARTS, TRIES = 3000, 3
+PARTS, TRIES = 2000, 3
 
 
 def seconds(text, is_bzl):
