@@ -1,4 +1,4 @@
-"""Words and turns of phrase that users' pages and `--help` don't use: `TURNS` has each, what to write instead, and a sentence with it."""
+"""Words and turns of phrase that pages and `--help` don't use: `TURNS` has each, what to write instead, and a sentence with it."""
 import ast
 import glob
 import os
@@ -6,9 +6,10 @@ import re
 
 import kit
 
-# docs/FAULTS.md isn't here: dev/faults writes it from the tables of `bq --explain`
+# docs/CRATES.md, docs/FAULTS.md and docs/SPEC.md aren't here: scripts write them of crates.txt, of the tables of `bq --explain`, and of definitions
 PAGES = ("README.md", "docs/QUERY.md", "docs/TOOLS.md", "docs/FORMATS.md", "docs/REAL_WORKSPACES.md", "docs/LANGUAGE.md", "docs/BUILD_RULES.md",
-         "docs/SCALE.md", "docs/bq.1", "docs/bzlq.1")
+         "docs/SCALE.md", "docs/CHANGELOG.md", "docs/bq.1", "docs/bzlq.1", "CONTRIBUTING.md", "docs/ARCHITECTURE.md", "docs/CHANGE.md",
+         "docs/DECISIONS.md", "docs/GLOSSARY.md", "docs/MEASURED.md", "docs/PROOFS.md", "tests/README.md")
 SCRIPTS = ("dev/*", "bench/*", "tests/scripts/*")
 # modules of bzlq whose first text is the help of a command, or that have texts of the help in tables
 COMMANDS = ("bzlq/__main__.py", "bzlq/cli/*.py", "bzlq/overlay/stubs.py")

@@ -6,6 +6,7 @@ doesn't know ends it with `Unknown`. It never decides anything: a reason is show
 """
 import ast
 import re
+import time
 
 from bzlq.hints import labels
 from bzlq.hints.calls import Calls
@@ -17,7 +18,7 @@ from bzlq.hints.values import BUDGET, Unknown, Wrong
 
 STEPS = 300_000
 PARTS = 3_000_000
-SECONDS = 3
+SECONDS = 1
 
 
 class Machine(Statements, Expressions, Calls):
@@ -33,7 +34,9 @@ class Machine(Statements, Expressions, Calls):
 
     def run(self, path):
         """What the evaluation of a file ends with; nothing where it ends well, or can't be told."""
-        BUDGET.renew(PARTS, SECONDS)
+        until = self.sources.until
+        # (of the time for all hints half of what is left, so that no file takes that of the others)
+        BUDGET.renew(PARTS, SECONDS if until is None else (until - time.process_time()) / 2)
         try:
             self.evaluated(path)
         except Wrong as wrong:

@@ -16,6 +16,8 @@ LEFT_OUT = {
     "visible": "`bzlq visible a b` says whether b is visible to a", "executables": "kinds alone are known", "same_pkg_direct_rdeps": "write rdeps(//package:all, x, 1)",
 }
 KEYWORDS = "except in intersect let set union + ^ -".split()
+# how many steps of a BUILD file are evaluated for the names of its targets, of which one may be meant: a large one names most of them in its text
+STEPS = 30_000
 
 
 def pointed(query, at, what):
@@ -179,7 +181,7 @@ def no_target(sources, faults, detail):
 def target_names(sources, build):
     """The names of a package's targets and files: those that its evaluation declares, or that its text gives by `name = "x"`."""
     def find():
-        machine = Machine(sources)
+        machine = Machine(sources, STEPS)
         machine.run(build)
         declared = machine.packages[build].targets if build in machine.packages else ()
         written = re.findall(r"\bname\s*=\s*[\"']([^\"'\n]+)[\"']", sources.text(build))

@@ -75,12 +75,12 @@ def open_string(text, line):
 
 def escape(text, line):
     """A backslash that begins no escape."""
-    at = 1
     for it in pieces(text):
         if it.kind != "string" or it.text[0] in "rR" or not it.line <= line <= it.line + it.text.count("\n"):
             continue
+        at, end = it.line, 0
         for found in re.finditer(r"\\(.)", it.text, re.S):
-            at = it.line + it.text.count("\n", 0, found.start())
+            at, end = at + it.text.count("\n", end, found.start()), found.start()
             if found[1] not in "nrt\\'\"\n\r" and at == line:
                 before = it.text[:found.start()]
                 column = it.column + len(before) if "\n" not in before else len(before) - before.rfind("\n")
@@ -149,6 +149,8 @@ def syntax(text, line):
     except SyntaxError as error:
         message = error.msg.replace("invalid syntax. Perhaps you forgot a comma?", "a comma is missing").replace(" here. Maybe you meant '==' instead of '='?", ": is '==' meant?")
         return missing_comma(part) or wrong_sign(part) or (error.lineno or line, error.offset or 1, message)
+    except (ValueError, RecursionError, MemoryError):
+        pass  # (it nests too deep for Python)
     for it in pieces(text):
         if it.kind == "word" and it.text in RESERVED and it.line >= line:
             return it.line, it.column, f"'{it.text}' is reserved, and no part of Starlark"
@@ -174,8 +176,10 @@ def wrong_sign(text):
     opened = []
     real = [it for it in pieces(text) if it.kind not in ("line", "comment") and it.text not in (" ", "\t")]
     for before, it, after in zip([None, *real], real, [*real[1:], None]):
-        if it.kind == "bracket":
-            opened = [*opened, it.text] if it.text in "([{" else opened[:-1]
+        if it.kind == "bracket" and it.text in "([{":
+            opened.append(it.text)
+        elif it.kind == "bracket" and opened:
+            opened.pop()
         is_value = before is not None and before.kind in ("word", "string", "number")
         if it.text == "=" and is_value and opened[-1:] == ["{"] and after is not None and after.text != "=":
             return it.line, it.column, f"a dict has ':' between a key and its value: write {shown(before)}: .."

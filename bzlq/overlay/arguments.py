@@ -58,12 +58,13 @@ def _marked(conditions):
 def _select(branches, nothing):
     if type(branches) != "dict":
         return branches if type(branches) == type(nothing) else nothing
-    conditions, kinds = _conditions(branches), [type(value) for value in branches.values()]
-    if kinds and kinds == ["list"] * len(kinds):
-        found = _marked(conditions)
-        for value in branches.values():
-            found += value
+    size = len(branches)
+    if size and [type(it) for it in branches.values() + branches.keys()] == ["list"] * size + ["string"] * size:
+        found = [_MARK + _AND.join(branches.keys())]
+        for it in branches.values():
+            found += it
         return found
+    conditions = _conditions(branches)
     given = [list(value) if type(value) == "tuple" and value[:1] != (_MARK,) else value for value in branches.values() if value != None]
     kinds = [type(value) for value in given]
     if "list" in kinds or not given and nothing != None:
@@ -94,14 +95,17 @@ def _of_text(rule, key, value, edges, lost):
         before, mark, condition = piece.partition(_MARK)
         before, is_branch, branch = before.partition(_BRANCH)
         plain += before
-        edges += [condition] if mark and condition else [] if mark else [branch] if is_branch and key in _LABELS.get(rule, []) else []
+        if mark:
+            edges[condition] = None
+        elif is_branch and key in _LABELS.get(rule, []):
+            edges[branch] = None
     lost.append("select: " + key)
     return plain
 
 def _is_left_out(rule, key, value, edges, lost):
     is_open = rule not in _DICTS
     if type(value) == "dict" and (is_open or key in _DICTS[rule]):
-        edges += [it for it in value.keys() if type(it) == "string" and (it[:1] in (":", "@") or it[:2] == "//") and key not in _TEXTS]
+        edges[_AND.join([it for it in value.keys() if type(it) == "string" and (it[:1] in (":", "@") or it[:2] == "//") and key not in _TEXTS])] = None
     elif not (type(value) == "list" and is_open and not _is_texts(value)):
         return False
     lost.append("dict: " + key)
@@ -112,19 +116,23 @@ def _list(value, edges):
     text = str(value)
     if _MARK not in text:
         return value
+    pieces = text.split("\\"" + _MARK)
+    if "\\\\" in text or text.count(_MARK) != len(pieces) - 1:
+        return _unmarked(value, edges)
     found = list(value)
-    for piece in text.split("\\"" + _MARK)[1:]:
-        conditions = piece.partition("\\"")[0]
-        if _MARK + conditions in found:
-            found.remove(_MARK + conditions)
-            edges += conditions.split(_AND)
-    return _unmarked(found, edges) if _MARK in str(found) else found
+    for it in pieces[1:]:
+        conditions = it.partition("\\"")[0]
+        found.remove(_MARK + conditions)
+        edges[conditions] = None
+    return found
 
 def _unmarked(value, edges):
     """The same for marks that a list's text doesn't show."""
     if [it for it in value if type(it) == "string" and it.find(_MARK) > 0]:
         fail("a select in a list: write [..] + select(..)")
-    edges += [part for it in value if type(it) == "string" and it.startswith(_MARK) for part in it[len(_MARK):].split(_AND)]
+    for it in value:
+        if type(it) == "string" and it.startswith(_MARK):
+            edges[it[len(_MARK):]] = None
     return [it for it in value if type(it) != "string" or not it.startswith(_MARK)]
 
 def _guesses(rule, given, lost):
@@ -136,30 +144,34 @@ def _guesses(rule, given, lost):
         if [it for it in parts if type(it) == "string" and ("." in it or "/" in it) and " " not in it and it[:1] != "-"]:
             lost.append("edges: " + key)
 
-def _plain(rule, given, edges, lost):
-    found, is_open = {}, rule not in _DICTS
-    for key, value in given.items():
-        if type(value) == "tuple" and value[:1] == (_MARK,):
-            edges += value[2]
+def _plain(rule, found, edges, lost):
+    is_open = rule not in _DICTS
+    for key, value in found.items():
+        kind = type(value)
+        if kind == "tuple" and value[:1] == (_MARK,):
+            edges[_AND.join(value[2])] = None
             lost.append("select: " + key)
             value = value[1]
-        kind = type(value)
-        if (kind == "dict" or kind == "list" and is_open) and _is_left_out(rule, key, value, edges, lost):
-            continue
+            kind = type(value)
+            found[key] = value
         if kind == "list":
-            value = _list(value, edges)
-        elif kind == "string" and _MARK in value:
-            value = _of_text(rule, key, value, edges, lost)
-        found[key] = value
-    return found
+            if is_open and _is_left_out(rule, key, value, edges, lost):
+                found.pop(key)
+            else:
+                found[key] = _list(value, edges)
+        elif kind == "string":
+            if _MARK in value:
+                found[key] = _of_text(rule, key, value, edges, lost)
+        elif kind == "dict" and _is_left_out(rule, key, value, edges, lost):
+            found.pop(key)
 
 def bzlq_given(rule, lost, given):
-    found, edges = dict(given), []
+    found, edges = dict(given), {}
     lost = lost + (found.pop("bzlq_lost", None) or [])
-    kinds = [type(value) for value in found.values()]
+    text = str(given)
     is_odd = rule not in _DICTS and [1 for value in found.values() if type(value) == "list" and not _is_texts(value)]
-    if is_odd or "dict" in kinds or "tuple" in kinds or _MARK in str(given):
-        found = _plain(rule, found, edges, lost)
+    if is_odd or _MARK in text or ": {" in text or ": (" in text:
+        _plain(rule, found, edges, lost)
     if rule in _GUESSED:
         _guesses(rule, found, lost)
     if rule == "genrule":
@@ -169,7 +181,9 @@ def bzlq_given(rule, lost, given):
     if rule == "test_suite" and not found.get("tests"):
         _suite(found, lost)
     if edges:
-        found["bzlq_edges"] = {it: None for it in edges}.keys()
+        labels = [it for it in {it: None for it in _AND.join(edges.keys()).split(_AND)} if it and it != _DEFAULT]
+        if labels:
+            found["bzlq_edges"] = labels
     if lost:
         found["bzlq_lost"] = {it: None for it in lost}.keys()
     return found

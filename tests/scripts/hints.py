@@ -1,9 +1,12 @@
 """Tries bzlq hints: the example of every number that bq prints (docs/FAULTS.md) has to get the lines of hint_rows.py; and its words, and files that
 take long to evaluate."""
 import re
+import signal
+from unittest import mock
 
 import kit
 from bench import ROOT
+from bzlq.hints import scan
 from bzlq.hints.report import hinted
 from bzlq.hints.sources import Sources
 from hint_rows import ROWS
@@ -67,14 +70,67 @@ HOSTILE = {
 
 
 def hostile(bench):
-    """Files that take long to evaluate: a hint comes in seconds, whatever it says."""
+    """Files that take long to evaluate: each fault has its line in seconds, and a line says so where the time was too short for reasons."""
     for what, text in HOSTILE.items():
         bench.lay_out("h", {"WORKSPACE": "", "BUILD": text + "1 // 0\n"})
-        ended = bench.run("ulimit -v 2000000 -t 60; bzlq hints h", given=b"//:BUILD:1: F42 DivZero\n//:BUILD:1: F10 Syntax\n//:BUILD:1: F7 Bracket\n")
-        bench.compare(what, (ended[0].count("\n"), ended[1:]), (3, ("", 0)))
+        output, *ended = bench.run("ulimit -v 2000000 -t 60; bzlq hints h", given=b"//:BUILD:1: F42 DivZero\n//:BUILD:1: F10 Syntax\n//:BUILD:1: F7 Bracket\n")
+        lines = [it for it in output.splitlines() if not re.fullmatch(r"\d of these have no reason: looking for it is ended after 2 s", it)]
+        bench.compare(what, ([it[:len("h/BUILD:1:")] for it in lines], ended), (["h/BUILD:1:"] * 3, ["", 0]))
+
+
+class Clock:
+    """The time of the process on a machine where each look at it takes a thousandth of a second."""
+
+    def __init__(self):
+        self.now = 0.0
+
+    def __call__(self):
+        self.now += 0.001
+        return self.now
+
+
+def slow(bench):
+    """However slow the machine, a file that takes long leaves time to the others."""
+    for what, text in HOSTILE.items():
+        bench.lay_out("h", {"WORKSPACE": "", "a/BUILD": text + "1 // 0\n", "b/BUILD": "1 // 0\n"})
+        with mock.patch("time.process_time", Clock()):
+            written, _ = hinted(["//a:BUILD:1: F42 DivZero", "//b:BUILD:1: F42 DivZero"], Sources.of_directories([f"{bench.room}/h"]))
+        bench.compare(f"beside {what}", (written[1:], len(written)), ([f"{bench.room}/h/b/BUILD:1:1: F42 DivZero: 1 // 0"], 2))
+    bench.lay_out("h", {"WORKSPACE": "", "a/BUILD": "filegroup(name = \"c\", srcs = [\"//x\", \"//y\"])\n", **{f"{it}/BUILD": HOSTILE["a long loop"] + f'filegroup(name = "{it}s")\n' for it in "xy"}})
+    with mock.patch("time.process_time", Clock()):
+        written, _ = hinted([f"//a:BUILD:1: F79 DanglingLabel //{it}:{it}" for it in "xy"], Sources.of_directories([f"{bench.room}/h"]))
+    said = [f"{bench.room}/h/a/BUILD:1:{at}: F79 DanglingLabel: package '{it}' has no target '{it}' (did you mean '{it}s'?)" for it, at in (("x", 31), ("y", 38))]
+    bench.compare("labels of packages that take long", written, said)
+
+
+LONG = {
+    "brackets": ("F7 F10 F11", "x = " + "[" * 40000 + "\n"),
+    "calls": ("F10", "x = f" + "()" * 30000 + "\n"),
+    "commas": ("F10", "x = [" + "1, " * 20000 + "]\n"),
+    "escapes": ("F5", 'x = "' + "\\n" * 500000 + '"\n'),
+    "lines": ("F2", "if x:\n  y\n" * 40000),
+}
+
+
+def linear(bench):
+    """What looks at the tokens of a long file takes a part of a second, and no time that grows with the square of its length."""
+    def end(number, _):
+        raise TimeoutError
+    before = signal.signal(signal.SIGVTALRM, end)
+    for what, (numbers, text) in LONG.items():
+        for number in numbers.split():
+            signal.setitimer(signal.ITIMER_VIRTUAL, 2)
+            is_over = False
+            try:
+                scan.SCANS[number](text, 1)
+            except TimeoutError:
+                is_over = True
+            signal.setitimer(signal.ITIMER_VIRTUAL, 0)
+            bench.compare(f"{number} over very many {what}: 2 s are over", is_over, False)
+    signal.signal(signal.SIGVTALRM, before)
 
 
 def check(bench):
     """Tries all of it."""
-    for part in (rows, interface, hostile):
+    for part in (rows, interface, hostile, slow, linear):
         part(bench)

@@ -115,6 +115,15 @@ QUERIES = {
     "deps(\"//app\" //lib)": "^ an operator is missing between '\"//app\"' and '//lib'",
 }
 
+# those that are answered, as Bazel answers them; the others are refused
+ANSWERS = {
+    "deps(//app)-//app:app": "//app:main.c\n//lib:a.c\n//lib:lib\n",
+    "app": "//app:app\n",
+    "@//app:app": "//app:app\n",
+    "//...:all-targets": "//app:BUILD\n//app:app\n//app:main.c\n//lib:BUILD\n//lib:a.c\n//lib:lib\n//lib:lib.out\n//lib:lib_gen\n//tools:BUILD\n",
+    "labels(src, //app)": "",
+}
+
 
 def check(bench):
     """Each mistake, by bzlq and by bzlq lint."""
@@ -129,7 +138,7 @@ def check(bench):
     bench.run("bzlq //app", "more")
     for query, line in QUERIES.items():
         found = bench.run(f"bzlq {quoted(query)}", "more")
-        bench.compare(query, (found[1].splitlines() or [""])[-1].strip(), line)
+        bench.compare(query, (found[0], (found[1].splitlines() or [""])[-1].strip(), found[2]), (ANSWERS.get(query, ""), line, 0 if query in ANSWERS else 2))
 
 
 def quoted(text):
