@@ -1,5 +1,5 @@
 //! Load graphs: for each module, by number, the modules that it loads.
-ghost use Rattle.std.specs.Prelude.{◌≡◌, ℕ, ◌+◌, ◌<◌, ◌≤◌, ◌↔◌, List, [], length, vec_len, IfOk, OnOk, IfErr, IsTrue};
+ghost use Rattle.std.specs.Prelude.{◌≡◌, ℕ, ◌+◌, ◌<◌, ◌≤◌, ◌↔◌, List, [], length, vec_len, IfOk, OnOk, IfErr, IfSome, OnSome, IfNone, IsTrue};
 ghost use Rattle.bq_base_limits.specs.Limits.{AreBounded, standard};
 ghost use Rattle.bq_board_plan.specs.Counts.{Has};
 ghost use Rattle.bq_board_plan.specs.Graph.{row, edges, Known, Fits, IsGraph, lists};
@@ -44,13 +44,29 @@ impl Graph {
         ensures fits { OnOk result (Fits limits (lists rows.items)) }
         ensures refused { IfErr result (λ e. RefusedWithin limits (lists rows.items) e) }
     {
-        if rows.len() > limits.modules || !has_few_edges(rows.as_slice(), limits.edges) {
+        if !keeps(limits, rows.as_slice()) {
             return Err(PlanErr::TooMany);
         }
         if !knows_all(rows.as_slice()) {
             return Err(PlanErr::BadIndex);
         }
         Ok(Graph { rows })
+    }
+
+    /// Makes the graph, as [`Graph::within`] does, of modules that load modules of the graph alone; `None` if it breaks the
+    /// limits.
+    pub fn of_known(limits: Limits, rows: Vec<Vec<u32>>) -> Option<Graph>
+        requires bounded { AreBounded limits }
+        requires known { Known (lists rows.items) }
+        ensures graph { IfSome result (λ g. g ≡ lists rows.items) }
+        ensures valid { OnSome result (IsGraph (lists rows.items)) }
+        ensures fits { OnSome result (Fits limits (lists rows.items)) }
+        ensures refused { IfNone result (¬ Fits limits (lists rows.items)) }
+    {
+        if !keeps(limits, rows.as_slice()) {
+            return None;
+        }
+        Some(Graph { rows })
     }
 
     /// Returns the number of modules.
@@ -81,6 +97,17 @@ impl Graph {
         }
         Ok(Graph { rows })
     }
+}
+
+/// Returns whether the graph of these rows keeps the limits.
+fn keeps(limits: Limits, rows: &[Vec<u32>]) -> bool
+    requires { AreBounded limits }
+    ensures { IsTrue result ↔ Fits limits (lists rows.now) }
+{
+    if rows.len() > limits.modules {
+        return false;
+    }
+    has_few_edges(rows, limits.edges)
 }
 
 /// Returns whether the rows have at most so many entries.

@@ -1,15 +1,13 @@
 -- The built-in functions (Starlark, "Built-in constants and functions"), and what a call gives.
-use Rattle.std.specs.Prelude.{ℕ, List, [], ◌∷◌, Option, Some, None, Result, codes, slice_get}
-use Rattle.bq_base.specs.declared.fault.EvalFault.{EvalFault}
+use Rattle.std.specs.Prelude.{ℕ, List, [], ◌∷◌, Option, Some, None, codes, slice_get}
 use Rattle.bq_base.specs.declared.fault.EvalFault.TheVariants as fault
 use Rattle.bq_resolve_predeclared.specs.declared.predeclared.Predeclared.{Predeclared}
 use Rattle.bq_resolve_predeclared.specs.declared.predeclared.Predeclared.TheVariants as p
 use Rattle.bq_value.specs.Datum.{Datum}
-use Rattle.bq_value.specs.Cells.{StoreView}
 use Rattle.bq_builtin_machine.specs.State.{State}
-use Rattle.bq_builtin_machine.specs.Action.{Action, ◌>>=◌, stop, look}
+use Rattle.bq_builtin_machine.specs.Action.{Action, stop}
 use Rattle.bq_builtin_machine.specs.Args.{Passed}
-use Rattle.bq_builtin_machine.specs.Cells.{new_list}
+use Rattle.bq_builtin_collections.specs.Calling.{Calling, gives, lists, does, called}
 use Rattle.bq_builtin_collections.specs.Dict.{dict_made}
 use Rattle.bq_builtin.specs.Truths.{all, any, bool}
 use Rattle.bq_builtin.specs.Integers.{int, len, range}
@@ -17,13 +15,6 @@ use Rattle.bq_builtin.specs.Choosing.{chosen, sorted}
 use Rattle.bq_builtin.specs.Sequences.{tuple, list, reversed, enumerate, zip}
 use Rattle.bq_builtin.specs.Texts.{type_of, str, repr, print, fail}
 use Rattle.bq_builtin.specs.declared.choosing.ExtremeKind.TheVariants.{Greatest, Least}
-
--- what a call of a function gives: a value, of what lists and dicts hold and of the arguments; the values of a new list; or what an action
--- gives
-pub data Calling : Type 0 where
-  gives : (StoreView → Passed → Result Datum EvalFault) → Calling
-  lists : (StoreView → Passed → Result (List Datum) EvalFault) → Calling
-  does : (Passed → Action State Datum) → Calling
 
 -- the built-in functions, each with its name and what a call of it gives; `select` needs configurations, which only an analysis has (F60)
 abbrev pub functions : List (List ℕ × Calling)
@@ -50,12 +41,6 @@ functions =
     (codes "type", gives type_of) ∷
     (codes "zip", lists zip) ∷
     []
-
--- a call with these arguments
-abbrev pub called : Calling → Passed → Action State Datum
-called (gives value) args = look (λ s. value s.store args)
-called (lists values) args = look (λ s. values s.store args) >>= λ xs. new_list xs
-called (does action) args = action args
 
 -- no program has a function that isn't in the table
 abbrev pub called_if_any : Option (List ℕ × Calling) → Passed → Action State Datum

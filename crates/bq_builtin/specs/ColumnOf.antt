@@ -2,10 +2,10 @@
 use Rattle.std.specs.Prelude.{List, drop}
 use Rattle.bq_value.specs.Datum.{Datum}
 use Rattle.bq_value.specs.Pairs.{keys}
-use Rattle.bq_builtin.specs.declared.column.Left.{Left}
-use Rattle.bq_builtin.specs.declared.column.Left.TheVariants as left
+use Rattle.bq_builtin.specs.declared.column.ColumnSource.{ColumnSource}
+use Rattle.bq_builtin.specs.declared.column.ColumnSource.TheVariants as left
 
-abbrev pub column_left : Left → List Datum
+abbrev pub column_left : ColumnSource → List Datum
 column_left (left.Values values at) = drop at values.now
 column_left (left.Keys dict at) = drop at (keys dict.now)
 column_left (left.Integers integers) = integers

@@ -14,11 +14,11 @@ use std::marker::Model;
 /// The elements of an iterable that are still to come, where they are. Contracts see their list.
 #[derive(Drop)]
 pub(crate) struct Column<'a> {
-    left: Left<'a>,
+    left: ColumnSource<'a>,
 }
 
 #[derive(Drop)]
-enum Left<'a> {
+enum ColumnSource<'a> {
     /// These values, from this place on.
     Values(&'a [Value], usize),
     /// The keys of a dict, from this place on.
@@ -48,13 +48,13 @@ impl<'a> Column<'a> {
         ensures { Gives (λ xs. xs) Bad result (elements_in store.now value.now) }
     {
         let left = match &value.node {
-            Node::Tuple(items) => Left::Values(items, 0),
-            Node::Range(range) => Left::Integers(Elements::of_range(*range)),
+            Node::Tuple(items) => ColumnSource::Values(items, 0),
+            Node::Range(range) => ColumnSource::Integers(Elements::of_range(*range)),
             Node::Cell(cell) => match store.content(*cell) {
                 None => return Err(EvalErr::Bad(EvalFault::WrongType)),
                 Some(content) => match content.body() {
-                    Body::List(values) => Left::Values(values, 0),
-                    Body::Dict(dict) => Left::Keys(dict, 0),
+                    Body::List(values) => ColumnSource::Values(values, 0),
+                    Body::Dict(dict) => ColumnSource::Keys(dict, 0),
                     Body::Rule(_) => return Err(EvalErr::Bad(EvalFault::WrongType)),
                 },
             },
@@ -68,9 +68,9 @@ impl<'a> Column<'a> {
         ensures { result ≡ length self.now }
     {
         match &self.left {
-            Left::Values(values, at) => values.len().saturating_sub(*at),
-            Left::Keys(dict, at) => dict.len().saturating_sub(*at),
-            Left::Integers(integers) => integers.len(),
+            ColumnSource::Values(values, at) => values.len().saturating_sub(*at),
+            ColumnSource::Keys(dict, at) => dict.len().saturating_sub(*at),
+            ColumnSource::Integers(integers) => integers.len(),
         }
     }
 
@@ -79,9 +79,9 @@ impl<'a> Column<'a> {
         ensures { IfOk result (λ next. IsNext next self.old self.new) }
     {
         match &mut self.left {
-            Left::Values(values, at) => next_value(values, at),
-            Left::Keys(dict, at) => next_key(dict, at),
-            Left::Integers(integers) => Ok(integers.next()),
+            ColumnSource::Values(values, at) => next_value(values, at),
+            ColumnSource::Keys(dict, at) => next_key(dict, at),
+            ColumnSource::Integers(integers) => Ok(integers.next()),
         }
     }
 }

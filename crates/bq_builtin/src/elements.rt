@@ -4,26 +4,14 @@ ghost use Rattle.std.specs.Prelude.{◌≡◌, ◌≤◌, IfOk, OnOk, option_cop
 ghost use Rattle.bq_base.specs.Gives.{Gives};
 ghost use Rattle.bq_builtin_numbers.specs.Length.{max_len};
 ghost use Rattle.bq_value.specs.declared.error.EvalErr.TheVariants.{Bad};
-ghost use Rattle.bq_builtin_machine.specs.Iteration.{elements_in};
 ghost use Rattle.bq_builtin.specs.Elements.{room_for, listed, listed_if_any};
 
 use bq_base::EvalFault;
+use bq_builtin_collections::elements_in;
 use bq_builtin_machine::{Elements, Machine};
 use bq_builtin_numbers::MAX_LEN;
 use bq_value::{EvalErr, Value};
 use std::alloc::{AllocError, Global};
-
-/// Returns the elements of an iterable (F40).
-#[tactic(auto, unfolding(bq_builtin_machine::specs::Iteration::elements))]
-pub(crate) fn elements_in(
-    alloc: Global,
-    machine: &Machine,
-    value: &Value,
-) -> Result<Elements, EvalErr>
-    ensures { Gives (λ xs. xs) Bad result (elements_in machine.now.store value.now) }
-{
-    machine.elements(alloc, value)
-}
 
 /// Returns all of these as a list.
 pub(crate) fn values_of(alloc: Global, mut elements: Elements) -> Result<Vec<Value>, AllocError>

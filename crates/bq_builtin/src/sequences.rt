@@ -7,8 +7,9 @@ ghost use Rattle.bq_value.specs.declared.error.EvalErr.TheVariants.{Bad};
 ghost use Rattle.bq_builtin.specs.Sequences.{tuple, list, reversed, start_or_zero, numbers_fit, numbered_value, numbered, enumerate};
 
 use crate::arguments::{integer, one_and_named, only_argument, only_argument_if_any};
-use crate::elements::{elements_in, listed, listed_if_any, room_for, values_of};
+use crate::elements::{listed, listed_if_any, room_for, values_of};
 use bq_base::EvalFault;
+use bq_builtin_collections::elements_in;
 use bq_builtin_machine::{Args, Machine};
 use bq_value::{EvalErr, Value};
 use std::alloc::{AllocError, Global};

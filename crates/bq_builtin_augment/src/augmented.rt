@@ -10,6 +10,7 @@ use bq_builtin_in_place::{
 use std::alloc::{AllocError, Global};
 
 /// Carries out `a op= b`: a list by `+=`, and a dict by `|=`, is changed in place. All else is `a op b`.
+#[inline(always)]
 #[tactic(auto, unfolding(bq_builtin_in_place::specs::InPlace::augment))]
 pub fn augment(
     alloc: Global,

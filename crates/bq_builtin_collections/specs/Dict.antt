@@ -6,16 +6,17 @@ use Rattle.bq_builtin_numbers.specs.Length.{within}
 use Rattle.bq_value.specs.Datum.{Datum, none, tuple, end, datum, or_none}
 use Rattle.bq_value.specs.Contents.{items, pairs, rule}
 use Rattle.bq_value.specs.Pairs.{found, put, without, keys}
+use Rattle.bq_value.specs.Cells.{StoreView}
 use Rattle.bq_builtin_machine.specs.State.{State}
-use Rattle.bq_builtin_machine.specs.Action.{Action, ◌>>=◌, ◌>>◌, pure, given}
+use Rattle.bq_builtin_machine.specs.Action.{Action, ◌>>=◌, ◌>>◌, pure, given, look}
 use Rattle.bq_builtin_machine.specs.Args.{Passed}
 use Rattle.bq_builtin_machine.specs.Cells.{Change, changing, may_change, content, new_list, new_dict}
 use Rattle.bq_builtin_machine.specs.Machine.{key}
 use Rattle.bq_builtin_operators.specs.Sequence.{limited}
 use Rattle.bq_builtin_operators.specs.Union.{put_all}
 use Rattle.bq_builtin_in_place.specs.InPlace.{dict_united}
-use Rattle.bq_builtin_collections.specs.declared.dict_edit.DictEdit.{DictEdit}
-use Rattle.bq_builtin_collections.specs.declared.dict_edit.DictEdit.TheVariants as edit
+use Rattle.bq_builtin_collections.specs.declared.dict.DictEdit.{DictEdit}
+use Rattle.bq_builtin_collections.specs.declared.dict.DictEdit.TheVariants as edit
 use Rattle.bq_builtin_collections.specs.Arguments.{no_argument, one_or_two}
 use Rattle.bq_builtin_machine.specs.Answer.{and_then}
 use Rattle.bq_builtin_collections.specs.PairsGiven.{Pairs, pairs_given, all_pairs}
@@ -73,9 +74,17 @@ edited (edit.SetDefault k d) = with_default k d
 
 -- ---- calls: the arguments are read first (F52), then the dict may be changed or not (F47, F48), then the key is made (F45, F53, F55)
 
+-- which change a call makes, by what lists and dicts hold and the positional arguments
+abbrev pub DictCall : Type 0
+DictCall = StoreView → List Datum → Result DictChange EvalFault
+
+-- the change of a dict that a call makes
+abbrev pub dict_changed : DictCall → ℕ → ℕ → List Datum → Action State Datum
+dict_changed call home number args = look (λ s. call s.store args) >>= λ change. changing home number (on_pairs change)
+
 -- `d.clear()`
-unfoldable pub clear : ℕ → ℕ → List Datum → Action State Datum
-clear home number args = given (no_argument args) >> changing home number (on_pairs emptied)
+unfoldable pub clear : DictCall
+clear store args = and_then (no_argument args) (λ _. Ok emptied)
 
 -- `d.get(key, default)`
 unfoldable pub get : ℕ → ℕ → List Datum → Action State Datum
@@ -102,8 +111,8 @@ unfoldable pub pop : ℕ → ℕ → List Datum → Action State Datum
 pop home number args = given (one_or_two args) >>= λ r. key_to_change home number r.0 >>= λ q. changing home number (on_pairs (taken_out q r.1))
 
 -- `d.popitem()`: the first pair, taken out
-unfoldable pub popitem : ℕ → ℕ → List Datum → Action State Datum
-popitem home number args = given (no_argument args) >> changing home number (on_pairs first_out)
+unfoldable pub popitem : DictCall
+popitem store args = and_then (no_argument args) (λ _. Ok first_out)
 
 -- `d.setdefault(key, default)`
 unfoldable pub setdefault : ℕ → ℕ → List Datum → Action State Datum

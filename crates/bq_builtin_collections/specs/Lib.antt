@@ -4,4 +4,5 @@ pub mod List
 pub mod PairsGiven
 pub mod GivenOf
 pub mod Dict
+pub mod Calling
 pub mod Laws

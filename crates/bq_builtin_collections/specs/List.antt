@@ -6,14 +6,15 @@ use Rattle.bq_builtin_numbers.specs.Length.{within}
 use Rattle.bq_builtin_numbers.specs.Place.{clamped, indexed}
 use Rattle.bq_value.specs.Datum.{Datum, none, int}
 use Rattle.bq_value.specs.Contents.{items}
+use Rattle.bq_value.specs.Cells.{StoreView}
 use Rattle.bq_builtin_machine.specs.State.{State}
 use Rattle.bq_builtin_machine.specs.Answer.{and_then}
-use Rattle.bq_builtin_machine.specs.Action.{Action, ◌>>=◌, ◌>>◌, stop, given}
+use Rattle.bq_builtin_machine.specs.Action.{Action, ◌>>=◌, ◌>>◌, stop, given, look}
 use Rattle.bq_builtin_machine.specs.Cells.{Change, changing, may_change, content}
-use Rattle.bq_builtin_machine.specs.Iteration.{elements}
+use Rattle.bq_builtin_machine.specs.Iteration.{elements_in}
 use Rattle.bq_builtin_machine.specs.Machine.{walk}
-use Rattle.bq_builtin_collections.specs.declared.list_edit.ListEdit.{ListEdit}
-use Rattle.bq_builtin_collections.specs.declared.list_edit.ListEdit.TheVariants as edit
+use Rattle.bq_builtin_collections.specs.declared.list.ListEdit.{ListEdit}
+use Rattle.bq_builtin_collections.specs.declared.list.ListEdit.TheVariants as edit
 use Rattle.bq_builtin_collections.specs.Search.{found_between}
 use Rattle.bq_builtin_collections.specs.Arguments.{one_to_three, optional_integer, no_argument, one_argument, two_arguments, optional_argument, integer, index_or_last}
 
@@ -62,27 +63,35 @@ edited (edit.Pop i) = popped i
 edited edit.Clear = cleared
 edited (edit.Drop at) = dropped at
 
--- ---- calls: the arguments are read first (F52, F40), then the list may be changed or not (F47, F48)
+-- ---- calls that change a list: the arguments are read first (F52, F40), then the list may be changed or not (F47, F48)
+
+-- which change a call makes, by what lists and dicts hold and the positional arguments
+abbrev pub ListCall : Type 0
+ListCall = StoreView → List Datum → Result ListChange EvalFault
+
+-- the change of a list that a call makes
+abbrev pub list_changed : ListCall → ℕ → ℕ → List Datum → Action State Datum
+list_changed call home number args = look (λ s. call s.store args) >>= λ change. changing home number (on_items change)
 
 -- `l.append(x)`
-unfoldable pub append : ℕ → ℕ → List Datum → Action State Datum
-append home number args = given (one_argument args) >>= λ v. changing home number (on_items (appended v))
+unfoldable pub append : ListCall
+append store args = and_then (one_argument args) (λ v. Ok (appended v))
 
 -- `l.clear()`
-unfoldable pub clear : ℕ → ℕ → List Datum → Action State Datum
-clear home number args = given (no_argument args) >> changing home number (on_items cleared)
+unfoldable pub clear : ListCall
+clear store args = and_then (no_argument args) (λ _. Ok cleared)
 
--- the elements of `x` are read before the list is changed, so a list may be extended by itself
-unfoldable pub extend : ℕ → ℕ → List Datum → Action State Datum
-extend home number args = given (one_argument args) >>= λ x. elements x >>= λ ys. changing home number (on_items (extended ys))
+-- `l.extend(x)`: the elements of `x` are read before the list is changed, so a list may be extended by itself
+unfoldable pub extend : ListCall
+extend store args = and_then (one_argument args) (λ x. and_then (elements_in store x) (λ ys. Ok (extended ys)))
 
 -- `l.insert(i, x)`
-unfoldable pub insert_at : ℕ → ℕ → List Datum → Action State Datum
-insert_at home number args = given (two_arguments args) >>= λ r. given (integer r.0) >>= λ i. changing home number (on_items (inserted i r.1))
+unfoldable pub insert_at : ListCall
+insert_at store args = and_then (two_arguments args) (λ r. and_then (integer r.0) (λ i. Ok (inserted i r.1)))
 
 -- `l.pop(i)`
-unfoldable pub pop : ℕ → ℕ → List Datum → Action State Datum
-pop home number args = given (optional_argument args) >>= λ o. given (index_or_last o) >>= λ i. changing home number (on_items (popped i))
+unfoldable pub pop : ListCall
+pop store args = and_then (optional_argument args) (λ o. and_then (index_or_last o) (λ i. Ok (popped i)))
 
 -- ---- methods that look for an element
 

@@ -3,10 +3,13 @@
 ghost use Rattle.std.specs.Prelude.{option_copied};
 ghost use Rattle.bq_base.specs.Gives.{Gives};
 ghost use Rattle.bq_value.specs.declared.error.EvalErr.TheVariants.{Bad};
+ghost use Rattle.bq_builtin_machine.specs.Iteration.{elements_in};
 ghost use Rattle.bq_builtin_collections.specs.Arguments.{no_argument, one_argument, two_arguments, optional_argument, one_or_two, one_to_three, integer, optional_integer, index_or_last};
 
 use bq_base::EvalFault;
+use bq_builtin_machine::{Elements, Machine};
 use bq_value::{EvalErr, Node, Value};
+use std::alloc::Global;
 
 /// Checks that there is no argument.
 #[tactic(auto, unfolding(crate::specs::Arguments::no_argument))]
@@ -115,4 +118,12 @@ pub(crate) fn optional_integer(value: Option<&Value>) -> Result<Option<i64>, Eva
             _ => Err(EvalErr::Bad(EvalFault::WrongType)),
         },
     }
+}
+
+/// Returns the elements of an iterable (F40).
+#[tactic(auto, unfolding(bq_builtin_machine::specs::Iteration::elements))]
+pub fn elements_in(alloc: Global, machine: &Machine, value: &Value) -> Result<Elements, EvalErr>
+    ensures { Gives (λ xs. xs) Bad result (elements_in machine.now.store value.now) }
+{
+    machine.elements(alloc, value)
 }

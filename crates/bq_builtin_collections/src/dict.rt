@@ -1,17 +1,20 @@
-//! The methods of dicts (Starlark, "Built-in methods").
+//! The methods of dicts (Starlark, "Built-in methods"), and the changes that they make.
 
 ghost use Rattle.std.specs.Prelude.{◌≡◌, map, IfOk, option_copied};
-ghost use Rattle.bq_builtin_machine.specs.Action.{Does};
+ghost use Rattle.bq_base.specs.Gives.{Gives};
 ghost use Rattle.bq_value.specs.Datum.{or_none};
-ghost use Rattle.bq_builtin_collections.specs.Dict.{pairs_in, pair_tuple, clear, get, dict_items, dict_keys, dict_values, key_to_change, pop, popitem, setdefault, update, dict_made};
+ghost use Rattle.bq_value.specs.declared.error.EvalErr.TheVariants.{Bad};
+ghost use Rattle.bq_builtin_machine.specs.Action.{Does};
+ghost use Rattle.bq_builtin_machine.specs.Cells.{changing};
+ghost use Rattle.bq_builtin_collections.specs.Dict.{on_pairs, pairs_in, pair_tuple, emptied, taken_out, first_out, with_default, edited, dict_changed, clear, get, dict_items, dict_keys, dict_values, key_to_change, pop, popitem, setdefault, update, dict_made};
 
 use crate::arguments::{no_argument, one_or_two};
-use crate::dict_edit::{DictEdit, change_dict, pair_tuple};
 use crate::pairs_given::PairsGiven;
 use bq_base::EvalFault;
 use bq_builtin_in_place::{put_pairs, unite};
-use bq_builtin_machine::{Args, Machine, keys_of};
-use bq_value::{Body, Cell, Dict, EvalErr, Key, Value};
+use bq_builtin_machine::{Args, Machine, keys_of, values_of};
+use bq_builtin_numbers::joined_len;
+use bq_value::{Body, Cell, Content, Dict, EvalErr, Key, Value};
 use std::alloc::{AllocError, Global};
 
 /// Returns the pairs of a dict.
@@ -54,7 +57,7 @@ pub fn clear(
     dict: Cell,
     args: &[Value],
 ) -> Result<Value, EvalErr>
-    ensures { Does (λ v. v) result machine.new (clear dict.module dict.number args.now machine.old) }
+    ensures { Does (λ v. v) result machine.new (dict_changed clear dict.module dict.number args.now machine.old) }
 {
     no_argument(args)?;
     change_dict(alloc, machine, dict, DictEdit::Clear)
@@ -118,17 +121,6 @@ pub fn values(
     machine.new_list(values)
 }
 
-fn values_of(alloc: Global, dict: &Dict) -> Result<Vec<Value>, AllocError>
-    ensures { IfOk result (λ xs. xs.items ≡ map (λ p. p.1) dict.now) }
-{
-    let mut values = Vec::with_capacity(alloc, dict.len())?;
-    for i in 0..dict.len() {
-        let (_, value) = dict.pair(i);
-        values.push(value.share()?)?;
-    }
-    Ok(values)
-}
-
 fn tuples_of(alloc: Global, dict: &Dict) -> Result<Vec<Value>, AllocError>
     ensures { IfOk result (λ xs. xs.items ≡ map pair_tuple dict.now) }
 {
@@ -174,7 +166,7 @@ pub fn popitem(
     dict: Cell,
     args: &[Value],
 ) -> Result<Value, EvalErr>
-    ensures { Does (λ v. v) result machine.new (popitem dict.module dict.number args.now machine.old) }
+    ensures { Does (λ v. v) result machine.new (dict_changed popitem dict.module dict.number args.now machine.old) }
 {
     no_argument(args)?;
     change_dict(alloc, machine, dict, DictEdit::PopItem)
@@ -223,4 +215,106 @@ pub fn new_dict(alloc: Global, machine: &mut Machine, args: Args) -> Result<Valu
     let mut dict = Dict::new(alloc, machine.store().seed());
     put_pairs(&mut dict, &pairs)?;
     machine.new_dict(dict)
+}
+
+/// A change of a dict.
+#[derive(Drop)]
+pub(crate) enum DictEdit {
+    Clear,
+    Pop(Key, Option<Value>),
+    PopItem,
+    SetDefault(Key, Value),
+}
+
+/// Changes a dict that may be changed.
+#[tactic(auto, unfolding(bq_builtin_machine::specs::Cells::changing))]
+fn change_dict(
+    alloc: Global,
+    machine: &mut Machine,
+    dict: Cell,
+    edit: DictEdit,
+) -> Result<Value, EvalErr>
+    ensures { Does (λ v. v) result machine.new (changing dict.module dict.number (on_pairs (edited edit)) machine.old) }
+{
+    let content = machine.change(dict)?;
+    edit_content(alloc, content, edit)
+}
+
+#[tactic(auto, unfolding(crate::specs::Dict::on_pairs))]
+fn edit_content(alloc: Global, content: &mut Content, edit: DictEdit) -> Result<Value, EvalErr>
+    ensures { Gives (λ v. (v, content.new)) Bad result (on_pairs (edited edit) content.old) }
+{
+    match content.change()? {
+        Body::Dict(pairs) => edit_pairs(alloc, pairs, edit),
+        Body::List(_) => Err(EvalErr::Bad(EvalFault::WrongType)),
+        Body::Rule(_) => Err(EvalErr::Bad(EvalFault::WrongType)),
+    }
+}
+
+fn edit_pairs(alloc: Global, pairs: &mut Dict, edit: DictEdit) -> Result<Value, EvalErr>
+    ensures { Gives (λ v. (v, pairs.new)) Bad result (edited edit pairs.old) }
+{
+    match edit {
+        DictEdit::Clear => emptied(pairs),
+        DictEdit::Pop(key, default) => taken_out(pairs, key, default),
+        DictEdit::PopItem => first_out(alloc, pairs),
+        DictEdit::SetDefault(key, default) => with_default(pairs, key, default),
+    }
+}
+
+#[tactic(auto, unfolding(crate::specs::Dict::emptied))]
+fn emptied(pairs: &mut Dict) -> Result<Value, EvalErr>
+    ensures { Gives (λ v. (v, pairs.new)) Bad result (emptied pairs.old) }
+{
+    pairs.clear();
+    Ok(Value::none())
+}
+
+#[tactic(auto, using(crate::proofs::First::absent_without), unfolding(crate::specs::Dict::taken_out))]
+fn taken_out(pairs: &mut Dict, key: Key, default: Option<Value>) -> Result<Value, EvalErr>
+    ensures { Gives (λ v. (v, pairs.new)) Bad result (taken_out key default pairs.old) }
+{
+    match pairs.remove(&key) {
+        Some(value) => Ok(value),
+        None => match default {
+            Some(default) => Ok(default),
+            None => Err(EvalErr::Bad(EvalFault::NoKey)),
+        },
+    }
+}
+
+#[tactic(auto, using(crate::proofs::First::first_without), unfolding(crate::specs::Dict::first_out))]
+fn first_out(alloc: Global, pairs: &mut Dict) -> Result<Value, EvalErr>
+    ensures { Gives (λ v. (v, pairs.new)) Bad result (first_out pairs.old) }
+{
+    if pairs.len() == 0 {
+        return Err(EvalErr::Bad(EvalFault::NoKey));
+    }
+    let (key, value) = pairs.pair(0);
+    let pair = pair_tuple(alloc, key, value)?;
+    let key = key.share()?;
+    pairs.remove(&key);
+    Ok(pair)
+}
+
+#[tactic(auto, unfolding(crate::specs::Dict::with_default))]
+fn with_default(pairs: &mut Dict, key: Key, default: Value) -> Result<Value, EvalErr>
+    ensures { Gives (λ v. (v, pairs.new)) Bad result (with_default key default pairs.old) }
+{
+    if let Some(value) = pairs.get(&key) {
+        return Ok(value.share()?);
+    }
+    joined_len(pairs.len(), 1)?;
+    pairs.insert(key, default.share()?)?;
+    Ok(default)
+}
+
+/// Returns `(key, value)`.
+fn pair_tuple(alloc: Global, key: &Key, value: &Value) -> Result<Value, AllocError>
+    ensures { IfOk result (λ v. v ≡ pair_tuple (key.now, value.now)) }
+{
+    let mut parts = Vec::with_capacity(alloc, 2)?;
+    parts.push(key.value().share()?)?;
+    parts.push(value.share()?)?;
+    Value::tuple(alloc, parts)
 }

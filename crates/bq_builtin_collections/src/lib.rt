@@ -7,18 +7,17 @@
 //! In reading order:
 //!
 //! - `arguments`: how many arguments there are, and of which types;
-//! - `list_edit`, `dict_edit`: changes of a list, and of a dict;
 //! - `search`: the first element that is equal to a value;
 //! - `pairs_given`: the pairs that `update` of dicts and the function `dict` are given;
-//! - `list`, `dict`: the methods;
+//! - `list`, `dict`: the methods, and the changes that they make;
 //! - `laws`: what the definitions say together.
 #![tactic(auto)]
 
 mod arguments;
 pub mod dict;
-mod dict_edit;
 pub mod laws;
 pub mod list;
-mod list_edit;
 mod pairs_given;
 mod search;
+
+pub use arguments::elements_in;

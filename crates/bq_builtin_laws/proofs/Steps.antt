@@ -5,7 +5,10 @@ pub mod Machine
 -- walks over values and texts
 pub mod Texts
 pub mod Walks
--- operators, methods and built-in functions
+-- operators
 pub mod Operators
+-- the rows of tables, what lists and dicts do, methods and built-in functions
+pub mod Rows
 pub mod Collections
+pub mod Methods
 pub mod Functions

@@ -1,3 +1,5 @@
+pub mod ListCalls
+pub mod DictCalls
 pub mod Orders
 pub mod Laws
 pub mod Looks

@@ -68,7 +68,7 @@ keyword_values : (takes : Bool) (name : List ℕ) (v : Datum) (b c : BoundView) 
 unfolding take_keyword
 keyword_values takes name v b c h = keyword_values_by takes (is_some (found (string name) b.keywords)) name v b c h
 
-named_keeps_by : (o : Option ℕ) (s : SignatureView) (name : List ℕ) (v : Datum) (b c : BoundView) → take_named_by o s name v b ≡ Ok c → (j : ℕ) (w : Datum) → slice_get b.values j ≡ Some (Some w) → slice_get c.values j ≡ Some (Some w)
+named_keeps_by : (o : Option ℕ) (s : SignatureView) (name : List ℕ) (v : Datum) (b c : BoundView) → take_named_by o s.takes_keywords name v b ≡ Ok c → (j : ℕ) (w : Datum) → slice_get b.values j ≡ Some (Some w) → slice_get c.values j ≡ Some (Some w)
 named_keeps_by (Some i) s name v b c h j w taken = fill_keeps i v b c h j w taken
 named_keeps_by None s name v b c h j w taken = ap (λ vs. slice_get vs j) (sym (keyword_values s.takes_keywords name v b c h)) ∙ taken
 
@@ -78,7 +78,7 @@ named_keeps s name v b c h j w taken = named_keeps_by (position_from (is_called 
 
 named_arrives : (s : SignatureView) (name : List ℕ) (v : Datum) (i : ℕ) (b c : BoundView) → position_from (is_called name) 0 s.parameters ≡ Some i → take_named s name v b ≡ Ok c → slice_get c.values i ≡ Some (Some v)
 unfolding take_named
-named_arrives s name v i b c at h = fill_fills i v b c (ap (λ o. take_named_by o s name v b) (sym at) ∙ h)
+named_arrives s name v i b c at h = fill_fills i v b c (ap (λ o. take_named_by o s.takes_keywords name v b) (sym at) ∙ h)
 
 -- ---- all named arguments
 
@@ -110,7 +110,7 @@ rest_by_keyword false u name v b c h = absurd (cc)
 rest_by_keyword true true name v b c h = absurd (cc)
 rest_by_keyword true false name v b c h = ap (λ d. d.rest) (same_bound _ c h)
 
-rest_by : (o : Option ℕ) (s : SignatureView) (name : List ℕ) (v : Datum) (b c : BoundView) → take_named_by o s name v b ≡ Ok c → b.rest ≡ c.rest
+rest_by : (o : Option ℕ) (s : SignatureView) (name : List ℕ) (v : Datum) (b c : BoundView) → take_named_by o s.takes_keywords name v b ≡ Ok c → b.rest ≡ c.rest
 unfolding take_keyword
 rest_by (Some i) s name v b c h = ap (λ d. d.rest) (fill_done i v b c h).1
 rest_by None s name v b c h = rest_by_keyword s.takes_keywords (is_some (found (string name) b.keywords)) name v b c h

@@ -1,40 +1,41 @@
--- The slots of parameters, filled one after another.
-use Rattle.std.proofs.Common.{◌≡◌, ◌∙◌, sym, ap, refl, ℕ, zero, suc, ◌+◌, ◌-◌, ◌<◌, ◌≤◌, List, [], ◌∷◌, ◌++◌, drop, append_assoc, Option, Some, None, arith}
+-- The values of parameters that take positional arguments.
+use Rattle.std.proofs.Common.{◌≡◌, ◌∙◌, sym, ap, refl, ℕ, zero, suc, ◌+◌, ◌-◌, ◌<◌, ◌≤◌, List, [], ◌∷◌, ◌++◌, length, map, replicate, take, append_assoc, Option, Some, None, arith}
+use Rattle.std.proofs.lemmas.List.{length_push}
 use Rattle.bq_value.specs.Datum.{Datum}
 use Rattle.bq_builtin_machine.specs.Binding.{placed_values}
-use Rattle.bq_builtin_machine.specs.Iteration.{IsNext}
+use Rattle.bq_builtin_machine.specs.Placed.{padded}
 
-sub_next : (n i : ℕ) → i < n → n - i ≡ suc (n - (i + 1))
-sub_next n i h = omega (arith, h)
+abbrev nones : ℕ → List (Option Datum)
+nones k = replicate k None
 
-sub_end : (n i : ℕ) → n ≤ i → n - i ≡ 0
-sub_end n i h = omega (arith, h)
+-- one more parameter without an argument
+pub one_less : (vs : List (Option Datum)) (count : ℕ) → length vs < count → (vs ++ None ∷ []) ++ replicate (count - length (vs ++ None ∷ [])) None ≡ vs ++ replicate (count - length vs) None
+one_less vs count h =
+    let next : count - length vs ≡ suc (count - (length vs + 1)) = omega (arith, h) in
+    ap (λ k. (vs ++ None ∷ []) ++ nones (count - k)) (length_push vs None)
+    ∙ (append_assoc vs (None ∷ []) (nones (count - (length vs + 1))) ∙ ap (λ k. vs ++ nones k) (sym next))
 
--- a slot that takes the next value, if there is one
-taken_by : (p n : ℕ) (v : Option Datum) (old new : List Datum) → IsNext v old new → placed_values (suc p) (suc n) old ≡ v ∷ placed_values p n new
-taken_by p n None old new h = ap (placed_values (suc p) (suc n)) h.0 ∙ ap (λ xs. None ∷ placed_values p n xs) (sym h.1)
-taken_by p n (Some x) old new h = ap (placed_values (suc p) (suc n)) h
+none_left : (n : ℕ) → nones n ≡ padded n []
+none_left n = let all : n - 0 ≡ n = omega arith in ap nones (sym all)
 
-drop_nothing : (p : ℕ) → drop {A = Datum} p [] ≡ []
-drop_nothing zero = refl
-drop_nothing (suc p) = refl
+none_placed : (p n : ℕ) → placed_values p n [] ≡ nones n
+none_placed zero zero = refl
+none_placed (suc p) zero = refl
+none_placed zero (suc n) = ap (λ vs. None ∷ vs) (none_placed zero n)
+none_placed (suc p) (suc n) = ap (λ vs. None ∷ vs) (none_placed p n)
 
-dropped_by : (p : ℕ) (v : Option Datum) (old new : List Datum) → IsNext v old new → drop (suc p) old ≡ drop p new
-dropped_by p None old new h = ap (drop (suc p)) h.0 ∙ (sym (drop_nothing p) ∙ ap (drop p) (sym h.1))
-dropped_by p (Some x) old new h = ap (drop (suc p)) h
+no_place : (n : ℕ) (xs : List Datum) → placed_values 0 n xs ≡ nones n
+no_place zero xs = refl
+no_place (suc n) xs = ap (λ vs. None ∷ vs) (no_place n xs)
 
-pub slot_taken : (placed count i : ℕ) (slots : List (Option Datum)) (v : Option Datum) (old new : List Datum) → i < placed → i < count → IsNext v old new → slots ++ placed_values (placed - i) (count - i) old ≡ (slots ++ v ∷ []) ++ placed_values (placed - (i + 1)) (count - (i + 1)) new
-slot_taken placed count i slots v old new below within h =
-    rw (sub_next placed i below, sub_next count i within, taken_by (placed - (i + 1)) (count - (i + 1)) v old new h)
-    (sym (append_assoc slots (v ∷ []) _))
+-- those that take positional arguments are the first
+placed_padded : (p n : ℕ) (xs : List Datum) → p ≤ n → placed_values p n xs ≡ padded n (take p xs)
+placed_padded zero n xs few = no_place n xs ∙ none_left n
+placed_padded (suc p) zero xs few = absurd (omega (arith, few))
+placed_padded (suc p) (suc n) [] few = none_placed (suc p) (suc n) ∙ none_left (suc n)
+placed_padded (suc p) (suc n) (x ∷ xs) few =
+    let same : suc n - suc (length (take p xs)) ≡ n - length (take p xs) = omega arith in
+    ap (λ vs. Some x ∷ vs) (placed_padded p n xs (omega (arith, few))) ∙ ap (λ k. Some x ∷ (map Some (take p xs) ++ nones k)) (sym same)
 
-pub slot_left : (placed count i : ℕ) (slots : List (Option Datum)) (old : List Datum) → placed ≤ i → i < count → slots ++ placed_values (placed - i) (count - i) old ≡ (slots ++ None ∷ []) ++ placed_values (placed - (i + 1)) (count - (i + 1)) old
-slot_left placed count i slots old past within =
-    rw (sub_end placed i past, sub_next count i within, sub_end placed (i + 1) (omega (arith, past)))
-    (sym (append_assoc slots (None ∷ []) _))
-
-pub drop_taken : (placed i : ℕ) (v : Option Datum) (old new : List Datum) → i < placed → IsNext v old new → drop (placed - i) old ≡ drop (placed - (i + 1)) new
-drop_taken placed i v old new below h = rw (sub_next placed i below) (dropped_by (placed - (i + 1)) v old new h)
-
-pub drop_left : (placed i : ℕ) (old : List Datum) → placed ≤ i → drop (placed - i) old ≡ drop (placed - (i + 1)) old
-drop_left placed i old past = rw (sub_end placed i past, sub_end placed (i + 1) (omega (arith, past))) refl
+pub all_placed : (p n : ℕ) (xs ys : List Datum) (vs : List (Option Datum)) → p ≤ n → ys ≡ take p xs → vs ≡ padded n ys → vs ≡ placed_values p n xs
+all_placed p n xs ys vs few first is = is ∙ (ap (padded n) first ∙ sym (placed_padded p n xs few))

@@ -51,14 +51,14 @@ unfoldable pub take_keyword : Bool → List ℕ → Datum → BoundView → Bind
 take_keyword takes name v b =
     cond takes (cond (is_some (found (string name) b.keywords)) (Err Args) (Ok (record b { keywords = put (string name) v b.keywords }))) (Err Args)
 
--- binds an argument by name, by the parameter that has this name
-abbrev pub take_named_by : Option ℕ → SignatureView → List ℕ → Datum → BoundView → Binding
-take_named_by (Some i) s name v b = fill i v b
-take_named_by None s name v b = take_keyword s.takes_keywords name v b
+-- binds an argument by name, by the place of the parameter that has this name
+abbrev pub take_named_by : Option ℕ → Bool → List ℕ → Datum → BoundView → Binding
+take_named_by (Some i) takes name v b = fill i v b
+take_named_by None takes name v b = take_keyword takes name v b
 
 -- a named argument goes to the parameter of its name, and else to `**`
 unfoldable pub take_named : SignatureView → List ℕ → Datum → BoundView → Binding
-take_named s name v b = take_named_by (position_from (is_called name) 0 s.parameters) s name v b
+take_named s name v b = take_named_by (position_from (is_called name) 0 s.parameters) s.takes_keywords name v b
 
 -- what follows a binding, unless it failed
 abbrev pub and_bind : Binding → (BoundView → Binding) → Binding

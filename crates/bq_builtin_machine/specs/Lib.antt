@@ -13,5 +13,6 @@ pub mod WalkOf
 pub mod Args
 pub mod Parameters
 pub mod Binding
+pub mod Placed
 pub mod ArgsOf
 pub mod Laws

@@ -6,8 +6,8 @@ use Rattle.bq_value.specs.Datum.{Datum, int}
 use Rattle.bq_value.specs.Pairs.{keys}
 use Rattle.bq_builtin_machine.specs.declared.walk.Over.{Over}
 use Rattle.bq_builtin_machine.specs.declared.walk.Over.TheVariants as over
-use Rattle.bq_builtin_machine.specs.declared.walk.Shared.{Shared}
-use Rattle.bq_builtin_machine.specs.declared.walk.Shared.TheVariants as shared
+use Rattle.bq_builtin_machine.specs.declared.walk.SharedElements.{SharedElements}
+use Rattle.bq_builtin_machine.specs.declared.walk.SharedElements.TheVariants as shared
 
 -- what a walk over this goes through
 abbrev pub walked : Contents → List Datum
@@ -15,7 +15,7 @@ walked (items xs) = xs
 walked (pairs ps) = keys ps
 walked (rule c) = []
 
-abbrev pub shared_left : Shared → List Datum
+abbrev pub shared_left : SharedElements → List Datum
 shared_left (shared.Values values at) = drop at values.value.items
 shared_left (shared.Content body at) = drop at (walked (contents_of body.value))
 

@@ -1,14 +1,13 @@
 //! Which argument goes to which parameter (Starlark, "Function and method calls").
 
-ghost use Rattle.std.specs.Prelude.{◌≡◌, ◌≤◌, not, ◌||◌, nat_le, drop, IfOk, OnOk, map};
-ghost use Rattle.std.specs.List.{position_from};
+ghost use Rattle.std.specs.Prelude.{◌≡◌, ◌≤◌, not, ◌||◌, nat_le, [], take, drop, IfOk, OnOk, map};
 ghost use Rattle.bq_base.specs.Gives.{Gives};
 ghost use Rattle.bq_value.specs.declared.error.EvalErr.TheVariants.{Bad};
-ghost use Rattle.bq_builtin_machine.specs.Parameters.{parameter_of, signature_of, places, is_called, HasPlaces};
-ghost use Rattle.bq_builtin_machine.specs.Binding.{placed_values, placed, has_value, take_keyword, take_named, take_all_named, is_complete, bind};
+ghost use Rattle.bq_builtin_machine.specs.Parameters.{parameter_of, signature_of, places, HasPlaces};
+ghost use Rattle.bq_builtin_machine.specs.Binding.{placed_values, placed, has_value, take_keyword, take_named_by, take_all_named, is_complete, bind};
+ghost use Rattle.bq_builtin_machine.specs.Placed.{padded};
 
 use crate::args::Args;
-use crate::iteration::Elements;
 use crate::parameters::{Signature, SingleParameter, parameter_called, places_by_name};
 use bq_base::{Bytes, EvalFault};
 use bq_value::{Dict, EvalErr, Key, Value};
@@ -19,7 +18,7 @@ use std::marker::Model;
 
 /// Where at most this many arguments are named, or there are at most this many parameters, each name is searched among
 /// the parameters one by one. Where there are more of both, a map finds it.
-const FEW: usize = 16;
+pub const MAX_SEARCHED: usize = 16;
 
 /// What the parameters of a function take. Contracts see `BoundView`.
 #[derive(Drop)]
@@ -58,7 +57,7 @@ pub fn bind(
     if is_too_many(signature, positional.len()) {
         return Err(EvalErr::Bad(EvalFault::Args));
     }
-    let mut bound = Bound::placed(alloc, seed, signature, positional)?;
+    let mut bound = Bound::placed_by(alloc, seed, signature, positional)?;
     bound.take_all_named(alloc, signature, named)?;
     if !is_complete(signature.parameters, &bound.values) {
         return Err(EvalErr::Bad(EvalFault::Args));
@@ -78,34 +77,36 @@ fn is_too_many(signature: &Signature<'_>, count: usize) -> bool
     !(signature.takes_rest || count <= places(signature))
 }
 
-/// Makes a slot for each of `count` parameters. The first `placed` of them take the next values.
-fn placed_values(
-    alloc: Global,
-    placed: usize,
-    count: usize,
-    values: &mut Elements,
-) -> Result<Vec<Option<Value>>, AllocError>
-    requires { placed ≤ count }
-    ensures values { IfOk result (λ vs. vs.items ≡ placed_values placed count values.old) }
-    ensures left { OnOk result (values.new ≡ drop placed values.old) }
+/// Takes the values from a place on away.
+#[tactic(auto, using(std::proofs::lemmas::List::take_all, std::proofs::lemmas::List::drop_all))]
+fn rest_of(alloc: Global, place: usize, values: &mut Vec<Value>) -> Result<Vec<Value>, AllocError>
+    ensures first { OnOk result (values.new.items ≡ take place values.old.items) }
+    ensures rest { IfOk result (λ rest. rest.items ≡ drop place values.old.items) }
 {
-    let mut slots = Vec::with_capacity(alloc, count)?;
-    for i in 0..count {
-        let value = if i < placed { values.next() } else { None };
-        slots.push(value)?;
+    if values.len() <= place {
+        return Ok(Vec::new(alloc));
     }
-    Ok(slots)
+    values.split_off(place)
 }
 
-/// Returns all values that are left.
-fn rest_of(alloc: Global, values: &mut Elements) -> Result<Vec<Value>, AllocError>
-    ensures { IfOk result (λ xs. xs.items ≡ values.old) }
+/// Gives values to the first of `count` parameters, in order, and makes room for `room` parameters.
+#[tactic(auto, using(crate::proofs::Placing::one_less))]
+fn padded(
+    alloc: Global,
+    room: usize,
+    count: usize,
+    given: Vec<Value>,
+) -> Result<Vec<Option<Value>>, AllocError>
+    ensures { IfOk result (λ vs. vs.items ≡ padded count given.items) }
 {
-    let mut rest = Vec::new(alloc);
-    while let Some(value) = values.next() {
-        rest.push(value)?;
+    let mut values = Vec::with_capacity(alloc, room.max(count))?;
+    for value in given {
+        values.push(Some(value))?;
     }
-    Ok(rest)
+    while values.len() < count {
+        values.push(None)?;
+    }
+    Ok(values)
 }
 
 fn is_complete(parameters: &[SingleParameter<'_>], values: &[Option<Value>]) -> bool
@@ -119,7 +120,8 @@ fn is_complete(parameters: &[SingleParameter<'_>], values: &[Option<Value>]) -> 
     true
 }
 
-fn has_value(values: &[Option<Value>], i: usize) -> bool
+/// Returns whether the parameter of that place has an argument.
+pub fn has_value(values: &[Option<Value>], i: usize) -> bool
     ensures { result ≡ has_value values.now i }
 {
     match values.get(i) {
@@ -129,23 +131,22 @@ fn has_value(values: &[Option<Value>], i: usize) -> bool
 }
 
 impl Bound {
-    /// Gives the positional arguments to the parameters, in order.
-    fn placed(
+    /// Gives positional arguments to the first `places` of `count` parameters, in order, and makes room for `room`
+    /// parameters. `*` takes what is left over.
+    #[tactic(auto, using(crate::proofs::Placing::all_placed))]
+    pub fn placed(
         alloc: Global,
         seed: Seed,
-        signature: &Signature<'_>,
-        positional: Vec<Value>,
+        room: usize,
+        places: usize,
+        count: usize,
+        mut positional: Vec<Value>,
     ) -> Result<Bound, AllocError>
-        ensures { IfOk result (λ b. b ≡ placed (signature_of signature.now) positional.items) }
+        requires { places ≤ count }
+        ensures { IfOk result (λ b. b ≡ record { values = placed_values places count positional.items; rest = drop places positional.items; keywords = [] }) }
     {
-        let mut left = Elements::of(positional);
-        let values = placed_values(
-            alloc,
-            places(signature),
-            signature.parameters.len(),
-            &mut left,
-        )?;
-        let rest = rest_of(alloc, &mut left)?;
+        let rest = rest_of(alloc, places, &mut positional)?;
+        let values = padded(alloc, room, count, positional)?;
         Ok(Bound {
             values,
             rest,
@@ -153,8 +154,21 @@ impl Bound {
         })
     }
 
+    /// Gives the positional arguments to the parameters, in order.
+    fn placed_by(
+        alloc: Global,
+        seed: Seed,
+        signature: &Signature<'_>,
+        positional: Vec<Value>,
+    ) -> Result<Bound, AllocError>
+        ensures { IfOk result (λ b. b ≡ placed (signature_of signature.now) positional.items) }
+    {
+        let count = signature.parameters.len();
+        Bound::placed(alloc, seed, count, places(signature), count, positional)
+    }
+
     /// Gives each named argument to the parameter of its name, or else to `**`.
-    #[tactic(auto, unfolding(crate::specs::Binding::take_all_named))]
+    #[tactic(auto, unfolding(crate::specs::Binding::take_all_named, crate::specs::Binding::take_named))]
     fn take_all_named(
         &mut self,
         alloc: Global,
@@ -163,19 +177,19 @@ impl Bound {
     ) -> Result<(), EvalErr>
         ensures { Gives (λ _. self.new) Bad result (take_all_named (signature_of signature.now) named.items self.old) }
     {
-        if named.len().min(signature.parameters.len()) > FEW {
+        if named.len().min(signature.parameters.len()) > MAX_SEARCHED {
             let by_name = places_by_name(alloc, signature.parameters)?;
             return self.take_many_named(&by_name, signature, named);
         }
         for (name, value) in named {
             let place = parameter_called(signature.parameters, name.as_slice());
-            self.take_named(place, signature, name, value)?;
+            self.take_named(place, signature.takes_keywords, name, value)?;
         }
         Ok(())
     }
 
     /// Gives each named argument to its parameter, which is found in a map of all.
-    #[tactic(auto, unfolding(crate::specs::Binding::take_all_named))]
+    #[tactic(auto, unfolding(crate::specs::Binding::take_all_named, crate::specs::Binding::take_named))]
     fn take_many_named(
         &mut self,
         by_name: &BTreeMap<&[u8], usize>,
@@ -187,22 +201,21 @@ impl Bound {
     {
         for (name, value) in named {
             let place = by_name.get(name.as_slice()).copied();
-            self.take_named(place, signature, name, value)?;
+            self.take_named(place, signature.takes_keywords, name, value)?;
         }
         Ok(())
     }
 
-    /// Gives a named argument to the parameter at the place of its name, or else to `**`.
-    #[tactic(auto, unfolding(crate::specs::Binding::take_named, crate::specs::Binding::fill))]
-    fn take_named(
+    /// Gives a named argument to the parameter at the place of its name, or else to `**`, if that takes arguments.
+    #[tactic(auto, unfolding(crate::specs::Binding::fill))]
+    pub fn take_named(
         &mut self,
         place: Option<usize>,
-        signature: &Signature<'_>,
+        takes: bool,
         name: Bytes,
         value: Value,
     ) -> Result<(), EvalErr>
-        requires { place ≡ position_from (is_called name) 0 (map parameter_of signature.now.parameters.now) }
-        ensures { Gives (λ _. self.new) Bad result (take_named (signature_of signature.now) name value self.old) }
+        ensures { Gives (λ _. self.new) Bad result (take_named_by place takes name value self.old) }
     {
         match place {
             Some(i) => {
@@ -212,7 +225,7 @@ impl Bound {
                 self.values[i] = Some(value);
                 Ok(())
             }
-            None => self.take_keyword(signature.takes_keywords, name, value),
+            None => self.take_keyword(takes, name, value),
         }
     }
 

@@ -120,6 +120,18 @@ pub fn keys_of(alloc: Global, dict: &Dict) -> Result<Vec<Value>, AllocError>
     Ok(shares)
 }
 
+/// Shares the values of a dict.
+pub fn values_of(alloc: Global, dict: &Dict) -> Result<Vec<Value>, AllocError>
+    ensures { IfOk result (λ xs. xs.items ≡ map (λ p. p.1) dict.now) }
+{
+    let mut shares = Vec::with_capacity(alloc, dict.len())?;
+    for i in 0..dict.len() {
+        let (_, value) = dict.pair(i);
+        shares.push(value.share()?)?;
+    }
+    Ok(shares)
+}
+
 pub(crate) fn content_elements(alloc: Global, content: &Content) -> Result<Vec<Value>, EvalErr>
     ensures { Gives (λ xs. xs.items) Bad result (content_elements (Some content.now)) }
 {

@@ -33,10 +33,10 @@ mod walk;
 mod walks;
 
 pub use args::Args;
-pub use binding::{Bound, bind};
+pub use binding::{Bound, MAX_SEARCHED, bind, has_value};
 pub use bq_value::copies;
 pub use calls::MAX_ACTIVE;
-pub use iteration::{Elements, keys_of};
+pub use iteration::{Elements, keys_of, values_of};
 pub use machine::Machine;
 pub use parameters::{Signature, SingleParameter};
-pub use walk::{Walk, next_key, next_value};
+pub use walk::{ElementWalk, next_key, next_value};

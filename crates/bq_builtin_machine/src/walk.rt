@@ -21,7 +21,7 @@ use std::sync::Arc;
 /// The elements that a walk has still to go through. If they are many, it has a share of what it goes over, so that
 /// beginning it takes no time. Contracts see their list.
 #[derive(Drop)]
-pub struct Walk {
+pub struct ElementWalk {
     over: Over,
 }
 
@@ -30,18 +30,18 @@ enum Over {
     /// A few elements, in reverse: the last one comes next.
     Few(Vec<Value>),
     Range(RangeWalk),
-    Shared(Shared),
+    Shared(SharedElements),
 }
 
 #[derive(Drop)]
-enum Shared {
+enum SharedElements {
     /// These values, from this place on.
     Values(Arc<Vec<Value>>, usize),
     /// A list, or the keys of a dict, from this place on.
     Content(Arc<Body>, usize),
 }
 
-impl Model for Walk {
+impl Model for ElementWalk {
     ghost use Rattle.std.specs.Prelude.{List};
     ghost use Rattle.std.specs.Coded.{coded_list};
     ghost use Rattle.bq_value.specs.Datum.{Datum};
@@ -83,39 +83,39 @@ pub fn next_key(dict: &Dict, at: &mut usize) -> Result<Option<Value>, AllocError
 
 /// Begins a walk over a few elements.
 #[tactic(auto, using(crate::proofs::Reversed::reversed_twice))]
-fn over_few(mut values: Vec<Value>) -> Walk
+fn over_few(mut values: Vec<Value>) -> ElementWalk
     ensures { result ≡ values.items }
 {
     values.reverse();
-    Walk {
+    ElementWalk {
         over: Over::Few(values),
     }
 }
 
 /// Begins a walk over what a cell holds. It has a share of it, or copies if it isn't one that walks share.
-fn over_content(alloc: Global, content: &Content) -> Result<Walk, EvalErr>
+fn over_content(alloc: Global, content: &Content) -> Result<ElementWalk, EvalErr>
     ensures { Gives (λ xs. xs) Bad result (content_elements (Some content.now)) }
 {
     if let Body::Rule(_) = content.body() {
         return Err(EvalErr::Bad(EvalFault::WrongType));
     }
     match content.shared()? {
-        Some(body) => Ok(Walk {
-            over: Over::Shared(Shared::Content(body, 0)),
+        Some(body) => Ok(ElementWalk {
+            over: Over::Shared(SharedElements::Content(body, 0)),
         }),
         None => Ok(over_few(content_elements(alloc, content)?)),
     }
 }
 
-impl Shared {
+impl SharedElements {
     /// Takes the next one.
     #[inline(never)]
     fn next(&mut self) -> Result<Option<Value>, AllocError>
         ensures { IfOk result (λ next. IsNext next (shared_left self.old) (shared_left self.new)) }
     {
         match self {
-            Shared::Values(values, at) => next_value(values, at),
-            Shared::Content(body, at) => match &**body {
+            SharedElements::Values(values, at) => next_value(values, at),
+            SharedElements::Content(body, at) => match &**body {
                 Body::List(values) => next_value(values, at),
                 Body::Dict(dict) => next_key(dict, at),
                 Body::Rule(_) => Ok(None),
@@ -124,7 +124,7 @@ impl Shared {
     }
 }
 
-impl Walk {
+impl ElementWalk {
     /// Takes the next one. Fails where 2^63 owners of it are alive.
     #[inline(always)]
     #[tactic(auto, using(crate::proofs::Reversed::popped))]
@@ -146,7 +146,7 @@ impl Machine {
     /// Begins a walk over a list or dict of many elements.
     #[inline(never)]
     #[tactic(auto, unfolding(crate::specs::Iteration::elements))]
-    fn walk_many(&mut self, alloc: Global, at: Cell) -> Result<Walk, EvalErr>
+    fn walk_many(&mut self, alloc: Global, at: Cell) -> Result<ElementWalk, EvalErr>
         ensures { Does (λ xs. xs) result self.new (elements (cell at.module at.number) self.old) }
     {
         self.store.share(alloc, at)?;
@@ -158,7 +158,7 @@ impl Machine {
 
     /// Begins a walk over a list or dict. Of a few elements it has copies.
     #[tactic(auto, unfolding(crate::specs::Iteration::elements))]
-    fn walk_cell(&mut self, alloc: Global, at: Cell) -> Result<Walk, EvalErr>
+    fn walk_cell(&mut self, alloc: Global, at: Cell) -> Result<ElementWalk, EvalErr>
         ensures { Does (λ xs. xs) result self.new (elements (cell at.module at.number) self.old) }
     {
         match self.store.content(at) {
@@ -174,14 +174,14 @@ impl Machine {
 
     /// Returns the elements that an iterable has now, to be walked while nothing changes it.
     #[tactic(auto, using(bq_value_datum::specs::Datum::list_of_data_of), unfolding(crate::specs::Iteration::elements))]
-    fn walk(&mut self, alloc: Global, value: &Value) -> Result<Walk, EvalErr>
+    fn walk(&mut self, alloc: Global, value: &Value) -> Result<ElementWalk, EvalErr>
         ensures { Does (λ xs. xs) result self.new (elements value.now self.old) }
     {
         match &value.node {
-            Node::Tuple(items) => Ok(Walk {
-                over: Over::Shared(Shared::Values(items.clone()?, 0)),
+            Node::Tuple(items) => Ok(ElementWalk {
+                over: Over::Shared(SharedElements::Values(items.clone()?, 0)),
             }),
-            Node::Range(range) => Ok(Walk {
+            Node::Range(range) => Ok(ElementWalk {
                 over: Over::Range(RangeWalk::over(*range)),
             }),
             Node::Cell(cell) => self.walk_cell(alloc, *cell),
@@ -191,7 +191,7 @@ impl Machine {
 
     /// Begins a walk over an iterable. Until it ends, nothing can change the list or dict.
     #[tactic(auto, unfolding(crate::specs::Iteration::begin_walk))]
-    pub fn begin_walk(&mut self, alloc: Global, value: &Value) -> Result<Walk, EvalErr>
+    pub fn begin_walk(&mut self, alloc: Global, value: &Value) -> Result<ElementWalk, EvalErr>
         ensures { Does (λ xs. xs) result self.new (begin_walk value.now self.old) }
     {
         let walk = self.walk(alloc, value)?;

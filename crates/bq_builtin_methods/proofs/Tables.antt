@@ -6,9 +6,7 @@ use Rattle.std.specs.Str.{bytes_eq}
 use Rattle.std.specs.Cmp.Lexicographic.{nat_list_eq_equiv}
 use Rattle.std.proofs.lemmas.Bool.{cases_Bool, false≢true}
 use Rattle.std.proofs.lemmas.Map.Entries.{lookup_from_place}
-use Rattle.bq_builtin_string_methods.specs.Method.{methods}
-use Rattle.bq_builtin_methods.specs.ListMethod.{list_methods}
-use Rattle.bq_builtin_methods.specs.DictMethod.{dict_methods}
+use Rattle.bq_builtin_methods.specs.Methods.{string_methods, list_methods, dict_methods}
 use Rattle.bq_builtin_methods.specs.Laws.{NamesItsMethods}
 
 -- the test of it, which computes
@@ -37,11 +35,14 @@ named table h = record {
   found = λ i name method at. lookup_from_place nat_list_eq_equiv table i name method (distinct (keys_of table) h) at;
 }
 
-pub strings_named : NamesItsMethods methods
-strings_named = named methods refl
+pub strings_named : NamesItsMethods string_methods
+unfolding string_methods
+strings_named = named string_methods refl
 
 pub lists_named : NamesItsMethods list_methods
+unfolding list_methods
 lists_named = named list_methods refl
 
 pub dicts_named : NamesItsMethods dict_methods
+unfolding dict_methods
 dicts_named = named dict_methods refl

@@ -1,5 +1,5 @@
 -- The definitions of the laws of methods.
-use Rattle.std.specs.Prelude.{◌≡◌, ℕ, Bool, true, false, List, ◌∷◌, slice_get, Some}
+use Rattle.std.specs.Prelude.{◌≡◌, ◌<◌, ◌⊎◌, ℕ, Bool, true, false, List, ◌∷◌, length, slice_get, Option, Some}
 use Rattle.std.specs.List.{IsDistinct}
 use Rattle.std.specs.Map.{lookup, keys_of}
 use Rattle.std.specs.Str.{bytes_eq}
@@ -10,7 +10,21 @@ use Rattle.bq_value.specs.Cells.{HoldsList, HoldsDict}
 use Rattle.bq_builtin_machine.specs.State.{State, stop_at}
 use Rattle.bq_builtin_machine.specs.Action.{Run, stopped}
 use Rattle.bq_builtin_machine.specs.Args.{Passed}
+use Rattle.bq_builtin_methods.specs.Method.{Method}
+use Rattle.bq_builtin_methods.specs.Methods.{string_methods, list_methods, dict_methods}
 use Rattle.bq_builtin_methods.specs.Call.{call_method}
+
+-- the method of this name, if strings have it
+abbrev pub string_method : List ℕ → Option (Method (List ℕ))
+string_method name = lookup (bytes_eq name) string_methods
+
+-- if lists have it
+abbrev pub list_method : List ℕ → Option (Method (ℕ × ℕ))
+list_method name = lookup (bytes_eq name) list_methods
+
+-- if dicts have it
+abbrev pub dict_method : List ℕ → Option (Method (ℕ × ℕ))
+dict_method name = lookup (bytes_eq name) dict_methods
 
 -- A table has a name for each of its methods, and no name twice.
 pub record NamesItsMethods {M : Type 0} (table : List (List ℕ × M)) : Type 0 where
@@ -44,3 +58,8 @@ abbrev pub TakesNoKeywords : List ℕ → State → Datum → Type 0
 TakesNoKeywords name s receiver =
     (args : Passed) (argument : List ℕ × Datum) (others : List (List ℕ × Datum))
     → args.named ≡ argument ∷ others → Refused Args s (call_method name receiver args s)
+
+-- each call of this method of the receiver with fewer or more arguments than these is F52
+abbrev pub TakesBetween : ℕ → ℕ → List ℕ → State → Datum → Type 0
+TakesBetween fewest most name s receiver =
+    (args : Passed) → (length args.positional < fewest) ⊎ (most < length args.positional) → Refused Args s (call_method name receiver args s)

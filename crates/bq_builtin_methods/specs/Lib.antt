@@ -1,5 +1,5 @@
-pub mod Placed
-pub mod ListMethod
-pub mod DictMethod
+pub mod Method
+pub mod Methods
 pub mod Call
+pub mod Row
 pub mod Laws

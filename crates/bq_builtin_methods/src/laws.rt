@@ -4,18 +4,16 @@ ghost use Rattle.std.specs.Prelude.{◌≡◌, ℕ, List, Some, None, false};
 ghost use Rattle.bq_value.specs.Datum.{Datum, string, cell};
 ghost use Rattle.bq_value_rule_class.specs.Class.{Class};
 ghost use Rattle.bq_value.specs.Cells.{HoldsRule};
+ghost use Rattle.bq_builtin_collections.specs.Calling.{Calling};
 ghost use Rattle.bq_builtin_machine.specs.State.{State};
-ghost use Rattle.bq_builtin_string_methods.specs.Method.{methods, string_method};
-ghost use Rattle.bq_builtin_methods.specs.declared.list_method.ListMethod.{ListMethod};
-ghost use Rattle.bq_builtin_methods.specs.declared.dict_method.PlacedMethod.{PlacedMethod};
-ghost use Rattle.bq_builtin_methods.specs.declared.dict_method.DictMethod.TheVariants.{Placed};
-ghost use Rattle.bq_builtin_methods.specs.ListMethod.{list_methods, list_method};
-ghost use Rattle.bq_builtin_methods.specs.DictMethod.{dict_methods, dict_method};
-ghost use Rattle.bq_builtin_methods.specs.Laws.{NamesItsMethods, has_methods, OfEveryList, OfEveryDict, LacksMethod, TakesNoKeywords};
+ghost use Rattle.bq_builtin_methods.specs.declared.row.Parameters.TheVariants.{Positional};
+ghost use Rattle.bq_builtin_methods.specs.Method.{Method};
+ghost use Rattle.bq_builtin_methods.specs.Methods.{string_methods, list_methods, dict_methods};
+ghost use Rattle.bq_builtin_methods.specs.Laws.{NamesItsMethods, string_method, list_method, dict_method, has_methods, OfEveryList, OfEveryDict, LacksMethod, TakesNoKeywords, TakesBetween};
 
 /// No table has a name twice, and each method is found by its name.
 pub fn tables_name_their_methods()
-    ensures strings { NamesItsMethods methods }
+    ensures strings { NamesItsMethods string_methods }
     ensures lists { NamesItsMethods list_methods }
     ensures dicts { NamesItsMethods dict_methods }
 {}
@@ -31,6 +29,14 @@ pub fn a_method_that_a_type_lacks()
 
 /// No method of lists takes an argument by name, and of dicts none but `update` (F52).
 pub fn arguments_by_name()
-    ensures lists { (name : List ℕ) (method : ListMethod) → list_method name ≡ Some method → OfEveryList (TakesNoKeywords name) }
-    ensures dicts { (name : List ℕ) (method : PlacedMethod) → dict_method name ≡ Some (Placed method) → OfEveryDict (TakesNoKeywords name) }
+    ensures lists { (name : List ℕ) (method : Method (ℕ × ℕ)) → list_method name ≡ Some method → OfEveryList (TakesNoKeywords name) }
+    ensures dicts { (name : List ℕ) (fewest most : ℕ) (calling : ℕ × ℕ → Calling) → dict_method name ≡ Some (Positional fewest most, calling) → OfEveryDict (TakesNoKeywords name) }
+{}
+
+/// A method that takes between two numbers of arguments refuses fewer and more (F52), whatever they are, and whatever the
+/// list or dict is.
+pub fn other_numbers_of_arguments()
+    ensures strings { (name text : List ℕ) (fewest most : ℕ) (calling : List ℕ → Calling) (s : State) → string_method name ≡ Some (Positional fewest most, calling) → TakesBetween fewest most name s (string text) }
+    ensures lists { (name : List ℕ) (fewest most : ℕ) (calling : ℕ × ℕ → Calling) → list_method name ≡ Some (Positional fewest most, calling) → OfEveryList (TakesBetween fewest most name) }
+    ensures dicts { (name : List ℕ) (fewest most : ℕ) (calling : ℕ × ℕ → Calling) → dict_method name ≡ Some (Positional fewest most, calling) → OfEveryDict (TakesBetween fewest most name) }
 {}

@@ -3,22 +3,24 @@
 //! The promise: `call_method` does exactly what the equation of the method says of the receiver, the arguments and the
 //! state of the machine, unless memory runs out (`specs/Call.antt`).
 //!
-//! Strings, lists and dicts have methods, each type those of its own table. A name that isn't in it is F58, whatever
-//! the arguments are. bq_builtin_string_methods and bq_builtin_collections carry methods out; here they are found by
-//! their names.
+//! Strings, lists and dicts have methods, each type those of its own table (`specs/Methods.antt`). A row has the name of
+//! the method, which arguments it takes, and what a call of it gives. A name that isn't in the table is F58, whatever the
+//! arguments are; then another number of arguments than the row has, or one by name, is F52. bq_builtin_string_methods
+//! and bq_builtin_collections carry methods out; here they are found by their names.
 //!
 //! In reading order:
 //!
-//! - `table`: what a name stands for in a table, and positional arguments;
-//! - `list_method`, `dict_method`: the methods of lists and of dicts by their names;
+//! - `row`: the row of a name, and which arguments a method takes;
+//! - `string_methods`, `list_methods`, `dict_methods`: the methods of each type;
 //! - `call`: the call;
 //! - `laws`: what the definitions say together.
 #![tactic(auto)]
 
 mod call;
-mod dict_method;
+mod dict_methods;
 pub mod laws;
-mod list_method;
-mod table;
+mod list_methods;
+mod row;
+mod string_methods;
 
 pub use call::call_method;

@@ -1,8 +1,7 @@
 pub mod Argument
 pub mod Searches
 pub mod Affixes
-pub mod Classes
 pub mod Strips
 pub mod Cuts
 pub mod Longer
-pub mod Method
+pub mod Format

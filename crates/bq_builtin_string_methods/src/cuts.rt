@@ -1,13 +1,17 @@
 //! The methods that cut a string into parts (Starlark, "string·partition", "string·rpartition", "string·split",
 //! "string·rsplit", "string·splitlines").
 
-ghost use Rattle.std.specs.Prelude.{◌≡◌, Some, None, MatchOption, IfOk};
+ghost use Rattle.std.specs.Prelude.{◌≡◌, Some, None, MatchOption, IfOk, map};
 ghost use Rattle.bq_base.specs.Gives.{Gives};
+ghost use Rattle.bq_value.specs.Datum.{string};
 ghost use Rattle.bq_value.specs.declared.error.EvalErr.TheVariants.{Bad};
+ghost use Rattle.bq_builtin_machine.specs.Action.{Does};
+ghost use Rattle.bq_builtin_machine.specs.Cells.{new_list};
 ghost use Rattle.bq_builtin_string_methods.specs.Cuts.{three, three_parts, cut_once, partition, split_at, words_of, split_by, split, splitlines};
 
 use crate::argument::{most_in, separator_in, text_in, truth_in};
 use bq_base::{Bytes, EvalFault};
+use bq_builtin_machine::Machine;
 use bq_builtin_string_classes::{lines, rwords, words};
 use bq_value::{EvalErr, Value};
 use std::alloc::{AllocError, Global};
@@ -125,4 +129,26 @@ pub fn splitlines(alloc: Global, text: &[u8], values: &[Value]) -> Result<Vec<By
 {
     let keep = truth_in(values, 0)?;
     Ok(lines(alloc, text, keep)?)
+}
+
+fn values_of(alloc: Global, strings: &[Bytes]) -> Result<Vec<Value>, AllocError>
+    ensures { IfOk result (λ values. values.items ≡ map string strings.now) }
+{
+    let mut values = Vec::with_capacity(alloc, strings.len())?;
+    for text in strings {
+        values.push(Value::string(text.share()?))?;
+    }
+    Ok(values)
+}
+
+/// Makes a list of these strings.
+pub fn new_strings(
+    alloc: Global,
+    machine: &mut Machine,
+    strings: Vec<Bytes>,
+) -> Result<Value, EvalErr>
+    ensures { Does (λ v. v) result machine.new (new_list (map string strings.items) machine.old) }
+{
+    let values = values_of(alloc, &strings)?;
+    machine.new_list(values)
 }

@@ -1,33 +1,33 @@
-//! A string, a method and its arguments come in; the result of the call goes out: a value, a new list, or a fault.
+//! The methods of strings: the bytes of a string and the arguments of a call come in; a value, the strings of a list, or
+//! a fault goes out.
 //!
-//! The promise: `call` returns exactly what the equation of the method says of the string, the arguments and the state
-//! of the machine, unless memory runs out.
+//! The promise: each method returns exactly what its equation says of the string, the arguments and the state of the
+//! machine, unless memory runs out. bq_builtin_methods finds methods by their names, and refuses the calls that have
+//! another number of arguments than a method takes.
 //!
-//! All arguments are positional but those of `format`; F52 comes before the types of the arguments (F40), then F57 or
-//! F59, and F54 last, before memory for the text is asked for.
+//! Of the arguments, the types come first (F40), then F57 or F59, and F54 last, before memory for the text is asked
+//! for.
 //!
 //! In reading order:
 //!
 //! - `argument`: the arguments by their types, and the region that two of them name;
 //! - `searches`, `affixes`: what is found in a region, and at its ends;
-//! - `classes`: the classes of a string's bytes, and its cases;
 //! - `strips`, `cuts`: what is removed from the ends, and the parts of a string;
 //! - `longer`: what makes longer strings;
-//! - `method`: the names of the methods, how many arguments each takes, and the call.
+//! - `format`: what fills a format.
 #![tactic(auto)]
 
 mod affixes;
 mod argument;
-mod classes;
 mod cuts;
+mod format;
 mod longer;
-mod method;
 mod searches;
 mod strips;
 
-pub use affixes::EndMethod;
-pub use classes::{CaseMethod, TestMethod};
-pub use cuts::Side;
-pub use method::{PartsMethod, StringMethod, ValueMethod, call, string_method};
-pub use searches::SearchMethod;
-pub use strips::StripMethod;
+pub use affixes::{EndMethod, ends};
+pub use cuts::{Side, new_strings, partition, split, splitlines};
+pub use format::format_text;
+pub use longer::{joined, replace};
+pub use searches::{SearchMethod, search};
+pub use strips::{StripMethod, stripped};

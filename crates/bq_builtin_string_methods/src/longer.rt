@@ -1,18 +1,23 @@
 //! The methods that make longer strings (Starlark, "string·replace", "string·join"): F54 before any memory is asked for.
 
-ghost use Rattle.std.specs.Prelude.{◌≡◌, ◌+◌, ◌*◌, ◌≤◌, length};
+ghost use Rattle.std.specs.Prelude.{◌≡◌, ◌+◌, ◌*◌, ◌≤◌, ◌++◌, ◌∷◌, [], Some, Ok, length, slice_get};
 ghost use Rattle.bq_base.specs.Gives.{Gives};
 ghost use Rattle.bq_value.specs.declared.error.EvalErr.TheVariants.{Bad};
+ghost use Rattle.bq_builtin_machine.specs.Action.{Does};
+ghost use Rattle.bq_builtin_machine.specs.Answer.{and_then};
 ghost use Rattle.bq_builtin_numbers.specs.Length.{within};
 ghost use Rattle.bq_builtin_string_parts.specs.Parts as parts;
 ghost use Rattle.bq_builtin_string_parts.specs.Parts.{joined_on};
-ghost use Rattle.bq_builtin_string_methods.specs.Longer.{fits, replace, join, times, fit_replaced};
+ghost use Rattle.bq_builtin_string_methods.specs.Affixes.{texts_of};
+ghost use Rattle.bq_builtin_string_methods.specs.Argument.{text_in};
+ghost use Rattle.bq_builtin_string_methods.specs.Longer.{fits, replace, join, joined, times, fit_replaced};
 
-use crate::argument::{most_in, text_in};
+use crate::argument::{argument, most_in, text_in};
 use bq_base::{Bytes, EvalFault};
+use bq_builtin_machine::{Elements, Machine};
 use bq_builtin_numbers::joined_len;
 use bq_builtin_string_parts::cuts;
-use bq_value::{EvalErr, Value};
+use bq_value::{EvalErr, Node, Value};
 use std::alloc::Global;
 
 /// Returns how often `old` is replaced in the text, at most `most` times.
@@ -86,10 +91,52 @@ fn fit_joined(separator: &[u8], strings: &[Bytes]) -> Result<(), EvalFault>
     fit_parts(separator, strings[0].len(), &strings[1..])
 }
 
-/// Returns `text.join(x)`, of the strings of x.
-pub fn join(alloc: Global, text: &[u8], strings: &[Bytes]) -> Result<Bytes, EvalErr>
+/// Returns these strings, with the text between each two.
+fn join(alloc: Global, text: &[u8], strings: &[Bytes]) -> Result<Bytes, EvalErr>
     ensures { Gives (λ made. made) Bad result (join text.now strings.now) }
 {
     fit_joined(text, strings)?;
     Ok(Bytes::from_vec(alloc, bq_builtin_string_parts::join(alloc, text, strings)?)?)
+}
+
+/// Appends a string; F40 for another value.
+fn push_text(strings: &mut Vec<Bytes>, value: &Value) -> Result<(), EvalErr>
+    ensures { Gives (λ _. strings.new.items) Bad result (and_then (text_in (Some value.now)) (λ text. Ok (strings.old.items ++ text ∷ []))) }
+{
+    match &value.node {
+        Node::Text(text) => {
+            strings.push(text.share()?)?;
+            Ok(())
+        }
+        _ => Err(EvalErr::Bad(EvalFault::WrongType)),
+    }
+}
+
+/// Returns the strings that these elements are; F40 if one isn't a string.
+fn texts_of(alloc: Global, elements: Elements) -> Result<Vec<Bytes>, EvalErr>
+    ensures { Gives (λ strings. strings.items) Bad result (texts_of elements) }
+{
+    let mut elements = elements;
+    let mut strings = Vec::new(alloc);
+    'elements: while let Some(value) = elements.next() {
+        push_text(&mut strings, &value)?;
+    }
+    Ok(strings)
+}
+
+/// Returns `text.join(x)`, of the strings of an iterable.
+pub fn joined(
+    alloc: Global,
+    machine: &mut Machine,
+    text: &[u8],
+    values: &[Value],
+) -> Result<Value, EvalErr>
+    ensures { Does (λ v. v) result machine.new (joined text.now (slice_get values.now 0) machine.old) }
+{
+    let Some(value) = argument(values, 0) else {
+        return Err(EvalErr::Bad(EvalFault::Args));
+    };
+    let elements = machine.elements(alloc, value)?;
+    let strings = texts_of(alloc, elements)?;
+    Ok(Value::string(join(alloc, text, &strings)?))
 }

@@ -2,13 +2,17 @@
 //! "string·rstrip", "string·removeprefix", "string·removesuffix").
 
 ghost use Rattle.std.specs.Prelude.{◌≡◌};
+ghost use Rattle.bq_base.specs.Gives.{Gives};
+ghost use Rattle.bq_value.specs.declared.error.EvalErr.TheVariants.{Bad};
+ghost use Rattle.bq_builtin_machine.specs.Answer.{as_string};
 ghost use Rattle.bq_builtin_string_methods.specs.Argument.{Says};
 ghost use Rattle.bq_builtin_string_methods.specs.Strips.{end_in, without, strip};
 
 use crate::argument::{bytes_in, text_in};
-use bq_base::EvalFault;
+use bq_base::{Bytes, EvalFault};
 use bq_builtin_string_parts::{lstrip, remove_prefix, remove_suffix, rstrip, strip as strip_both};
-use bq_value::Value;
+use bq_value::{EvalErr, Value};
+use std::alloc::Global;
 
 #[derive(Clone, Copy)]
 pub enum StripMethod {
@@ -44,15 +48,24 @@ fn without<'t>(method: StripMethod, end: &[u8], text: &'t [u8]) -> &'t [u8]
     }
 }
 
-/// Returns `s.method(end)`.
+/// Returns what is left of the text.
 #[tactic(auto, unfolding(crate::specs::Strips::strip))]
-pub fn strip<'t>(
-    method: StripMethod,
-    text: &'t [u8],
-    values: &[Value],
-) -> Result<&'t [u8], EvalFault>
+fn strip<'t>(method: StripMethod, text: &'t [u8], values: &[Value]) -> Result<&'t [u8], EvalFault>
     ensures { Says (λ part. part.now) result (strip method text.now values.now) }
 {
     let end = end_in(method, values)?;
     Ok(without(method, end, text))
+}
+
+/// Returns `s.method(end)`.
+pub fn stripped(
+    alloc: Global,
+    method: StripMethod,
+    text: &[u8],
+    values: &[Value],
+) -> Result<Value, EvalErr>
+    ensures { Gives (λ v. v) Bad result (as_string (strip method text.now values.now)) }
+{
+    let part = strip(method, text, values)?;
+    Ok(Value::string(Bytes::from_slice(alloc, part)?))
 }

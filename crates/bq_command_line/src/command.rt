@@ -41,7 +41,7 @@ Exit status:
   5  reading the input or writing the output failed"#;
 
 /// The version of the program. The man page and the packages take it from this line (`dev/release`).
-pub const VERSION: &str = "1.5.0";
+pub const VERSION: &str = "1.5.1";
 
 pub const MAX_STEPS: u64 = 1_000_000_000;
 
@@ -57,7 +57,7 @@ enum Shape {
 }
 
 #[derive(Clone, Copy)]
-struct Argument {
+struct CommandArgument {
     /// What it is read back by, and its name.
     id: &'static str,
     shape: Shape,
@@ -75,7 +75,7 @@ struct Argument {
 }
 
 /// An option that takes any text and may be left out.
-const OPTION: Argument = Argument {
+const OPTION: CommandArgument = CommandArgument {
     id: "",
     shape: Shape::Option,
     value: "FILE",
@@ -88,8 +88,8 @@ const OPTION: Argument = Argument {
 };
 
 /// The arguments, in the order of help.
-const ARGUMENTS: &[Argument] = &[
-    Argument {
+const ARGUMENTS: &[CommandArgument] = &[
+    CommandArgument {
         id: "jobs",
         value: "N",
         help: "Number of workers that load modules, 1 to 256",
@@ -97,7 +97,7 @@ const ARGUMENTS: &[Argument] = &[
         default: &["4"],
         ..OPTION
     },
-    Argument {
+    CommandArgument {
         id: "output",
         value: "FORM",
         help: "Output format of each target",
@@ -105,7 +105,7 @@ const ARGUMENTS: &[Argument] = &[
         default: &["label"],
         ..OPTION
     },
-    Argument {
+    CommandArgument {
         id: "max-steps",
         value: "N",
         help: "Step limit for evaluating one module, 1 to 1000000000",
@@ -113,7 +113,7 @@ const ARGUMENTS: &[Argument] = &[
         default: &["1000000"],
         ..OPTION
     },
-    Argument {
+    CommandArgument {
         id: "large",
         shape: Shape::Flag,
         value: "",
@@ -121,25 +121,25 @@ const ARGUMENTS: &[Argument] = &[
         takes: ValueParser::Bool,
         ..OPTION
     },
-    Argument {
+    CommandArgument {
         id: "dir",
         value: "DIR",
         help: "Directory that holds the workspace",
         ..OPTION
     },
-    Argument {
+    CommandArgument {
         id: "bundle",
         help: "File that holds the workspace, as a bundle",
         excludes: &["dir"],
         ..OPTION
     },
-    Argument {
+    CommandArgument {
         id: "queries",
         help: "Answer the queries of a file, one a line; - is standard input",
         excludes: &["query"],
         ..OPTION
     },
-    Argument {
+    CommandArgument {
         id: "facts",
         shape: Shape::Flag,
         value: "",
@@ -148,14 +148,14 @@ const ARGUMENTS: &[Argument] = &[
         excludes: &["queries", "output"],
         ..OPTION
     },
-    Argument {
+    CommandArgument {
         id: "explain",
         value: "NUMBER",
         help: "Explain a fault or error, such as F47, Q5 or E4, and exit",
         excludes_all: true,
         ..OPTION
     },
-    Argument {
+    CommandArgument {
         id: "query",
         shape: Shape::Value,
         value: "QUERY",
@@ -166,7 +166,7 @@ const ARGUMENTS: &[Argument] = &[
 ];
 
 /// Declares an argument, but for those that it names.
-fn declared<'a>(alloc: Global, argument: &Argument) -> Arg<'a> {
+fn declared<'a>(alloc: Global, argument: &CommandArgument) -> Arg<'a> {
     let arg = Arg::new(alloc, argument.id)
         .help(argument.help)
         .value_parser(argument.takes)

@@ -27,4 +27,4 @@ pub use command::VERSION;
 pub use messages::show;
 pub use program::run_program;
 pub use runs::run_on_directory;
-pub use words::{Asked, Place, Wanted, Words, words_of};
+pub use words::{Asked, Wanted, Words, WorkspacePlace, words_of};

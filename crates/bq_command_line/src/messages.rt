@@ -1,7 +1,7 @@
 //! What is printed where there is no run.
 
 use bq_run::{ANSWERED, DEVICE_FAILED, NO_MEMORY, REFUSED, RunErr};
-use bq_run_explain::{Explanation, Subject};
+use bq_run_explain::{Explanation, NumberMeaning};
 use clap::Error;
 use clap::error::ErrorKind;
 use std::io;
@@ -48,12 +48,12 @@ pub fn show<R: Print + Eprint>(rt: &R, error: &Error) -> u8 {
 pub fn show_explanation(rt: &impl Print, explanation: &Explanation) -> u8 {
     let text = explanation.text;
     let printed = match explanation.subject {
-        Subject::Fault(kind) => {
+        NumberMeaning::Fault(kind) => {
             let number = kind.number();
             let name = kind.name();
             print!(rt; "F{number} {name}\n\n{text}")
         }
-        Subject::Error(number, name) => print!(rt; "{number} {name}\n\n{text}"),
+        NumberMeaning::Error(number, name) => print!(rt; "{number} {name}\n\n{text}"),
     };
     match printed {
         Ok(()) => ANSWERED,

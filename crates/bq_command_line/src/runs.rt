@@ -5,11 +5,12 @@ ghost use Rattle.bq_base_limits.specs.Limits.{AreBounded};
 ghost use Rattle.bq_run.specs.Run.{IsInRange};
 
 use crate::messages::announce_input;
-use crate::words::{Place, Wanted, Words};
+use crate::words::{Wanted, Words, WorkspacePlace};
 use bq_base_limits::Limits;
 use bq_label::Workspace;
 use bq_run::{
-    ByteSource, Metered, Options, RunErr, Status, end_run, read_bundle_within, run, run_files,
+    ByteSource, Metered, Options, RunErr, Status, WorkspaceRun, end_run, read_bundle_within, run,
+    run_files,
 };
 use bq_run_directory::{DirectoryErr, read_directory};
 use bq_run_facts::run_facts;
@@ -96,15 +97,21 @@ fn run_one<T: Threads + Wait + RandomSource + Sync>(
     requires { IsInRange words.now.options }
 {
     match words.place {
-        Place::Input => {
+        WorkspacePlace::Input => {
             let mut reader = Metered::new(rt.stdin());
             run_on_bundle(rt, threads, alloc, &mut reader, &words.options)
         }
-        Place::Bundle(path) => {
+        WorkspacePlace::Bundle(path) => {
             let mut reader = Metered::new(open(rt, path)?);
             run_on_bundle(rt, threads, alloc, &mut reader, &words.options)
         }
-        Place::Directory(path) => run_on_directory(rt, threads, alloc, path, &words.options),
+        WorkspacePlace::Directory(path) => run_on_directory(
+            rt,
+            threads,
+            alloc,
+            path,
+            &words.options,
+        ),
     }
 }
 
@@ -112,18 +119,18 @@ fn run_one<T: Threads + Wait + RandomSource + Sync>(
 fn read_workspace(
     rt: &HostRuntime,
     alloc: Global,
-    place: Place,
+    place: WorkspacePlace,
     limits: Limits,
 ) -> Result<Workspace, RunErr>
     requires { AreBounded limits }
 {
     match place {
-        Place::Input => read_bundle_within(alloc, limits, &mut Metered::new(rt.stdin())),
-        Place::Bundle(path) => {
+        WorkspacePlace::Input => read_bundle_within(alloc, limits, &mut Metered::new(rt.stdin())),
+        WorkspacePlace::Bundle(path) => {
             let file = open(rt, path)?;
             read_bundle_within(alloc, limits, &mut Metered::new(file))
         }
-        Place::Directory(path) => read_files(rt, path, limits),
+        WorkspacePlace::Directory(path) => read_files(rt, path, limits),
     }
 }
 
@@ -141,15 +148,11 @@ fn answer_queries<T: Threads + Wait + RandomSource + Sync, Q: ByteSource>(
     let workspace = read_workspace(rt, alloc, words.place, words.options.limits)?;
     let mut writer = Metered::new(rt.stdout());
     let mut faults = Metered::new(rt.stderr());
-    run_queries(
-        threads,
-        alloc,
-        &workspace,
-        queries,
-        &mut writer,
-        &mut faults,
-        &words.options,
-    )
+    let over = WorkspaceRun {
+        workspace: &workspace,
+        options: &words.options,
+    };
+    run_queries(threads, alloc, &over, queries, &mut writer, &mut faults)
 }
 
 /// Returns a reader that reads ahead.
@@ -197,15 +200,11 @@ fn run_for_facts<T: Threads + Wait + RandomSource + Sync>(
         Some(query) => Some(query.as_bytes()),
         None => None,
     };
-    run_facts(
-        threads,
-        alloc,
-        &workspace,
-        query,
-        &mut writer,
-        &mut faults,
-        &words.options,
-    )
+    let over = WorkspaceRun {
+        workspace: &workspace,
+        options: &words.options,
+    };
+    run_facts(threads, alloc, &over, query, &mut writer, &mut faults)
 }
 
 /// Writes the error line, if there is one, and returns the exit status.

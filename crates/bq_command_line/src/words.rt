@@ -23,7 +23,7 @@ const INPUT_TWICE: &str =
 
 /// Where a workspace is.
 #[derive(Clone, Copy)]
-pub enum Place<'a> {
+pub enum WorkspacePlace<'a> {
     /// On standard input, as a bundle.
     Input,
     /// In a file, as a bundle.
@@ -31,10 +31,10 @@ pub enum Place<'a> {
     Directory(&'a str),
 }
 
-impl Place<'_> {
+impl WorkspacePlace<'_> {
     /// Returns whether the workspace is read from standard input.
     pub fn is_input(self) -> bool {
-        matches!(self, Place::Input)
+        matches!(self, WorkspacePlace::Input)
     }
 }
 
@@ -63,7 +63,7 @@ impl Wanted<'_> {
 #[derive(Drop)]
 pub struct Words<'a> {
     pub options: Options,
-    pub place: Place<'a>,
+    pub place: WorkspacePlace<'a>,
     pub wanted: Wanted<'a>,
 }
 
@@ -74,13 +74,13 @@ pub enum Asked<'a> {
     Explanation(Explanation),
 }
 
-fn place_of<'a>(matches: &ArgMatches<'a>) -> Place<'a> {
+fn place_of<'a>(matches: &ArgMatches<'a>) -> WorkspacePlace<'a> {
     if let Some(directory) = matches.get_str("dir") {
-        return Place::Directory(directory);
+        return WorkspacePlace::Directory(directory);
     }
     match matches.get_str("bundle") {
-        Some(file) => Place::Bundle(file),
-        None => Place::Input,
+        Some(file) => WorkspacePlace::Bundle(file),
+        None => WorkspacePlace::Input,
     }
 }
 

@@ -8,7 +8,7 @@ use crate::making::{with_element, with_new_pair, with_pair};
 use crate::passing;
 use crate::unpacking::parts_of;
 use bq_base::Bytes;
-use bq_builtin_machine::{Args, Elements, Machine, Walk};
+use bq_builtin_machine::{Args, ElementWalk, Elements, Machine};
 use bq_eval_rules::Runtime;
 use bq_package_host::{BuiltIns, Host};
 use bq_parse_grammar::{Comparison, Operator, UnaryOperator};
@@ -189,7 +189,7 @@ impl<'a, H: Host, K: RuleNames> Runtime for Evaluation<'a, H, K> {
     }
 
     #[tactic(auto, using(crate::proofs::Lifting::lifted), unfolding(crate::specs::Runtime::primitives))]
-    fn begin_walk(&mut self, alloc: Global, value: &Value) -> Result<Walk, EvalErr> {
+    fn begin_walk(&mut self, alloc: Global, value: &Value) -> Result<ElementWalk, EvalErr> {
         self.machine.begin_walk(alloc, value)
     }
 

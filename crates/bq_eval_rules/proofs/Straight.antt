@@ -1,7 +1,7 @@
 -- Arguments of parameters that take one each, whose slots are the first, are the frame itself.
-use Rattle.std.proofs.Common.{◌≡◌, ◌∙◌, ℕ, zero, suc, ◌+◌, ◌-◌, ◌<◌, ◌≤◌, ◌==◌, nat_le, Bool, true, false, not, ◌||◌, ◌&&◌, cond, List, [], ◌∷◌, ◌++◌, append-nil, append_assoc, length, length-set, map, replicate, set, slice_get, drop, Option, Some, None, Result, Ok, Err, IfOk, refl, ap, sym, arith}
+use Rattle.std.proofs.Common.{◌≡◌, ◌∙◌, ℕ, zero, suc, ◌+◌, ◌-◌, ◌==◌, nat_le, Bool, true, false, not, ◌||◌, ◌&&◌, cond, List, [], ◌∷◌, ◌++◌, append-nil, append_assoc, length, length-set, set, slice_get, drop, Option, Some, None, Result, Ok, Err, IfOk, refl, ap, sym, arith}
 use Rattle.std.proofs.lemmas.Bool.Decides.{nat_tests}
-use Rattle.std.proofs.lemmas.List.{drop_all, length_push}
+use Rattle.std.proofs.lemmas.List.{length_push}
 use Rattle.std.specs.List.{position_from}
 use Rattle.bq_value.specs.Datum.{Datum, tuple, data_of, none}
 use Rattle.bq_resolve_scope.specs.declared.file.Function.{Function}
@@ -20,7 +20,7 @@ use Rattle.bq_eval_frame.specs.Slots.{list_slots}
 use Rattle.bq_eval_frame.proofs.Slots.{list_filled, padded as one_empty}
 use Rattle.bq_eval_language_spec.specs.Calls.{entry, fill_parameter, fill_parameters, has_star_star, keywords_of, signature, singles}
 use Rattle.bq_eval_language_spec.specs.Slots.{by_slots, slot_of}
-use Rattle.bq_eval_rules.specs.Direct.{Values, and_values, are_direct, defaulted, direct_signature, direct_values, only, padded, value_or, with_defaults}
+use Rattle.bq_eval_rules.specs.Direct.{Values, and_values, are_direct, defaulted, direct_signature, direct_values, placed_all, value_or, with_defaults}
 
 -- ---- what such parameters take
 
@@ -54,46 +54,21 @@ no_star_star i ps h = ap (λ (s : SignatureView). s.takes_keywords) (one_each i 
 
 -- ---- positional arguments
 
-abbrev nones : ℕ → List (Option Datum)
-nones k = replicate k None
-
--- one more parameter without an argument
-pub one_less : (vs : List (Option Datum)) (count : ℕ) → length vs < count → (vs ++ None ∷ []) ++ replicate (count - length (vs ++ None ∷ [])) None ≡ vs ++ replicate (count - length vs) None
-one_less vs count h =
-    let next : count - length vs ≡ suc (count - (length vs + 1)) = omega (arith, h) in
-    ap (λ k. (vs ++ None ∷ []) ++ nones (count - k)) (length_push vs None)
-    ∙ (append_assoc vs (None ∷ []) (nones (count - (length vs + 1))) ∙ ap (λ k. vs ++ nones k) (sym next))
-
-none_placed : (n : ℕ) → placed_values n n [] ≡ nones n
-none_placed zero = refl
-none_placed (suc n) = ap (λ vs. None ∷ vs) (none_placed n)
-
-all_placed : (xs : List Datum) (n : ℕ) → length xs ≤ n → placed_values n n xs ≡ padded n xs
-all_placed [] n few = let all : n - 0 ≡ n = omega arith in none_placed n ∙ ap nones (sym all)
-all_placed (x ∷ xs) zero few = absurd (omega (arith, few))
-all_placed (x ∷ xs) (suc n) few =
-    let same : suc n - suc (length xs) ≡ n - length xs = omega arith in
-    ap (λ vs. Some x ∷ vs) (all_placed xs n (omega (arith, few))) ∙ ap (λ k. Some x ∷ (map Some xs ++ nones k)) (sym same)
-
-at_places : (count places n : ℕ) (xs : List Datum) → count ≡ n → places ≡ n → length xs ≤ n → record { values = placed_values places count xs; rest = drop places xs; keywords = [] } ≡ only (padded n xs)
-at_places count places n xs all each few = rw all rw each rw (all_placed xs n few) rw (drop_all n xs few) refl
-
 all_places : (ps : List Formal) → are_direct 0 ps ≡ true → places (direct_signature ps) ≡ length ps
 all_places ps direct = omega (arith, all_single 0 ps direct)
 
-placed_only : (ps : List Formal) (xs : List Datum) → are_direct 0 ps ≡ true → length xs ≤ length ps → placed (direct_signature ps) xs ≡ only (padded (length ps) xs)
-placed_only ps xs direct few = at_places (length (singles ps)) (places (direct_signature ps)) (length ps) xs (all_single 0 ps direct) (all_places ps direct) few
+at_places : (count first n : ℕ) (xs : List Datum) → count ≡ n → first ≡ n → record { values = placed_values first count xs; rest = drop first xs; keywords = [] } ≡ placed_all n xs
+at_places count first n xs all each = rw all rw each refl
 
-nones_long : (k : ℕ) → length (nones k) ≡ k
-nones_long zero = refl
-nones_long (suc k) = ap suc (nones_long k)
+placed_only : (ps : List Formal) (xs : List Datum) → are_direct 0 ps ≡ true → placed (direct_signature ps) xs ≡ placed_all (length ps) xs
+placed_only ps xs direct = at_places (length (singles ps)) (places (direct_signature ps)) (length ps) xs (all_single 0 ps direct) (all_places ps direct)
 
-padded_long : (xs : List Datum) (n : ℕ) → length xs ≤ n → length (padded n xs) ≡ n
-padded_long [] n few = let all : n - 0 ≡ n = omega arith in nones_long (n - 0) ∙ all
-padded_long (x ∷ xs) zero few = absurd (omega (arith, few))
-padded_long (x ∷ xs) (suc n) few =
-    let same : suc n - suc (length xs) ≡ n - length xs = omega arith in
-    ap (λ k. suc (length (map Some xs ++ nones k))) same ∙ ap suc (padded_long xs n (omega (arith, few)))
+placed_long : (p n : ℕ) (xs : List Datum) → length (placed_values p n xs) ≡ n
+placed_long zero zero xs = refl
+placed_long (suc p) zero xs = refl
+placed_long zero (suc n) xs = ap suc (placed_long zero n xs)
+placed_long (suc p) (suc n) [] = ap suc (placed_long p n [])
+placed_long (suc p) (suc n) (x ∷ xs) = ap suc (placed_long p n xs)
 
 -- ---- named arguments: none adds a value
 
@@ -106,17 +81,17 @@ as_many_filled None i v b n is = tt
 as_many_filled (Some None) i v b n is = length-set b.values i (Some v) ∙ is
 as_many_filled (Some (Some w)) i v b n is = tt
 
-as_many_by : (o : Option ℕ) (ps : List Formal) (name : List ℕ) (v : Datum) (b : BoundView) (n : ℕ) → length b.values ≡ n → IfOk (take_named_by o (direct_signature ps) name v b) (λ c. length c.values ≡ n)
+as_many_by : (o : Option ℕ) (name : List ℕ) (v : Datum) (b : BoundView) (n : ℕ) → length b.values ≡ n → IfOk (take_named_by o false name v b) (λ c. length c.values ≡ n)
 unfolding fill take_keyword
-as_many_by (Some i) ps name v b n is = as_many_filled (slice_get b.values i) i v b n is
-as_many_by None ps name v b n is = tt
+as_many_by (Some i) name v b n is = as_many_filled (slice_get b.values i) i v b n is
+as_many_by None name v b n is = tt
 
 as_many : (named : List (List ℕ × Datum)) (ps : List Formal) (b : BoundView) (n : ℕ) → length b.values ≡ n → IfOk (take_all_named (direct_signature ps) named b) (λ c. length c.values ≡ n)
 unfolding take_all_named take_named
 as_many [] ps b n is = is
 as_many (a ∷ named) ps b n is =
     then_as_many n (take_named (direct_signature ps) a.0 a.1 b) (take_all_named (direct_signature ps) named)
-    (as_many_by (position_from (is_called a.0) 0 (singles ps)) ps a.0 a.1 b n is)
+    (as_many_by (position_from (is_called a.0) 0 (singles ps)) a.0 a.1 b n is)
     (λ c same. as_many named ps c n same)
 
 -- ---- the value at a place
@@ -257,14 +232,13 @@ module _ {S : Type 0} (m : Primitives S) (d : Function) (ds : List Datum) (s : S
 
   few_by : (few : Bool) (p : Passed) → few ≡ nat_le (length p.positional) (length d.parameters) → are_direct 0 d.parameters ≡ true
       → then_filled false (cond (not few) (Err f.Args) (and_bind (take_all_named (direct_signature d.parameters) p.named (placed (direct_signature d.parameters) p.positional)) (if_complete (direct_signature d.parameters))))
-      ≡ given_by m (framed (cond few (defaulted (take_all_named (direct_signature d.parameters) p.named (only (padded (length d.parameters) p.positional))) d.parameters ds) (Err f.Args))) s
+      ≡ given_by m (framed (cond few (defaulted (take_all_named (direct_signature d.parameters) p.named (placed_all (length d.parameters) p.positional)) d.parameters ds) (Err f.Args))) s
   few_by false p is direct = refl
   few_by true p is direct =
-      let few : length p.positional ≤ length d.parameters = grind (arith, nat_tests, is) in
       let D = direct_signature d.parameters in
-      ap (λ b. then_filled false (and_bind (take_all_named D p.named b) (if_complete D))) (placed_only d.parameters p.positional direct few)
-      ∙ named_by (take_all_named D p.named (only (padded (length d.parameters) p.positional)))
-      (as_many p.named d.parameters (only (padded (length d.parameters) p.positional)) (length d.parameters) (padded_long p.positional (length d.parameters) few)) direct
+      ap (λ b. then_filled false (and_bind (take_all_named D p.named b) (if_complete D))) (placed_only d.parameters p.positional direct)
+      ∙ named_by (take_all_named D p.named (placed_all (length d.parameters) p.positional))
+      (as_many p.named d.parameters (placed_all (length d.parameters) p.positional) (length d.parameters) (placed_long (length d.parameters) (length d.parameters) p.positional)) direct
 
   directly : (p : Passed) → are_direct 0 d.parameters ≡ true → entry m by_slots d ds p s ≡ given_by m (framed (direct_values d.parameters ds p)) s
   unfolding entry bind direct_values

@@ -1,5 +1,5 @@
 -- Arguments that go straight into the frame: those of parameters that take one each, whose slots are the first, in their order.
-use Rattle.std.specs.Prelude.{ℕ, ◌+◌, ◌-◌, ◌==◌, nat_le, Bool, true, false, cond, List, [], ◌∷◌, ◌++◌, length, map, replicate, set, slice_get, Option, Some, None, Result, Ok, Err}
+use Rattle.std.specs.Prelude.{ℕ, ◌+◌, ◌==◌, nat_le, Bool, true, false, cond, List, [], ◌∷◌, drop, length, set, slice_get, Option, Some, None, Result, Ok, Err}
 use Rattle.bq_base.specs.declared.fault.EvalFault.{EvalFault}
 use Rattle.bq_base.specs.declared.fault.EvalFault.TheVariants.{Args}
 use Rattle.bq_value.specs.Datum.{Datum}
@@ -7,7 +7,7 @@ use Rattle.bq_resolve_scope.specs.declared.file.Formal.{Formal}
 use Rattle.bq_resolve_scope.specs.declared.file.Formal.TheVariants as formal
 use Rattle.bq_builtin_machine.specs.Args.{Passed}
 use Rattle.bq_builtin_machine.specs.Parameters.{SignatureView}
-use Rattle.bq_builtin_machine.specs.Binding.{BoundView, Binding, has_value, take_all_named}
+use Rattle.bq_builtin_machine.specs.Binding.{BoundView, Binding, has_value, placed_values, take_all_named}
 use Rattle.bq_eval_language_spec.specs.Calls.{singles}
 use Rattle.bq_eval_language_spec.specs.Slots.{slot_of}
 
@@ -22,13 +22,9 @@ are_direct i (_ ∷ ps) = false
 abbrev pub direct_signature : List Formal → SignatureView
 direct_signature ps = record { parameters = singles ps; placed = length ps; takes_rest = false; takes_keywords = false }
 
--- the values of parameters, where no argument is left over
-abbrev pub only : List (Option Datum) → BoundView
-only vs = record { values = vs; rest = []; keywords = [] }
-
--- positional arguments for the first of a number of parameters; the others have none yet
-abbrev pub padded : ℕ → List Datum → List (Option Datum)
-padded count xs = map Some xs ++ replicate (count - length xs) None
+-- the arguments by place go to this number of parameters in turn
+abbrev pub placed_all : ℕ → List Datum → BoundView
+placed_all count xs = record { values = placed_values count count xs; rest = drop count xs; keywords = [] }
 
 -- values, or the fault of the call
 abbrev pub Values : Type 0
@@ -61,4 +57,4 @@ defaulted (Err kind) ps ds = Err kind
 -- the value of each parameter: a positional argument, one of its name, or its default
 unfoldable pub direct_values : List Formal → List Datum → Passed → Values
 direct_values ps ds p =
-    cond (nat_le (length p.positional) (length ps)) (defaulted (take_all_named (direct_signature ps) p.named (only (padded (length ps) p.positional))) ps ds) (Err Args)
+    cond (nat_le (length p.positional) (length ps)) (defaulted (take_all_named (direct_signature ps) p.named (placed_all (length ps) p.positional)) ps ds) (Err Args)

@@ -11,7 +11,7 @@ ghost use Rattle.bq_eval_rules.specs.Effects.{Returns};
 ghost use Rattle.bq_eval_rules.specs.ContextCalls.{body_here, call_here, call_place};
 
 use crate::context::Context;
-use crate::direct::{MAX_SEARCHED, are_direct, direct_values};
+use crate::direct::{are_direct, direct_values};
 use crate::filling::{Filling, fill_parameters};
 use crate::flow::answered;
 use crate::parameters::{bind_args, has_star_star, keywords_of};
@@ -19,11 +19,11 @@ use crate::runtime::Runtime;
 use crate::statements::run_block;
 use crate::units::{TreeUnit, unit_at};
 use bq_base::EvalFault;
-use bq_builtin_machine::{Args, Bound};
+use bq_builtin_machine::{Args, Bound, MAX_SEARCHED};
 use bq_eval_frame::Frame;
 use bq_resolve_predeclared::{HostFunction, Predeclared};
-use bq_resolve_scope::Function as FileFunction;
-use bq_value::{EvalErr, Function, Node, Value};
+use bq_resolve_scope::Function;
+use bq_value::{EvalErr, FunctionValue, Node, Value};
 use std::alloc::Global;
 
 /// Returns the frame with which a function begins.
@@ -31,7 +31,7 @@ use std::alloc::Global;
 pub fn entry<'f, R: Runtime>(
     alloc: Global,
     runtime: &mut R,
-    function: &FileFunction,
+    function: &Function,
     defaults: &[Value],
     args: Args,
 ) -> Result<Frame<'f>, EvalErr>
@@ -41,7 +41,8 @@ pub fn entry<'f, R: Runtime>(
     if args.named.len().min(parameters.len()) > MAX_SEARCHED || !are_direct(parameters) {
         return bound_entry(alloc, runtime, function, defaults, args);
     }
-    let values = direct_values(alloc, function.slots, parameters, defaults, args)?;
+    let seed = runtime.seed();
+    let values = direct_values(alloc, seed, function.slots, parameters, defaults, args)?;
     Ok(Frame::of_values(values))
 }
 
@@ -50,7 +51,7 @@ pub fn entry<'f, R: Runtime>(
 fn bound_entry<'f, R: Runtime>(
     alloc: Global,
     runtime: &mut R,
-    function: &FileFunction,
+    function: &Function,
     defaults: &[Value],
     args: Args,
 ) -> Result<Frame<'f>, EvalErr>
@@ -82,7 +83,7 @@ pub fn run_body<R: Runtime>(
     context: &Context<'_>,
     runtime: &mut R,
     unit: &TreeUnit<'_>,
-    function: &FileFunction,
+    function: &Function,
     frame: &mut Frame<'_>,
 ) -> Result<Value, EvalErr>
     ensures { Returns R.means R.seen (body_here R.means context.now (unit_of unit.now) function.now (slots_of frame.old)) runtime.old result runtime.new }
@@ -109,9 +110,9 @@ pub fn run_body<R: Runtime>(
 pub fn call_function<R: Runtime>(
     context: &Context<'_>,
     runtime: &mut R,
-    called: &Function,
+    called: &FunctionValue,
     unit: &TreeUnit<'_>,
-    function: &FileFunction,
+    function: &Function,
     args: Args,
 ) -> Result<Value, EvalErr>
     ensures { Returns R.means R.seen (call_here R.means context.now called.now.«module» called.now.place (unit_of unit.now) function.now called.now.defaults.items args) runtime.old result runtime.new }
@@ -135,7 +136,7 @@ pub fn call_function<R: Runtime>(
 pub fn call_at<R: Runtime>(
     context: &Context<'_>,
     runtime: &mut R,
-    called: &Function,
+    called: &FunctionValue,
     args: Args,
 ) -> Result<Value, EvalErr>
     ensures { Returns R.means R.seen (call_place R.means context.now called.now.«module» called.now.place called.now.defaults.items args) runtime.old result runtime.new }

@@ -1,24 +1,21 @@
 //! Arguments that go straight into the frame: those of parameters that take one each, whose slots are the first.
 
-ghost use Rattle.std.specs.Prelude.{◌≡◌, IfOk, slice_get};
+ghost use Rattle.std.specs.Prelude.{◌≡◌, slice_get};
 ghost use Rattle.std.specs.List.{position_from};
 ghost use Rattle.bq_base.specs.Gives.{Gives};
 ghost use Rattle.bq_value.specs.declared.error.EvalErr.TheVariants.{Bad};
-ghost use Rattle.bq_builtin_machine.specs.Binding.{has_value, take_all_named};
+ghost use Rattle.bq_builtin_machine.specs.Binding.{take_all_named};
 ghost use Rattle.bq_builtin_machine.specs.Parameters.{is_called};
 ghost use Rattle.bq_eval_language_spec.specs.Calls.{singles};
-ghost use Rattle.bq_eval_rules.specs.Direct.{are_direct, direct_signature, direct_values, only, padded, value_or, with_defaults};
+ghost use Rattle.bq_eval_rules.specs.Direct.{are_direct, direct_signature, direct_values, value_or, with_defaults};
 
 use crate::targets::slot_of;
 use bq_base::{Bytes, EvalFault};
-use bq_builtin_machine::Args;
+use bq_builtin_machine::{Args, Bound, has_value};
 use bq_resolve_scope::Formal;
 use bq_value::{EvalErr, Value};
-use std::alloc::{AllocError, Global};
-
-/// Where at most this many arguments are named, or there are at most this many parameters, each name is searched among
-/// the parameters one by one. Where there are more of both, the arguments are bound by a map.
-pub const MAX_SEARCHED: usize = 16;
+use bq_value_seed::Seed;
+use std::alloc::Global;
 
 /// Returns whether each parameter takes one argument, by place or by name, and has the slot of its place.
 pub fn are_direct(parameters: &[Formal]) -> bool
@@ -40,26 +37,6 @@ pub fn are_direct(parameters: &[Formal]) -> bool
         }
     }
     true
-}
-
-/// Gives positional arguments to the first of `count` parameters, in order, and makes room for `slots` slots.
-#[tactic(auto, using(crate::proofs::Straight::one_less))]
-fn placed(
-    alloc: Global,
-    slots: usize,
-    count: usize,
-    positional: Vec<Value>,
-) -> Result<Vec<Option<Value>>, AllocError>
-    ensures { IfOk result (λ vs. vs.items ≡ padded count positional.items) }
-{
-    let mut values = Vec::with_capacity(alloc, slots.max(count))?;
-    for value in positional {
-        values.push(Some(value))?;
-    }
-    while values.len() < count {
-        values.push(None)?;
-    }
-    Ok(values)
 }
 
 /// Returns the place of the first parameter of this name among those that take one argument.
@@ -88,33 +65,19 @@ fn parameter_called(parameters: &[Formal], name: &[u8]) -> Option<usize>
 }
 
 /// Gives each named argument to the parameter of its name, or fails with F52.
-#[tactic(auto, unfolding(bq_builtin_machine::specs::Binding::take_all_named, bq_builtin_machine::specs::Binding::take_named, bq_builtin_machine::specs::Binding::take_keyword, bq_builtin_machine::specs::Binding::fill))]
+#[tactic(auto, unfolding(bq_builtin_machine::specs::Binding::take_all_named, bq_builtin_machine::specs::Binding::take_named))]
 fn take_all_named(
-    values: &mut Vec<Option<Value>>,
+    bound: &mut Bound,
     parameters: &[Formal],
     named: Vec<(Bytes, Value)>,
 ) -> Result<(), EvalErr>
-    ensures { Gives (λ _. only values.new.items) Bad result (take_all_named (direct_signature parameters.now) named.items (only values.old.items)) }
+    ensures { Gives (λ _. bound.new) Bad result (take_all_named (direct_signature parameters.now) named.items bound.old) }
 {
     for (name, value) in named {
-        let Some(i) = parameter_called(parameters, name.as_slice()) else {
-            return Err(EvalErr::Bad(EvalFault::Args));
-        };
-        if i >= values.len() || values[i].is_some() {
-            return Err(EvalErr::Bad(EvalFault::Args));
-        }
-        values[i] = Some(value);
+        let place = parameter_called(parameters, name.as_slice());
+        bound.take_named(place, false, name, value)?;
     }
     Ok(())
-}
-
-fn has_value(values: &[Option<Value>], i: usize) -> bool
-    ensures { result ≡ has_value values.now i }
-{
-    match values.get(i) {
-        Some(Some(_)) => true,
-        _ => false,
-    }
 }
 
 /// Gives the parameter of that place its default, unless it has an argument.
@@ -164,6 +127,7 @@ fn take_defaults(
 #[tactic(auto, unfolding(crate::specs::Direct::direct_values))]
 pub fn direct_values(
     alloc: Global,
+    seed: Seed,
     slots: usize,
     parameters: &[Formal],
     defaults: &[Value],
@@ -175,8 +139,10 @@ pub fn direct_values(
     if positional.len() > parameters.len() {
         return Err(EvalErr::Bad(EvalFault::Args));
     }
-    let mut values = placed(alloc, slots, parameters.len(), positional)?;
-    take_all_named(&mut values, parameters, named)?;
+    let count = parameters.len();
+    let mut bound = Bound::placed(alloc, seed, slots, count, count, positional)?;
+    take_all_named(&mut bound, parameters, named)?;
+    let Bound { mut values, .. } = bound;
     take_defaults(&mut values, parameters, defaults)?;
     Ok(values)
 }

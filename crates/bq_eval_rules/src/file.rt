@@ -21,7 +21,7 @@ use bq_builtin_machine::Args;
 use bq_eval_frame::Frame;
 use bq_parse_grammar::Expr;
 use bq_resolve_scope::{Def, FileLine, Outside};
-use bq_value::{EvalErr, Function, Value};
+use bq_value::{EvalErr, FunctionValue, Value};
 use std::marker::PhantomData;
 
 impl<
@@ -60,7 +60,7 @@ impl<
             return Err(EvalErr::Memory);
         }
         let place = def.function as u32;
-        let function = Function {
+        let function = FunctionValue {
             module: self.context.program.number,
             place,
             name: def.name.name.share()?,

@@ -1,6 +1,6 @@
 //! The loops of comprehensions, before they begin and while they are open.
 
-use bq_builtin_machine::Walk;
+use bq_builtin_machine::ElementWalk;
 use bq_parse_grammar::{Clause, Expr, TargetExpr};
 use bq_value::Value;
 
@@ -21,5 +21,5 @@ pub struct OpenLoop<'a> {
     pub after: &'a [Clause],
     pub walked: Value,
     /// The elements that are still to come.
-    pub elements: Walk,
+    pub elements: ElementWalk,
 }

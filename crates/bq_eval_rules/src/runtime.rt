@@ -5,7 +5,7 @@ ghost use Rattle.bq_eval_meaning_spec.specs.Primitives.{Primitives};
 ghost use Rattle.bq_eval_rules.specs.Acts.{Acts};
 
 use bq_base::Bytes;
-use bq_builtin_machine::{Args, Elements, Walk};
+use bq_builtin_machine::{Args, ElementWalk, Elements};
 use bq_parse_grammar::{Comparison, Operator, UnaryOperator};
 use bq_resolve_predeclared::{Predeclared, RuleFunction};
 use bq_value::{Cell, Content, EvalErr, Value};
@@ -95,7 +95,7 @@ pub trait Runtime {
         ensures { Acts means (λ xs. xs) result (seen self.new) (means.parts count value.now (seen self.old)) };
 
     /// Begins a walk over an iterable, and returns its elements. Until it ends, a list or dict may not be changed.
-    fn begin_walk(&mut self, alloc: Global, value: &Value) -> Result<Walk, EvalErr>
+    fn begin_walk(&mut self, alloc: Global, value: &Value) -> Result<ElementWalk, EvalErr>
         ensures { Acts means (λ xs. xs) result (seen self.new) (means.begin_walk value.now (seen self.old)) };
 
     /// Ends the walk over `value`, which may be changed again.

@@ -14,7 +14,7 @@ use crate::reader::Reader;
 use crate::runtime::Runtime;
 use crate::stuck::stuck;
 use crate::targets::{MAX_LAYERS, begin_turn};
-use bq_builtin_machine::{Args, Walk};
+use bq_builtin_machine::{Args, ElementWalk};
 use bq_eval_frame::Frame;
 use bq_parse_grammar::{Branch, Expr, Stmt, TargetExpr};
 use bq_value::{EvalErr, Value};
@@ -152,7 +152,7 @@ impl<
         runtime: &mut R,
         target: &TargetExpr,
         body: &[Stmt],
-        elements: &mut Walk,
+        elements: &mut ElementWalk,
     ) -> Result<Flow, EvalErr>
         requires { RunsInside R.means R.seen self.now G.pre G.post }
         ensures { Executes R.means R.seen (rule_in R.means self.now meaning.turns target.now body.now elements.old) frame.old runtime.old result frame.new runtime.new }

@@ -32,7 +32,7 @@ keyword_fine : (takes : Bool) (name : List ℕ) (v : Datum) (b : BoundView) → 
 unfolding take_keyword
 keyword_fine takes name v b = fine_cond takes _ _ (fine_cond (is_some (found (string name) b.keywords)) _ _ refl tt) refl
 
-named_by_fine : (o : Option ℕ) (s : SignatureView) (name : List ℕ) (v : Datum) (b : BoundView) → Fine (take_named_by o s name v b)
+named_by_fine : (o : Option ℕ) (s : SignatureView) (name : List ℕ) (v : Datum) (b : BoundView) → Fine (take_named_by o s.takes_keywords name v b)
 unfolding fill
 named_by_fine (Some i) s name v b = fill_fine (slice_get b.values i) i v b
 named_by_fine None s name v b = keyword_fine s.takes_keywords name v b

@@ -4,23 +4,21 @@ use Rattle.std.specs.Prelude.{codes}
 use Rattle.std.specs.List.{zip}
 use Rattle.std.specs.Fmt.{decimal}
 use Rattle.bq_label.specs.Label.{LabelParts}
-use Rattle.bq_facts_json.specs.Json.{Json, Named, member_of, value_text, string}
+use Rattle.bq_facts_json.specs.Json.{Json, Named, member_of, value_text}
 use Rattle.bq_facts_json.specs.Values.{Member, json_object}
 use Rattle.bq_facts_json.proofs.Texts.{array_text, object_text}
-use Rattle.bq_value_rule_class.specs.declared.value.AttributeValue.{AttributeValue}
-use Rattle.bq_value_rule_class.specs.declared.value.AttributeValue.TheVariants as v
 use Rattle.bq_package_target.specs.declared.target.Target.{Target}
 use Rattle.bq_package_target.specs.declared.target.TargetKind.{TargetKind}
 use Rattle.bq_package_target.specs.declared.target.TargetKind.TheVariants as k
 use Rattle.bq_package_target.specs.declared.value.GivenAttribute.{GivenAttribute}
 use Rattle.bq_resolve_scope.specs.declared.loads.LoadStmt.{LoadStmt}
 use Rattle.bq_resolve_scope.specs.declared.loads.LoadedSymbol.{LoadedSymbol}
-use Rattle.bq_facts.specs.Attributes.{attribute_member, json_attributes, json_value}
+use Rattle.bq_package_typed_value.specs.Json.{json_labels}
+use Rattle.bq_facts.specs.Attributes.{attribute_member, json_attributes}
 use Rattle.bq_facts.specs.FaultObject.{fault_object}
-use Rattle.bq_facts.specs.Labels.{json_label, json_labels}
 use Rattle.bq_facts.specs.Laws.{FaultLinesAreObjects, ModuleLinesAreObjects, TargetLinesAreObjects}
 use Rattle.bq_facts.specs.ModuleLine.{file_members, load_object, module_line, symbol_member}
-use Rattle.bq_facts.specs.Objects.{attribute_named, attribute_value, attributes_value, declaration_of, fault_named, label_value, labels_value, load_named, load_value, module_named, symbol_named, target_named}
+use Rattle.bq_facts.specs.Objects.{attribute_named, attributes_value, declaration_of, fault_named, load_named, load_value, module_named, symbol_named, target_named}
 use Rattle.bq_facts.specs.TargetLine.{declared_by, declared_members, named, target_line}
 
 abbrev newline : List ℕ → List ℕ
@@ -28,36 +26,20 @@ newline t = t ++ 10 ∷ []
 
 -- ---- targets
 
-labels_text : (ls : List LabelParts) → json_labels ls ≡ value_text (labels_value ls)
-labels_text ls = array_text json_label label_value (λ l. refl) ls
-
-value_is : (a : AttributeValue) → json_value a ≡ value_text (attribute_value a)
-unfolding json_value
-value_is (v.String s) = refl
-value_is (v.Int n) = refl
-value_is (v.Bool b) = refl
-value_is (v.StringList ss) = array_text _ string (λ s. refl) ss
-value_is (v.Label l) = refl
-value_is (v.LabelList ls) = labels_text ls
-value_is (v.Output l) = refl
-value_is (v.OutputList ls) = labels_text ls
-
 members_are : (given : List GivenAttribute) → map attribute_member given ≡ map member_of (map attribute_named given)
 members_are [] = refl
 members_are (a ∷ rest) =
-    ap (λ t. record { key = a.name; value = t } ∷ map attribute_member rest) (value_is a.value)
-    ∙ ap (λ (ms : List Member). member_of (attribute_named a) ∷ ms) (members_are rest)
+    ap (λ (ms : List Member). attribute_member a ∷ ms) (members_are rest)
 
 attributes_text : (given : List GivenAttribute) → json_attributes given ≡ value_text (attributes_value given)
 attributes_text given = ap json_object (members_are given) ∙ object_text (map attribute_named given)
 
-abbrev members_with : Target → List ℕ → List ℕ → List Member
+abbrev members_with : Target → List ℕ → List LabelParts → List Member
 members_with t attributes deps =
-    record { key = codes "line"; value = decimal t.line } ∷ record { key = codes "attributes"; value = attributes } ∷ record { key = codes "deps"; value = deps } ∷ []
+    record { key = codes "line"; value = decimal t.line } ∷ record { key = codes "attributes"; value = attributes } ∷ record { key = codes "deps"; value = json_labels deps } ∷ []
 
-declared_are : (t : Target) (deps : List LabelParts) → declared_members t deps ≡ members_with t (value_text (attributes_value t.attributes)) (value_text (labels_value deps))
-declared_are t deps =
-    ap (λ a. members_with t a (json_labels deps)) (attributes_text t.attributes) ∙ ap (members_with t (value_text (attributes_value t.attributes))) (labels_text deps)
+declared_are : (t : Target) (deps : List LabelParts) → declared_members t deps ≡ members_with t (value_text (attributes_value t.attributes)) deps
+declared_are t deps = ap (λ a. members_with t a deps) (attributes_text t.attributes)
 
 declaration_is : (kind : TargetKind) (t : Target) (deps : List LabelParts) → declared_by kind t deps ≡ map member_of (declaration_of kind t deps)
 declaration_is k.Source t deps = refl

@@ -1,16 +1,8 @@
--- Labels as strings, in full.
+-- The labels of numbered targets.
 use Rattle.std.specs.Prelude.{ℕ, List, [], ◌∷◌, Option, Some, None, slice_get}
 use Rattle.std.specs.List.{flat_map}
-use Rattle.bq_label.specs.Label.{LabelParts, full_form}
-use Rattle.bq_facts_json.specs.JsonString.{json_string}
-use Rattle.bq_facts_json.specs.Values.{json_array}
+use Rattle.bq_label.specs.Label.{LabelParts}
 use Rattle.bq_package_target.specs.declared.target.Target.{Target}
-
-abbrev pub json_label : LabelParts → List ℕ
-json_label l = json_string (full_form l)
-
-abbrev pub json_labels : List LabelParts → List ℕ
-json_labels ls = json_array json_label ls
 
 abbrev pub label_by : Option Target → List LabelParts
 label_by None = []

@@ -5,13 +5,13 @@ use Rattle.bq_base.specs.Fault.{fault_name}
 use Rattle.bq_label.specs.Label.{LabelParts, full_form}
 use Rattle.bq_label.specs.Packages.{label_path}
 use Rattle.bq_base_fault_line.specs.declared.fault_line.FaultLine.{FaultLine}
-use Rattle.bq_facts_json.specs.Json.{Json, string, number, truth, array, object, items_of, Named, fields_of}
-use Rattle.bq_value_rule_class.specs.declared.value.AttributeValue.{AttributeValue}
-use Rattle.bq_value_rule_class.specs.declared.value.AttributeValue.TheVariants as v
+use Rattle.bq_facts_json.specs.Json.{Json, string, number, array, object, items_of, Named, fields_of}
 use Rattle.bq_package_target.specs.declared.target.Target.{Target}
 use Rattle.bq_package_target.specs.declared.target.TargetKind.{TargetKind}
 use Rattle.bq_package_target.specs.declared.target.TargetKind.TheVariants as k
 use Rattle.bq_package_target.specs.declared.value.GivenAttribute.{GivenAttribute}
+use Rattle.bq_package_typed_value.specs.Json.{labels_json}
+use Rattle.bq_package_typed_value.specs.Types.{value_json}
 use Rattle.bq_query_target_sets.specs.Texts.{kind_text}
 use Rattle.bq_resolve_scope.specs.declared.loads.LoadStmt.{LoadStmt}
 use Rattle.bq_resolve_scope.specs.declared.loads.LoadedSymbol.{LoadedSymbol}
@@ -28,25 +28,8 @@ written key text = record { key = key; value = string text }
 
 -- ---- targets
 
-abbrev pub label_value : LabelParts → Json
-label_value l = string (full_form l)
-
-abbrev pub labels_value : List LabelParts → Json
-labels_value ls = array (items_of label_value ls)
-
--- labels in full
-abbrev pub attribute_value : AttributeValue → Json
-attribute_value (v.String s) = string s
-attribute_value (v.Int n) = number n
-attribute_value (v.Bool b) = truth b
-attribute_value (v.StringList ss) = array (items_of string ss)
-attribute_value (v.Label l) = label_value l
-attribute_value (v.LabelList ls) = labels_value ls
-attribute_value (v.Output l) = label_value l
-attribute_value (v.OutputList ls) = labels_value ls
-
 abbrev pub attribute_named : GivenAttribute → Named
-attribute_named a = record { key = a.name; value = attribute_value a.value }
+attribute_named a = record { key = a.name; value = value_json a.value }
 
 abbrev pub attributes_value : List GivenAttribute → Json
 attributes_value given = object (fields_of (map attribute_named given))
@@ -54,7 +37,7 @@ attributes_value given = object (fields_of (map attribute_named given))
 -- the line of the statement that declares the target, its attributes, and what it depends on
 abbrev pub declaration : Target → List LabelParts → List Named
 declaration t deps =
-    numbered (codes "line") t.line ∷ record { key = codes "attributes"; value = attributes_value t.attributes } ∷ record { key = codes "deps"; value = labels_value deps } ∷ []
+    numbered (codes "line") t.line ∷ record { key = codes "attributes"; value = attributes_value t.attributes } ∷ record { key = codes "deps"; value = labels_json deps } ∷ []
 
 -- a source file is declared nowhere
 abbrev pub declaration_of : TargetKind → Target → List LabelParts → List Named

@@ -10,8 +10,8 @@ use Rattle.bq_package_target.specs.declared.target.TargetKind.{TargetKind}
 use Rattle.bq_package_target.specs.declared.target.TargetKind.TheVariants as k
 use Rattle.bq_package_target.specs.declared.target.Target.{Target}
 use Rattle.bq_package_target.specs.Target.{is_source}
+use Rattle.bq_package_typed_value.specs.Json.{json_labels}
 use Rattle.bq_query_target_sets.specs.Texts.{kind_text}
-use Rattle.bq_facts.specs.Labels.{json_labels}
 use Rattle.bq_facts.specs.Attributes.{json_attributes}
 use Rattle.bq_facts.specs.Members.{string_member}
 

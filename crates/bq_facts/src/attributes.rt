@@ -3,31 +3,13 @@
 ghost use Rattle.std.specs.Prelude.{◌≡◌, ◌++◌, map, OnOk};
 ghost use Rattle.std.specs.List.{join_by};
 ghost use Rattle.bq_facts_json.specs.Values.{comma, member_text};
-ghost use Rattle.bq_facts.specs.Attributes.{json_value, attribute_member, json_attributes};
+ghost use Rattle.bq_facts.specs.Attributes.{attribute_member, json_attributes};
 ghost use Rattle.bq_facts.specs.Members.{further_members};
 
-use crate::labels::{push_label, push_labels};
-use bq_facts_json::{push_bool, push_int, push_key, push_string, push_strings};
+use bq_facts_json::push_key;
 use bq_package_target::GivenAttribute;
-use bq_value_rule_class::AttributeValue;
+use bq_package_typed_value::push_value;
 use std::alloc::{AllocError, Global};
-
-/// Appends the value of an attribute.
-#[tactic(auto, unfolding(crate::specs::Attributes::json_value))]
-fn push_value(alloc: Global, text: &mut Vec<u8>, value: &AttributeValue) -> Result<(), AllocError>
-    ensures { OnOk result (text.new.items ≡ text.old.items ++ json_value value.now) }
-{
-    match value {
-        AttributeValue::String(string) => push_string(text, string.as_slice()),
-        AttributeValue::Int(n) => push_int(text, *n),
-        AttributeValue::Bool(truth) => push_bool(text, *truth),
-        AttributeValue::StringList(strings) => push_strings(text, strings.as_slice()),
-        AttributeValue::Label(label) => push_label(alloc, text, label),
-        AttributeValue::LabelList(labels) => push_labels(alloc, text, labels.as_slice()),
-        AttributeValue::Output(label) => push_label(alloc, text, label),
-        AttributeValue::OutputList(labels) => push_labels(alloc, text, labels.as_slice()),
-    }
-}
 
 /// Appends an attribute: its name, and its value.
 fn push_attribute(

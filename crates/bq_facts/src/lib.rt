@@ -6,8 +6,8 @@
 //!
 //! In reading order:
 //!
-//! - `labels`: labels in full, and the labels of numbered targets;
-//! - `attributes`: the values of attributes;
+//! - `labels`: the labels of numbered targets;
+//! - `attributes`: the attributes that a target keeps;
 //! - `members`: the parts of objects;
 //! - `deps`: what a target depends on directly;
 //! - `target_line`: targets;

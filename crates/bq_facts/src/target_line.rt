@@ -8,12 +8,12 @@ ghost use Rattle.bq_facts.specs.Members.{further_members};
 ghost use Rattle.bq_facts.specs.TargetLine.{build_path, file_of, named, declared_members, declared_by, target_line};
 
 use crate::attributes::push_attributes;
-use crate::labels::push_labels;
 use crate::members::{next_string, open_with_string};
 use bq_facts_json::{close_object, next_key, push_number};
-use bq_label::{BuildFile, Label, Packages, label_path};
+use bq_label::{BuildFile, Label, Packages, label_path, write_label};
 use bq_package_target::{Target, TargetKind};
-use bq_query_target_sets::{write_kind, write_label};
+use bq_package_typed_value::push_labels;
+use bq_query_target_sets::write_kind;
 use std::alloc::{AllocError, Global};
 
 /// Returns the path of a package's BUILD file.

@@ -32,7 +32,7 @@ pub use label::Label;
 pub use package_id::PackageId;
 pub use packages::{BuildFile, Packages};
 pub use path::{is_path, is_repository, is_segment};
-pub use print::print_label;
+pub use print::{print_label, write_label};
 pub use read::{read_label, read_package, read_shared_label};
 pub use repository::{label_file, label_path};
 pub use workspace::{File, PathErr, Workspace};

@@ -10,7 +10,7 @@ use std::sync::Arc;
 
 /// What names a package.
 #[derive(Debug, Drop)]
-struct Names {
+struct PackageNames {
     repo: Bytes,
     package: Bytes,
 }
@@ -19,7 +19,7 @@ struct Names {
 /// bytes.
 #[derive(Debug)]
 pub struct PackageId {
-    names: Arc<Names>,
+    names: Arc<PackageNames>,
 }
 
 impl Drop for PackageId {
@@ -66,7 +66,7 @@ impl PackageId {
         ensures { IfOk result (λ p. p ≡ package_at repo «package») }
     {
         Ok(PackageId {
-            names: Arc::new(alloc, Names { repo, package })?,
+            names: Arc::new(alloc, PackageNames { repo, package })?,
         })
     }
 

@@ -4,7 +4,7 @@ ghost use Rattle.std.specs.Prelude.{◌≡◌, ◌<◌, [], ℕ, Some, length, p
 ghost use Rattle.std.specs.Option.{option_copied};
 ghost use Rattle.bq_label_set.specs.Labels.{same_label, has_label, with_label, with_labels};
 
-use crate::numbering::{Key, Numbering, hash};
+use crate::numbering::{LabelKey, LabelNumbers, hash};
 use bq_label::Label;
 use std::alloc::{AllocError, Global};
 use std::collections::BTreeMap;
@@ -14,7 +14,7 @@ use std::marker::Model;
 #[derive(Drop)]
 pub struct LabelSet {
     labels: Vec<Label>,
-    numbers: Numbering,
+    numbers: LabelNumbers,
 }
 
 impl Model for LabelSet {
@@ -36,7 +36,7 @@ impl LabelSet {
     {
         LabelSet {
             labels: Vec::new(alloc),
-            numbers: Numbering {
+            numbers: LabelNumbers {
                 by_hash: BTreeMap::new(alloc),
                 colliding: BTreeMap::new(alloc),
             },
@@ -94,6 +94,13 @@ impl LabelSet {
         Ok(())
     }
 
+    /// Returns the labels by their numbers.
+    pub fn as_slice(&self) -> &[Label]
+        ensures { result.now ≡ self.now }
+    {
+        self.labels.as_slice()
+    }
+
     /// Returns the label of a number.
     pub fn get(&self, number: usize) -> Option<&Label>
         ensures { option_copied result ≡ slice_get self.now number }
@@ -115,7 +122,7 @@ impl LabelSet {
         if self.numbers.colliding.is_empty() {
             return Ok(None);
         }
-        let key = Key {
+        let key = LabelKey {
             label: label.share()?,
         };
         let late = self.numbers.colliding.get(&key).copied();

@@ -15,11 +15,11 @@ use std::marker::Model;
 
 /// A label that is looked up in a tree, by its name first, since names differ most often.
 #[derive(Drop)]
-pub struct Key {
+pub struct LabelKey {
     pub label: Label,
 }
 
-impl Model for Key {
+impl Model for LabelKey {
     ghost use Rattle.bq_label.specs.Label.{LabelParts};
 
     ghost Value = { LabelParts };
@@ -27,31 +27,31 @@ impl Model for Key {
     ghost view = { λ k. k.label };
 }
 
-impl PartialEq for Key {
+impl PartialEq for LabelKey {
     ghost eq = { eq_by_cmp label_cmp };
 
     ghost laws = { partial_equiv_from_equiv (eq_by_cmp_equiv label_cmp_total) };
 
-    fn eq(&self, other: &Key) -> bool {
+    fn eq(&self, other: &LabelKey) -> bool {
         self.cmp(other).is_eq()
     }
 }
 
-impl Eq for Key {
+impl Eq for LabelKey {
     ghost laws = { eq_by_cmp_equiv label_cmp_total };
 }
 
-impl PartialOrd for Key {
+impl PartialOrd for LabelKey {
     ghost partial_cmp = { as_partial_cmp label_cmp };
 
     ghost laws = { po label_cmp_total (λ x y. refl) };
 
-    fn partial_cmp(&self, other: &Key) -> Option<Ordering> {
+    fn partial_cmp(&self, other: &LabelKey) -> Option<Ordering> {
         Some(self.cmp(other))
     }
 }
 
-impl Ord for Key {
+impl Ord for LabelKey {
     ghost cmp = { label_cmp };
 
     ghost total = { label_cmp_total };
@@ -60,7 +60,7 @@ impl Ord for Key {
 
     ghost matches_eq = { λ x y. refl };
 
-    fn cmp(&self, other: &Key) -> Ordering {
+    fn cmp(&self, other: &LabelKey) -> Ordering {
         self.label
             .name()
             .cmp(other.label.name())
@@ -71,11 +71,11 @@ impl Ord for Key {
 
 /// For each label that was put the numbers that it may have, of which one was put with it.
 #[derive(Drop)]
-pub struct Numbering {
+pub struct LabelNumbers {
     /// The number of the first label of each hash.
     pub by_hash: BTreeMap<u64, usize>,
     /// The numbers of all other labels: the few whose hashes collide, unless a stranger searched for such labels.
-    pub colliding: BTreeMap<Key, usize>,
+    pub colliding: BTreeMap<LabelKey, usize>,
 }
 
 pub fn hash(label: &Label) -> u64
@@ -88,7 +88,7 @@ pub fn hash(label: &Label) -> u64
     hasher.finish()
 }
 
-impl Numbering {
+impl LabelNumbers {
     /// Puts the number of a label. Other labels keep theirs, even where memory runs out.
     #[tactic(auto, using(crate::proofs::Put::first_put, crate::proofs::Put::others_first, crate::proofs::Put::colliding_put, crate::proofs::Put::others_colliding, crate::proofs::Put::first_refused, crate::proofs::Put::colliding_refused))]
     pub fn put(&mut self, label: &Label, number: usize) -> Result<(), AllocError>
@@ -100,7 +100,7 @@ impl Numbering {
             self.by_hash.insert(hash, number)?;
             return Ok(());
         }
-        let key = Key {
+        let key = LabelKey {
             label: label.share()?,
         };
         self.colliding.insert(key, number)?;

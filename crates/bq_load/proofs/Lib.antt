@@ -16,7 +16,7 @@ mod Lined
 pub mod Listed
 -- what a module evaluates to, by what its file is and what it gets
 pub mod Meanings
--- no two modules of a load graph have one label
+-- the labels of the modules of a load graph
 pub mod Named
 -- maps of the places of names, one for each of some modules
 mod Placed

@@ -1,16 +1,13 @@
--- No two modules of a load graph have one label.
+-- The outcomes of the modules of a load graph have its labels, in their order.
 use Rattle.std.proofs.Common.{◌≡◌, ◌∙◌, ◌+◌, ℕ, List, [], ◌∷◌, map, refl, sym, ap}
 use Rattle.bq_label.specs.declared.workspace.File.{File}
 use Rattle.bq_label.specs.Label.{LabelParts}
-use Rattle.bq_label_set.specs.Labels.{with_labels}
-use Rattle.bq_label_set.proofs.Added.{those_that_differ}
 use Rattle.bq_package_schema.specs.Schema.{Rules}
 use Rattle.bq_board.specs.Graph.{Loads}
 use Rattle.bq_load_front.specs.Inputs.{InputParts}
 use Rattle.bq_load_discover.specs.declared.modules.Module.{Module}
 use Rattle.bq_load_discover.specs.LoadGraph.{GraphParts, IsReadGraph, inputs_of}
 use Rattle.bq_load_discover.specs.Module.{module_of}
-use Rattle.bq_load_discover.proofs.Ordered.{differ}
 use Rattle.bq_load.specs.Loading.{LoadingParts, loading_in}
 use Rattle.bq_load.specs.Packages.{labels_of}
 use Rattle.bq_load.specs.Results.{outcomes_from, outcomes}
@@ -29,9 +26,9 @@ module _ (x : LoadingParts) (p : Loads) where
   unfolding outcomes
   labels_are = labels_from 0 x.modules
 
-pub once : (files : List File) (rules : Rules) (limit : ℕ) (g : GraphParts) → IsReadGraph (inputs_of files rules) g → (os : List OutcomeView) → os ≡ outcomes (loading_in files rules limit g) g.edges
-    → with_labels [] (labels_of os) ≡ labels_of os
-once files rules limit g is os e =
+pub labelled : (files : List File) (rules : Rules) (limit : ℕ) (g : GraphParts) → IsReadGraph (inputs_of files rules) g → (os : List OutcomeView) → os ≡ outcomes (loading_in files rules limit g) g.edges → (ls : List LabelParts)
+    → ls ≡ g.labels → ls ≡ labels_of os
+labelled files rules limit g is os e ls l =
     let names : List Module → List LabelParts = map (λ (s : Module). s.label) in
     let its : labels_of os ≡ g.labels = ap labels_of e ∙ (labels_are (loading_in files rules limit g) g.edges ∙ (ap names is.read ∙ labels_read (inputs_of files rules) g.labels)) in
-    ap (with_labels []) its ∙ (those_that_differ g.labels (differ g.labels is.graph.modules.ascending) ∙ sym its)
+    l ∙ sym its

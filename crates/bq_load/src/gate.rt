@@ -1,4 +1,4 @@
-//! Who is notified of each evaluation.
+//! Who evaluates modules, and who is notified of each evaluation.
 
 use crate::loading::Loading;
 use bq_label::Label;
@@ -21,6 +21,13 @@ impl Gate for OpenGate {
     fn enter(&self, module: &Label) {
         let _ = module;
     }
+}
+
+/// How many workers evaluate modules, each in a thread of its own, and whom they notify.
+#[derive(Drop)]
+pub struct Workers<'a, G: Gate> {
+    pub count: usize,
+    pub gate: &'a G,
 }
 
 /// Notifies a gate of each evaluation, by the labels of the modules.

@@ -10,12 +10,13 @@
 //!
 //! In reading order:
 //!
+//! - `sources`: what is loaded;
 //! - `outcome`: a module with its outcome;
 //! - `loading`: what decides the outcomes of all modules;
 //! - `places`: the places of names, where many are looked for;
 //! - `exports`: what a module exports to the files that load it;
 //! - `imports`: what a file gets of the modules that it loads;
-//! - `gate`: who is notified of each evaluation;
+//! - `gate`: who evaluates modules, and who is notified of each evaluation;
 //! - `evaluation`: the evaluation of the statements of a file;
 //! - `evaluator`: what a module evaluates to;
 //! - `results`: the outcomes of modules, with the faults of those that load a failed one;
@@ -41,11 +42,13 @@ mod packages;
 mod places;
 mod pool;
 mod results;
+mod sources;
 mod work;
 
 pub use bq_load_module::{FailedModule, LoadedModule};
-pub use gate::{Gate, OpenGate};
+pub use gate::{Gate, OpenGate, Workers};
 pub use load::{load_graph_with, load_one_thread, load_with, load_within};
 pub use loaded::Loaded;
 pub use outcome::ModuleOutcome;
 pub use pool::{Evaluated, Pool, PoolSeat, Worked};
+pub use sources::Sources;

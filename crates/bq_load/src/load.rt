@@ -10,11 +10,12 @@ ghost use Rattle.bq_load.specs.Results.{outcomes};
 ghost use Rattle.bq_load.specs.Loaded.{IsLoaded, LoadsWithin, LoadsWorkspace};
 ghost use Rattle.bq_load.specs.Pool.{parts_of, loads_of};
 
-use crate::gate::Gate;
+use crate::gate::{Gate, Workers};
 use crate::loaded::Loaded;
 use crate::loading::Loading;
 use crate::outcome::ModuleOutcome;
 use crate::pool::Pool;
+use crate::sources::Sources;
 use bq_base_limits::Limits;
 use bq_label::Workspace;
 use bq_load_discover::{LoadErr, LoadGraph, discover_by_workers, discover_within};
@@ -46,7 +47,7 @@ fn modules_one_thread(
 }
 
 /// Loads a workspace on one thread, as [`load_one_thread`] does, by these limits.
-#[tactic(auto, using(crate::proofs::Named::once, crate::proofs::Joined::gathered_is, crate::proofs::Joined::loaded_is))]
+#[tactic(auto, using(crate::proofs::Named::labelled, crate::proofs::Joined::gathered_is, crate::proofs::Joined::loaded_is))]
 fn one_thread_within(
     alloc: Global,
     workspace: &Workspace,
@@ -63,8 +64,8 @@ fn one_thread_within(
         Err(why) => return Err(why),
     };
     let modules = modules_one_thread(alloc, workspace, schema, limits.steps, seed, &graph)?;
-    let packages = graph.into_packages();
-    Ok(Loaded::gathered(alloc, &packages, modules)?)
+    let (labels, packages) = graph.into_parts();
+    Ok(Loaded::gathered(alloc, &packages, &labels, modules)?)
 }
 
 /// Loads a workspace on one thread: each module is evaluated after all that it loads, with `limit` steps of its own. It
@@ -88,48 +89,48 @@ pub fn load_one_thread(
 fn modules_with<R: Threads + Wait + Sync, G: Gate>(
     rt: &R,
     alloc: Global,
-    workspace: &Workspace,
-    schema: &Schema,
+    sources: &Sources<'_>,
     limit: u64,
-    seed: Seed,
     graph: &LoadGraph,
-    workers: usize,
-    gate: &G,
+    workers: &Workers<'_, G>,
 ) -> Result<Vec<ModuleOutcome>, AllocError>
-    requires graph { IsReadGraph (inputs_of workspace.now schema.now) graph.now }
-    requires workers { (0 < workers) × (workers ≤ MAX_WORKERS) }
-    ensures { IfOk result (λ os. map outcome_view os.items ≡ outcomes (loading_in workspace.now schema.now limit graph.now) graph.now.edges) }
+    requires graph { IsReadGraph (inputs_of sources.now.workspace.now sources.now.schema.now) graph.now }
+    requires workers { (0 < workers.now.count) × (workers.now.count ≤ MAX_WORKERS) }
+    ensures { IfOk result (λ os. map outcome_view os.items ≡ outcomes (loading_in sources.now.workspace.now sources.now.schema.now limit graph.now) graph.now.edges) }
 {
-    let (pool, seats) = Pool::open(alloc, workspace, schema, limit, seed, graph, workers)?;
+    let (pool, seats) = Pool::open(
+        alloc,
+        sources.workspace,
+        sources.schema,
+        limit,
+        sources.seed,
+        graph,
+        workers.count,
+    )?;
     // PROOF: the pool is of this load graph
-    Ok(pool.outcomes(rt, alloc, seats, gate)?)
+    Ok(pool.outcomes(rt, alloc, seats, workers.gate)?)
 }
 
 /// Loads the modules of a workspace's load graph by several workers, each in a thread of its own with the stack that
 /// evaluation may take, and notifies a gate of each evaluation. It returns the same whatever the order of the workers'
 /// steps. Drops the modules' files before the rest is made, by as many threads, to lower the peak of memory.
-#[tactic(auto, using(crate::proofs::Named::once, crate::proofs::Joined::gathered_is))]
+#[tactic(auto, using(crate::proofs::Named::labelled, crate::proofs::Joined::gathered_is))]
 pub fn load_graph_with<R: Threads + Wait + Sync, G: Gate>(
     rt: &R,
     alloc: Global,
-    workspace: &Workspace,
-    schema: &Schema,
+    sources: &Sources<'_>,
     limit: u64,
-    seed: Seed,
     graph: LoadGraph,
-    workers: usize,
-    gate: &G,
+    workers: &Workers<'_, G>,
 ) -> Result<Loaded, AllocError>
-    requires graph { IsReadGraph (inputs_of workspace.now schema.now) graph }
-    requires workers { (0 < workers) × (workers ≤ MAX_WORKERS) }
-    ensures { IfOk result (λ l. IsLoaded (loading_in workspace.now schema.now limit graph) graph.edges l) }
+    requires graph { IsReadGraph (inputs_of sources.now.workspace.now sources.now.schema.now) graph }
+    requires workers { (0 < workers.now.count) × (workers.now.count ≤ MAX_WORKERS) }
+    ensures { IfOk result (λ l. IsLoaded (loading_in sources.now.workspace.now sources.now.schema.now limit graph) graph.edges l) }
 {
-    let modules = modules_with(
-        rt, alloc, workspace, schema, limit, seed, &graph, workers, gate,
-    )?;
-    let packages = graph.into_packages_by(rt, workers);
+    let modules = modules_with(rt, alloc, sources, limit, &graph, workers)?;
+    let (labels, packages) = graph.into_parts_by(rt, workers.count);
     // PROOF: they give this
-    Ok(Loaded::gathered(alloc, &packages, modules)?)
+    Ok(Loaded::gathered(alloc, &packages, &labels, modules)?)
 }
 
 /// Loads a workspace by several workers, as [`load_graph_with`] does, by the standard limits, and with `limit` steps for
@@ -148,7 +149,12 @@ pub fn load_with<R: Threads + Wait + Sync, G: Gate>(
     ensures { LoadsWorkspace workspace.now schema.now limit result }
 {
     let limits = Limits::standard_with(limit);
-    load_within(rt, alloc, workspace, schema, limits, seed, workers, gate)
+    let sources = Sources {
+        workspace,
+        schema,
+        seed,
+    };
+    load_within(rt, alloc, &sources, limits, workers, gate)
 }
 
 /// Loads a workspace by several workers, as [`load_with`] does, by these limits.
@@ -156,31 +162,30 @@ pub fn load_with<R: Threads + Wait + Sync, G: Gate>(
 pub fn load_within<R: Threads + Wait + Sync, G: Gate>(
     rt: &R,
     alloc: Global,
-    workspace: &Workspace,
-    schema: &Schema,
+    sources: &Sources<'_>,
     limits: Limits,
-    seed: Seed,
     workers: usize,
     gate: &G,
 ) -> Result<Loaded, LoadErr>
     requires bounded { AreBounded limits }
     requires workers { (0 < workers) × (workers ≤ MAX_WORKERS) }
-    ensures { LoadsWithin workspace.now schema.now limits result }
+    ensures { LoadsWithin sources.now.workspace.now sources.now.schema.now limits result }
 {
     // PROOF: the error is the same
-    let graph = match discover_by_workers(rt, alloc, workspace, schema, limits, workers) {
+    let graph = match discover_by_workers(
+        rt,
+        alloc,
+        sources.workspace,
+        sources.schema,
+        limits,
+        workers,
+    ) {
         Ok(graph) => graph,
         Err(why) => return Err(why),
     };
-    Ok(load_graph_with(
-        rt,
-        alloc,
-        workspace,
-        schema,
-        limits.steps,
-        seed,
-        graph,
-        workers,
+    let workers = Workers {
+        count: workers,
         gate,
-    )?)
+    };
+    Ok(load_graph_with(rt, alloc, sources, limits.steps, graph, &workers)?)
 }

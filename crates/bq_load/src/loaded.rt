@@ -1,7 +1,6 @@
 //! A workspace that was loaded.
 
-ghost use Rattle.std.specs.Prelude.{◌≡◌, [], map, IfOk};
-ghost use Rattle.bq_label_set.specs.Labels.{with_labels};
+ghost use Rattle.std.specs.Prelude.{◌≡◌, map, IfOk};
 ghost use Rattle.bq_load.specs.Views.{outcome_view};
 ghost use Rattle.bq_load.specs.Loaded.{IsGathered};
 ghost use Rattle.bq_load.specs.Packages.{labels_of};
@@ -12,6 +11,7 @@ use crate::packages::packages_in;
 use bq_base_fault_line::FaultLines;
 use bq_base_rope::Rope;
 use bq_label::Packages;
+use bq_label_set::LabelSet;
 use bq_package_list::PackageList;
 use std::alloc::{AllocError, Global};
 
@@ -29,17 +29,18 @@ pub struct Loaded {
 }
 
 impl Loaded {
-    /// Gathers the outcomes of modules, no two of which have one label, in a workspace with these packages.
+    /// Gathers the outcomes of modules, which have these labels, in a workspace with these packages.
     #[tactic(auto, using(crate::proofs::Ascending::packages_ascend))]
     pub(crate) fn gathered(
         alloc: Global,
         packages: &Packages,
+        labels: &LabelSet,
         modules: Vec<ModuleOutcome>,
     ) -> Result<Loaded, AllocError>
-        requires { with_labels [] (labels_of (map outcome_view modules.items)) ≡ labels_of (map outcome_view modules.items) }
+        requires { labels.now ≡ labels_of (map outcome_view modules.items) }
         ensures { IfOk result (λ l. IsGathered packages.now (map outcome_view modules.items) l) }
     {
-        let all = packages_in(alloc, packages, modules.as_slice())?;
+        let all = packages_in(alloc, packages, labels, modules.as_slice())?;
         let faults = fault_lines(alloc, modules.as_slice())?;
         let prints = print_lines(alloc, modules.as_slice())?;
         Ok(Loaded {

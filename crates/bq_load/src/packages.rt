@@ -1,10 +1,10 @@
 //! The packages of a workspace.
 
-ghost use Rattle.std.specs.Prelude.{◌≡◌, ◌++◌, [], IfOk, OnOk, map, option_to_list, option_and_then, position, slice_get};
+ghost use Rattle.std.specs.Prelude.{◌≡◌, ◌++◌, IfOk, OnOk, map, option_to_list, option_and_then, position, slice_get};
 ghost use Rattle.std.specs.List.Sorted.{IsStrictlySortedBy};
 ghost use Rattle.bq_label.specs.Label.{package_of};
 ghost use Rattle.bq_label.specs.Packages.{package_cmp};
-ghost use Rattle.bq_label_set.specs.Labels.{same_label, with_labels};
+ghost use Rattle.bq_label_set.specs.Labels.{same_label};
 ghost use Rattle.bq_package_list.specs.Order.{id_of};
 ghost use Rattle.bq_load.specs.Views.{result_view, outcome_view};
 ghost use Rattle.bq_load.specs.Loaded.{package_by, package_in, packages_in};
@@ -46,18 +46,6 @@ pub(crate) fn package_by(
             Some(made) => Ok(Some(share_own(label, made)?)),
         },
     }
-}
-
-/// Returns the labels of modules, each once.
-#[tactic(auto, unfolding(bq_label_set::specs::Labels::with_labels))]
-fn labels_of(alloc: Global, modules: &[ModuleOutcome]) -> Result<LabelSet, AllocError>
-    ensures { IfOk result (λ ls. ls ≡ with_labels [] (labels_of (map outcome_view modules.now))) }
-{
-    let mut labels = LabelSet::new(alloc);
-    for each in modules {
-        labels.add(&each.label)?;
-    }
-    Ok(labels)
 }
 
 /// Returns the package of the module of this label.
@@ -110,22 +98,22 @@ fn add(found: Option<Package>, all: &mut Vec<Package>) -> Result<(), AllocError>
     }
 }
 
-/// Returns the packages of a workspace in their order, by its modules, no two of which have one label.
+/// Returns the packages of a workspace in their order, by its modules and the labels of these.
 pub(crate) fn packages_in(
     alloc: Global,
     packages: &Packages,
+    labels: &LabelSet,
     modules: &[ModuleOutcome],
 ) -> Result<Vec<Package>, AllocError>
-    requires { with_labels [] (labels_of (map outcome_view modules.now)) ≡ labels_of (map outcome_view modules.now) }
+    requires { labels.now ≡ labels_of (map outcome_view modules.now) }
     ensures all { IfOk result (λ ps. ps.items ≡ packages_in packages.now (map outcome_view modules.now)) }
     ensures own { OnOk result (AreOwn (map outcome_view modules.now) packages.now) }
     ensures ascend { IsStrictlySortedBy package_cmp packages.now }
 {
     let builds = packages.all();
-    let labels = labels_of(alloc, modules)?;
     let mut all = Vec::with_capacity(alloc, builds.len())?;
     for build in builds {
-        let found = package_in(alloc, &labels, modules, build)?;
+        let found = package_in(alloc, labels, modules, build)?;
         add(found, &mut all)?;
     }
     Ok(all)

@@ -14,6 +14,6 @@
 
 mod laws;
 
-pub use bq_load::{Loaded, OpenGate, load_graph_with, load_with, load_within};
+pub use bq_load::{Loaded, OpenGate, Sources, Workers, load_graph_with, load_with, load_within};
 pub use bq_load_discover::{LoadErr, LoadGraph, schema_of};
 pub use laws::{evaluated_modules_agree, modules_are_read, outcomes_agree};

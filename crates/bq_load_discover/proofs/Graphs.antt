@@ -33,9 +33,6 @@ module _ (found : List Module) (d : IsDistinct same_label (labels_of found)) (sm
   ascend : IsStrictlySortedBy label_cmp (labels_of ms)
   ascend = modules_ascend found d ms p s v
 
-  pub numbered : with_labels [] (labels_of ms) ≡ labels_of ms
-  numbered = those_that_differ (labels_of ms) (differ (labels_of ms) ascend)
-
   pub is_numbered : (bs : List BuildFile) → IsGraph (rows_of (labels_of ms) ms) → IsNumbered (record { labels = labels_of ms; modules = ms; edges = rows_of (labels_of ms) ms; packages = bs })
   is_numbered bs g = record {
     ascending = ascend;
@@ -74,32 +71,36 @@ abbrev parts : List LabelParts → List Module → Loads → List BuildFile → 
 parts ls ms p bs = record { labels = ls; modules = ms; edges = p; packages = bs }
 
 module _ (found : List Module) (d : IsDistinct same_label (labels_of found)) (small : length found < number_bound) (ms : List Module) (p : IsPermutation found ms) (s : IsSorted module_cmp ms)
-    (held again : List Module) (h : held ≡ ms) (a : again ≡ ms) (v : AreValid held) (ls seen : List LabelParts) (n : ls ≡ labels_of held) (k : seen ≡ ls) (es : Loads) (e : es ≡ rows_of seen again)
-    (bs : List BuildFile) (limits : Limits) where
+    (held again : List Module) (h : held ≡ ms) (a : again ≡ ms) (v : AreValid held) (ls : List LabelParts) (n : ls ≡ with_labels [] (labels_of held)) where
   valid : AreValid ms
   valid = subst (λ (z : List Module). AreValid z) h v
 
   labels : ls ≡ labels_of ms
-  labels = n ∙ ap labels_of h
+  labels =
+      let once : with_labels [] (labels_of ms) ≡ labels_of ms = those_that_differ (labels_of ms) (differ (labels_of ms) (modules_ascend found d ms p s valid)) in
+      n ∙ (ap (λ (z : List Module). with_labels [] (labels_of z)) h ∙ once)
 
-  same : rows_of seen again ≡ rows_of (labels_of ms) ms
-  same = ap (λ (z : List LabelParts). rows_of z again) (k ∙ labels) ∙ ap (λ (z : List Module). rows_of (labels_of ms) z) a
+  same : rows_of ls again ≡ rows_of (labels_of ms) ms
+  same = ap (λ (z : List LabelParts). rows_of z again) labels ∙ ap (λ (z : List Module). rows_of (labels_of ms) z) a
 
-  whole : parts (labels_of ms) ms (rows_of (labels_of ms) ms) bs ≡ parts ls ms es bs
-  whole = ap (λ (z : List LabelParts). parts z ms (rows_of (labels_of ms) ms) bs) (sym labels) ∙ ap (λ (z : Loads). parts ls ms z bs) (sym (e ∙ same))
+  pub held_few : length ls < number_bound
+  held_few = subst (λ (z : List LabelParts). length z < number_bound) (sym labels) (few found d small ms p s valid)
 
-  pub held_numbered : IsGraph (rows_of seen again) → IsNumbered (record { labels = ls; modules = ms; edges = es; packages = bs })
-  held_numbered g = subst (λ (z : GraphParts). IsNumbered z) whole (is_numbered found d small ms p s valid bs (subst (λ (z : Loads). IsGraph z) same g))
+  pub held_wide : length ls ≡ length again
+  held_wide = ap length labels ∙ (length-map ms (λ (m : Module). m.label) ∙ sym (ap length a))
 
-  pub held_graph : IsGraph (rows_of seen again) → (inputs : InputParts) → AreFound limits inputs found → bs ≡ inputs.packages → IsReadGraph inputs (record { labels = ls; modules = ms; edges = es; packages = bs })
-  held_graph g inputs f b = subst (λ (z : GraphParts). IsReadGraph inputs z) whole (is_read_graph limits inputs found f ms p s valid bs b (subst (λ (z : Loads). IsGraph z) same g))
+  pub held_too_many : (limits : Limits) → ¬ Fits limits (rows_of ls again) → (inputs : InputParts) → AreFound limits inputs found → AreTooMany limits inputs.packages (parsed_of inputs)
+  held_too_many limits none inputs f = too_many_edges limits inputs found f ms p s valid (subst (λ (z : Loads). ¬ Fits limits z) same none)
 
-  pub held_fits : Fits limits (rows_of seen again) → Fits limits es
-  held_fits f = subst (λ (z : Loads). Fits limits z) (sym e) f
+  module _ (es : Loads) (e : es ≡ rows_of ls again) (bs : List BuildFile) where
+    whole : parts (labels_of ms) ms (rows_of (labels_of ms) ms) bs ≡ parts ls ms es bs
+    whole = ap (λ (z : List LabelParts). parts z ms (rows_of (labels_of ms) ms) bs) (sym labels) ∙ ap (λ (z : Loads). parts ls ms z bs) (sym (e ∙ same))
 
-module _ (found ms : List Module) (p : IsPermutation found ms) (s : IsSorted module_cmp ms) (held again : List Module) (h : held ≡ ms) (a : again ≡ ms) (v : AreValid held) (ls seen : List LabelParts) (n : ls ≡ labels_of held) (k : seen ≡ ls) (limits : Limits) where
-  pub held_too_many : ¬ Fits limits (rows_of seen again) → (inputs : InputParts) → AreFound limits inputs found → AreTooMany limits inputs.packages (parsed_of inputs)
-  held_too_many none inputs f =
-      let valid : AreValid ms = subst (λ (z : List Module). AreValid z) h v in
-      let same : rows_of seen again ≡ rows_of (labels_of ms) ms = ap (λ (z : List LabelParts). rows_of z again) (k ∙ (n ∙ ap labels_of h)) ∙ ap (λ (z : List Module). rows_of (labels_of ms) z) a in
-      too_many_edges limits inputs found f ms p s valid (subst (λ (z : Loads). ¬ Fits limits z) same none)
+    pub held_numbered : IsGraph (rows_of ls again) → IsNumbered (record { labels = ls; modules = ms; edges = es; packages = bs })
+    held_numbered g = subst (λ (z : GraphParts). IsNumbered z) whole (is_numbered found d small ms p s valid bs (subst (λ (z : Loads). IsGraph z) same g))
+
+    pub held_graph : IsGraph (rows_of ls again) → (limits : Limits) (inputs : InputParts) → AreFound limits inputs found → bs ≡ inputs.packages → IsReadGraph inputs (record { labels = ls; modules = ms; edges = es; packages = bs })
+    held_graph g limits inputs f b = subst (λ (z : GraphParts). IsReadGraph inputs z) whole (is_read_graph limits inputs found f ms p s valid bs b (subst (λ (z : Loads). IsGraph z) same g))
+
+    pub held_fits : (limits : Limits) → Fits limits (rows_of ls again) → Fits limits es
+    held_fits limits f = subst (λ (z : Loads). Fits limits z) (sym e) f

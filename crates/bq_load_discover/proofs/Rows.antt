@@ -1,15 +1,18 @@
 -- The numbers in a row are those of the labels that are loaded.
-use Rattle.std.proofs.Common.{◌≡◌, ◌∙◌, ◌<◌, ◌+◌, ℕ, List, [], ◌∷◌, ◌++◌, Option, None, Some, length, map, take, get_or, slice_get, refl, sym, ap, inl, inr, length-append}
+use Rattle.std.proofs.Common.{◌≡◌, ◌∙◌, ◌<◌, ◌+◌, ℕ, zero, suc, List, [], ◌∷◌, ◌++◌, Option, None, Some, length, map, take, get_or, slice_get, refl, sym, ap, subst, inl, inr, length-append, arith}
 use Rattle.std.specs.List.{Contains, IsDistinct, filter_map, flat_map, cons_option}
 use Rattle.std.specs.Prelude.{option_to_list}
 use Rattle.std.proofs.lemmas.List.{length-map}
 use Rattle.std.proofs.lemmas.List.Elements.{filter_map-append}
+use Rattle.std.proofs.lemmas.List.Quantifiers.{position-Some}
 use Rattle.bq_label.specs.Label.{LabelParts}
 use Rattle.bq_label.proofs.Orders.{at_head, in_tail}
 use Rattle.bq_label_set.specs.Labels.{same_label, with_labels}
 use Rattle.bq_label_set.proofs.Added.{the_labels_added}
 use Rattle.bq_label_set.proofs.Numbers.{the_number}
-use Rattle.bq_board_plan.specs.Graph.{Loads, sources, edges}
+use Rattle.bq_board_plan.specs.Counts.{Has}
+use Rattle.bq_board_plan.specs.Graph.{Loads, sources, edges, Known}
+use Rattle.bq_board_plan.proofs.Lemmas.{cons_has}
 use Rattle.bq_load_front.specs.Inputs.{InputParts}
 use Rattle.bq_load_front.specs.Front.{loads_by}
 use Rattle.bq_load_front.specs.Reading.{parsed_of, loads_of}
@@ -45,6 +48,29 @@ named ls (m ∷ ms) d f =
 
 pub row_is : (ls loads : List LabelParts) → IsDistinct same_label ls → ((l : LabelParts) → Contains loads l → Contains ls l) → map (slice_get ls) (row_of ls loads) ≡ map (λ l. Some l) (with_labels [] loads)
 row_is ls loads d f = named ls (with_labels [] loads) d (λ l c. elim ((the_labels_added [] loads l).0 c) [ inl none ↦ absurd (none_in l none) | inr here ↦ f l here ])
+
+-- ---- each number in a row is that of a label
+
+one_below : (b x : ℕ) (o : Option ℕ) (xs : List ℕ) → ((n : ℕ) → o ≡ Some n → n < b) → (Has xs x → x < b) → Has (cons_option o xs) x → x < b
+one_below b x None xs first rest h = rest h
+one_below b x (Some n) xs first rest h = elim (cons_has n xs x h) [
+  | inl e ↦ subst (λ (z : ℕ). z < b) e (first n refl)
+  | inr k ↦ rest k
+]
+
+row_below : (ls ms : List LabelParts) (x : ℕ) → Has (filter_map (number_in ls) ms) x → x < length ls
+row_below ls [] x h = absurd (omega arith)
+row_below ls (m ∷ ms) x h = one_below (length ls) x (number_in ls m) (filter_map (number_in ls) ms) (λ n e. (position-Some (same_label m) ls n m e).0) (row_below ls ms x) h
+
+all_below : (ls : List LabelParts) (ms : List Module) (k x : ℕ) → Has (get_or (rows_of ls ms) k []) x → x < length ls
+all_below ls [] k x h = absurd (omega arith)
+all_below ls (m ∷ ms) zero x h = row_below ls (with_labels [] (loads_by m.front)) x h
+all_below ls (m ∷ ms) (suc k) x h = all_below ls ms k x h
+
+pub rows_known : (ls : List LabelParts) (ms : List Module) → length ls ≡ length ms → Known (rows_of ls ms)
+rows_known ls ms e k x h =
+    let wide : length (rows_of ls ms) ≡ length ms = length-map ms (λ (m : Module). row_of ls (loads_by m.front)) in
+    omega (arith, all_below ls ms k x h, wide, e)
 
 -- ---- the rows of modules
 

@@ -8,7 +8,7 @@ use Rattle.std.proofs.lemmas.List.Elements.{filter_map-append}
 use Rattle.bq_label.specs.declared.packages.BuildFile.{BuildFile}
 use Rattle.bq_label.specs.Label.{LabelParts}
 use Rattle.bq_label.specs.Packages.{build_label}
-use Rattle.bq_label_set.specs.Labels.{with_labels}
+use Rattle.bq_label_set.specs.Labels.{with_label, with_labels}
 use Rattle.bq_label_set.proofs.Added.{with_labels-append}
 use Rattle.bq_board_plan.specs.Graph.{lists}
 use Rattle.bq_load_front.specs.Front.{loads_by}
@@ -45,6 +45,8 @@ rows_next ls ms i m rows now row h e f r n =
     ∙ (ap (λ (z : List ℕ). rows_of ls (take i ms) ++ z ∷ []) r
     ∙ (sym (map-append to (take i ms) (m ∷ [])) ∙ ap (λ (z : List Module). map to z) (sym (next_taken ms i m h e))))))
 
-pub labels_next : (ms : List Module) (i : ℕ) (m : Module) (ls now : List LabelParts) (l : LabelParts) → i < length ms → m ≡ get_or ms i m → ls ≡ labels_of (take i ms) → l ≡ m.label → now ≡ ls ++ l ∷ [] → now ≡ labels_of (take (i + 1) ms)
-labels_next ms i m ls now l h e f g n =
-    n ∙ (ap (λ (z : List LabelParts). z ++ l ∷ []) f ∙ (ap (λ (z : LabelParts). labels_of (take i ms) ++ z ∷ []) g ∙ (sym (map-append (λ (m : Module). m.label) (take i ms) (m ∷ [])) ∙ ap labels_of (sym (next_taken ms i m h e)))))
+pub labels_next : (ms : List Module) (i : ℕ) (m : Module) (ls now : List LabelParts) → i < length ms → m ≡ get_or ms i m → ls ≡ with_labels [] (labels_of (take i ms)) → now ≡ with_label ls m.label → now ≡ with_labels [] (labels_of (take (i + 1) ms))
+unfolding with_labels
+labels_next ms i m ls now h e f n =
+    let last : labels_of (take (i + 1) ms) ≡ labels_of (take i ms) ++ m.label ∷ [] = ap labels_of (next_taken ms i m h e) ∙ map-append (λ (m : Module). m.label) (take i ms) (m ∷ []) in
+    n ∙ (ap (λ (z : List LabelParts). with_label z m.label) f ∙ (sym (with_labels-append [] (labels_of (take i ms)) (m.label ∷ [])) ∙ ap (with_labels []) (sym last)))

@@ -64,41 +64,43 @@ fn load_graph_of(
     }
 }
 
-/// Finds the modules of a workspace with these packages; `None` if there are too many.
-fn modules_of(
-    alloc: Global,
-    limits: Limits,
-    workspace: &Workspace,
-    schema: &Schema,
-    packages: &Packages,
-) -> Result<Option<Vec<Module>>, AllocError>
-    requires bounded { AreBounded limits }
-    requires packages { packages.now ≡ packages_of workspace.now }
-    ensures { IfOk result (Finds limits (inputs_of workspace.now schema.now)) }
-{
-    let names = schema.shared_names()?;
-    let inputs = Inputs::new(workspace, packages, &names)?;
-    explore(alloc, limits, &inputs)
+/// A workspace with its schema and its packages, in which modules are to be found.
+#[derive(Clone, Copy)]
+struct Discovery<'a> {
+    workspace: &'a Workspace,
+    schema: &'a Schema,
+    packages: &'a Packages,
 }
 
-/// Finds the modules of a workspace with these packages, as [`modules_of`] does, in at most `workers` threads.
-fn modules_by_workers<R: Threads + Sync>(
-    rt: &R,
-    alloc: Global,
-    limits: Limits,
-    workspace: &Workspace,
-    schema: &Schema,
-    packages: &Packages,
-    workers: usize,
-) -> Result<Option<Vec<Module>>, AllocError>
-    requires bounded { AreBounded limits }
-    requires workers { 0 < workers }
-    requires packages { packages.now ≡ packages_of workspace.now }
-    ensures { IfOk result (Finds limits (inputs_of workspace.now schema.now)) }
-{
-    let names = schema.shared_names()?;
-    let inputs = Inputs::new(workspace, packages, &names)?;
-    explore_by_workers(rt, alloc, limits, &inputs, workers)
+impl<'a> Discovery<'a> {
+    /// Finds the modules; `None` if there are too many.
+    fn modules(&self, alloc: Global, limits: Limits) -> Result<Option<Vec<Module>>, AllocError>
+        requires bounded { AreBounded limits }
+        requires packages { self.now.packages.now ≡ packages_of self.now.workspace.now }
+        ensures { IfOk result (Finds limits (inputs_of self.now.workspace.now self.now.schema.now)) }
+    {
+        let names = self.schema.shared_names()?;
+        let inputs = Inputs::new(self.workspace, self.packages, &names)?;
+        explore(alloc, limits, &inputs)
+    }
+
+    /// Finds the modules, as [`Discovery::modules`] does, in at most `workers` threads.
+    fn modules_by<R: Threads + Sync>(
+        &self,
+        rt: &R,
+        alloc: Global,
+        limits: Limits,
+        workers: usize,
+    ) -> Result<Option<Vec<Module>>, AllocError>
+        requires bounded { AreBounded limits }
+        requires workers { 0 < workers }
+        requires packages { self.now.packages.now ≡ packages_of self.now.workspace.now }
+        ensures { IfOk result (Finds limits (inputs_of self.now.workspace.now self.now.schema.now)) }
+    {
+        let names = self.schema.shared_names()?;
+        let inputs = Inputs::new(self.workspace, self.packages, &names)?;
+        explore_by_workers(rt, alloc, limits, &inputs, workers)
+    }
 }
 
 /// Finds the load graph of a workspace with the rules of the schema, by the standard limits. It takes time linear in the
@@ -120,7 +122,12 @@ pub fn discover_within(
     ensures { DiscoversWithin limits (inputs_of workspace.now schema.now) result }
 {
     let packages = Packages::of(alloc, workspace)?;
-    let found = modules_of(alloc, limits, workspace, schema, &packages)?;
+    let found = Discovery {
+        workspace,
+        schema,
+        packages: &packages,
+    }
+    .modules(alloc, limits)?;
     load_graph_of(alloc, limits, workspace, schema, packages, found)
 }
 
@@ -138,6 +145,11 @@ pub fn discover_by_workers<R: Threads + Sync>(
     ensures { DiscoversWithin limits (inputs_of workspace.now schema.now) result }
 {
     let packages = Packages::of(alloc, workspace)?;
-    let found = modules_by_workers(rt, alloc, limits, workspace, schema, &packages, workers)?;
+    let found = Discovery {
+        workspace,
+        schema,
+        packages: &packages,
+    }
+    .modules_by(rt, alloc, limits, workers)?;
     load_graph_of(alloc, limits, workspace, schema, packages, found)
 }

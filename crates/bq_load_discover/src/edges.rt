@@ -1,16 +1,15 @@
 //! Which module loads which, by their numbers.
 
-ghost use Rattle.std.specs.Prelude.{◌≡◌, ◌<◌, [], ◌++◌, length, map, option_to_list, IfOk, IfErr, OnOk};
+ghost use Rattle.std.specs.Prelude.{◌≡◌, ◌<◌, ◌++◌, length, option_to_list, IfOk, IfErr, OnOk};
 ghost use Rattle.bq_base_limits.specs.Limits.{AreBounded, number_bound};
 ghost use Rattle.bq_board_plan.specs.Graph.{Fits, lists, IsGraph};
 ghost use Rattle.std.specs.List.{filter_map};
-ghost use Rattle.bq_label_set.specs.Labels.{with_labels};
 ghost use Rattle.bq_load_discover.specs.Edges.{number_in, rows_of, RefusesEdges};
 
 use crate::load_err::LoadErr;
 use crate::modules::Module;
 use bq_base_limits::Limits;
-use bq_board_plan::{Graph, PlanErr};
+use bq_board_plan::Graph;
 use bq_label::Label;
 use bq_label_set::LabelSet;
 use std::alloc::{AllocError, Global};
@@ -53,43 +52,23 @@ fn rows(alloc: Global, numbers: &LabelSet, modules: &[Module]) -> Result<Vec<Vec
     Ok(rows)
 }
 
-/// Numbers the labels by their places.
-fn numbers(alloc: Global, labels: &[Label]) -> Result<LabelSet, AllocError>
-    ensures { IfOk result (λ numbers. numbers ≡ with_labels [] labels.now) }
-{
-    let mut numbers = LabelSet::new(alloc);
-    numbers.add_all(labels)?;
-    Ok(numbers)
-}
-
-/// Returns the rows of modules of these labels.
-fn rows_by(alloc: Global, labels: &[Label], modules: &[Module]) -> Result<Vec<Vec<u32>>, AllocError>
-    requires few { length labels.now < number_bound }
-    requires numbered { with_labels [] labels.now ≡ labels.now }
-    ensures { IfOk result (λ rows. lists rows.items ≡ rows_of labels.now modules.now) }
-{
-    let numbers = numbers(alloc, labels)?;
-    rows(alloc, &numbers, modules)
-}
-
-/// Returns the edges between modules of these labels, if they keep the limits.
+/// Returns the edges between modules, one for each of these labels, if they keep the limits.
 pub(crate) fn edges(
     alloc: Global,
     limits: Limits,
-    labels: &[Label],
+    labels: &LabelSet,
     modules: &[Module],
 ) -> Result<Graph, LoadErr>
     requires bounded { AreBounded limits }
     requires few { length labels.now < number_bound }
-    requires numbered { with_labels [] labels.now ≡ labels.now }
+    requires wide { length labels.now ≡ length modules.now }
     ensures edges { IfOk result (λ graph. graph ≡ rows_of labels.now modules.now) }
     ensures valid { OnOk result (IsGraph (rows_of labels.now modules.now)) }
     ensures fits { OnOk result (Fits limits (rows_of labels.now modules.now)) }
     ensures refused { IfErr result (RefusesEdges limits (rows_of labels.now modules.now)) }
 {
-    match Graph::within(limits, rows_by(alloc, labels, modules)?) {
-        Ok(graph) => Ok(graph),
-        Err(PlanErr::TooMany) => Err(LoadErr::TooManyModules),
-        Err(_) => Err(LoadErr::Memory), // never: each number is that of a row
+    match Graph::of_known(limits, rows(alloc, labels, modules)?) {
+        Some(graph) => Ok(graph),
+        None => Err(LoadErr::TooManyModules),
     }
 }

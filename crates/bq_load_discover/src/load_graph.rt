@@ -5,6 +5,7 @@ ghost use Rattle.std.specs.Prelude.{◌≡◌, ◌<◌};
 use crate::modules::Module;
 use bq_board_plan::Graph;
 use bq_label::{Label, Packages};
+use bq_label_set::LabelSet;
 use std::marker::Model;
 use std::thread;
 use std::thread::Threads;
@@ -12,7 +13,7 @@ use std::thread::Threads;
 /// The modules of a workspace, and which loads which, with its packages. Contracts see the labels in order, the modules in the same
 /// order, for each module the numbers of those that it loads, and the packages.
 pub struct LoadGraph {
-    labels: Vec<Label>,
+    labels: LabelSet,
     modules: Vec<Module>,
     edges: Graph,
     packages: Packages,
@@ -41,9 +42,9 @@ impl Model for LoadGraph {
 
     ghost coded = { Prim.hlevel (codes, expr.the_row.coded, stmt.the_row.coded, target.the_row.coded) };
 
-    ghost view = { λ g. record { labels = g.labels.items; modules = g.modules.items; edges = g.edges; packages = g.packages } };
+    ghost view = { λ g. record { labels = g.labels; modules = g.modules.items; edges = g.edges; packages = g.packages } };
 
-    ghost invariant = { λ g. IsNumbered (record { labels = g.labels.items; modules = g.modules.items; edges = g.edges; packages = g.packages }) };
+    ghost invariant = { λ g. IsNumbered (record { labels = g.labels; modules = g.modules.items; edges = g.edges; packages = g.packages }) };
 }
 
 impl LoadGraph {
@@ -51,13 +52,13 @@ impl LoadGraph {
 
     /// Makes the load graph of these parts.
     pub(crate) fn of(
-        labels: Vec<Label>,
+        labels: LabelSet,
         modules: Vec<Module>,
         edges: Graph,
         packages: Packages,
     ) -> LoadGraph
-        requires { IsNumbered (record { labels = labels.items; modules = modules.items; edges = edges; packages = packages }) }
-        ensures { result ≡ record { labels = labels.items; modules = modules.items; edges = edges; packages = packages } }
+        requires { IsNumbered (record { labels = labels; modules = modules.items; edges = edges; packages = packages }) }
+        ensures { result ≡ record { labels = labels; modules = modules.items; edges = edges; packages = packages } }
     {
         LoadGraph {
             labels,
@@ -103,34 +104,36 @@ impl LoadGraph {
         &self.packages
     }
 
-    /// Returns the packages of the workspace, once nobody needs its modules. Drops them with their files, to lower the
-    /// peak of memory.
-    pub fn into_packages(self) -> Packages
-        ensures { result ≡ self.packages }
+    /// Returns the labels of the modules and the packages of the workspace, once nobody needs the modules. Drops them
+    /// with their files, to lower the peak of memory.
+    pub fn into_parts(self) -> (LabelSet, Packages)
+        ensures labels { result.0 ≡ self.labels }
+        ensures packages { result.1 ≡ self.packages }
     {
         let LoadGraph {
-            labels: _,
+            labels,
             modules: _,
             edges: _,
             packages,
         } = self;
-        packages
+        (labels, packages)
     }
 
-    /// Returns the packages of the workspace, as [`LoadGraph::into_packages`] does. The modules are dropped by at most
+    /// Returns the labels and the packages, as [`LoadGraph::into_parts`] does. The modules are dropped by at most
     /// `threads` threads.
-    pub fn into_packages_by<R: Threads + Sync>(self, rt: &R, threads: usize) -> Packages
+    pub fn into_parts_by<R: Threads + Sync>(self, rt: &R, threads: usize) -> (LabelSet, Packages)
         requires { 0 < threads }
-        ensures { result ≡ self.packages }
+        ensures labels { result.0 ≡ self.labels }
+        ensures packages { result.1 ≡ self.packages }
     {
         let LoadGraph {
-            labels: _,
+            labels,
             mut modules,
             edges: _,
             packages,
         } = self;
         let each = |_: usize, module: &mut Module| module.forget();
         thread::for_each_mut(rt, modules.as_mut_slice(), threads, &each);
-        packages
+        (labels, packages)
     }
 }

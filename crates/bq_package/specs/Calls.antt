@@ -18,7 +18,7 @@ use Rattle.bq_package_target.specs.declared.state.Declared.{Declared}
 use Rattle.bq_package_target.specs.declared.state.Declared.TheVariants.{Accepted, Refused}
 use Rattle.bq_package_target.specs.Package.{PackageTargets}
 use Rattle.bq_package_target.specs.Calls.{declared, exported}
-use Rattle.bq_package_typed_value.specs.declared.scope.Scope.{Scope}
+use Rattle.bq_package_typed_value.specs.declared.scope.PackageScope.{PackageScope}
 use Rattle.bq_package_typed_value.specs.declared.written.Written.{Written}
 use Rattle.bq_package_typed_value.specs.Steps.{and_then}
 use Rattle.bq_package_typed_value.specs.Values.{typed}
@@ -46,7 +46,7 @@ pub data HeldPackage : Type 0 where
 abbrev pub declaring_of : Building → Declaring
 declaring_of b = record { place = place_of b.place; «package» = b.package }
 
-abbrev pub held_of : Scope → Option Building → HeldPackage
+abbrev pub held_of : PackageScope → Option Building → HeldPackage
 held_of scope None = outside scope.own.now scope.packages.now
 held_of scope (Some b) = declaring (declaring_of b)
 

@@ -5,13 +5,13 @@ ghost use Rattle.bq_label.specs.Label.{package_of};
 
 use crate::place::Place;
 use bq_package_target::PackageState;
-use bq_package_typed_value::Scope;
+use bq_package_typed_value::PackageScope;
 
 /// Carries out the calls of build functions and of rules, in a BUILD file or outside of one. Contracts see what it keeps by `held_by`.
 #[derive(Drop)]
 pub struct BuildHost<'a> {
     /// The package of the file that is evaluated, among the others.
-    pub(crate) scope: Scope<'a>,
+    pub(crate) scope: PackageScope<'a>,
     pub(crate) building: Option<Building<'a>>,
 }
 

@@ -21,7 +21,7 @@ use bq_label::{Label, PackageId, Packages, Workspace};
 use bq_package_host::Host;
 use bq_package_schema::Schema;
 use bq_package_target::{Declared, PackageState, Target};
-use bq_package_typed_value::{Scope, Written, typed};
+use bq_package_typed_value::{PackageScope, Written, typed};
 use bq_resolve_predeclared::HostFunction;
 use bq_value::{EvalErr, Value};
 use bq_value_rule_class::{AttributeValue, RuleClass};
@@ -85,7 +85,7 @@ impl<'a> BuildHost<'a> {
         ensures { IfOk result (λ h. held_by h ≡ outside own.now packages.now) }
     {
         Ok(BuildHost {
-            scope: Scope::new(alloc, own, packages)?,
+            scope: PackageScope::new(alloc, own, packages)?,
             building: None,
         })
     }
@@ -102,7 +102,7 @@ impl<'a> BuildHost<'a> {
         requires { package_of build_file ≡ own.now }
         ensures { IfOk result (λ h. held_by h ≡ declaring (record { place = record { own = own.now; files = workspace.now; packages = packages.now; rules = schema.now }; «package» = no_targets build_file })) }
     {
-        let scope = Scope::new(alloc, own, packages)?;
+        let scope = PackageScope::new(alloc, own, packages)?;
         Ok(BuildHost {
             scope,
             building: Some(Building {
@@ -138,7 +138,7 @@ impl<'a> BuildHost<'a> {
     }
 
     /// Returns the package of the file that is evaluated, among the others.
-    fn scope(&self) -> Scope<'a>
+    fn scope(&self) -> PackageScope<'a>
         ensures own { result.own.now ≡ own_of (held_by self.now) }
         ensures packages { result.packages.now ≡ packages_of (held_by self.now) }
     {
@@ -248,8 +248,7 @@ impl<'a> BuildHost<'a> {
         ensures keeps { KeepsIfRefused result (held_by self.old) (held_by self.new) }
     {
         let place = self.place()?;
-        let line = machine.line();
-        let target = place.rule_target(alloc, machine.store(), line, rule as usize, args)?;
+        let target = place.rule_target(alloc, machine, rule as usize, args)?;
         self.declare(alloc, target)
     }
 
@@ -267,8 +266,7 @@ impl<'a> BuildHost<'a> {
         ensures keeps { KeepsIfRefused result (held_by self.old) (held_by self.new) }
     {
         let place = self.place()?;
-        let line = machine.line();
-        let target = place.declared_target(alloc, machine.store(), line, kind, class, args)?;
+        let target = place.declared_target(alloc, machine, kind, class, args)?;
         self.declare(alloc, target)
     }
 

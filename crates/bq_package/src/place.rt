@@ -2,13 +2,13 @@
 
 use bq_label::Workspace;
 use bq_package_schema::Schema;
-use bq_package_typed_value::Scope;
+use bq_package_typed_value::PackageScope;
 
 /// Where a BUILD file is evaluated.
 #[derive(Clone, Copy)]
 pub struct Place<'a> {
     pub workspace: &'a Workspace,
     /// The package among the others.
-    pub scope: Scope<'a>,
+    pub scope: PackageScope<'a>,
     pub schema: &'a Schema,
 }

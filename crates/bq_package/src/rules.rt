@@ -8,11 +8,11 @@ ghost use Rattle.bq_package.specs.Rules.{declared_target, rule_target};
 
 use crate::place::Place;
 use bq_base::{Bytes, EvalFault};
-use bq_builtin_machine::Args;
+use bq_builtin_machine::{Args, Machine};
 use bq_package_attributes::{Callee, declaration};
 use bq_package_schema::rule_names;
 use bq_package_target::Target;
-use bq_value::{EvalErr, Store};
+use bq_value::EvalErr;
 use bq_value_rule_class::RuleClass;
 use std::alloc::Global;
 
@@ -22,21 +22,20 @@ impl<'a> Place<'a> {
     pub fn declared_target(
         &self,
         alloc: Global,
-        store: &Store,
-        line: u32,
+        machine: &Machine,
         kind: &Bytes,
         class: &RuleClass,
         args: Args,
     ) -> Result<Target, EvalErr>
-        ensures { Gives (λ t. t) Bad result (declared_target (place_of self.now) store.now line kind.now class.now args) }
+        ensures { Gives (λ t. t) Bad result (declared_target (place_of self.now) machine.now.store machine.now.line kind.now class.now args) }
     {
         let callee = Callee {
             scope: self.scope,
-            store,
+            store: machine.store(),
             class,
             kind,
         };
-        declaration(alloc, callee, line, args)
+        declaration(alloc, callee, machine.line(), args)
     }
 
     /// Returns the target that a call of the schema's rule of this number declares.
@@ -44,12 +43,11 @@ impl<'a> Place<'a> {
     pub fn rule_target(
         &self,
         alloc: Global,
-        store: &Store,
-        line: u32,
+        machine: &Machine,
         rule: usize,
         args: Args,
     ) -> Result<Target, EvalErr>
-        ensures { Gives (λ t. t) Bad result (rule_target (place_of self.now) store.now line rule args) }
+        ensures { Gives (λ t. t) Bad result (rule_target (place_of self.now) machine.now.store machine.now.line rule args) }
     {
         let Some(kind) = rule_names(self.schema).get(rule) else {
             return Err(EvalErr::Bad(EvalFault::NotInPackage));
@@ -57,6 +55,6 @@ impl<'a> Place<'a> {
         let Some(class) = self.schema.class(rule) else {
             return Err(EvalErr::Bad(EvalFault::NotInPackage));
         };
-        self.declared_target(alloc, store, line, kind, class, args)
+        self.declared_target(alloc, machine, kind, class, args)
     }
 }

@@ -8,9 +8,10 @@ use Rattle.bq_package_typed_value.specs.Steps.{and_then}
 use Rattle.bq_package_typed_value.specs.Values.{value_as}
 use Rattle.bq_value.specs.Cells.{StoreView}
 use Rattle.bq_value.specs.Datum.{Datum}
-use Rattle.bq_value_rule_class.specs.declared.attribute_type.AttributeType.{AttributeType}
+use Rattle.bq_package_attribute_type.specs.declared.attribute_type.AttributeType.{AttributeType}
 use Rattle.bq_package_attributes.specs.Arguments.{is_none, with_value}
 use Rattle.bq_package_attributes.specs.declared.arguments.Given.{Given}
+use Rattle.bq_value_rule_class.specs.Value.{names_outputs}
 use Rattle.bq_value_rule_class.specs.declared.value.AttributeValue.{AttributeValue}
 use Rattle.bq_package_target.specs.declared.value.GivenAttribute.{GivenAttribute}
 
@@ -27,4 +28,4 @@ with_attribute_by own packages store o name v g = elim o [
 
 -- the default of an attribute that was not given
 abbrev pub default_by : Bool → List ℕ → Option AttributeValue → List GivenAttribute
-default_by given name o = if given then [] else elim o [ None ↦ [] | Some v ↦ record { name = name; value = v } ∷ [] ]
+default_by given name o = if given then [] else elim o [ None ↦ [] | Some v ↦ if names_outputs v then [] else record { name = name; value = v } ∷ [] ]

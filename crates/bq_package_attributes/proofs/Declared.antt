@@ -1,5 +1,5 @@
 -- The target that a call declares is of its package, and so are the files that the rule makes.
-use Rattle.std.proofs.Common.{◌≡◌, ◌∙◌, ℕ, Bool, true, false, List, [], ◌∷◌, ◌++◌, Option, Some, None, Ok, Err, refl, ap, subst, append-nil}
+use Rattle.std.proofs.Common.{◌≡◌, ◌∙◌, ℕ, Bool, true, false, List, [], ◌∷◌, ◌++◌, Option, Some, None, Ok, Err, if◌then◌else◌, refl, ap, subst, append-nil}
 use Rattle.std.specs.List.{list_all}
 use Rattle.std.proofs.lemmas.List.Folds.{list_all-map}
 use Rattle.std.proofs.lemmas.Grind.{flat_map-append}
@@ -8,18 +8,18 @@ use Rattle.bq_label.specs.declared.packages.BuildFile.{BuildFile}
 use Rattle.bq_label.specs.Label.{PackageParts, LabelParts}
 use Rattle.bq_value_rule_class.specs.Class.{Class}
 use Rattle.bq_value_rule_class.specs.declared.value.AttributeValue.{AttributeValue}
-use Rattle.bq_value_rule_class.specs.declared.value.AttributeValue.TheVariants as a
 use Rattle.bq_value.specs.Datum.{Datum}
 use Rattle.bq_value.specs.Cells.{StoreView}
 use Rattle.bq_builtin_machine.specs.Args.{Passed}
 use Rattle.bq_builtin_machine.specs.Binding.{bind}
 use Rattle.bq_package_target.specs.declared.target.Target.{Target}
 use Rattle.bq_package_target.specs.declared.value.GivenAttribute.{GivenAttribute}
-use Rattle.bq_package_target.specs.Value.{outputs_of, outputs_in}
+use Rattle.bq_value_rule_class.specs.Value.{names_outputs, no_outputs_of, outputs_of}
+use Rattle.bq_package_target.specs.Value.{outputs_in}
 use Rattle.bq_package_target.specs.Target.{is_of, declares, generated}
 use Rattle.bq_package_target.specs.Package.{IsOwnCall}
 use Rattle.bq_package_attributes.specs.Arguments.{nothing_given, with_arguments}
-use Rattle.bq_package_attributes.specs.Declarations.{keywords_alone, gives, gives_mandatory, default_of, default_for, defaults, if_whole, target_of, target, declaration}
+use Rattle.bq_package_attributes.specs.Declarations.{keywords_alone, gives, gives_mandatory, default_for, defaults, if_whole, target_of, target, declaration}
 use Rattle.bq_package_typed_value.proofs.Steps.{both_ok, then_ok}
 use Rattle.bq_package_attributes.proofs.Own.{IsOwnName, arguments_own}
 use Rattle.bq_package_attributes.proofs.Cases.{default_by}
@@ -36,17 +36,14 @@ whole_own own whole rule class line (Some l) gs target mine past h =
 
 -- ---- defaults name no outputs
 
-no_outputs_by : (given : Bool) (name : List ℕ) (d : Option AttributeValue) → outputs_in (default_by given name (default_of d)) ≡ []
+no_outputs_in : (names : Bool) (name : List ℕ) (v : AttributeValue) → names_outputs v ≡ names → outputs_in (if names then [] else record { name = name; value = v } ∷ []) ≡ []
+no_outputs_in true name v e = refl
+no_outputs_in false name v e = append-nil (outputs_of v) ∙ no_outputs_of v e
+
+no_outputs_by : (given : Bool) (name : List ℕ) (d : Option AttributeValue) → outputs_in (default_by given name d) ≡ []
 no_outputs_by true name d = refl
 no_outputs_by false name None = refl
-no_outputs_by false name (Some (a.String s)) = refl
-no_outputs_by false name (Some (a.Int n)) = refl
-no_outputs_by false name (Some (a.Bool b)) = refl
-no_outputs_by false name (Some (a.StringList ss)) = refl
-no_outputs_by false name (Some (a.Label l)) = refl
-no_outputs_by false name (Some (a.LabelList ls)) = refl
-no_outputs_by false name (Some (a.Output l)) = refl
-no_outputs_by false name (Some (a.OutputList ls)) = refl
+no_outputs_by false name (Some v) = no_outputs_in (names_outputs v) name v refl
 
 no_outputs : (keywords : List (Datum × Datum)) (class : Class) → outputs_in (defaults keywords class) ≡ []
 unfolding default_for

@@ -1,6 +1,6 @@
 -- The target that a call declares has each attribute that has to be given.
 use Rattle.std.proofs.Common.{◌≡◌, ◌∙◌, ℕ, zero, suc, ◌<◌, length, arith, Bool, true, false, cond, List, [], ◌∷◌, ◌++◌, Option, Some, None, Ok, inl, inr, refl, sym, ap, subst, codes}
-use Rattle.std.specs.Prelude.{◌||◌, ◌&&◌, not, bytes_eq, slice_index_or}
+use Rattle.std.specs.Prelude.{◌||◌, ◌&&◌, not, if◌then◌else◌, bytes_eq, slice_index_or}
 use Rattle.std.specs.List.{Contains, list_all, flat_map}
 use Rattle.std.proofs.lemmas.List.Folds.{list_any-append}
 use Rattle.std.proofs.lemmas.List.Elements.{Contains-append_left, Contains-append_right}
@@ -9,8 +9,9 @@ use Rattle.bq_base.specs.declared.fault.EvalFault.TheVariants as f
 use Rattle.bq_label.specs.declared.packages.BuildFile.{BuildFile}
 use Rattle.bq_label.specs.Label.{PackageParts, LabelParts}
 use Rattle.bq_label.proofs.Orders.{at_head, head_or_tail}
-use Rattle.bq_value_rule_class.specs.declared.attribute_type.AttributeType.{AttributeType}
+use Rattle.bq_package_attribute_type.specs.declared.attribute_type.AttributeType.{AttributeType}
 use Rattle.bq_value_rule_class.specs.Class.{Class}
+use Rattle.bq_value_rule_class.specs.Value.{names_outputs}
 use Rattle.bq_value_rule_class.specs.declared.attribute.Attribute.{Attribute}
 use Rattle.bq_value.specs.Datum.{Datum, string}
 use Rattle.bq_value.specs.Same.{same}
@@ -31,7 +32,7 @@ use Rattle.bq_package_typed_value.specs.Texts.{text_in}
 use Rattle.bq_package_typed_value.specs.LabelTexts.{label}
 use Rattle.bq_package_typed_value.specs.Values.{value_as}
 use Rattle.bq_package_attributes.specs.Arguments.{nothing_given, is_none, keyword, with_value, with_label, with_name, with_attribute, with_argument, with_arguments}
-use Rattle.bq_package_attributes.specs.Declarations.{keywords_alone, gives, is_met, gives_mandatory, default_of, default_for, defaults, if_whole, target_of, target, declaration}
+use Rattle.bq_package_attributes.specs.Declarations.{keywords_alone, gives, is_met, gives_mandatory, default_for, defaults, if_whole, target_of, target, declaration}
 use Rattle.bq_package_attributes.specs.Laws.{has_attribute, MandatoryAttributesAreGiven, DefaultsAreGiven}
 use Rattle.bq_package_typed_value.proofs.Steps.{both_ok, then_ok, then_true}
 use Rattle.bq_package_attributes.proofs.Cases.{default_by, is_value, with_attribute_by}
@@ -189,9 +190,14 @@ mandatory_attributes_are_given own packages store class rule line p t h e known 
 
 -- ---- defaults
 
-default_there : (keywords : List (Datum × Datum)) (e : List ℕ × Attribute) (v : AttributeValue) → gives keywords e.0 ≡ false → default_of e.1.default ≡ Some v → default_for keywords e ≡ record { name = e.0; value = v } ∷ []
+default_kept : (names : Bool) (one : GivenAttribute) → names ≡ false → (if names then [] else one ∷ []) ≡ one ∷ []
+default_kept true one h = absurd (cc)
+default_kept false one h = refl
+
+default_there : (keywords : List (Datum × Datum)) (e : List ℕ × Attribute) (v : AttributeValue) → gives keywords e.0 ≡ false → e.1.default ≡ Some v → names_outputs v ≡ false
+    → default_for keywords e ≡ record { name = e.0; value = v } ∷ []
 unfolding default_for
-default_there keywords e v lacks is = rw lacks (ap (default_by false e.0) is)
+default_there keywords e v lacks is none = rw lacks (ap (default_by false e.0) is ∙ default_kept (names_outputs v) (record { name = e.0; value = v }) none)
 
 in_part : {X Y : Type 0} (f : X → List Y) (xs : List X) (x : X) (y : Y) → Contains xs x → Contains (f x) y → Contains (flat_map f xs) y
 in_part f [] x y known inside = absurd (let within = known.1 in omega arith)
@@ -202,11 +208,11 @@ in_part f (z ∷ xs) x y known inside = elim (head_or_tail z xs x known) [
 
 -- an attribute that isn't given has its default
 pub defaults_are_given : DefaultsAreGiven
-defaults_are_given own packages store class rule line p b t h bound e known lacks v is =
+defaults_are_given own packages store class rule line p b t h bound e known lacks v is none =
     let d = declares own packages store class rule line p t h in
     let same : d.bound ≡ b = same_ok (bind keywords_alone p) d.bound b d.is bound in
     let one : GivenAttribute = record { name = e.0; value = v } in
-    let at : Contains (default_for b.keywords e) one = subst (λ (gs : List GivenAttribute). Contains gs one) (sym (default_there b.keywords e v lacks is)) (at_head one []) in
+    let at : Contains (default_for b.keywords e) one = subst (λ (gs : List GivenAttribute). Contains gs one) (sym (default_there b.keywords e v lacks is none)) (at_head one []) in
     let there : Contains (defaults b.keywords class) one = in_part (default_for b.keywords) class e one known at in
     subst (λ (gs : List GivenAttribute). Contains gs one) (sym (d.attributes ∙ ap (λ (c : BoundView). d.given.attributes ++ defaults c.keywords class) same)) (Contains-append_right d.given.attributes (defaults b.keywords class) one there)
   where

@@ -9,8 +9,6 @@ use Rattle.bq_label.specs.declared.packages.BuildFile.{BuildFile}
 use Rattle.bq_label.specs.Label.{PackageParts, LabelParts}
 use Rattle.bq_value_rule_class.specs.Class.{Class}
 use Rattle.bq_value_rule_class.specs.declared.attribute.Attribute.{Attribute}
-use Rattle.bq_value_rule_class.specs.declared.value.AttributeValue.{AttributeValue}
-use Rattle.bq_value_rule_class.specs.declared.value.AttributeValue.TheVariants as a
 use Rattle.bq_package_target.specs.declared.target.Target.{Target}
 use Rattle.bq_package_target.specs.declared.target.TargetKind.TheVariants as kind
 use Rattle.bq_package_target.specs.declared.value.GivenAttribute.{GivenAttribute}
@@ -21,6 +19,7 @@ use Rattle.bq_builtin_machine.specs.Args.{Passed}
 use Rattle.bq_builtin_machine.specs.Parameters.{SignatureView}
 use Rattle.bq_builtin_machine.specs.Binding.{bind}
 use Rattle.bq_package_typed_value.specs.Steps.{and_then}
+use Rattle.bq_value_rule_class.specs.Value.{names_outputs}
 use Rattle.bq_package_attributes.specs.Arguments.{nothing_given, is_none, with_arguments}
 
 -- `**` alone
@@ -39,16 +38,10 @@ is_met keywords e = not e.1.is_mandatory || gives keywords e.0
 unfoldable pub gives_mandatory : Class → List (Datum × Datum) → Bool
 gives_mandatory class keywords = list_all (is_met keywords) class
 
--- the names of outputs have no defaults
-abbrev pub default_of : Option AttributeValue → Option AttributeValue
-default_of None = None
-default_of (Some (a.Output l)) = None
-default_of (Some (a.OutputList ls)) = None
-default_of (Some v) = Some v
-
--- the default of an attribute that the keyword arguments don't give
+-- the default of an attribute that the keyword arguments don't give; the names of outputs have no defaults
 unfoldable pub default_for : List (Datum × Datum) → List ℕ × Attribute → List GivenAttribute
-default_for keywords e = if gives keywords e.0 then [] else elim (default_of e.1.default) [ None ↦ [] | Some v ↦ record { name = e.0; value = v } ∷ [] ]
+default_for keywords e =
+    if gives keywords e.0 then [] else elim e.1.default [ None ↦ [] | Some v ↦ if names_outputs v then [] else record { name = e.0; value = v } ∷ [] ]
 
 -- the defaults of all of them, in the order of the class
 abbrev pub defaults : List (Datum × Datum) → Class → List GivenAttribute

@@ -6,6 +6,7 @@ use Rattle.bq_label.specs.declared.packages.BuildFile.{BuildFile}
 use Rattle.bq_label.specs.Label.{PackageParts}
 use Rattle.bq_value_rule_class.specs.declared.attribute.Attribute.{Attribute}
 use Rattle.bq_value_rule_class.specs.Class.{Class}
+use Rattle.bq_value_rule_class.specs.Value.{names_outputs}
 use Rattle.bq_package_target.specs.declared.target.Target.{Target}
 use Rattle.bq_value_rule_class.specs.declared.value.AttributeValue.{AttributeValue}
 use Rattle.bq_package_target.specs.declared.value.GivenAttribute.{GivenAttribute}
@@ -16,7 +17,7 @@ use Rattle.bq_builtin_machine.specs.Args.{Passed}
 use Rattle.bq_builtin_machine.specs.Binding.{BoundView, bind}
 use Rattle.bq_package_attributes.specs.declared.arguments.Given.{Given}
 use Rattle.bq_package_attributes.specs.Arguments.{with_argument, with_arguments}
-use Rattle.bq_package_attributes.specs.Declarations.{keywords_alone, gives, default_of, declaration}
+use Rattle.bq_package_attributes.specs.Declarations.{keywords_alone, gives, declaration}
 
 -- the target that a call declares, and the files that its rule makes, are of the package of the BUILD file
 abbrev pub CallsDeclareOwnTargets : Type 0
@@ -55,9 +56,10 @@ MandatoryAttributesAreGiven =
     → declaration own packages store class rule line p ≡ Ok t
     → (e : List ℕ × Attribute) → Contains class e → e.1.is_mandatory ≡ true → has_attribute t.attributes e.0 ≡ true
 
--- an attribute that the keyword arguments of a call don't give has its default
+-- an attribute that the keyword arguments of a call don't give has its default, unless it names outputs
 abbrev pub DefaultsAreGiven : Type 0
 DefaultsAreGiven =
     (own : PackageParts) (packages : List BuildFile) (store : StoreView) (class : Class) (rule : List ℕ) (line : ℕ) (p : Passed) (b : BoundView) (t : Target)
     → declaration own packages store class rule line p ≡ Ok t → bind keywords_alone p ≡ Ok b
-    → (e : List ℕ × Attribute) → Contains class e → gives b.keywords e.0 ≡ false → (v : AttributeValue) → default_of e.1.default ≡ Some v → Contains t.attributes (record { name = e.0; value = v })
+    → (e : List ℕ × Attribute) → Contains class e → gives b.keywords e.0 ≡ false → (v : AttributeValue) → e.1.default ≡ Some v → names_outputs v ≡ false
+    → Contains t.attributes (record { name = e.0; value = v })

@@ -3,8 +3,8 @@ use Rattle.std.specs.Prelude.{ℕ, List, [], ◌∷◌, ◌++◌, Bool, true, no
 use Rattle.std.specs.Option.{is_some}
 use Rattle.bq_value.specs.Datum.{Datum, string}
 use Rattle.bq_value.specs.Pairs.{found}
-use Rattle.bq_package_attributes.specs.declared.named.Held.{Held}
-use Rattle.bq_package_attributes.specs.declared.named.Held.TheVariants as held
+use Rattle.bq_package_attributes.specs.declared.named.HeldArguments.{HeldArguments}
+use Rattle.bq_package_attributes.specs.declared.named.HeldArguments.TheVariants as held
 
 -- an argument as a pair of a dict
 abbrev pub pair_of : List ℕ × Datum → Datum × Datum
@@ -13,7 +13,7 @@ pair_of a = (string a.0, a.1)
 abbrev pub pairs : List (List ℕ × Datum) → List (Datum × Datum)
 pairs named = map pair_of named
 
-abbrev pub pairs_of : Held → List (Datum × Datum)
+abbrev pub pairs_of : HeldArguments → List (Datum × Datum)
 pairs_of (held.Few named) = pairs named.items
 pairs_of (held.Many dict) = dict
 

@@ -7,11 +7,11 @@ ghost use Rattle.bq_value.specs.Datum.{string};
 ghost use Rattle.bq_package_attributes.specs.Named.{pairs};
 ghost use Rattle.bq_package_attributes.specs.Arguments.{is_none, keyword, with_name, with_argument, with_arguments};
 
-use crate::named::{Held, Keywords};
+use crate::named::{HeldArguments, Keywords};
 use bq_base::{Bytes, EvalFault};
 use bq_label::Label;
 use bq_package_target::{GivenAttribute, attribute_type};
-use bq_package_typed_value::{Scope, TextKind, label, text_in, value_as};
+use bq_package_typed_value::{PackageScope, TextKind, label, text_in, value_as};
 use bq_value::{Dict, EvalErr, Key, Node, Store, Value};
 use bq_value_rule_class::{AttributeValue, RuleClass};
 use sqlite_items::Items;
@@ -29,7 +29,7 @@ pub struct Given {
 /// The rule that is called, where, and in what its values are read.
 #[derive(Clone, Copy)]
 pub struct Callee<'a> {
-    pub scope: Scope<'a>,
+    pub scope: PackageScope<'a>,
     pub store: &'a Store,
     /// The attributes that the rule has of its own.
     pub class: &'a RuleClass,
@@ -57,7 +57,12 @@ pub(crate) fn is_none(value: &Value) -> bool
 impl Given {
     /// Takes the argument `name`, which is an attribute too: F73, F75, F37.
     #[tactic(auto, unfolding(crate::specs::Arguments::with_name))]
-    fn take_name(&mut self, alloc: Global, scope: Scope<'_>, value: &Value) -> Result<(), EvalErr>
+    fn take_name(
+        &mut self,
+        alloc: Global,
+        scope: PackageScope<'_>,
+        value: &Value,
+    ) -> Result<(), EvalErr>
         ensures { Gives (λ _. self.new) Bad result (with_name scope.entry.own.now scope.entry.packages.now value.now self.old) }
     {
         if is_none(value) {
@@ -154,8 +159,8 @@ impl Given {
         ensures { Gives (λ _. self.new) Bad result (with_arguments callee.entry.scope.own.now callee.entry.scope.packages.now callee.entry.store.now callee.entry.class.now self.old keywords.now) }
     {
         match &keywords.held {
-            Held::Few(named) => self.take_few(alloc, callee, named),
-            Held::Many(dict) => self.take_many(alloc, callee, dict),
+            HeldArguments::Few(named) => self.take_few(alloc, callee, named),
+            HeldArguments::Many(dict) => self.take_many(alloc, callee, dict),
         }
     }
 }

@@ -12,7 +12,7 @@ use bq_base::{Bytes, EvalFault};
 use bq_builtin_machine::Args;
 use bq_package_target::{GivenAttribute, Target, TargetKind};
 use bq_value::EvalErr;
-use bq_value_rule_class::{Attribute, AttributeValue, RuleClass};
+use bq_value_rule_class::{Attribute, RuleClass};
 use sqlite_items::Items;
 use std::alloc::{AllocError, Global};
 use std::mem;
@@ -56,12 +56,12 @@ fn add_default(
 ) -> Result<(), AllocError>
     ensures { OnOk result (attributes.new ≡ attributes.old ++ default_for keywords.now (name.now, attribute.now)) }
 {
-    let value = match &attribute.default {
-        None => return Ok(()),
-        Some(AttributeValue::Output(_)) => return Ok(()),
-        Some(AttributeValue::OutputList(_)) => return Ok(()),
-        Some(value) => value,
+    let Some(value) = &attribute.default else {
+        return Ok(());
     };
+    if value.names_outputs() {
+        return Ok(());
+    }
     if gives(keywords, name)? {
         return Ok(());
     }

@@ -24,7 +24,7 @@ const FEW: usize = 16;
 
 /// How arguments are held.
 #[derive(Drop)]
-pub(crate) enum Held {
+pub(crate) enum HeldArguments {
     Few(Vec<(Bytes, Value)>),
     Many(Dict),
 }
@@ -32,7 +32,7 @@ pub(crate) enum Held {
 /// The keyword arguments of a call, none of them twice, in the order in which they are written. Contracts see the pairs of a dict.
 #[derive(Drop)]
 pub(crate) struct Keywords {
-    pub(crate) held: Held,
+    pub(crate) held: HeldArguments,
 }
 
 impl Model for Keywords {
@@ -85,7 +85,7 @@ fn many(alloc: Global, seed: Seed, args: Args) -> Result<Keywords, EvalErr>
     };
     let bound = bind(alloc, seed, &signature, args)?;
     Ok(Keywords {
-        held: Held::Many(bound.keywords),
+        held: HeldArguments::Many(bound.keywords),
     })
 }
 
@@ -105,7 +105,7 @@ impl Keywords {
             return Err(EvalErr::Bad(EvalFault::Args));
         }
         Ok(Keywords {
-            held: Held::Few(named),
+            held: HeldArguments::Few(named),
         })
     }
 
@@ -114,8 +114,8 @@ impl Keywords {
         ensures { IfOk result (λ value. option_copied value ≡ found (string name.now) self.now) }
     {
         match &self.held {
-            Held::Few(named) => Ok(value_of(named, name.as_slice())),
-            Held::Many(dict) => {
+            HeldArguments::Few(named) => Ok(value_of(named, name.as_slice())),
+            HeldArguments::Many(dict) => {
                 let key = Key::new(Value::string(name.share()?));
                 Ok(dict.get(&key))
             }

@@ -1,13 +1,11 @@
 -- `attr.NAME(..)` (Bazel, "attr"): F52; F40 where the default isn't of the type, or `doc` is neither a string nor `None`; F78 and F37
 -- of the default's labels.
-use Rattle.std.specs.Prelude.{pos, Bool, true, false, List, [], Option, Some, None, Result, Ok, if◌then◌else◌}
-use Rattle.std.specs.Ordering.{int_eq}
+use Rattle.std.specs.Prelude.{Bool, false, List, Option, Some, None, Result, Ok, if◌then◌else◌}
 use Rattle.bq_base.specs.declared.fault.EvalFault.{EvalFault}
 use Rattle.bq_base.specs.declared.fault.EvalFault.TheVariants.{WrongType}
 use Rattle.bq_value_rule_class.specs.declared.attribute.Attribute.{Attribute}
-use Rattle.bq_value_rule_class.specs.declared.attribute_type.AttributeType.{AttributeType}
+use Rattle.bq_package_attribute_type.specs.declared.attribute_type.AttributeType.{AttributeType}
 use Rattle.bq_value_rule_class.specs.declared.value.AttributeValue.{AttributeValue}
-use Rattle.bq_value_rule_class.specs.declared.value.AttributeValue.TheVariants as a
 use Rattle.bq_value.specs.Datum.{Datum, none}
 use Rattle.bq_value.specs.Cells.{StoreView}
 use Rattle.bq_value_compare.specs.Truth.{truth_of}
@@ -16,7 +14,8 @@ use Rattle.bq_builtin_machine.specs.Binding.{bind}
 use Rattle.bq_package_typed_value.specs.declared.written.Written.{Written}
 use Rattle.bq_package_typed_value.specs.Steps.{and_then}
 use Rattle.bq_package_typed_value.specs.Parameters.{argument}
-use Rattle.bq_package_typed_value.specs.Written.{written_as}
+use Rattle.bq_value_rule_class.specs.Value.{is_blank}
+use Rattle.bq_package_typed_value.specs.Types.{written_as}
 use Rattle.bq_package_host.specs.Host.{ReadDefault}
 use Rattle.bq_package_rule_functions.specs.Keywords.{attribute_parameters, documented}
 
@@ -25,15 +24,6 @@ abbrev pub written_default : StoreView → AttributeType → Option Datum → Re
 written_default store type None = Ok None
 written_default store type (Some none) = Ok None
 written_default store type (Some v) = and_then (written_as WrongType store type v) (λ x. Ok (Some x))
-
--- what an attribute of the type has by itself: nothing in it, 0 or `False`
-abbrev pub is_blank : AttributeValue → Bool
-is_blank (a.String []) = true
-is_blank (a.Int n) = int_eq n (pos 0)
-is_blank (a.Bool false) = true
-is_blank (a.StringList []) = true
-is_blank (a.LabelList []) = true
-is_blank _ = false
 
 -- the default that is kept: none that is the type's own
 abbrev pub kept : AttributeValue → Option AttributeValue

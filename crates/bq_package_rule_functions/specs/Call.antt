@@ -5,8 +5,7 @@ use Rattle.bq_base.specs.declared.fault.EvalFault.TheVariants.{WrongType, BadVal
 use Rattle.bq_resolve_predeclared.specs.declared.rule_function.RuleFunction.{RuleFunction}
 use Rattle.bq_resolve_predeclared.specs.declared.rule_function.RuleFunction.TheVariants as f
 use Rattle.bq_value_rule_class.specs.Class.{Class}
-use Rattle.bq_value_rule_class.specs.declared.attribute_type.AttributeType.{AttributeType}
-use Rattle.bq_value_rule_class.specs.declared.attribute_type.AttributeType.TheVariants as t
+use Rattle.bq_package_attribute_type.specs.declared.attribute_type.AttributeType.{AttributeType}
 use Rattle.bq_value.specs.Datum as datum
 use Rattle.bq_value.specs.Datum.{Datum}
 use Rattle.bq_value.specs.Contents as contents
@@ -20,16 +19,6 @@ use Rattle.bq_package_host.specs.Host.{HostCalls, ReadDefault}
 use Rattle.bq_package_rule_functions.specs.Attribute.{attribute}
 use Rattle.bq_package_rule_functions.specs.Rule.{class}
 
--- the type of the attributes that a function declares; none for `rule`
-abbrev pub type_of : RuleFunction → Option AttributeType
-type_of f.Rule = None
-type_of f.AttrString = Some t.String
-type_of f.AttrInt = Some t.Int
-type_of f.AttrBool = Some t.Bool
-type_of f.AttrStringList = Some t.StringList
-type_of f.AttrLabel = Some t.Label
-type_of f.AttrLabelList = Some t.LabelList
-
 -- `attr.NAME(..)`
 unfoldable pub new_attribute : ReadDefault → AttributeType → Passed → Action State Datum
 new_attribute read type args = look (λ s. attribute read s.store type args) >>= λ x. pure (datum.attribute x)
@@ -39,13 +28,13 @@ unfoldable pub new_rule : Bool → Passed → Action State Datum
 new_rule in_build args = look (λ s. class in_build s.store args) >>= λ x. new_content (contents.rule x)
 
 -- a call of `rule`, or of a function of `attr`, which has a type
-abbrev pub declare : ReadDefault → Bool → Option AttributeType → Passed → Action State Datum
-declare read in_build None args = new_rule in_build args
-declare read in_build (Some type) args = new_attribute read type args
+abbrev pub declare : ReadDefault → Bool → RuleFunction → Passed → Action State Datum
+declare read in_build f.Rule args = new_rule in_build args
+declare read in_build (f.Attr type) args = new_attribute read type args
 
 -- a call of a function that declares rules
 unfoldable pub call_rule_function : {W : Type 0} → HostCalls W → RuleFunction → Passed → Action (State × W) Datum
-call_rule_function host function args = λ s. on_machine (declare (host.read_default s.1) (host.in_build s.1) (type_of function) args) s
+call_rule_function host function args = λ s. on_machine (declare (host.read_default s.1) (host.in_build s.1) function args) s
 
 -- ---- rules
 

@@ -5,7 +5,7 @@ use Rattle.std.specs.List.{list_all}
 use Rattle.bq_base.specs.declared.fault.EvalFault.{EvalFault}
 use Rattle.bq_base.specs.declared.fault.EvalFault.TheVariants.{WrongType, BadValue}
 use Rattle.bq_parse_grammar.specs.Literals.{is_identifier}
-use Rattle.bq_value_rule_class.specs.AttributeType.{common_attribute}
+use Rattle.bq_value_rule_class.specs.Common.{common_attribute}
 use Rattle.bq_value_rule_class.specs.Class.{Class}
 use Rattle.bq_value_rule_class.specs.declared.attribute.Attribute.{Attribute}
 use Rattle.bq_value.specs.Datum as datum

@@ -3,16 +3,17 @@
 ghost use Rattle.std.specs.Prelude.{◌≡◌, option_copied};
 ghost use Rattle.bq_base.specs.Gives.{Gives};
 ghost use Rattle.bq_value.specs.declared.error.EvalErr.TheVariants.{Bad};
-ghost use Rattle.bq_package_rule_functions.specs.Attribute.{written_default, is_blank, kept, resolved_default, is_mandatory, attribute_of, attribute};
+ghost use Rattle.bq_package_rule_functions.specs.Attribute.{written_default, kept, resolved_default, is_mandatory, attribute_of, attribute};
 
 use crate::keywords::{bind_attribute, documented};
 use bq_base::EvalFault;
 use bq_builtin_machine::Args;
+use bq_package_attribute_type::AttributeType;
 use bq_package_host::Host;
 use bq_package_typed_value::{Written, argument, written_as};
 use bq_value::{EvalErr, Node, Store, Value};
 use bq_value_compare::truth;
-use bq_value_rule_class::{Attribute, AttributeType, AttributeValue};
+use bq_value_rule_class::{Attribute, AttributeValue};
 use std::alloc::Global;
 
 /// Returns the default as it is written, if one is given that isn't `None`.
@@ -36,25 +37,11 @@ fn written_default(
     }
 }
 
-/// Returns whether this is the value that an attribute of the type has without a default.
-fn is_blank(value: &AttributeValue) -> bool
-    ensures { result ≡ is_blank value.now }
-{
-    match value {
-        AttributeValue::String(text) => text.as_slice().is_empty(),
-        AttributeValue::Int(n) => *n == 0,
-        AttributeValue::Bool(b) => !*b,
-        AttributeValue::StringList(texts) => texts.as_slice().is_empty(),
-        AttributeValue::LabelList(labels) => labels.as_slice().is_empty(),
-        _ => false,
-    }
-}
-
 /// Returns the default, if it has to be kept.
 fn kept(value: AttributeValue) -> Option<AttributeValue>
     ensures { result ≡ kept value }
 {
-    if is_blank(&value) {
+    if value.is_blank() {
         return None;
     }
     Some(value)

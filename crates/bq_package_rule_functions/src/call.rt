@@ -5,32 +5,18 @@ ghost use Rattle.bq_base.specs.Gives.{Gives};
 ghost use Rattle.bq_value.specs.declared.error.EvalErr.TheVariants.{Bad};
 ghost use Rattle.bq_value.specs.Cells.{content_at, kind_of};
 ghost use Rattle.bq_builtin_machine.specs.Action.{Does, HostDoes};
-ghost use Rattle.bq_package_rule_functions.specs.Call.{type_of, new_attribute, new_rule, declare, class_in, call_kind, call_class, call_rule_function, call_cell};
+ghost use Rattle.bq_package_rule_functions.specs.Call.{new_attribute, new_rule, declare, class_in, call_kind, call_class, call_rule_function, call_cell};
 
 use crate::attribute::attribute;
 use crate::rule::class;
 use bq_base::{Bytes, EvalFault};
 use bq_builtin_machine::{Args, Machine};
+use bq_package_attribute_type::AttributeType;
 use bq_package_host::Host;
 use bq_resolve_predeclared::RuleFunction;
 use bq_value::{Body, Cell, Content, EvalErr, Store, Value};
-use bq_value_rule_class::{AttributeType, RuleClass};
+use bq_value_rule_class::RuleClass;
 use std::alloc::{AllocError, Global};
-
-/// Returns the type of the attributes that a function declares; `rule` declares none.
-fn type_of(function: RuleFunction) -> Option<AttributeType>
-    ensures { result ≡ type_of function }
-{
-    match function {
-        RuleFunction::Rule => None,
-        RuleFunction::AttrString => Some(AttributeType::String),
-        RuleFunction::AttrInt => Some(AttributeType::Int),
-        RuleFunction::AttrBool => Some(AttributeType::Bool),
-        RuleFunction::AttrStringList => Some(AttributeType::StringList),
-        RuleFunction::AttrLabel => Some(AttributeType::Label),
-        RuleFunction::AttrLabelList => Some(AttributeType::LabelList),
-    }
-}
 
 /// Carries out `attr.NAME(..)`.
 #[tactic(auto, unfolding(crate::specs::Call::new_attribute))]
@@ -68,11 +54,11 @@ fn declare<H: Host>(
     args: Args,
     machine: &mut Machine,
 ) -> Result<Value, EvalErr>
-    ensures { Does (λ v. v) result machine.new (declare (H.means.read_default (H.seen host.now)) (H.means.in_build (H.seen host.now)) (type_of function) args machine.old) }
+    ensures { Does (λ v. v) result machine.new (declare (H.means.read_default (H.seen host.now)) (H.means.in_build (H.seen host.now)) function args machine.old) }
 {
-    match type_of(function) {
-        None => new_rule(alloc, host.in_build(), args, machine),
-        Some(kind) => new_attribute(alloc, host, kind, args, machine),
+    match function {
+        RuleFunction::Rule => new_rule(alloc, host.in_build(), args, machine),
+        RuleFunction::Attr(kind) => new_attribute(alloc, host, kind, args, machine),
     }
 }
 

@@ -9,6 +9,7 @@ use Rattle.bq_base.specs.declared.fault.Fault.{Fault}
 use Rattle.bq_base.specs.declared.fault.SourceErr.{SourceErr}
 use Rattle.bq_base.specs.declared.fault.SourceErr.TheVariants.{Bad, Memory}
 use Rattle.bq_parse_grammar.specs.Literals.{is_identifier}
+use Rattle.bq_package_attribute_type.specs.AttributeType.{type_named}
 use Rattle.bq_resolve_predeclared.specs.Predeclared.{place_from, first_named, predeclared_named}
 use Rattle.bq_value_rule_class.specs.Class.{extended}
 use Rattle.bq_package_schema.specs.Line.{is_skipped, is_predeclared, names_rule, names_attribute, rule_line, attribute_line, words_line, line_of}
@@ -17,7 +18,7 @@ use Rattle.bq_package_schema.specs.Reading.{declared_by}
 use Rattle.bq_package_schema.specs.Standard.{standard_lines, standard_rules}
 
 pub declared : declared_by no_rules 0 standard_lines ≡ Ok standard_rules
-unfolding word_kind same_kind is_identifier place_from first_named predeclared_named is_skipped is_predeclared names_rule names_attribute rule_line attribute_line words_line line_of extended with_rule last_of with_attribute_of_last after declared_by
+unfolding word_kind same_kind is_identifier type_named place_from first_named predeclared_named is_skipped is_predeclared names_rule names_attribute rule_line attribute_line words_line line_of extended with_rule last_of with_attribute_of_last after declared_by
 declared = refl
 
 same_rules : (rules : Rules) (r : Result Rules (Fault FaultKind)) → r ≡ Ok standard_rules → r ≡ Ok rules → rules ≡ standard_rules

@@ -2,8 +2,8 @@
 -- test_suite).
 use Rattle.std.specs.Prelude.{ℕ, List, [], ◌∷◌, true, false, None, codes}
 use Rattle.bq_value_rule_class.specs.declared.attribute.Attribute.{Attribute}
-use Rattle.bq_value_rule_class.specs.declared.attribute_type.AttributeType.{AttributeType}
-use Rattle.bq_value_rule_class.specs.declared.attribute_type.AttributeType.TheVariants as t
+use Rattle.bq_package_attribute_type.specs.declared.attribute_type.AttributeType.{AttributeType}
+use Rattle.bq_package_attribute_type.specs.declared.attribute_type.AttributeType.TheVariants as t
 use Rattle.bq_package_schema.specs.Schema.{Rules}
 
 -- its lines

@@ -25,13 +25,13 @@ pub struct Classes {
 
 /// The rules so far. Contracts see what they see of a schema.
 #[derive(Drop)]
-pub struct Draft {
+pub struct SchemaDraft {
     names: NameSet,
     /// `None` while there is no rule.
     classes: Option<Classes>,
 }
 
-impl Model for Draft {
+impl Model for SchemaDraft {
     ghost use Rattle.bq_package_schema.specs.Schema.{Rules};
     ghost use Rattle.bq_package_schema.specs.Draft.{classes_of};
 
@@ -53,11 +53,11 @@ fn shared(alloc: Global, classes: Option<Classes>) -> Result<Items<RuleClass>, A
     Ok(all)
 }
 
-impl Draft {
-    pub fn empty(alloc: Global) -> Draft
+impl SchemaDraft {
+    pub fn empty(alloc: Global) -> SchemaDraft
         ensures { result ≡ no_rules }
     {
-        Draft {
+        SchemaDraft {
             names: NameSet::new(alloc),
             classes: None,
         }
@@ -67,7 +67,7 @@ impl Draft {
     pub fn finish(self, alloc: Global) -> Result<Schema, AllocError>
         ensures { IfOk result (λ s. s ≡ self) }
     {
-        let Draft { names, classes } = self;
+        let SchemaDraft { names, classes } = self;
         Ok(Schema {
             names: Arc::new(alloc, names)?,
             classes: shared(alloc, classes)?,
@@ -76,10 +76,10 @@ impl Draft {
 
     /// Adds a rule without attributes; `None` if one has the name.
     #[tactic(auto, unfolding(crate::specs::Schema::with_rule))]
-    fn with_rule(self, alloc: Global, name: Bytes) -> Result<Option<Draft>, AllocError>
+    fn with_rule(self, alloc: Global, name: Bytes) -> Result<Option<SchemaDraft>, AllocError>
         ensures { IfOk result (λ d. d ≡ with_rule self name) }
     {
-        let Draft { mut names, classes } = self;
+        let SchemaDraft { mut names, classes } = self;
         if !names.add(&name)? {
             return Ok(None);
         }
@@ -87,7 +87,7 @@ impl Draft {
             before: shared(alloc, classes)?,
             last: Attributes::new(alloc),
         };
-        Ok(Some(Draft {
+        Ok(Some(SchemaDraft {
             names,
             classes: Some(classes),
         }))
@@ -100,10 +100,10 @@ impl Draft {
         alloc: Global,
         name: Bytes,
         attribute: Attribute,
-    ) -> Result<Option<Draft>, AllocError>
+    ) -> Result<Option<SchemaDraft>, AllocError>
         ensures { IfOk result (λ d. d ≡ with_attribute_of_last self name attribute) }
     {
-        let Draft { names, classes } = self;
+        let SchemaDraft { names, classes } = self;
         let Some(classes) = classes else {
             drop(attribute);
             return Ok(None);
@@ -111,7 +111,7 @@ impl Draft {
         let Classes { before, last } = classes;
         match last.with(alloc, name.as_slice(), attribute)? {
             None => Ok(None),
-            Some(last) => Ok(Some(Draft {
+            Some(last) => Ok(Some(SchemaDraft {
                 names,
                 classes: Some(Classes { before, last }),
             })),
@@ -120,7 +120,7 @@ impl Draft {
 
     /// Adds what a line declares; `None` if the line is a bad one.
     #[tactic(auto, unfolding(crate::specs::Schema::after))]
-    pub fn after(self, alloc: Global, line: Line) -> Result<Option<Draft>, AllocError>
+    pub fn after(self, alloc: Global, line: Line) -> Result<Option<SchemaDraft>, AllocError>
         ensures { IfOk result (λ d. d ≡ after self line) }
     {
         match line {

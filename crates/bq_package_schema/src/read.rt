@@ -7,7 +7,7 @@ ghost use Rattle.bq_base.specs.declared.fault.SourceErr.TheVariants.{Bad, Memory
 ghost use Rattle.bq_package_schema.specs.Schema.{no_rules};
 ghost use Rattle.bq_package_schema.specs.Reading.{lines, line_number, declared_by, schema_of};
 
-use crate::draft::Draft;
+use crate::draft::SchemaDraft;
 use crate::line::line_of;
 use crate::schema::Schema;
 use bq_base::{Fault, FaultKind, SourceErr};
@@ -36,7 +36,7 @@ fn line_number(before: usize) -> u32
 pub(crate) fn read_lines(alloc: Global, lines: &[&[u8]]) -> Result<Schema, SourceErr<FaultKind>>
     ensures { Gives (λ s. s) Bad result (declared_by no_rules 0 (map (λ l. l.now) lines.now)) }
 {
-    let mut draft = Draft::empty(alloc);
+    let mut draft = SchemaDraft::empty(alloc);
     for (before, line) in lines.iter().enumerate() {
         let line = line_of(alloc, line)?;
         match draft.after(alloc, line)? {

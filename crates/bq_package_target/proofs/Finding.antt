@@ -11,9 +11,6 @@ use Rattle.std.specs.Cmp.Lexicographic.{nat_list_eq_equiv}
 use Rattle.bq_label.specs.Label.{PackageParts, LabelParts}
 use Rattle.bq_package_target.specs.declared.files.Files.{Files}
 use Rattle.bq_package_target.specs.declared.target.Target.{Target}
-use Rattle.bq_value_rule_class.specs.declared.value.AttributeValue.{AttributeValue}
-use Rattle.bq_value_rule_class.specs.declared.value.AttributeValue.TheVariants as v
-use Rattle.bq_package_target.specs.Value.{labels_of}
 use Rattle.bq_package_target.specs.Names.{with_name}
 use Rattle.bq_base_names.specs.Names.{has}
 use Rattle.bq_package_target.specs.Target.{is_of, source}
@@ -119,20 +116,6 @@ own_other own l s h = rw h (finds_nothing 0 s)
 
 pub own_one : (own : PackageParts) (l : LabelParts) (s t : Files) → is_of own l ≡ true → Finds 0 (l ∷ []) s t → FindsOwn own (l ∷ []) s t
 own_one own l s t h f = rw h f
-
--- other values name no target
-pub no_labels : (value : AttributeValue) → ((l : LabelParts) → value ≡ v.Label l → ⊥) → ((ls : List LabelParts) → value ≡ v.LabelList ls → ⊥) → labels_of value ≡ []
-no_labels (v.Label l) f g = absurd (f l refl)
-no_labels (v.LabelList ls) f g = absurd (g ls refl)
-no_labels (v.String s) f g = refl
-no_labels (v.Int n) f g = refl
-no_labels (v.Bool b) f g = refl
-no_labels (v.StringList ss) f g = refl
-no_labels (v.Output l) f g = refl
-no_labels (v.OutputList ls) f g = refl
-
-pub own_none : (own : PackageParts) (ls : List LabelParts) (s : Files) → ls ≡ [] → FindsOwn own ls s s
-own_none own ls s e = rw e (finds_nothing 0 s)
 
 -- ---- what is found
 

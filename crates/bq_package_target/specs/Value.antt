@@ -1,28 +1,14 @@
--- The values of attributes (Bazel, "attr"): the labels of other targets in them, and the files that they name as outputs; and the types
--- of the attributes of a rule.
-use Rattle.std.specs.Prelude.{ℕ, List, [], ◌∷◌, Option, Some, None, bytes_eq}
+-- The labels of other targets in attributes, and the files that they name as outputs; and the types of the attributes of a rule.
+use Rattle.std.specs.Prelude.{ℕ, List, Option, Some, None, bytes_eq}
 use Rattle.std.specs.Option.{option_map}
 use Rattle.std.specs.List.{flat_map}
 use Rattle.std.specs.Map.{lookup}
 use Rattle.bq_label.specs.Label.{LabelParts}
-use Rattle.bq_value_rule_class.specs.declared.attribute_type.AttributeType.{AttributeType}
-use Rattle.bq_value_rule_class.specs.AttributeType.{common_attribute}
+use Rattle.bq_package_attribute_type.specs.declared.attribute_type.AttributeType.{AttributeType}
+use Rattle.bq_value_rule_class.specs.Common.{common_attribute}
 use Rattle.bq_value_rule_class.specs.Class.{Class}
-use Rattle.bq_value_rule_class.specs.declared.value.AttributeValue.{AttributeValue}
-use Rattle.bq_value_rule_class.specs.declared.value.AttributeValue.TheVariants as v
+use Rattle.bq_value_rule_class.specs.Value.{labels_of, outputs_of}
 use Rattle.bq_package_target.specs.declared.value.GivenAttribute.{GivenAttribute}
-
--- the targets that a value names: those of types label and label_list alone
-abbrev pub labels_of : AttributeValue → List LabelParts
-labels_of (v.Label l) = l ∷ []
-labels_of (v.LabelList ls) = ls
-labels_of _ = []
-
--- the files that a value names as outputs
-abbrev pub outputs_of : AttributeValue → List LabelParts
-outputs_of (v.Output l) = l ∷ []
-outputs_of (v.OutputList ls) = ls
-outputs_of _ = []
 
 -- the targets that attributes name, in order
 abbrev pub labels_in : List GivenAttribute → List LabelParts

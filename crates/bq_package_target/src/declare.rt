@@ -1,7 +1,7 @@
 //! The calls of rules and of `package_group`.
 
 ghost use Rattle.std.specs.Prelude.{◌≡◌, ◌∷◌, ◌++◌, map, if◌then◌else◌, IfOk, OnOk};
-ghost use Rattle.bq_package_target.specs.Value.{outputs_of, outputs_in};
+ghost use Rattle.bq_package_target.specs.Value.{outputs_in};
 ghost use Rattle.bq_package_target.specs.Target.{names_of, generated, declares};
 ghost use Rattle.bq_package_target.specs.Names.{are_new};
 
@@ -10,7 +10,6 @@ use crate::names::TargetNames;
 use crate::state::{Declared, PackageState};
 use crate::target::Target;
 use bq_label::Label;
-use bq_value_rule_class::AttributeValue;
 use sqlite_items::Items;
 use std::alloc::{AllocError, Global};
 
@@ -29,34 +28,13 @@ fn add_generated(
     Ok(())
 }
 
-/// Appends the outputs that the value of an attribute names.
-fn add_outputs(
-    alloc: Global,
-    rule: &Target,
-    value: &AttributeValue,
-    made: &mut Items<Target>,
-) -> Result<(), AllocError>
-    ensures { OnOk result (made.new ≡ made.old ++ map (generated rule.now) (outputs_of value.now)) }
-{
-    match value {
-        AttributeValue::Output(label) => {
-            made.push(Target::generated(alloc, rule, label)?)?;
-            Ok(())
-        }
-        AttributeValue::OutputList(labels) => {
-            add_generated(alloc, rule, labels.as_slice(), made)
-        }
-        _ => Ok(()),
-    }
-}
-
 /// Returns the files that the rule makes.
 fn outputs(alloc: Global, rule: &Target) -> Result<Items<Target>, AllocError>
     ensures { IfOk result (λ ts. ts ≡ map (generated rule.now) (outputs_in rule.now.attributes)) }
 {
     let mut made = Items::new(alloc);
     for given in rule.attributes.as_slice() {
-        add_outputs(alloc, rule, &given.value, &mut made)?;
+        add_generated(alloc, rule, given.value.outputs(), &mut made)?;
     }
     Ok(made)
 }

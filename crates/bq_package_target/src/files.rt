@@ -2,14 +2,13 @@
 
 ghost use Rattle.std.specs.Prelude.{◌≡◌, [], ◌∷◌, OnOk};
 ghost use Rattle.std.specs.List.{flat_map};
-ghost use Rattle.bq_package_target.specs.Value.{labels_of, labels_in};
 ghost use Rattle.bq_package_target.specs.Target.{is_of};
+ghost use Rattle.bq_package_target.specs.Value.{labels_in};
 
 use crate::names::TargetNames;
 use crate::target::{Target, TargetKind};
 use crate::value::GivenAttribute;
 use bq_label::{Label, PackageId};
-use bq_value_rule_class::AttributeValue;
 use sqlite_items::Items;
 use std::alloc::{AllocError, Global};
 
@@ -83,24 +82,6 @@ impl Files {
         Ok(())
     }
 
-    /// Adds the files that a value names as dependencies.
-    fn add_value(
-        &mut self,
-        alloc: Global,
-        own: &PackageId,
-        value: &AttributeValue,
-    ) -> Result<(), AllocError>
-        ensures { OnOk result (FindsOwn own.now (labels_of value.now) self.old self.new) }
-    {
-        match value {
-            AttributeValue::Label(label) => self.add_own(alloc, own, label),
-            AttributeValue::LabelList(labels) => {
-                self.add_own_labels(alloc, own, labels.as_slice())
-            }
-            _ => Ok(()),
-        }
-    }
-
     fn add_attributes(
         &mut self,
         alloc: Global,
@@ -110,7 +91,7 @@ impl Files {
         ensures { OnOk result (FindsOwn own.now (labels_in attributes.now) self.old self.new) }
     {
         for given in attributes {
-            self.add_value(alloc, own, &given.value)?;
+            self.add_own_labels(alloc, own, given.value.labels())?;
         }
         Ok(())
     }

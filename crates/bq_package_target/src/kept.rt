@@ -34,12 +34,7 @@ fn are_long(labels: &[Label]) -> bool {
 
 /// Returns whether a value takes much more memory than a share of it. Outputs aren't kept: no two of them are equal.
 fn is_long(value: &AttributeValue) -> bool {
-    match value {
-        AttributeValue::StringList(texts) => texts.as_slice().len() > FEW,
-        AttributeValue::Label(label) => is_long_label(label),
-        AttributeValue::LabelList(labels) => are_long(labels.as_slice()),
-        _ => false,
-    }
+    value.strings().len() > FEW || are_long(value.labels())
 }
 
 fn write_label(hasher: &mut FoldHasher, label: &Label) {
@@ -62,12 +57,8 @@ fn write_texts(hasher: &mut FoldHasher, texts: &[Bytes]) {
 
 fn hash(value: &AttributeValue) -> u64 {
     let mut hasher = FoldHasher::default();
-    match value {
-        AttributeValue::StringList(texts) => write_texts(&mut hasher, texts.as_slice()),
-        AttributeValue::Label(label) => write_label(&mut hasher, label),
-        AttributeValue::LabelList(labels) => write_labels(&mut hasher, labels.as_slice()),
-        _ => {}
-    }
+    write_texts(&mut hasher, value.strings());
+    write_labels(&mut hasher, value.labels());
     hasher.finish()
 }
 
@@ -79,7 +70,7 @@ impl KeptValues {
     }
 
     /// Returns a share of a value, or of an equal one that is kept. A value whose hash is new is kept.
-    #[tactic(auto, using(bq_value_rule_class::proofs::Equal::value_true))]
+    #[tactic(auto, using(bq_value_rule_class::specs::Value::value_true))]
     fn share(&mut self, value: &AttributeValue) -> Result<AttributeValue, AllocError>
         ensures { IfOk result (λ v. v ≡ value.now) }
     {

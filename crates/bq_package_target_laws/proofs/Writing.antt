@@ -10,7 +10,8 @@ use Rattle.bq_package_target.specs.declared.target.Target.{Target}
 use Rattle.bq_package_target.specs.declared.target.TargetKind.{TargetKind}
 use Rattle.bq_package_target.specs.declared.target.TargetKind.TheVariants as k
 use Rattle.bq_package_target.specs.declared.value.GivenAttribute.{GivenAttribute}
-use Rattle.bq_package_target.specs.Value.{labels_of, labels_in}
+use Rattle.bq_value_rule_class.specs.Value.{labels_of}
+use Rattle.bq_package_target.specs.Value.{labels_in}
 use Rattle.bq_package_target.specs.Target.{dependencies}
 use Rattle.bq_package_target.proofs.Cases.{dependencies_by}
 use Rattle.bq_package_target_laws.specs.Names.{HasLabel, one, among, WritesLabel, Depends, on_its_rule, on_what_it_writes}
@@ -27,12 +28,7 @@ alone x z c = elim (head_or_tail x [] z c) [ inl e ↦ e | inr later ↦ absurd 
 value_has : (value : AttributeValue) (l : LabelParts) → Contains (labels_of value) l → HasLabel l value
 value_has (v.Label m) l c = one (ap v.Label (alone m l c))
 value_has (v.LabelList ms) l c = among ms refl c
-value_has (v.String s) l c = absurd (none_in l c)
-value_has (v.Int n) l c = absurd (none_in l c)
-value_has (v.Bool b) l c = absurd (none_in l c)
-value_has (v.StringList ss) l c = absurd (none_in l c)
-value_has (v.Output m) l c = absurd (none_in l c)
-value_has (v.OutputList ms) l c = absurd (none_in l c)
+value_has _ l c = absurd (none_in l c)
 
 has_value : (value : AttributeValue) (l : LabelParts) → HasLabel l value → Contains (labels_of value) l
 has_value value l (one e) = subst (λ w. Contains (labels_of w) l) (sym e) (at_head l [])

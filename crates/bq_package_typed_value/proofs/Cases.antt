@@ -1,12 +1,10 @@
 -- Parts of definitions, as words that proofs name.
-use Rattle.std.specs.Prelude.{Bool, Err, List, None, Ok, Option, Result, Some, false, not}
+use Rattle.std.specs.Prelude.{Bool, Err, None, Ok, Option, Result, Some, false, not}
 use Rattle.bq_base.specs.declared.fault.EvalFault.{EvalFault}
 use Rattle.bq_base.specs.declared.fault.EvalFault.TheVariants.{BadLabel}
 use Rattle.bq_label.specs.Label.{LabelParts}
 use Rattle.bq_label.specs.declared.packages.BuildFile.{BuildFile}
 use Rattle.bq_package_target.specs.Target.{is_of}
-use Rattle.bq_value.specs.Contents.{Contents, items}
-use Rattle.bq_value.specs.Datum.{Datum}
 
 -- a label that was read, or the fault that it is none
 abbrev pub label_found : Option LabelParts → Result LabelParts EvalFault
@@ -15,7 +13,3 @@ label_found o = elim o [ None ↦ Err BadLabel | Some l ↦ Ok l ]
 -- a path lies in another package than its label's (F37)
 abbrev pub is_owned_by_other : LabelParts → Option BuildFile → Bool
 is_owned_by_other l o = elim o [ None ↦ false | Some b ↦ not (is_of b.id l) ]
-
--- the elements of a list, or this fault
-abbrev pub listed : EvalFault → Option Contents → Result (List Datum) EvalFault
-listed why o = elim o [ Some (items vs) ↦ Ok vs | _ ↦ Err why ]

@@ -1,17 +1,17 @@
 -- The labels that are read in a package are of it, and so are the files that a rule makes.
-use Rattle.std.proofs.Common.{◌≡◌, ◌∙◌, ℕ, Bool, true, false, List, [], Result, Ok, Err, refl, ap, subst}
+use Rattle.std.proofs.Common.{◌≡◌, ◌∙◌, ℕ, true, false, List, [], Ok, refl, ap, subst}
 use Rattle.std.specs.List.{list_all, list_any}
 use Rattle.bq_base.specs.declared.fault.EvalFault.TheVariants as f
 use Rattle.bq_label.specs.declared.packages.BuildFile.{BuildFile}
 use Rattle.bq_label.specs.Label.{PackageParts, LabelParts, label_in}
 use Rattle.bq_label.specs.Paths.{is_path}
-use Rattle.bq_value_rule_class.specs.declared.attribute_type.AttributeType.{AttributeType}
-use Rattle.bq_value_rule_class.specs.declared.attribute_type.AttributeType.TheVariants as t
+use Rattle.bq_package_attribute_type.specs.declared.attribute_type.AttributeType.{AttributeType}
+use Rattle.bq_package_attribute_type.specs.declared.attribute_type.AttributeType.TheVariants as t
 use Rattle.bq_value_rule_class.specs.declared.value.AttributeValue.{AttributeValue}
 use Rattle.bq_value_rule_class.specs.declared.value.AttributeValue.TheVariants as a
+use Rattle.bq_value_rule_class.specs.Value.{outputs_of}
 use Rattle.bq_value.specs.Datum.{Datum}
 use Rattle.bq_value.specs.Cells.{StoreView}
-use Rattle.bq_package_target.specs.Value.{outputs_of}
 use Rattle.bq_package_target.specs.Target.{is_of}
 use Rattle.bq_package_typed_value.specs.declared.label_texts.TextKind.{TextKind}
 use Rattle.bq_package_typed_value.specs.declared.label_texts.TextKind.TheVariants as k
@@ -19,12 +19,11 @@ use Rattle.bq_package_typed_value.specs.declared.written.Written.{Written}
 use Rattle.bq_package_typed_value.specs.declared.written.Written.TheVariants as w
 use Rattle.bq_package_typed_value.specs.Steps.{and_then, in_turn}
 use Rattle.bq_package_typed_value.specs.Scope.{own_label_crosses, inside, all_inside}
-use Rattle.bq_package_typed_value.specs.Texts.{text_in, texts_in}
 use Rattle.bq_package_typed_value.specs.LabelTexts.{named, without_colon, read, read_all, label, labels}
-use Rattle.bq_package_typed_value.specs.Written.{int_in, bool_in, written_as}
+use Rattle.bq_package_typed_value.specs.Types.{written_as, IsWritten, each_type_reads}
 use Rattle.bq_package_typed_value.specs.Values.{typed, value_as}
 use Rattle.bq_package_typed_value.proofs.Crossings.{in_own}
-use Rattle.bq_package_typed_value.proofs.Steps.{both_ok, nested_ok, then_ok, else_ok, each_passes}
+use Rattle.bq_package_typed_value.proofs.Steps.{both_ok, then_ok, else_ok, each_passes}
 
 -- ---- labels
 
@@ -73,47 +72,37 @@ output_labels_own own packages texts ls h = each_passes (read own k.Output) (is_
 abbrev pub HasOwnOutputs : PackageParts → AttributeValue → Type 0
 HasOwnOutputs own v = list_all (is_of own) (outputs_of v) ≡ true
 
+-- the outputs of what is written without labels
+abbrev plain_outputs : Written → List LabelParts
+plain_outputs (w.Value x) = outputs_of x
+plain_outputs _ = []
+
+-- there are none, whatever the type is
+no_plain_outputs : (store : StoreView) (v : Datum) (type : AttributeType) (x : Written) → IsWritten store v type x → plain_outputs x ≡ []
+no_plain_outputs store v t.String x h = ap plain_outputs h.2
+no_plain_outputs store v _ x h = ap plain_outputs h.2
+
 module _ (own : PackageParts) (packages : List BuildFile) where
-  -- labels that a value has, of which none is a file that the rule makes
-  label_typed : (text : List ℕ) (v : AttributeValue) → typed own packages (w.Label text) ≡ Ok v → HasOwnOutputs own v
+  typed_own : (x : Written) (v : AttributeValue) → plain_outputs x ≡ [] → typed own packages x ≡ Ok v → HasOwnOutputs own v
   unfolding typed
-  label_typed text v h = let r = both_ok (label own packages k.Label text) (λ l. Ok (a.Label l)) v h in let e : a.Label r.0 ≡ v = cc in subst (HasOwnOutputs own) e refl
-
-  labels_typed : (texts : List (List ℕ)) (v : AttributeValue) → typed own packages (w.LabelList texts) ≡ Ok v → HasOwnOutputs own v
-  unfolding typed
-  labels_typed texts v h = let r = both_ok (labels own packages k.Label texts) (λ ls. Ok (a.LabelList ls)) v h in let e : a.LabelList r.0 ≡ v = cc in subst (HasOwnOutputs own) e refl
-
-  output_typed : (text : List ℕ) (v : AttributeValue) → typed own packages (w.Output text) ≡ Ok v → HasOwnOutputs own v
-  unfolding typed
-  output_typed text v h =
+  typed_own (w.Value y) v none h = let e : y ≡ v = cc in subst (HasOwnOutputs own) e (ap (list_all (is_of own)) none)
+  typed_own (w.Label text) v none h =
+      let r = both_ok (label own packages k.Label text) (λ l. Ok (a.Label l)) v h in let e : a.Label r.0 ≡ v = cc in subst (HasOwnOutputs own) e refl
+  typed_own (w.LabelList texts) v none h =
+      let r = both_ok (labels own packages k.Label texts) (λ ls. Ok (a.LabelList ls)) v h in let e : a.LabelList r.0 ≡ v = cc in subst (HasOwnOutputs own) e refl
+  typed_own (w.Output text) v none h =
       let r = both_ok (label own packages k.Output text) (λ l. Ok (a.Output l)) v h in
       let e : a.Output r.0 ≡ v = cc in
       let mine : is_of own r.0 ≡ true = output_own own text r.0 (label_read own packages k.Output text r.0 r.1) in
       subst (HasOwnOutputs own) e (rw mine refl)
-
-  outputs_typed : (texts : List (List ℕ)) (v : AttributeValue) → typed own packages (w.OutputList texts) ≡ Ok v → HasOwnOutputs own v
-  unfolding typed
-  outputs_typed texts v h =
+  typed_own (w.OutputList texts) v none h =
       let r = both_ok (labels own packages k.Output texts) (λ ls. Ok (a.OutputList ls)) v h in
       let e : a.OutputList r.0 ≡ v = cc in
       subst (HasOwnOutputs own) e (output_labels_own own packages texts r.0 r.1)
 
-  plain_typed : (x v : AttributeValue) → HasOwnOutputs own x → typed own packages (w.Value x) ≡ Ok v → HasOwnOutputs own v
-  unfolding typed
-  plain_typed x v mine h = let e : x ≡ v = cc in subst (HasOwnOutputs own) e mine
-
   -- what a value is as an attribute of a type
   pub value_own : (store : StoreView) (kind : AttributeType) (v : Datum) (x : AttributeValue) → value_as own packages store kind v ≡ Ok x → HasOwnOutputs own x
-  unfolding value_as written_as
-  value_own store t.String v x h =
-      let r = nested_ok (text_in f.AttributeType v) (λ text. Ok (w.Value (a.String text))) (typed own packages) x h in plain_typed (a.String r.0) x refl r.2
-  value_own store t.Int v x h =
-      let r = nested_ok (int_in f.AttributeType v) (λ n. Ok (w.Value (a.Int n))) (typed own packages) x h in plain_typed (a.Int r.0) x refl r.2
-  value_own store t.Bool v x h =
-      let r = nested_ok (bool_in f.AttributeType v) (λ b. Ok (w.Value (a.Bool b))) (typed own packages) x h in plain_typed (a.Bool r.0) x refl r.2
-  value_own store t.StringList v x h =
-      let r = nested_ok (texts_in f.AttributeType store v) (λ texts. Ok (w.Value (a.StringList texts))) (typed own packages) x h in plain_typed (a.StringList r.0) x refl r.2
-  value_own store t.Label v x h = let r = nested_ok (text_in f.AttributeType v) (λ text. Ok (w.Label text)) (typed own packages) x h in label_typed r.0 x r.2
-  value_own store t.LabelList v x h = let r = nested_ok (texts_in f.AttributeType store v) (λ texts. Ok (w.LabelList texts)) (typed own packages) x h in labels_typed r.0 x r.2
-  value_own store t.Output v x h = let r = nested_ok (text_in f.AttributeType v) (λ text. Ok (w.Output text)) (typed own packages) x h in output_typed r.0 x r.2
-  value_own store t.OutputList v x h = let r = nested_ok (texts_in f.AttributeType store v) (λ texts. Ok (w.OutputList texts)) (typed own packages) x h in outputs_typed r.0 x r.2
+  unfolding value_as
+  value_own store kind v x h =
+      let r = both_ok (written_as f.AttributeType store kind v) (typed own packages) x h in
+      typed_own r.0 x (no_plain_outputs store v kind r.0 (((each_type_reads f.AttributeType store kind v).found r.0).0 r.1)) r.2

@@ -14,7 +14,7 @@ use Rattle.bq_package_typed_value.specs.Scope.{ShortNamesCross}
 use Rattle.bq_package_typed_value.specs.Texts.{text_in, elements_in, all_texts, texts_in}
 use Rattle.bq_package_typed_value.specs.PlainNames.{is_plain_name}
 use Rattle.bq_package_typed_value.specs.PlainLists.{is_plain, text, own_label}
-use Rattle.bq_package_typed_value.specs.Written.{written_as}
+use Rattle.bq_package_typed_value.specs.Types.{written_as}
 use Rattle.bq_package_typed_value.specs.Values.{typed, value_as, AreLabelsOf}
 use Rattle.bq_package_typed_value.proofs.PlainNames.{both_true, plain_labels}
 use Rattle.bq_package_typed_value.proofs.Turns.{answered_in_turn}

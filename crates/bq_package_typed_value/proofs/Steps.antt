@@ -12,11 +12,6 @@ pub both_ok : {A B E : Type 0} (r : Result A E) (next : A → Result B E) (y : B
 both_ok (Ok x) next y h = (x, refl, h)
 both_ok (Err why) next y h = absurd (cc)
 
--- what is made of an answer, and then read
-pub nested_ok : {A B C E : Type 0} (r : Result A E) (first : A → Result B E) (next : B → Result C E) (y : C) → and_then (and_then r first) next ≡ Ok y → (x : A) × (r ≡ Ok x) × (and_then (first x) next ≡ Ok y)
-nested_ok (Ok x) first next y h = (x, refl, h)
-nested_ok (Err why) first next y h = absurd (cc)
-
 pub then_ok : {A E : Type 0} (b : Bool) (x y : A) (why : E) → cond b (Ok x) (Err why) ≡ Ok y → x ≡ y
 then_ok true x y why h = cc
 then_ok false x y why h = absurd (cc)

@@ -2,10 +2,12 @@ pub mod Steps
 pub mod Parameters
 pub mod Scope
 pub mod Texts
+pub mod Readings
 pub mod LabelTexts
 pub mod PlainNames
 pub mod PlainLists
-pub mod Written
+pub mod Json
+pub mod Types
 pub mod Values
 pub mod Taken
 pub mod Laws

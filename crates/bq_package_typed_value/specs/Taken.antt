@@ -1,6 +1,6 @@
 -- Which values an attribute of each type takes, and why it refuses the others (Bazel, "attr"), in words of the value alone. `Values.antt`
 -- computes just this: the laws `each_type_takes_its_values` and `each_type_refuses_other_values`.
-use Rattle.std.specs.Prelude.{◌≡◌, ◌≢◌, ◌⊎◌, ℕ, ℤ, pos, Bool, true, false, List, ◌∷◌, Some, map, All, Any}
+use Rattle.std.specs.Prelude.{◌≡◌, ◌≢◌, ◌⊎◌, ℕ, true, List, ◌∷◌, Some, All, Any}
 use Rattle.std.specs.List.{AllZip}
 use Rattle.bq_base.specs.declared.fault.EvalFault.{EvalFault}
 use Rattle.bq_base.specs.declared.fault.EvalFault.TheVariants as f
@@ -8,24 +8,16 @@ use Rattle.bq_label.specs.declared.packages.BuildFile.{BuildFile}
 use Rattle.bq_label.specs.Label.{PackageParts, LabelParts, package_of, label_in, ReadsAs}
 use Rattle.bq_label.specs.Paths.{is_path}
 use Rattle.bq_label.specs.Packages.{label_path, owner_of}
-use Rattle.bq_value_rule_class.specs.declared.attribute_type.AttributeType.{AttributeType}
-use Rattle.bq_value_rule_class.specs.declared.attribute_type.AttributeType.TheVariants as t
+use Rattle.bq_package_attribute_type.specs.declared.attribute_type.AttributeType.{AttributeType}
 use Rattle.bq_value_rule_class.specs.declared.value.AttributeValue.{AttributeValue}
 use Rattle.bq_value_rule_class.specs.declared.value.AttributeValue.TheVariants as a
-use Rattle.bq_value.specs.Datum.{Datum, Data, boolean, int, string, tuple, cell, list_of}
-use Rattle.bq_value.specs.Contents.{items}
-use Rattle.bq_value.specs.Cells.{StoreView, content_at}
+use Rattle.bq_value.specs.Datum.{Datum}
+use Rattle.bq_value.specs.Cells.{StoreView}
 use Rattle.bq_package_typed_value.specs.declared.label_texts.TextKind.{TextKind}
 use Rattle.bq_package_typed_value.specs.declared.label_texts.TextKind.TheVariants as k
-
--- the value is a tuple or a list of these values
-pub data IsListOf (store : StoreView) (v : Datum) (vs : List Datum) : Type 0 where
-  is_tuple : (elements : Data) → v ≡ tuple elements → list_of elements ≡ vs → IsListOf store v vs
-  is_list : (home number : ℕ) → v ≡ cell home number → content_at store home number ≡ Some (items vs) → IsListOf store v vs
-
--- the value is a tuple or a list of these strings
-abbrev pub IsListOfTexts : StoreView → Datum → List (List ℕ) → Type 0
-IsListOfTexts store v texts = IsListOf store v (map string texts)
+use Rattle.bq_package_typed_value.specs.declared.written.Written.{Written}
+use Rattle.bq_package_typed_value.specs.declared.written.Written.TheVariants as w
+use Rattle.bq_package_typed_value.specs.Types.{IsWritten}
 
 -- the text is the name of a file of the package, before which a colon may stand
 pub data NamesFile (own : PackageParts) (text : List ℕ) (l : LabelParts) : Type 0 where
@@ -52,42 +44,46 @@ pub record CrossesInto (own : PackageParts) (packages : List BuildFile) (l : Lab
 abbrev pub StaysInside : PackageParts → List BuildFile → LabelParts → Type 0
 StaysInside own packages l = ¬ (CrossesInto own packages l)
 
+-- a text stands for this label, which stays inside
+abbrev pub StandsInside : PackageParts → List BuildFile → TextKind → List ℕ → LabelParts → Type 0
+StandsInside own packages kind text l = StandsFor own kind text l × StaysInside own packages l
+
+-- texts stand for these labels, all of which stay inside
+abbrev pub AllStandInside : PackageParts → List BuildFile → TextKind → List (List ℕ) → List LabelParts → Type 0
+AllStandInside own packages kind texts ls = AllZip (StandsFor own kind) texts ls × All (StaysInside own packages) ls
+
+-- what is written, as the value that it is once its labels are read
+abbrev pub IsTyped : PackageParts → List BuildFile → Written → AttributeValue → Type 0
+IsTyped own packages (w.Value x) y = y ≡ x
+IsTyped own packages (w.Label text) y = (l : LabelParts) × StandsInside own packages k.Label text l × (y ≡ a.Label l)
+IsTyped own packages (w.LabelList texts) y = (ls : List LabelParts) × AllStandInside own packages k.Label texts ls × (y ≡ a.LabelList ls)
+IsTyped own packages (w.Output text) y = (l : LabelParts) × StandsInside own packages k.Output text l × (y ≡ a.Output l)
+IsTyped own packages (w.OutputList texts) y = (ls : List LabelParts) × AllStandInside own packages k.Output texts ls × (y ≡ a.OutputList ls)
+
 -- what a value is as the value of an attribute of a type
-pub data IsTakenAs (own : PackageParts) (packages : List BuildFile) (store : StoreView) (v : Datum) (w : AttributeValue) : AttributeType → Type 0 where
-  text : (s : List ℕ) → v ≡ string s → w ≡ a.String s → IsTakenAs own packages store v w t.String
-  integer : (n : ℤ) → v ≡ int n → w ≡ a.Int n → IsTakenAs own packages store v w t.Int
-  truth : (b : Bool) → v ≡ boolean b → w ≡ a.Bool b → IsTakenAs own packages store v w t.Bool
-  zero_is_false : v ≡ int (pos 0) → w ≡ a.Bool false → IsTakenAs own packages store v w t.Bool
-  one_is_true : v ≡ int (pos 1) → w ≡ a.Bool true → IsTakenAs own packages store v w t.Bool
-  texts : (ss : List (List ℕ)) → IsListOfTexts store v ss → w ≡ a.StringList ss → IsTakenAs own packages store v w t.StringList
-  label : (s : List ℕ) (l : LabelParts) → v ≡ string s → StandsFor own k.Label s l → StaysInside own packages l → w ≡ a.Label l → IsTakenAs own packages store v w t.Label
-  labels : (ss : List (List ℕ)) (ls : List LabelParts) → IsListOfTexts store v ss → AllZip (StandsFor own k.Label) ss ls → All (StaysInside own packages) ls → w ≡ a.LabelList ls
-      → IsTakenAs own packages store v w t.LabelList
-  output : (s : List ℕ) (l : LabelParts) → v ≡ string s → StandsFor own k.Output s l → StaysInside own packages l → w ≡ a.Output l → IsTakenAs own packages store v w t.Output
-  outputs : (ss : List (List ℕ)) (ls : List LabelParts) → IsListOfTexts store v ss → AllZip (StandsFor own k.Output) ss ls → All (StaysInside own packages) ls → w ≡ a.OutputList ls
-      → IsTakenAs own packages store v w t.OutputList
+abbrev pub IsTakenAs : PackageParts → List BuildFile → StoreView → Datum → AttributeValue → AttributeType → Type 0
+IsTakenAs own packages store v y type = (x : Written) × IsWritten store v type x × IsTyped own packages x y
 
--- the value is of the type, whatever its texts stand for
-abbrev pub IsOfType : StoreView → Datum → AttributeType → Type 0
-IsOfType store v t.String = (s : List ℕ) × (v ≡ string s)
-IsOfType store v t.Int = (n : ℤ) × (v ≡ int n)
-IsOfType store v t.Bool = ((b : Bool) × (v ≡ boolean b)) ⊎ ((v ≡ int (pos 0)) ⊎ (v ≡ int (pos 1)))
-IsOfType store v t.StringList = (ss : List (List ℕ)) × IsListOfTexts store v ss
-IsOfType store v t.Label = (s : List ℕ) × (v ≡ string s)
-IsOfType store v t.LabelList = (ss : List (List ℕ)) × IsListOfTexts store v ss
-IsOfType store v t.Output = (s : List ℕ) × (v ≡ string s)
-IsOfType store v t.OutputList = (ss : List (List ℕ)) × IsListOfTexts store v ss
+-- a text stands for nothing, or for a label that crosses into another package (F37)
+abbrev pub IsBadText : PackageParts → List BuildFile → TextKind → EvalFault → List ℕ → EvalFault → Type 0
+IsBadText own packages kind none text why =
+    (StandsForNone own kind text × (why ≡ none)) ⊎ ((l : LabelParts) × StandsFor own kind text l × CrossesInto own packages l × (why ≡ f.CrossesPackage))
 
--- why a value isn't taken: F73; then F78 or F75, where a text stands for nothing; then F37
-pub data IsRefusedFor (own : PackageParts) (packages : List BuildFile) (store : StoreView) (v : Datum) : AttributeType → EvalFault → Type 0 where
-  another_type : {type : AttributeType} → ¬ (IsOfType store v type) → IsRefusedFor own packages store v type f.AttributeType
-  no_label : (s : List ℕ) → v ≡ string s → StandsForNone own k.Label s → IsRefusedFor own packages store v t.Label f.BadLabel
-  no_labels : (ss : List (List ℕ)) → IsListOfTexts store v ss → Any (StandsForNone own k.Label) ss → IsRefusedFor own packages store v t.LabelList f.BadLabel
-  no_output : (s : List ℕ) → v ≡ string s → StandsForNone own k.Output s → IsRefusedFor own packages store v t.Output f.BadName
-  no_outputs : (ss : List (List ℕ)) → IsListOfTexts store v ss → Any (StandsForNone own k.Output) ss → IsRefusedFor own packages store v t.OutputList f.BadName
-  label_crosses : (s : List ℕ) (l : LabelParts) → v ≡ string s → StandsFor own k.Label s l → CrossesInto own packages l → IsRefusedFor own packages store v t.Label f.CrossesPackage
-  labels_cross : (ss : List (List ℕ)) (ls : List LabelParts) → IsListOfTexts store v ss → AllZip (StandsFor own k.Label) ss ls → Any (CrossesInto own packages) ls
-      → IsRefusedFor own packages store v t.LabelList f.CrossesPackage
-  output_crosses : (s : List ℕ) (l : LabelParts) → v ≡ string s → StandsFor own k.Output s l → CrossesInto own packages l → IsRefusedFor own packages store v t.Output f.CrossesPackage
-  outputs_cross : (ss : List (List ℕ)) (ls : List LabelParts) → IsListOfTexts store v ss → AllZip (StandsFor own k.Output) ss ls → Any (CrossesInto own packages) ls
-      → IsRefusedFor own packages store v t.OutputList f.CrossesPackage
+-- one of the texts stands for nothing; or else one of their labels crosses into another package
+abbrev pub AreBadTexts : PackageParts → List BuildFile → TextKind → EvalFault → List (List ℕ) → EvalFault → Type 0
+AreBadTexts own packages kind none texts why =
+    (Any (StandsForNone own kind) texts × (why ≡ none))
+    ⊎ ((ls : List LabelParts) × AllZip (StandsFor own kind) texts ls × Any (CrossesInto own packages) ls × (why ≡ f.CrossesPackage))
+
+-- why what is written is refused: F78 or F75, where a text stands for nothing; then F37
+abbrev pub IsUntyped : PackageParts → List BuildFile → Written → EvalFault → Type 0
+IsUntyped own packages (w.Value x) why = ⊥
+IsUntyped own packages (w.Label text) why = IsBadText own packages k.Label f.BadLabel text why
+IsUntyped own packages (w.LabelList texts) why = AreBadTexts own packages k.Label f.BadLabel texts why
+IsUntyped own packages (w.Output text) why = IsBadText own packages k.Output f.BadName text why
+IsUntyped own packages (w.OutputList texts) why = AreBadTexts own packages k.Output f.BadName texts why
+
+-- why a value isn't taken: F73, where it is of another type, whatever its texts are; then for its texts
+abbrev pub IsRefusedFor : PackageParts → List BuildFile → StoreView → Datum → AttributeType → EvalFault → Type 0
+IsRefusedFor own packages store v type why =
+    (((x : Written) → ¬ (IsWritten store v type x)) × (why ≡ f.AttributeType)) ⊎ ((x : Written) × IsWritten store v type x × IsUntyped own packages x why)

@@ -5,8 +5,8 @@ use Rattle.bq_base.specs.declared.fault.EvalFault.{EvalFault}
 use Rattle.bq_base.specs.declared.fault.EvalFault.TheVariants as f
 use Rattle.bq_label.specs.declared.packages.BuildFile.{BuildFile}
 use Rattle.bq_label.specs.Label.{PackageParts, LabelParts}
-use Rattle.bq_value_rule_class.specs.declared.attribute_type.AttributeType.{AttributeType}
-use Rattle.bq_value_rule_class.specs.declared.attribute_type.AttributeType.TheVariants as t
+use Rattle.bq_package_attribute_type.specs.declared.attribute_type.AttributeType.{AttributeType}
+use Rattle.bq_package_attribute_type.specs.declared.attribute_type.AttributeType.TheVariants as t
 use Rattle.bq_value_rule_class.specs.declared.value.AttributeValue.{AttributeValue}
 use Rattle.bq_value_rule_class.specs.declared.value.AttributeValue.TheVariants as a
 use Rattle.bq_value.specs.Datum.{Datum}
@@ -16,7 +16,7 @@ use Rattle.bq_package_typed_value.specs.declared.written.Written.{Written}
 use Rattle.bq_package_typed_value.specs.declared.written.Written.TheVariants as w
 use Rattle.bq_package_typed_value.specs.Steps.{and_then}
 use Rattle.bq_package_typed_value.specs.LabelTexts.{label, labels}
-use Rattle.bq_package_typed_value.specs.Written.{written_as}
+use Rattle.bq_package_typed_value.specs.Types.{written_as}
 
 -- what is written, with its labels read in a package among others: F78 or F75, then F37
 unfoldable pub typed : PackageParts → List BuildFile → Written → Result AttributeValue EvalFault

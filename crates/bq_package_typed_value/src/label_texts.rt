@@ -11,7 +11,7 @@ ghost use Rattle.bq_package_typed_value.specs.PlainNames.{is_plain_name};
 ghost use Rattle.bq_package_typed_value.specs.LabelTexts.{named, without_colon, read, IsReadLast, read_all, label, labels};
 
 use crate::plain_names::{are_plain_names, is_plain_name};
-use crate::scope::Scope;
+use crate::scope::PackageScope;
 use bq_base::{Bytes, EvalFault, SourceErr};
 use bq_label::{Label, PackageId, is_path, read_shared_label};
 use bq_value::EvalErr;
@@ -129,7 +129,7 @@ fn read_all(
 #[tactic(auto, unfolding(crate::specs::LabelTexts::label, crate::specs::Scope::inside))]
 fn any_label(
     alloc: Global,
-    scope: Scope<'_>,
+    scope: PackageScope<'_>,
     kind: TextKind,
     text: &Bytes,
 ) -> Result<Label, EvalErr>
@@ -146,7 +146,7 @@ fn any_label(
 /// one pass, and looked up nowhere.
 pub fn label(
     alloc: Global,
-    scope: Scope<'_>,
+    scope: PackageScope<'_>,
     kind: TextKind,
     text: &Bytes,
 ) -> Result<Label, EvalErr>
@@ -163,7 +163,7 @@ pub fn label(
 #[tactic(auto, unfolding(crate::specs::LabelTexts::labels, crate::specs::Scope::all_inside))]
 fn any_labels(
     alloc: Global,
-    scope: Scope<'_>,
+    scope: PackageScope<'_>,
     kind: TextKind,
     texts: &[Bytes],
 ) -> Result<Items<Label>, EvalErr>
@@ -180,7 +180,7 @@ fn any_labels(
 /// read in one pass, and looked up nowhere.
 pub fn labels(
     alloc: Global,
-    scope: Scope<'_>,
+    scope: PackageScope<'_>,
     kind: TextKind,
     texts: &[Bytes],
 ) -> Result<Items<Label>, EvalErr>

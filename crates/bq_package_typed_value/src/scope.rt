@@ -14,7 +14,7 @@ use std::alloc::{AllocError, Global};
 
 /// A package among the others.
 #[derive(Clone, Copy)]
-pub struct Scope<'a> {
+pub struct PackageScope<'a> {
     pub own: &'a PackageId,
     pub packages: &'a Packages,
     /// Whether another package owns the paths of this package's names without a slash: it owns them all, or none. So
@@ -48,21 +48,21 @@ fn crosses(alloc: Global, packages: &Packages, label: &Label) -> Result<bool, Al
     }
 }
 
-impl<'a> Scope<'a> {
+impl<'a> PackageScope<'a> {
     /// Makes the scope of a package. Its name `BUILD` stands for all names without a slash.
     #[tactic(auto, using(crate::proofs::Crossings::build_is_path, crate::proofs::Crossings::short_by_build))]
     pub fn new(
         alloc: Global,
         own: &'a PackageId,
         packages: &'a Packages,
-    ) -> Result<Scope<'a>, AllocError>
+    ) -> Result<PackageScope<'a>, AllocError>
         ensures own { IfOk result (λ s. s.own.now ≡ own.now) }
         ensures packages { IfOk result (λ s. s.packages.now ≡ packages.now) }
     {
         let name = Bytes::from_slice(alloc, b"BUILD")?;
         let label = Label::new(own.share()?, name);
         let short_cross = crosses(alloc, packages, &label)?;
-        Ok(Scope {
+        Ok(PackageScope {
             own,
             packages,
             short_cross,

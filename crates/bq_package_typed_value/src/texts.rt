@@ -23,7 +23,11 @@ pub fn text_in(value: &Value, why: EvalFault) -> Result<Bytes, EvalErr>
 
 /// Returns the strings that all of the values are.
 #[tactic(auto, unfolding(crate::specs::Texts::all_texts, crate::specs::Steps::in_turn))]
-fn all_texts(alloc: Global, values: &[Value], why: EvalFault) -> Result<Items<Bytes>, EvalErr>
+pub(crate) fn all_texts(
+    alloc: Global,
+    values: &[Value],
+    why: EvalFault,
+) -> Result<Items<Bytes>, EvalErr>
     ensures { Gives (λ texts. texts) Bad result (all_texts why values.now) }
 {
     let mut texts = Vec::with_capacity(alloc, values.len())?;

@@ -4,24 +4,30 @@ ghost use Rattle.std.specs.Prelude.{◌≡◌, IfOk};
 ghost use Rattle.std.specs.Option.{ForSome};
 ghost use Rattle.bq_base.specs.Gives.{Gives};
 ghost use Rattle.bq_value.specs.declared.error.EvalErr.TheVariants.{Bad};
-ghost use Rattle.bq_value_rule_class.specs.declared.attribute_type.AttributeType.TheVariants.{LabelList};
+ghost use Rattle.bq_package_attribute_type.specs.declared.attribute_type.AttributeType.TheVariants.{LabelList};
 ghost use Rattle.bq_package_typed_value.specs.Values.{typed, value_as, AreLabelsOf};
 
 use crate::label_texts::{TextKind, label, labels};
 use crate::plain_lists::{are_plain, plain_labels};
-use crate::scope::Scope;
+use crate::scope::PackageScope;
 use crate::texts::elements_in;
-use crate::written::{Written, written_as};
+use crate::types::written_as;
+use crate::written::Written;
 use bq_base::EvalFault;
 use bq_label::Label;
+use bq_package_attribute_type::AttributeType;
 use bq_value::{EvalErr, Store, Value};
-use bq_value_rule_class::{AttributeType, AttributeValue, SharedList};
+use bq_value_rule_class::{AttributeValue, SharedList};
 use sqlite_items::Items;
 use std::alloc::{AllocError, Global};
 
 /// Returns what is written, with its labels read in a package: F78 or F75, then F37.
 #[tactic(auto, unfolding(crate::specs::Values::typed))]
-pub fn typed(alloc: Global, scope: Scope<'_>, written: Written) -> Result<AttributeValue, EvalErr>
+pub fn typed(
+    alloc: Global,
+    scope: PackageScope<'_>,
+    written: Written,
+) -> Result<AttributeValue, EvalErr>
     ensures { Gives (λ v. v) Bad result (typed scope.entry.own.now scope.entry.packages.now written) }
 {
     match written {
@@ -49,7 +55,7 @@ pub fn typed(alloc: Global, scope: Scope<'_>, written: Written) -> Result<Attrib
 #[tactic(auto, unfolding(crate::specs::Values::value_as))]
 fn any_value_as(
     alloc: Global,
-    scope: Scope<'_>,
+    scope: PackageScope<'_>,
     store: &Store,
     kind: AttributeType,
     value: &Value,
@@ -63,7 +69,7 @@ fn any_value_as(
 /// Returns the labels of a list of plain names, or nothing if the value is another.
 fn labels_if_plain(
     alloc: Global,
-    scope: Scope<'_>,
+    scope: PackageScope<'_>,
     store: &Store,
     value: &Value,
 ) -> Result<Option<Items<Label>>, AllocError>
@@ -84,7 +90,7 @@ fn labels_if_plain(
 /// Returns what [`value_as`] does where the type is that of lists of labels.
 fn label_list(
     alloc: Global,
-    scope: Scope<'_>,
+    scope: PackageScope<'_>,
     store: &Store,
     value: &Value,
 ) -> Result<AttributeValue, EvalErr>
@@ -100,7 +106,7 @@ fn label_list(
 /// is one of plain names, no list is made of its texts.
 pub fn value_as(
     alloc: Global,
-    scope: Scope<'_>,
+    scope: PackageScope<'_>,
     store: &Store,
     kind: AttributeType,
     value: &Value,

@@ -4,8 +4,9 @@ ghost use Rattle.std.specs.Prelude.{◌≡◌, ◌++◌, ◌<◌, length, IfOk, 
 ghost use Rattle.std.specs.List.{All, flat_map};
 ghost use Rattle.bq_query.specs.Printed.{line_of, printed};
 
+use bq_label::write_label;
 use bq_package_target::Target;
-use bq_query_target_sets::{write_kind, write_label};
+use bq_query_target_sets::write_kind;
 use std::alloc::{AllocError, Global};
 
 /// What is printed for a target.

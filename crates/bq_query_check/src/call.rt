@@ -7,7 +7,7 @@ ghost use Rattle.bq_query_check.specs.Formula.{formula_of};
 
 use crate::formula::SetExpr;
 use bq_base::Bytes;
-use bq_query_function::{Call, Signature};
+use bq_query_function::{Call, QuerySignature};
 use bq_query_pattern::QueryPattern;
 use sqlite_items::{Boxed, Items};
 use std::alloc::Global;
@@ -38,7 +38,7 @@ impl Arguments {
 
 /// Returns what the call of a function says. Where arguments are read by its parameters, it has one set or two
 /// (`proofs/Calls.antt`).
-pub fn called(signature: Signature, arguments: Arguments) -> SetExpr
+pub fn called(signature: QuerySignature, arguments: Arguments) -> SetExpr
     requires { is_some (called (row_of signature) (given arguments)) ≡ true }
     ensures { called (row_of signature) (given arguments) ≡ Some (formula_of result) }
 {

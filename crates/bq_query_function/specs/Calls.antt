@@ -5,12 +5,12 @@ use Rattle.std.specs.Map.{lookup}
 use Rattle.bq_query_function.specs.declared.call.Call.{Call}
 use Rattle.bq_query_function.specs.declared.signature.QueryArgumentKind.{QueryArgumentKind}
 use Rattle.bq_query_function.specs.declared.signature.QueryArgumentKind.TheVariants.{Number}
-use Rattle.bq_query_function.specs.declared.signature.Signature.{Signature}
+use Rattle.bq_query_function.specs.declared.signature.QuerySignature.{QuerySignature}
 use Rattle.bq_query_function.specs.Functions.{Row, functions, left_out, set_of_one, set_of_two}
 use Rattle.bq_query_function.specs.Sets.{SetOfOne, SetOfTwo}
 
 -- the row of a signature
-abbrev pub row_of : Signature → Row
+abbrev pub row_of : QuerySignature → Row
 row_of s = record { function = s.function; parameters = s.parameters.now }
 
 -- the function of this name

@@ -8,7 +8,7 @@ ghost use Rattle.bq_query_function.specs.Calls as spec;
 
 use crate::call::Call;
 use crate::sets::{reached, reaching};
-use crate::signature::{QueryArgumentKind, Signature};
+use crate::signature::{QueryArgumentKind, QuerySignature};
 use bq_query_graph::allpaths::allpaths;
 use bq_query_target_graph::TargetGraph;
 use bq_query_target_sets::attr::attr;
@@ -30,17 +30,17 @@ pub enum QueryFunction {
 }
 
 /// The functions by their names: what the arguments of each must be.
-pub const FUNCTIONS: [(&[u8], Signature); 7] = [
+pub const FUNCTIONS: [(&[u8], QuerySignature); 7] = [
     (
         b"allpaths",
-        Signature {
+        QuerySignature {
             function: QueryFunction::Allpaths,
             parameters: &[QueryArgumentKind::Query, QueryArgumentKind::Query],
         },
     ),
     (
         b"attr",
-        Signature {
+        QuerySignature {
             function: QueryFunction::Attr,
             parameters: &[
                 QueryArgumentKind::Attribute,
@@ -51,35 +51,35 @@ pub const FUNCTIONS: [(&[u8], Signature); 7] = [
     ),
     (
         b"deps",
-        Signature {
+        QuerySignature {
             function: QueryFunction::Deps,
             parameters: &[QueryArgumentKind::Query, QueryArgumentKind::Number],
         },
     ),
     (
         b"filter",
-        Signature {
+        QuerySignature {
             function: QueryFunction::Filter,
             parameters: &[QueryArgumentKind::Pattern, QueryArgumentKind::Query],
         },
     ),
     (
         b"kind",
-        Signature {
+        QuerySignature {
             function: QueryFunction::Kind,
             parameters: &[QueryArgumentKind::Pattern, QueryArgumentKind::Query],
         },
     ),
     (
         b"labels",
-        Signature {
+        QuerySignature {
             function: QueryFunction::Labels,
             parameters: &[QueryArgumentKind::Attribute, QueryArgumentKind::Query],
         },
     ),
     (
         b"rdeps",
-        Signature {
+        QuerySignature {
             function: QueryFunction::Rdeps,
             parameters: &[
                 QueryArgumentKind::Query,

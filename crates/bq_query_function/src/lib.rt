@@ -26,4 +26,4 @@ pub use answer::{of_one, of_two};
 pub use call::Call;
 pub use functions::QueryFunction;
 pub use look_up::{function_named, is_left_out};
-pub use signature::{QueryArgumentKind, Signature};
+pub use signature::{QueryArgumentKind, QuerySignature};

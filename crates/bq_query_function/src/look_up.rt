@@ -5,7 +5,7 @@ ghost use Rattle.std.specs.List.{list_any};
 ghost use Rattle.bq_query_function.specs.Calls.{function_named, is_left_out, row_of};
 
 use crate::functions::{FUNCTIONS, LEFT_OUT};
-use crate::signature::Signature;
+use crate::signature::QuerySignature;
 
 fn is_among(mut table: &[&[u8]], name: &[u8]) -> bool
     ensures { result ≡ list_any (bytes_eq name.now) (map (λ k. k.now) table.entry.now) }
@@ -20,10 +20,10 @@ fn is_among(mut table: &[&[u8]], name: &[u8]) -> bool
 }
 
 /// Returns the function of this name, if it is known and not left out.
-pub fn function_named(name: &[u8]) -> Option<Signature>
+pub fn function_named(name: &[u8]) -> Option<QuerySignature>
     ensures { option_map row_of result ≡ function_named name.now }
 {
-    let mut table: &[(&[u8], Signature)] = &FUNCTIONS;
+    let mut table: &[(&[u8], QuerySignature)] = &FUNCTIONS;
     while let [entry, rest @ ..] = table {
         if name == entry.0 {
             return Some(entry.1);

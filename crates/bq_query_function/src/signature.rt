@@ -20,7 +20,7 @@ pub enum QueryArgumentKind {
 
 /// A function, and what its arguments must be, in order.
 #[derive(Clone, Copy)]
-pub struct Signature {
+pub struct QuerySignature {
     pub function: QueryFunction,
     pub parameters: &'static [QueryArgumentKind],
 }
@@ -37,7 +37,7 @@ impl QueryArgumentKind {
     }
 }
 
-impl Signature {
+impl QuerySignature {
     /// Returns how many arguments there must be: a number of edges may be left out.
     pub fn mandatory(self) -> usize
         ensures { result ≡ mandatory (row_of self).parameters }

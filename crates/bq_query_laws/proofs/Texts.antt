@@ -4,8 +4,10 @@ use Rattle.std.specs.Fmt.{digits}
 use Rattle.std.specs.Prelude.{codes}
 use Rattle.bq_label.specs.Label.{LabelParts, full_form}
 use Rattle.bq_value_rule_class.specs.Class.{Class}
-use Rattle.bq_value_rule_class.specs.declared.attribute_type.AttributeType.TheVariants as t
-use Rattle.bq_query_target_sets.specs.Texts.{kind_text, value_text, default_text, list_text, items, further}
+use Rattle.bq_package_attribute_type.specs.declared.attribute_type.AttributeType.TheVariants as t
+use Rattle.bq_value_rule_class.specs.Lists.{items, list_text, further}
+use Rattle.bq_value_rule_class.specs.Value.{value_text, default_text}
+use Rattle.bq_query_target_sets.specs.Texts.{kind_text}
 use Rattle.bq_query_laws.specs.Texts.{KindsInWords, SingleValues, ListValues, ListsGoOn, LabelsAsStrings, DefaultsAreEmptyValues}
 
 pub kinds_in_words : (class : Class) (rule : LabelParts) → KindsInWords class rule
@@ -45,10 +47,4 @@ labels_as_strings l ls = record { label = refl; labels = refl; output = refl; ou
 pub defaults_are_empty_values : DefaultsAreEmptyValues
 unfolding value_text list_text default_text digits
 defaults_are_empty_values t.String = refl
-defaults_are_empty_values t.Int = refl
-defaults_are_empty_values t.Bool = refl
-defaults_are_empty_values t.StringList = refl
-defaults_are_empty_values t.Label = refl
-defaults_are_empty_values t.LabelList = refl
-defaults_are_empty_values t.Output = refl
-defaults_are_empty_values t.OutputList = refl
+defaults_are_empty_values _ = refl

@@ -1,15 +1,14 @@
 -- How the kinds of targets and the values of attributes are written, by examples as Bazel writes them (Bazel query reference, "kind", "attr",
 -- "--output label_kind"), by what one element more adds to a list, and by values that are written alike.
-use Rattle.std.specs.Prelude.{◌≡◌, ℕ, pos, negsuc, true, false, List, [], ◌∷◌, ◌++◌, map, Option, Some, None, codes}
+use Rattle.std.specs.Prelude.{◌≡◌, ℕ, pos, negsuc, true, false, List, [], ◌∷◌, ◌++◌, map, Some, codes}
 use Rattle.std.specs.Option.{option_map}
 use Rattle.bq_label.specs.Label.{LabelParts, label_at, full_form}
 use Rattle.bq_value_rule_class.specs.Class.{Class}
-use Rattle.bq_value_rule_class.specs.declared.attribute_type.AttributeType.{AttributeType}
-use Rattle.bq_value_rule_class.specs.declared.attribute_type.AttributeType.TheVariants as t
-use Rattle.bq_value_rule_class.specs.declared.value.AttributeValue.{AttributeValue}
+use Rattle.bq_package_attribute_type.specs.declared.attribute_type.AttributeType.{AttributeType}
 use Rattle.bq_value_rule_class.specs.declared.value.AttributeValue.TheVariants as v
 use Rattle.bq_package_target.specs.declared.target.TargetKind.TheVariants as k
-use Rattle.bq_query_target_sets.specs.Texts.{kind_text, value_text, default_text}
+use Rattle.bq_value_rule_class.specs.Value.{value_text, empty_value, default_text}
+use Rattle.bq_query_target_sets.specs.Texts.{kind_text}
 
 -- ---- kinds
 
@@ -67,17 +66,6 @@ pub record LabelsAsStrings (l : LabelParts) (ls : List LabelParts) : Type 0 wher
 
 -- ---- attributes without a value
 
--- what a rule's attribute of this type has where nothing gives it a value; a label or an output then has none
-abbrev pub empty_value : AttributeType → Option AttributeValue
-empty_value t.String = Some (v.String [])
-empty_value t.Int = Some (v.Int (pos 0))
-empty_value t.Bool = Some (v.Bool false)
-empty_value t.StringList = Some (v.StringList [])
-empty_value t.Label = None
-empty_value t.LabelList = Some (v.LabelList [])
-empty_value t.Output = None
-empty_value t.OutputList = Some (v.OutputList [])
-
--- it is written as this value
+-- one of each type is written as the empty value of the type
 abbrev pub DefaultsAreEmptyValues : Type 0
 DefaultsAreEmptyValues = (type : AttributeType) → default_text (Some type) ≡ option_map value_text (empty_value type)

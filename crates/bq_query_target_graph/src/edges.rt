@@ -12,7 +12,6 @@ ghost use Rattle.bq_query_target_graph.specs.Parts.{part_edges, part_lines, IsFo
 
 use crate::build_files::BuildFiles;
 use crate::dangling::add_dangling;
-use crate::named::labels_of;
 use crate::numbers::Numbers;
 use bq_base_fault_line::{FaultLine, FaultLines};
 use bq_label::Label;
@@ -92,7 +91,7 @@ fn add_dependencies(alloc: Global, source: Source<'_>, found: &mut Part) -> Resu
     }
     let attributes = source.target.attributes.as_slice();
     for given in attributes {
-        add_labels(alloc, source, labels_of(&given.value), found)?;
+        add_labels(alloc, source, given.value.labels(), found)?;
     }
     Ok(())
 }

@@ -9,7 +9,6 @@
 //!
 //! - `order`: the targets of all packages in order;
 //! - `numbers`: the number of a label;
-//! - `named`: the labels that a value names;
 //! - `build_files`: the BUILD files of packages;
 //! - `dangling`: the line of a label of another package that names no target;
 //! - `edges`: which targets depend on which, and which labels name none, found by one thread or by several;
@@ -20,7 +19,6 @@ mod build_files;
 mod dangling;
 mod edges;
 mod graph;
-mod named;
 mod numbers;
 mod order;
 

@@ -1,25 +1,16 @@
 -- The targets that an attribute of a rule names (Bazel query reference, `labels`).
-use Rattle.std.specs.Prelude.{ℕ, Bool, List, [], ◌∷◌, Some, None, slice_get, IsSomeAnd, if◌then◌else◌}
+use Rattle.std.specs.Prelude.{ℕ, Bool, List, [], Some, None, slice_get, IsSomeAnd, if◌then◌else◌}
 use Rattle.std.specs.List.{list_any}
 use Rattle.bq_label.specs.Label.{LabelParts, full_form}
-use Rattle.bq_value_rule_class.specs.declared.value.AttributeValue.{AttributeValue}
-use Rattle.bq_value_rule_class.specs.declared.value.AttributeValue.TheVariants as v
 use Rattle.bq_package_target.specs.declared.target.Target.{Target}
+use Rattle.bq_value_rule_class.specs.Value.{all_labels_of}
 use Rattle.bq_query_target_sets.specs.Order.{is_text}
 use Rattle.bq_query_target_sets.specs.Words.{Those, is_rule}
 use Rattle.bq_query_target_sets.specs.Texts.{given}
 
--- the labels in a value of type label, label_list, output or output_list
-abbrev pub labels_in : AttributeValue → List LabelParts
-labels_in (v.Label l) = l ∷ []
-labels_in (v.LabelList ls) = ls
-labels_in (v.Output l) = l ∷ []
-labels_in (v.OutputList ls) = ls
-labels_in _ = []
-
--- the labels that a target's attribute names, if it is there; rules alone have attributes
+-- the labels that a target's attribute names, if it is there and of type label, label_list, output or output_list; rules alone have attributes
 unfoldable pub labels_named : List ℕ → Target → List LabelParts
-labels_named name t = if is_rule t then elim (given name t) [ Some a ↦ labels_in a.value | None ↦ [] ] else []
+labels_named name t = if is_rule t then elim (given name t) [ Some a ↦ all_labels_of a.value | None ↦ [] ] else []
 
 -- one of the labels is the target's
 abbrev pub is_among : List LabelParts → Target → Bool

@@ -2,10 +2,11 @@
 //! or output_list.
 
 ghost use Rattle.std.specs.Prelude.{◌≡◌, length, IfOk};
+ghost use Rattle.bq_value_rule_class.specs.Value.{all_labels_of};
 ghost use Rattle.bq_query_graph.specs.Marks.{IsSet, Marked};
 ghost use Rattle.bq_query_target_sets.specs.Order.{AreInOrder};
 ghost use Rattle.bq_query_target_sets.specs.Words.{Adds};
-ghost use Rattle.bq_query_target_sets.specs.Labels.{Labels, labels_in, labels_named, is_among};
+ghost use Rattle.bq_query_target_sets.specs.Labels.{Labels, labels_named, is_among};
 
 use crate::pattern::add_label;
 use crate::set::no_target;
@@ -28,15 +29,9 @@ fn add_labels(targets: &[Target], labels: &[Label], marks: &mut Vec<bool>)
 fn add_value(targets: &[Target], value: &AttributeValue, marks: &mut Vec<bool>)
     requires order { AreInOrder targets.now }
     requires long { length marks.old.items ≡ length targets.now }
-    ensures { Adds (is_among (labels_in value.now)) targets.now marks.old.items marks.new.items }
+    ensures { Adds (is_among (all_labels_of value.now)) targets.now marks.old.items marks.new.items }
 {
-    match value {
-        AttributeValue::Label(label) => add_label(targets, label, marks),
-        AttributeValue::Output(label) => add_label(targets, label, marks),
-        AttributeValue::LabelList(labels) => add_labels(targets, labels.as_slice(), marks),
-        AttributeValue::OutputList(labels) => add_labels(targets, labels.as_slice(), marks),
-        _ => {}
-    }
+    add_labels(targets, value.all_labels(), marks);
 }
 
 /// Adds the targets that the attribute of a rule names.

@@ -30,4 +30,4 @@ mod text;
 
 pub use pattern::add_package;
 pub use set::{no_target, targets_named};
-pub use text::{write_kind, write_label};
+pub use text::write_kind;

@@ -1,19 +1,16 @@
 //! The texts of packages and targets: of a package, a target's kind, its label, and an attribute of it.
 
-ghost use Rattle.std.specs.Prelude.{◌≡◌, ◌++◌, ◌∷◌, codes, map, Some, None, IfOk, OnOk, bytes_eq, if◌then◌else◌};
+ghost use Rattle.std.specs.Prelude.{◌≡◌, ◌++◌, ◌∷◌, codes, Some, None, IfOk, OnOk, bytes_eq, if◌then◌else◌};
 ghost use Rattle.std.specs.List.{find};
 ghost use Rattle.std.specs.Option.{option_copied, is_some};
-ghost use Rattle.std.specs.Fmt.{signed_decimal};
-ghost use Rattle.bq_label.specs.Label.{IsPackage, full_form};
+ghost use Rattle.bq_label.specs.Label.{IsPackage};
 ghost use Rattle.bq_query_target_sets.specs.Words.{package_text};
 ghost use Rattle.bq_query_target_sets.specs.Texts as spec;
-ghost use Rattle.bq_query_target_sets.specs.Texts.{further, kind_text, list_text, value_text, default_text, given, subject_text, attribute_text, text_by};
+ghost use Rattle.bq_query_target_sets.specs.Texts.{kind_text, given, subject_text, attribute_text, text_by};
 
-use bq_base::Bytes;
-use bq_label::{Label, PackageId};
+use bq_label::{PackageId, write_label};
 use bq_package_target::{GivenAttribute, Target, TargetKind, attribute_type};
-use bq_value_rule_class::{AttributeType, AttributeValue, RuleClass};
-use itoa::Buffer;
+use bq_value_rule_class::{RuleClass, default_text};
 use std::alloc::{AllocError, Global};
 
 /// What of a target a pattern is looked for in.
@@ -56,108 +53,6 @@ pub fn package_text(alloc: Global, id: &PackageId) -> Result<Vec<u8>, AllocError
     Ok(text)
 }
 
-/// Writes a label in full.
-#[tactic(auto, unfolding(bq_label::specs::Label::full_form))]
-pub fn write_label(label: &Label, text: &mut Vec<u8>) -> Result<(), AllocError>
-    ensures { OnOk result (text.new.items ≡ text.old.items ++ full_form label.now) }
-{
-    if !label.repo().is_empty() {
-        text.push(b'@')?;
-        text.extend_from_slice(label.repo().as_slice())?;
-    }
-    text.extend_from_slice(b"//")?;
-    text.extend_from_slice(label.package().as_slice())?;
-    text.push(b':')?;
-    text.extend_from_slice(label.name().as_slice())
-}
-
-fn write_further_strings(strings: &[Bytes], text: &mut Vec<u8>) -> Result<(), AllocError>
-    ensures { OnOk result (text.new.items ≡ text.old.items ++ further strings.now) }
-{
-    for string in strings {
-        text.extend_from_slice(b", ")?;
-        text.extend_from_slice(string.as_slice())?;
-    }
-    Ok(())
-}
-
-#[tactic(auto, unfolding(crate::specs::Texts::list_text))]
-fn write_strings(strings: &[Bytes], text: &mut Vec<u8>) -> Result<(), AllocError>
-    ensures { OnOk result (text.new.items ≡ text.old.items ++ list_text strings.now) }
-{
-    text.push(b'[')?;
-    if let [first, rest @ ..] = strings {
-        text.extend_from_slice(first.as_slice())?;
-        write_further_strings(rest, text)?;
-    }
-    text.extend_from_slice(b"]")
-}
-
-fn write_further_labels(labels: &[Label], text: &mut Vec<u8>) -> Result<(), AllocError>
-    ensures { OnOk result (text.new.items ≡ text.old.items ++ further (map full_form labels.now)) }
-{
-    for label in labels {
-        text.extend_from_slice(b", ")?;
-        write_label(label, text)?;
-    }
-    Ok(())
-}
-
-#[tactic(auto, unfolding(crate::specs::Texts::list_text))]
-fn write_labels(labels: &[Label], text: &mut Vec<u8>) -> Result<(), AllocError>
-    ensures { OnOk result (text.new.items ≡ text.old.items ++ list_text (map full_form labels.now)) }
-{
-    text.push(b'[')?;
-    if let [first, rest @ ..] = labels {
-        write_label(first, text)?;
-        write_further_labels(rest, text)?;
-    }
-    text.extend_from_slice(b"]")
-}
-
-fn write_int(n: i64, text: &mut Vec<u8>) -> Result<(), AllocError>
-    ensures { OnOk result (text.new.items ≡ text.old.items ++ signed_decimal n) }
-{
-    let mut buffer = Buffer::new();
-    text.extend_from_slice(buffer.format(n).as_bytes())
-}
-
-/// Writes strings as they are, integers in decimal, 1 for true and 0 for false, labels in full.
-#[tactic(auto, unfolding(crate::specs::Texts::value_text))]
-fn write_value(value: &AttributeValue, text: &mut Vec<u8>) -> Result<(), AllocError>
-    ensures { OnOk result (text.new.items ≡ text.old.items ++ value_text value.now) }
-{
-    match value {
-        AttributeValue::String(string) => text.extend_from_slice(string.as_slice()),
-        AttributeValue::Int(n) => write_int(*n, text),
-        AttributeValue::Bool(true) => text.extend_from_slice(b"1"),
-        AttributeValue::Bool(false) => text.extend_from_slice(b"0"),
-        AttributeValue::StringList(strings) => write_strings(strings.as_slice(), text),
-        AttributeValue::Label(label) => write_label(label, text),
-        AttributeValue::LabelList(labels) => write_labels(labels.as_slice(), text),
-        AttributeValue::Output(label) => write_label(label, text),
-        AttributeValue::OutputList(labels) => write_labels(labels.as_slice(), text),
-    }
-}
-
-/// Returns the text of an attribute that isn't given and has no default of its own.
-#[tactic(auto, unfolding(crate::specs::Texts::default_text))]
-fn default_text(kind: Option<AttributeType>) -> Option<&'static [u8]>
-    ensures { option_copied result ≡ default_text kind }
-{
-    match kind {
-        None => None,
-        Some(AttributeType::String) => Some(b""),
-        Some(AttributeType::Int) => Some(b"0"),
-        Some(AttributeType::Bool) => Some(b"0"),
-        Some(AttributeType::StringList) => Some(b"[]"),
-        Some(AttributeType::Label) => None,
-        Some(AttributeType::LabelList) => Some(b"[]"),
-        Some(AttributeType::Output) => None,
-        Some(AttributeType::OutputList) => Some(b"[]"),
-    }
-}
-
 /// Returns an attribute of the target, with what the call gives it or the default that the rule gives it.
 pub fn given<'a>(name: &[u8], target: &'a Target) -> Option<&'a GivenAttribute>
     ensures { option_copied result ≡ given name.now target.now }
@@ -183,7 +78,7 @@ fn write_attribute(
 {
     match given(name, target) {
         Some(attribute) => {
-            write_value(&attribute.value, text)?;
+            attribute.value.write(text)?;
             Ok(true)
         }
         None => match default_text(attribute_type(class, name)) {

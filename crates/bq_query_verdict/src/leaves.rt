@@ -10,7 +10,7 @@ ghost use Rattle.bq_source.specs.Lexis.{is_digit};
 ghost use Rattle.bq_query_verdict.specs.Verdict as spec;
 
 use bq_base::Bytes;
-use bq_query_function::{Signature, function_named, is_left_out};
+use bq_query_function::{QuerySignature, function_named, is_left_out};
 use bq_query_lex::QueryErr;
 use bq_query_target_pattern::read_pattern;
 use std::alloc::{AllocError, Global};
@@ -56,7 +56,7 @@ fn unknown(name: &Bytes) -> Result<QueryErr, AllocError>
     Ok(QueryErr::UnknownFunction(name.share()?))
 }
 
-fn fits(signature: Signature, count: usize) -> bool
+fn fits(signature: QuerySignature, count: usize) -> bool
     ensures { result ≡ spec.fits (row_of signature) count }
 {
     signature.mandatory() <= count && count <= signature.parameters.len()
@@ -64,7 +64,7 @@ fn fits(signature: Signature, count: usize) -> bool
 
 /// Returns the function of a call, and what its arguments must be. Fails with Q2 or Q3 if the name isn't that of a function that can be answered, with
 /// Q8 if the number of its arguments is wrong.
-pub fn function(name: &Bytes, count: usize) -> Result<Signature, QueryErr>
+pub fn function(name: &Bytes, count: usize) -> Result<QuerySignature, QueryErr>
     ensures fault { Meets (spec.function name.now count) result }
     ensures function { IfOk result (λ s. table.function_named name.now ≡ Some (row_of s)) }
 {

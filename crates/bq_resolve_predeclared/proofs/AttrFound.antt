@@ -1,45 +1,33 @@
 -- A look-up of `attr.NAME` finds the function of that name, and nothing else.
-use Rattle.std.proofs.Common.{◌≡◌, ◌≢◌, ℕ, Bool, true, false, List, [], ◌∷◌, Option, Some, refl, subst, bytes_eq, cond}
+use Rattle.std.proofs.Common.{◌≡◌, ◌∙◌, ℕ, Bool, true, false, List, Option, Some, None, refl, sym, ap}
+use Rattle.std.specs.Prelude.{if◌then◌else◌}
+use Rattle.bq_package_attribute_type.specs.AttributeType.{type_named, has_function, type_named-type_name}
+use Rattle.bq_package_attribute_type.specs.declared.attribute_type.AttributeType.{AttributeType}
+use Rattle.bq_package_attribute_type.proofs.Named.{no_other_named}
 use Rattle.bq_resolve_predeclared.specs.declared.rule_function.RuleFunction.{RuleFunction}
 use Rattle.bq_resolve_predeclared.specs.declared.rule_function.RuleFunction.TheVariants as f
-use Rattle.bq_resolve_predeclared.specs.RuleFunctions.{attr_named, first_called, rule_function_name}
-use Rattle.bq_resolve_predeclared.proofs.Cases.{attr_functions}
+use Rattle.bq_resolve_predeclared.specs.RuleFunctions.{attr_named, rule_function_name}
 use Rattle.bq_resolve_predeclared.specs.Laws.{EachAttrFunctionIsFound, NoOtherAttrFunctionIsFound}
-use Rattle.bq_resolve_predeclared.proofs.Found.{same_name}
+use Rattle.bq_resolve_predeclared.proofs.Cases.{attr_by}
 
--- What is found among these has the name, and is none that isn't among them.
+-- what is found has the name, and makes attributes
 abbrev Fits : List ℕ → RuleFunction → Type 0
-Fits name x = (rule_function_name x ≡ name) × (x ≢ f.Rule)
+Fits name x = (rule_function_name x ≡ name) × ((kind : AttributeType) × (x ≡ f.Attr kind) × (has_function kind ≡ true))
 
-abbrev AllOfAttr : List RuleFunction → Type 0
-AllOfAttr [] = Unit {0}
-AllOfAttr (x ∷ xs) = (x ≢ f.Rule) × AllOfAttr xs
+by_function : (b : Bool) (name : List ℕ) (kind : AttributeType) (x : RuleFunction) → type_named name ≡ Some kind → has_function kind ≡ b → (if b then Some (f.Attr kind) else None) ≡ Some x → Fits name x
+by_function true name kind x e own h =
+    let same : f.Attr kind ≡ x = cc in
+    (ap rule_function_name (sym same) ∙ no_other_named kind name e, (kind, sym same, own))
+by_function false name kind x e own h = absurd (cc)
 
-found_by : (b : Bool) (name : List ℕ) (x y : RuleFunction) (rest : Option RuleFunction) → bytes_eq name (rule_function_name x) ≡ b
-    → x ≢ f.Rule → (rest ≡ Some y → Fits name y) → cond b (Some x) rest ≡ Some y → Fits name y
-found_by true name x y rest t own inner h =
-    let e : x ≡ y = cc in
-    subst (λ z. Fits name z) e (same_name name (rule_function_name x) t, own)
-found_by false name x y rest t own inner h = inner h
-
-first_fits : (name : List ℕ) (xs : List RuleFunction) (y : RuleFunction) → AllOfAttr xs → first_called name xs ≡ Some y → Fits name y
-unfolding first_called
-first_fits name [] y all h = cc
-first_fits name (x ∷ xs) y all h = found_by (bytes_eq name (rule_function_name x)) name x y (first_called name xs) refl all.0 (first_fits name xs y all.1) h
-
-all_of_attr : AllOfAttr attr_functions
-all_of_attr = (λ h. cc, (λ h. cc, (λ h. cc, (λ h. cc, (λ h. cc, (λ h. cc, tt))))))
+by_type : (o : Option AttributeType) (name : List ℕ) (x : RuleFunction) → type_named name ≡ o → attr_by o ≡ Some x → Fits name x
+by_type None name x e h = absurd (cc)
+by_type (Some kind) name x e h = by_function (has_function kind) name kind x e refl h
 
 pub no_other_attr_function : NoOtherAttrFunctionIsFound
 unfolding attr_named
-no_other_attr_function x name h = first_fits name attr_functions x all_of_attr h
+no_other_attr_function x name h = by_type (type_named name) name x refl h
 
 pub each_attr_function : EachAttrFunctionIsFound
-unfolding attr_named first_called
-each_attr_function f.Rule own = absurd (own refl)
-each_attr_function f.AttrString own = refl
-each_attr_function f.AttrInt own = refl
-each_attr_function f.AttrBool own = refl
-each_attr_function f.AttrStringList own = refl
-each_attr_function f.AttrLabel own = refl
-each_attr_function f.AttrLabelList own = refl
+unfolding attr_named
+each_attr_function kind own = ap attr_by (type_named-type_name kind) ∙ ap (λ b. if b then Some (f.Attr kind) else None) own

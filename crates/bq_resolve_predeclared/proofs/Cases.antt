@@ -1,5 +1,7 @@
 -- Parts of definitions, as words that proofs name.
-use Rattle.std.specs.Prelude.{ℕ, List, Bool, false, Option, Some, None, bytes_eq, [], ◌∷◌}
+use Rattle.std.specs.Prelude.{ℕ, List, Bool, false, Option, Some, None, bytes_eq, if◌then◌else◌}
+use Rattle.bq_package_attribute_type.specs.AttributeType.{has_function}
+use Rattle.bq_package_attribute_type.specs.declared.attribute_type.AttributeType.{AttributeType}
 use Rattle.bq_resolve_predeclared.specs.declared.predeclared.Predeclared.{Predeclared}
 use Rattle.bq_resolve_predeclared.specs.declared.predeclared.Predeclared.TheVariants as p
 use Rattle.bq_resolve_predeclared.specs.declared.rule_function.RuleFunction.{RuleFunction}
@@ -14,6 +16,6 @@ has_name name o = elim o [ None ↦ false | Some own ↦ bytes_eq name own ]
 abbrev pub named_by : List ℕ → Option ℕ → Option Predeclared
 named_by name o = elim o [ Some place ↦ Some (p.BuiltIn place) | None ↦ first_named name others ]
 
--- those of `attr`
-abbrev pub attr_functions : List RuleFunction
-attr_functions = f.AttrString ∷ f.AttrInt ∷ f.AttrBool ∷ f.AttrStringList ∷ f.AttrLabel ∷ f.AttrLabelList ∷ []
+-- the function that makes attributes of this type, if there is one
+abbrev pub attr_by : Option AttributeType → Option RuleFunction
+attr_by o = elim o [ None ↦ None | Some kind ↦ if has_function kind then Some (f.Attr kind) else None ]

@@ -12,12 +12,12 @@ pub fn nothing_else_is_found()
     ensures { NothingElseIsFound }
 {}
 
-/// Each function that declares rules, but for `rule`, is found by its name as `attr.NAME`.
+/// Each function that makes attributes is found by the name of their type as `attr.NAME`.
 pub fn each_attr_function_is_found()
     ensures { EachAttrFunctionIsFound }
 {}
 
-/// What is found so has that name, and isn't `rule`.
+/// What is found so makes attributes of the type of that name: it isn't `rule`, and no function for the files that a rule makes.
 pub fn no_other_attr_function_is_found()
     ensures { NoOtherAttrFunctionIsFound }
 {}

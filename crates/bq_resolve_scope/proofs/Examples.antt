@@ -28,12 +28,14 @@ use Rattle.bq_parse_grammar.specs.declared.tree.Suffix.{Suffix, out-Suffix}
 use Rattle.bq_parse_grammar.specs.declared.tree.Suffix.TheVariants as suffix
 use Rattle.bq_parse_grammar.specs.declared.tree.TargetExpr.{TargetExpr, out-TargetExpr, roll-TargetExpr}
 use Rattle.bq_parse_grammar.specs.declared.tree.TargetExpr.TheVariants as target_of
+use Rattle.bq_package_attribute_type.specs.AttributeType.{type_named}
+use Rattle.bq_package_attribute_type.specs.declared.attribute_type.AttributeType.TheVariants as attribute
 use Rattle.bq_resolve_predeclared.specs.declared.host_function.HostFunction.TheVariants as host
 use Rattle.bq_resolve_predeclared.specs.declared.predeclared.Predeclared.{Predeclared}
 use Rattle.bq_resolve_predeclared.specs.declared.predeclared.Predeclared.TheVariants as p
 use Rattle.bq_resolve_predeclared.specs.declared.rule_function.RuleFunction.TheVariants as function
 use Rattle.bq_resolve_predeclared.specs.Predeclared.{place_from, first_named, predeclared_named}
-use Rattle.bq_resolve_predeclared.specs.RuleFunctions.{attr_named, first_called}
+use Rattle.bq_resolve_predeclared.specs.RuleFunctions.{attr_named}
 use Rattle.bq_resolve_scope.specs.declared.file.ResolvedFile.{ResolvedFile}
 use Rattle.bq_resolve_scope.specs.declared.universe.Namespace.{Namespace}
 use Rattle.bq_resolve_scope.specs.declared.universe.Namespace.TheVariants as namespace
@@ -77,23 +79,23 @@ open_simple : (n : List SmallStmt) → out-Stmt (stmt.Simple n) ≡ Stmt-F.Simpl
 open_simple n = search (rules, statement.the_lemmas)
 
 loaded_and_bound : LoadedAndBound
-unfolding first_called attr_named place_from first_named predeclared_named max_layers place_among with_name with_target_to with_target with_clause comprehension_names with_small with_stmt_to with_stmt function_names global_names with_load with_loads loaded_names host_named member_named universe_has slot_in slot_of file_has use_of space_of each bind_global use_at bound_at target_to arguments suffixes operand call_member primary clauses in_block comprehension expr_to expr target load_clause load assign augment returned load_in in_loop small_stmt branch if_stmt for_stmt stmt_to named_parameter default_parameter next_parameter parameters function file_names def_stmt top_level resolved out-Stmt roll-Stmt out-Expr roll-Expr out-TargetExpr roll-TargetExpr out
+unfolding type_named attr_named place_from first_named predeclared_named max_layers place_among with_name with_target_to with_target with_clause comprehension_names with_small with_stmt_to with_stmt function_names global_names with_load with_loads loaded_names host_named member_named universe_has slot_in slot_of file_has use_of space_of each bind_global use_at bound_at target_to arguments suffixes operand call_member primary clauses in_block comprehension expr_to expr target load_clause load assign augment returned load_in in_loop small_stmt branch if_stmt for_stmt stmt_to named_parameter default_parameter next_parameter parameters function file_names def_stmt top_level resolved out-Stmt roll-Stmt out-Expr roll-Expr out-TargetExpr roll-TargetExpr out
 loaded_and_bound = refl
 
 rebound : Rebound
-unfolding first_called attr_named place_from first_named predeclared_named max_layers place_among with_name with_target_to with_target with_clause comprehension_names with_small with_stmt_to with_stmt function_names global_names with_load with_loads loaded_names host_named member_named universe_has slot_in slot_of file_has use_of space_of each bind_global use_at bound_at target_to arguments suffixes operand call_member primary clauses in_block comprehension expr_to expr target load_clause load assign augment returned load_in in_loop small_stmt branch if_stmt for_stmt stmt_to named_parameter default_parameter next_parameter parameters function file_names def_stmt top_level resolved out-Stmt roll-Stmt out-Expr roll-Expr out-TargetExpr roll-TargetExpr out
+unfolding type_named attr_named place_from first_named predeclared_named max_layers place_among with_name with_target_to with_target with_clause comprehension_names with_small with_stmt_to with_stmt function_names global_names with_load with_loads loaded_names host_named member_named universe_has slot_in slot_of file_has use_of space_of each bind_global use_at bound_at target_to arguments suffixes operand call_member primary clauses in_block comprehension expr_to expr target load_clause load assign augment returned load_in in_loop small_stmt branch if_stmt for_stmt stmt_to named_parameter default_parameter next_parameter parameters function file_names def_stmt top_level resolved out-Stmt roll-Stmt out-Expr roll-Expr out-TargetExpr roll-TargetExpr out
 rebound = (refl, refl, refl)
 
 loaded_twice : LoadedTwice
-unfolding first_called attr_named place_from first_named predeclared_named max_layers place_among with_name with_target_to with_target with_clause comprehension_names with_small with_stmt_to with_stmt function_names global_names with_load with_loads loaded_names host_named member_named universe_has slot_in slot_of file_has use_of space_of each bind_global use_at bound_at target_to arguments suffixes operand call_member primary clauses in_block comprehension expr_to expr target load_clause load assign augment returned load_in in_loop small_stmt branch if_stmt for_stmt stmt_to named_parameter default_parameter next_parameter parameters function file_names def_stmt top_level resolved out-Stmt roll-Stmt out-Expr roll-Expr out-TargetExpr roll-TargetExpr out
+unfolding type_named attr_named place_from first_named predeclared_named max_layers place_among with_name with_target_to with_target with_clause comprehension_names with_small with_stmt_to with_stmt function_names global_names with_load with_loads loaded_names host_named member_named universe_has slot_in slot_of file_has use_of space_of each bind_global use_at bound_at target_to arguments suffixes operand call_member primary clauses in_block comprehension expr_to expr target load_clause load assign augment returned load_in in_loop small_stmt branch if_stmt for_stmt stmt_to named_parameter default_parameter next_parameter parameters function file_names def_stmt top_level resolved out-Stmt roll-Stmt out-Expr roll-Expr out-TargetExpr roll-TargetExpr out
 loaded_twice = (refl, refl, refl)
 
 first_fault : FirstFault
-unfolding first_called attr_named place_from first_named predeclared_named max_layers place_among with_name with_target_to with_target with_clause comprehension_names with_small with_stmt_to with_stmt function_names global_names with_load with_loads loaded_names host_named member_named universe_has slot_in slot_of file_has use_of space_of each bind_global use_at bound_at target_to arguments suffixes operand call_member primary clauses in_block comprehension expr_to expr target load_clause load assign augment returned load_in in_loop small_stmt branch if_stmt for_stmt stmt_to named_parameter default_parameter next_parameter parameters function file_names def_stmt top_level resolved out-Stmt roll-Stmt out-Expr roll-Expr out-TargetExpr roll-TargetExpr out
+unfolding type_named attr_named place_from first_named predeclared_named max_layers place_among with_name with_target_to with_target with_clause comprehension_names with_small with_stmt_to with_stmt function_names global_names with_load with_loads loaded_names host_named member_named universe_has slot_in slot_of file_has use_of space_of each bind_global use_at bound_at target_to arguments suffixes operand call_member primary clauses in_block comprehension expr_to expr target load_clause load assign augment returned load_in in_loop small_stmt branch if_stmt for_stmt stmt_to named_parameter default_parameter next_parameter parameters function file_names def_stmt top_level resolved out-Stmt roll-Stmt out-Expr roll-Expr out-TargetExpr roll-TargetExpr out
 first_fault = refl
 
 first_iterable : FirstIterable
-unfolding first_called attr_named place_from first_named predeclared_named max_layers place_among with_name with_target_to with_target with_clause comprehension_names with_small with_stmt_to with_stmt function_names global_names with_load with_loads loaded_names host_named member_named universe_has slot_in slot_of file_has use_of space_of each bind_global use_at bound_at target_to arguments suffixes operand call_member primary clauses in_block comprehension expr_to expr target load_clause load assign augment returned load_in in_loop small_stmt branch if_stmt for_stmt stmt_to named_parameter default_parameter next_parameter parameters function file_names def_stmt top_level resolved out-Stmt roll-Stmt out-TargetExpr roll-TargetExpr out
+unfolding type_named attr_named place_from first_named predeclared_named max_layers place_among with_name with_target_to with_target with_clause comprehension_names with_small with_stmt_to with_stmt function_names global_names with_load with_loads loaded_names host_named member_named universe_has slot_in slot_of file_has use_of space_of each bind_global use_at bound_at target_to arguments suffixes operand call_member primary clauses in_block comprehension expr_to expr target load_clause load assign augment returned load_in in_loop small_stmt branch if_stmt for_stmt stmt_to named_parameter default_parameter next_parameter parameters function file_names def_stmt top_level resolved out-Stmt roll-Stmt out-TargetExpr roll-TargetExpr out
 first_iterable =
     let y = codes "y" in
     rw (open_comprehension (named 1 y) (clause.For (target_of.Name (word 1 y)) (named 1 y) ∷ []) frame.Shared, open_for (target_of.Name (word 1 y)) (named 1 y), open_name (word 1 y)) refl
@@ -216,7 +218,7 @@ module _ (file : FileParts) (n : List ℕ) where
       ∙ (primary_in (expr_to 1023 file) nothing_passed m (space, word 1 n) of ∙ member_missing (expr_to 1023 file) nothing_passed m space none)
 
 rules_of_schema : Rules
-unfolding first_called attr_named place_from first_named predeclared_named place_among host_named member_named universe_has slot_in slot_of file_has use_of space_of
+unfolding type_named attr_named place_from first_named predeclared_named place_among host_named member_named universe_has slot_in slot_of file_has use_of space_of
 rules_of_schema =
     let n = codes "filegroup" in let x = p.Host (host.Rule 0) in (
       one_line build (call 1 n) _ (call_known (file_of build) n (referent.Predeclared x) refl refl),
@@ -225,7 +227,7 @@ rules_of_schema =
     )
 
 native_names : Native
-unfolding first_called attr_named place_from first_named predeclared_named place_among host_named member_named universe_has slot_in slot_of file_has use_of space_of
+unfolding type_named attr_named place_from first_named predeclared_named place_among host_named member_named universe_has slot_in slot_of file_has use_of space_of
 native_names =
     let n = codes "native" in (
       one_line bzl (native_call 1 (codes "nope")) _ (member_unknown (file_of bzl) n (codes "nope") namespace.Native refl refl),
@@ -233,10 +235,10 @@ native_names =
     )
 
 attr_names : Attr
-unfolding first_called attr_named place_from first_named predeclared_named place_among host_named member_named universe_has slot_in slot_of file_has use_of space_of each use_at arguments suffixes operand call_member primary expr_to max_layers
+unfolding type_named attr_named place_from first_named predeclared_named place_among host_named member_named universe_has slot_in slot_of file_has use_of space_of each use_at arguments suffixes operand call_member primary expr_to max_layers
 attr_names =
     let a = codes "attr" in (
-      one_line bzl (attr_call 1 (codes "int")) _ (member_known (file_of bzl) a (codes "int") namespace.Attr (p.RuleFunction function.AttrInt) refl refl),
+      one_line bzl (attr_call 1 (codes "int")) _ (member_known (file_of bzl) a (codes "int") namespace.Attr (p.RuleFunction (function.Attr attribute.Int)) refl refl),
       one_line bzl (attr_call 1 (codes "nope")) _ (member_unknown (file_of bzl) a (codes "nope") namespace.Attr refl refl),
       one_line bzl (named 1 a) _ (name_unknown (file_of bzl) a refl),
       one_line bzl (parenthesized_call 1 a (codes "int")) (Err (record { kind = f.UnknownName; line = 1; detail = a })) (rw (
@@ -250,7 +252,7 @@ attr_names =
     )
 
 own_attr : OwnAttr
-unfolding first_called attr_named place_from first_named predeclared_named max_layers place_among with_name with_target_to with_target with_clause comprehension_names with_small with_stmt_to with_stmt function_names global_names with_load with_loads loaded_names host_named member_named universe_has slot_in slot_of file_has use_of space_of each bind_global use_at bound_at target_to arguments suffixes operand call_member primary clauses in_block comprehension expr_to expr target load_clause load assign augment returned load_in in_loop small_stmt branch if_stmt for_stmt stmt_to named_parameter default_parameter next_parameter parameters function file_names def_stmt top_level resolved out-Stmt roll-Stmt out-TargetExpr roll-TargetExpr out
+unfolding type_named attr_named place_from first_named predeclared_named max_layers place_among with_name with_target_to with_target with_clause comprehension_names with_small with_stmt_to with_stmt function_names global_names with_load with_loads loaded_names host_named member_named universe_has slot_in slot_of file_has use_of space_of each bind_global use_at bound_at target_to arguments suffixes operand call_member primary clauses in_block comprehension expr_to expr target load_clause load assign augment returned load_in in_loop small_stmt branch if_stmt for_stmt stmt_to named_parameter default_parameter next_parameter parameters function file_names def_stmt top_level resolved out-Stmt roll-Stmt out-TargetExpr roll-TargetExpr out
 own_attr =
     let a = codes "attr" in let i = codes "int" in (
       rw (open_list [], open_primary (named 2 a) (suffix.Method (word 2 i) [] ∷ []), open_name (word 2 a), open_name (word 2 a), open_method (word 2 i) []) refl,
@@ -258,7 +260,7 @@ own_attr =
     )
 
 of_rule : OfRule
-unfolding first_called attr_named place_from first_named predeclared_named place_among host_named member_named universe_has slot_in slot_of file_has use_of space_of
+unfolding type_named attr_named place_from first_named predeclared_named place_among host_named member_named universe_has slot_in slot_of file_has use_of space_of
 of_rule =
     let n = codes "rule" in let a = codes "attr" in let x = p.Host (host.Rule 0) in let r = p.RuleFunction function.Rule in (
       one_line bzl (call 1 n) _ (call_known (file_of bzl) n (referent.Predeclared r) refl refl),
@@ -270,7 +272,7 @@ of_rule =
     )
 
 one_name_thrice : OneNameThrice
-unfolding first_called attr_named place_from first_named predeclared_named max_layers place_among with_name with_target_to with_target with_clause comprehension_names with_small with_stmt_to with_stmt function_names global_names with_load with_loads loaded_names host_named member_named universe_has slot_in slot_of file_has use_of space_of each bind_global use_at bound_at target_to arguments suffixes operand call_member primary clauses in_block comprehension expr_to expr target load_clause load assign augment returned load_in in_loop small_stmt branch if_stmt for_stmt stmt_to named_parameter default_parameter next_parameter parameters function file_names def_stmt top_level resolved out-TargetExpr roll-TargetExpr out
+unfolding type_named attr_named place_from first_named predeclared_named max_layers place_among with_name with_target_to with_target with_clause comprehension_names with_small with_stmt_to with_stmt function_names global_names with_load with_loads loaded_names host_named member_named universe_has slot_in slot_of file_has use_of space_of each bind_global use_at bound_at target_to arguments suffixes operand call_member primary clauses in_block comprehension expr_to expr target load_clause load assign augment returned load_in in_loop small_stmt branch if_stmt for_stmt stmt_to named_parameter default_parameter next_parameter parameters function file_names def_stmt top_level resolved out-TargetExpr roll-TargetExpr out
 one_name_thrice =
     let x = codes "x" in λ file.
     rw (
@@ -282,19 +284,19 @@ one_name_thrice =
     ) refl
 
 default_outside : Default
-unfolding first_called attr_named place_from first_named predeclared_named max_layers place_among with_name with_target_to with_target with_clause comprehension_names with_small with_stmt_to with_stmt function_names global_names with_load with_loads loaded_names host_named member_named universe_has slot_in slot_of file_has use_of space_of each bind_global use_at bound_at target_to arguments suffixes operand call_member primary clauses in_block comprehension expr_to expr target load_clause load assign augment returned load_in in_loop small_stmt branch if_stmt for_stmt stmt_to named_parameter default_parameter next_parameter parameters function file_names def_stmt top_level resolved out-TargetExpr roll-TargetExpr out
+unfolding type_named attr_named place_from first_named predeclared_named max_layers place_among with_name with_target_to with_target with_clause comprehension_names with_small with_stmt_to with_stmt function_names global_names with_load with_loads loaded_names host_named member_named universe_has slot_in slot_of file_has use_of space_of each bind_global use_at bound_at target_to arguments suffixes operand call_member primary clauses in_block comprehension expr_to expr target load_clause load assign augment returned load_in in_loop small_stmt branch if_stmt for_stmt stmt_to named_parameter default_parameter next_parameter parameters function file_names def_stmt top_level resolved out-TargetExpr roll-TargetExpr out
 default_outside =
     rw (open_name (word 1 (codes "b"))) refl
 
 flow_outside : Flow
-unfolding first_called attr_named place_from first_named predeclared_named max_layers place_among with_name with_target_to with_target with_clause comprehension_names with_small with_stmt_to with_stmt function_names global_names with_load with_loads loaded_names host_named member_named universe_has slot_in slot_of file_has use_of space_of each bind_global use_at bound_at target_to arguments suffixes operand call_member primary clauses in_block comprehension expr_to expr target load_clause load assign augment returned load_in in_loop small_stmt branch if_stmt for_stmt stmt_to named_parameter default_parameter next_parameter parameters function file_names def_stmt top_level resolved out-TargetExpr roll-TargetExpr out
+unfolding type_named attr_named place_from first_named predeclared_named max_layers place_among with_name with_target_to with_target with_clause comprehension_names with_small with_stmt_to with_stmt function_names global_names with_load with_loads loaded_names host_named member_named universe_has slot_in slot_of file_has use_of space_of each bind_global use_at bound_at target_to arguments suffixes operand call_member primary clauses in_block comprehension expr_to expr target load_clause load assign augment returned load_in in_loop small_stmt branch if_stmt for_stmt stmt_to named_parameter default_parameter next_parameter parameters function file_names def_stmt top_level resolved out-TargetExpr roll-TargetExpr out
 flow_outside = (
   rw (open_simple (record { line = 1; kind = small.Return (Some (e.Int (pos 1))) } ∷ [])) refl,
   rw (open_loop (target_of.Name (word 2 (codes "x"))) (e.List []) (simple 2 small.Pass ∷ [])) refl,
 )
 
 two_parameters : Parameters
-unfolding first_called attr_named place_from first_named predeclared_named max_layers place_among with_name with_target_to with_target with_clause comprehension_names with_small with_stmt_to with_stmt function_names global_names with_load with_loads loaded_names host_named member_named universe_has slot_in slot_of file_has use_of space_of each bind_global use_at bound_at target_to arguments suffixes operand call_member primary clauses in_block comprehension expr_to expr target load_clause load assign augment returned load_in in_loop small_stmt branch if_stmt for_stmt stmt_to named_parameter default_parameter next_parameter parameters function file_names def_stmt top_level resolved out-TargetExpr roll-TargetExpr out
+unfolding type_named attr_named place_from first_named predeclared_named max_layers place_among with_name with_target_to with_target with_clause comprehension_names with_small with_stmt_to with_stmt function_names global_names with_load with_loads loaded_names host_named member_named universe_has slot_in slot_of file_has use_of space_of each bind_global use_at bound_at target_to arguments suffixes operand call_member primary clauses in_block comprehension expr_to expr target load_clause load assign augment returned load_in in_loop small_stmt branch if_stmt for_stmt stmt_to named_parameter default_parameter next_parameter parameters function file_names def_stmt top_level resolved out-TargetExpr roll-TargetExpr out
 two_parameters =
     let a = codes "a" in
     rw (open_def (word 1 (codes "f")) (parameter.Plain (word 1 a) ∷ parameter.Plain (word 1 a) ∷ []) (simple 1 small.Pass ∷ [])) refl

@@ -22,6 +22,7 @@ use Rattle.bq_parse_grammar.specs.declared.tree.Suffix.TheVariants as suffix
 use Rattle.bq_parse_grammar.specs.declared.tree.TargetExpr.TheVariants as target
 use Rattle.bq_parse_grammar.specs.declared.tree.TopLevel.{TopLevel}
 use Rattle.bq_parse_grammar.specs.Literals as literals
+use Rattle.bq_package_attribute_type.specs.declared.attribute_type.AttributeType.TheVariants as attribute
 use Rattle.bq_resolve_predeclared.specs.declared.host_function.HostFunction.TheVariants as host
 use Rattle.bq_resolve_predeclared.specs.declared.predeclared.Predeclared.{Predeclared}
 use Rattle.bq_resolve_predeclared.specs.declared.predeclared.Predeclared.TheVariants as p
@@ -188,7 +189,7 @@ Native =
 -- file, at `attr`
 abbrev pub Attr : Type 0
 Attr =
-    (resolved bzl (top 1 (simple 1 (small.Expr (attr_call 1 (codes "int")))) ∷ []) ≡ of_lines (line_of 1 (member_called (codes "attr") (codes "int") (p.RuleFunction function.AttrInt)) ∷ []) [])
+    (resolved bzl (top 1 (simple 1 (small.Expr (attr_call 1 (codes "int")))) ∷ []) ≡ of_lines (line_of 1 (member_called (codes "attr") (codes "int") (p.RuleFunction (function.Attr attribute.Int))) ∷ []) [])
     × (resolved bzl (top 1 (simple 1 (small.Expr (attr_call 1 (codes "nope")))) ∷ []) ≡ fault f.UnknownName 1 (codes "nope"))
     × (resolved bzl (top 1 (simple 1 (small.Expr (named 1 (codes "attr")))) ∷ []) ≡ fault f.UnknownName 1 (codes "attr"))
     × (resolved bzl (top 1 (simple 1 (small.Expr (parenthesized_call 1 (codes "attr") (codes "int")))) ∷ []) ≡ fault f.UnknownName 1 (codes "attr"))

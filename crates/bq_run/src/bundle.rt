@@ -51,14 +51,14 @@ fn lead(text: &[u8]) -> usize
 
 /// A file as the text has it: its path, its content, and the text from the next header on.
 #[derive(Clone, Copy)]
-struct Piece<'a> {
+struct BundleFile<'a> {
     path: &'a [u8],
     content: &'a [u8],
     rest: &'a [u8],
 }
 
 /// Returns the first piece of a text that begins with a header, if that header has a newline.
-fn first_piece(text: &[u8]) -> Option<Piece<'_>>
+fn first_piece(text: &[u8]) -> Option<BundleFile<'_>>
     requires some { 0 < length text.now }
     requires header { (cut (lines text.now)).before ≡ [] }
     ensures found { IfSome result (λ p. BeginsWith text.now p.path.now p.content.now p.rest.now) }
@@ -71,7 +71,7 @@ fn first_piece(text: &[u8]) -> Option<Piece<'_>>
     }
     let body = &text[n..];
     let size = lead(body);
-    Some(Piece {
+    Some(BundleFile {
         path: &line[4..n - 1],
         content: &body[..size],
         rest: &body[size..],

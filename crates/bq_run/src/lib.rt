@@ -32,6 +32,6 @@ pub use bq_run_write::{
 };
 pub use bundle::{read_bundle, read_bundle_within};
 pub use loading::{load_graph, load_workspace};
-pub use options::{MAX_JOBS, Options};
+pub use options::{MAX_JOBS, Options, WorkspaceRun};
 pub use reports::refused_report;
 pub use runs::{run, run_files};

@@ -10,7 +10,9 @@ ghost use Rattle.bq_run.specs.WorkspaceRun.{loaded_in};
 
 use crate::options::Options;
 use bq_label::Workspace;
-use bq_load_by_name::{LoadErr, LoadGraph, Loaded, OpenGate, load_graph_with, load_within};
+use bq_load_by_name::{
+    LoadErr, LoadGraph, Loaded, OpenGate, Sources, Workers, load_graph_with, load_within,
+};
 use bq_package_schema::Schema;
 use bq_value_seed::Seed;
 use std::alloc::{AllocError, Global};
@@ -30,13 +32,16 @@ pub fn load_workspace<T: Threads + Wait + RandomSource + Sync>(
     requires { IsInRange options.now }
     ensures { LoadsByNames workspace.now schema.now options.now.limits result }
 {
+    let sources = Sources {
+        workspace,
+        schema,
+        seed: Seed::draw(rt),
+    };
     load_within(
         rt,
         alloc,
-        workspace,
-        schema,
+        &sources,
         options.limits,
-        Seed::draw(rt),
         options.jobs as usize,
         &OpenGate,
     )
@@ -57,16 +62,16 @@ pub fn load_graph<T: Threads + Wait + RandomSource + Sync>(
     requires graph { IsReadGraph (inputs_of workspace.now schema.now) graph }
     ensures { IfOk result (λ l. inside l ≡ loaded_in workspace.now schema.now (parsed_of (inputs_of workspace.now schema.now)) options.now.limits.steps graph.labels graph.edges) }
 {
-    // PROOF: what it gives is inside the workspace
-    Ok(load_graph_with(
-        rt,
-        alloc,
+    let sources = Sources {
         workspace,
         schema,
-        options.limits.steps,
-        Seed::draw(rt),
-        graph,
-        options.jobs as usize,
-        &OpenGate,
-    )?)
+        seed: Seed::draw(rt),
+    };
+    let gate = OpenGate;
+    let workers = Workers {
+        count: options.jobs as usize,
+        gate: &gate,
+    };
+    // PROOF: what it gives is inside the workspace
+    Ok(load_graph_with(rt, alloc, &sources, options.limits.steps, graph, &workers)?)
 }

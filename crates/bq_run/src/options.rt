@@ -1,6 +1,7 @@
 //! What a run is asked to do.
 
 use bq_base_limits::Limits;
+use bq_label::Workspace;
 use bq_load_workers::MAX_WORKERS;
 use bq_query::OutputForm;
 
@@ -18,4 +19,11 @@ pub struct Options {
     pub output: OutputForm,
     /// How large the workspace may be, and how many steps a module may take, 1 to 1,000,000,000.
     pub limits: Limits,
+}
+
+/// A workspace, and what a run over it is asked to do.
+#[derive(Clone, Copy)]
+pub struct WorkspaceRun<'a> {
+    pub workspace: &'a Workspace,
+    pub options: &'a Options,
 }

@@ -6,15 +6,15 @@ use Rattle.bq_base.specs.declared.fault.FaultKind.{FaultKind}
 use Rattle.bq_base_fault_line.specs.Kinds.{fault_word, fault_called}
 use Rattle.bq_run_explain.specs.declared.explanation.ErrorEntry.{ErrorEntry}
 use Rattle.bq_run_explain.specs.declared.explanation.Explanation.{Explanation}
-use Rattle.bq_run_explain.specs.declared.explanation.Subject.{Subject}
-use Rattle.bq_run_explain.specs.declared.explanation.Subject.TheVariants as subject
+use Rattle.bq_run_explain.specs.declared.explanation.NumberMeaning.{NumberMeaning}
+use Rattle.bq_run_explain.specs.declared.explanation.NumberMeaning.TheVariants as subject
 
 -- the number and the name of a fault
 abbrev pub fault_entry : FaultKind → List ℕ × List ℕ
 fault_entry kind = (fault_word kind, fault_name kind)
 
 -- the number and the name of what is explained
-abbrev pub subject_entry : Subject → List ℕ × List ℕ
+abbrev pub subject_entry : NumberMeaning → List ℕ × List ℕ
 subject_entry (subject.Fault kind) = fault_entry kind
 subject_entry (subject.Error number name) = (number.now, name.now)
 

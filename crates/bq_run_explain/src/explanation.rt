@@ -7,7 +7,7 @@ use bq_base::FaultKind;
 
 /// What a number stands for.
 #[derive(Clone, Copy)]
-pub enum Subject {
+pub enum NumberMeaning {
     /// A fault of a file.
     Fault(FaultKind),
     /// An error of a query or of a run: its number, as `Q5`, and its name.
@@ -17,7 +17,7 @@ pub enum Subject {
 /// What `bq --explain` prints for a number.
 #[derive(Clone, Copy)]
 pub struct Explanation {
-    pub subject: Subject,
+    pub subject: NumberMeaning,
     /// In Markdown: what it means, the smallest example that has it, what to do. The example is indented by four spaces: the lines of
     /// a bundle, if it has one, a blank line, `$ ` and a command, and what that writes.
     pub text: &'static str,
@@ -41,7 +41,7 @@ pub(crate) fn first_numbered(mut table: &[ErrorEntry], number: &[u8]) -> Option<
     while let [entry, rest @ ..] = table {
         if number == entry.number.as_bytes() {
             return Some(Explanation {
-                subject: Subject::Error(entry.number, entry.name),
+                subject: NumberMeaning::Error(entry.number, entry.name),
                 text: entry.text,
             });
         }

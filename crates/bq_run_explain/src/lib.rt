@@ -18,6 +18,6 @@ mod look_up;
 mod queries;
 mod runs;
 
-pub use explanation::{Explanation, Subject};
+pub use explanation::{Explanation, NumberMeaning};
 pub use laws::{each_error_is_explained, each_fault_is_explained, nothing_else_is_explained};
 pub use look_up::explain;

@@ -3,7 +3,7 @@
 ghost use Rattle.std.specs.Prelude.{◌≡◌, option_map};
 ghost use Rattle.bq_run_explain.specs.Numbers.{entry_of, entry_numbered};
 
-use crate::explanation::{Explanation, Subject};
+use crate::explanation::{Explanation, NumberMeaning};
 use crate::faults::{fault_called, text_of};
 use crate::queries::in_queries;
 use crate::runs::in_runs;
@@ -15,7 +15,7 @@ pub fn explain(number: &[u8]) -> Option<Explanation>
 {
     if let Some(kind) = fault_called(number) {
         return Some(Explanation {
-            subject: Subject::Fault(kind),
+            subject: NumberMeaning::Fault(kind),
             text: text_of(kind),
         });
     }

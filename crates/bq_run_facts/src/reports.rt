@@ -25,7 +25,7 @@ use bq_load_discover::{LoadErr, LoadGraph, Module, discover_by_workers, schema_o
 use bq_package_schema::Schema;
 use bq_query_check::{CheckedQuery, parse_query};
 use bq_query_target_graph::{TargetGraph, build_graph_by};
-use bq_run::{Loaded, Options, load_graph, refused_report};
+use bq_run::{Loaded, WorkspaceRun, load_graph, refused_report};
 use bq_run_report::{NoAnswer, Report, drop_aside, refusal_of, status_by};
 use std::alloc::{AllocError, Global};
 use std::random::RandomSource;
@@ -132,21 +132,21 @@ fn report_loaded<R: Threads + Sync>(
 fn report_graph<T: Threads + Wait + RandomSource + Sync>(
     rt: &T,
     alloc: Global,
-    workspace: &Workspace,
+    over: &WorkspaceRun<'_>,
     schema: &Schema,
     graph: LoadGraph,
     asked: Option<&CheckedQuery>,
-    options: &Options,
 ) -> Result<Report, AllocError>
-    requires in_range { IsInRange options.now }
-    requires graph { IsReadGraph (inputs_of workspace.now schema.now) graph }
-    ensures { IfOk result (λ r. TellsGraph workspace.now schema.now options.now.limits.steps graph (option_copied asked.entry) (report_view r)) }
+    requires in_range { IsInRange over.now.options.now }
+    requires graph { IsReadGraph (inputs_of over.now.workspace.now schema.now) graph }
+    ensures { IfOk result (λ r. TellsGraph over.now.workspace.now schema.now over.now.options.now.limits.steps graph (option_copied asked.entry) (report_view r)) }
 {
-    let Ok(before) = read_before(alloc, workspace, graph.modules()) else {
+    let Ok(before) = read_before(alloc, over.workspace, graph.modules()) else {
         drop(graph); // PROOF: one call lets the graph go
         return Err(AllocError);
     };
-    let loaded = load_graph(rt, alloc, workspace, schema, graph, options)?;
+    let options = over.options;
+    let loaded = load_graph(rt, alloc, over.workspace, schema, graph, options)?;
     report_loaded(rt, alloc, before, loaded, asked, options.jobs as usize)
 }
 
@@ -165,24 +165,23 @@ fn without_graph(alloc: Global, why: LoadErr) -> Result<Report, AllocError>
 fn report_schema<T: Threads + Wait + RandomSource + Sync>(
     rt: &T,
     alloc: Global,
-    workspace: &Workspace,
+    over: &WorkspaceRun<'_>,
     schema: &Schema,
     asked: Option<&CheckedQuery>,
-    options: &Options,
 ) -> Result<Report, AllocError>
-    requires in_range { IsInRange options.now }
-    requires schema { schema_in workspace.now ≡ Ok schema.now }
-    ensures { IfOk result (λ r. IsFactsBy options.now.limits workspace.now (option_copied asked.entry) (report_view r)) }
+    requires in_range { IsInRange over.now.options.now }
+    requires schema { schema_in over.now.workspace.now ≡ Ok schema.now }
+    ensures { IfOk result (λ r. IsFactsBy over.now.options.now.limits over.now.workspace.now (option_copied asked.entry) (report_view r)) }
 {
     match discover_by_workers(
         rt,
         alloc,
-        workspace,
+        over.workspace,
         schema,
-        options.limits,
-        options.jobs as usize,
+        over.options.limits,
+        over.options.jobs as usize,
     ) {
-        Ok(graph) => report_graph(rt, alloc, workspace, schema, graph, asked, options),
+        Ok(graph) => report_graph(rt, alloc, over, schema, graph, asked),
         Err(why) => without_graph(alloc, why), // PROOF: nothing is left to let go of
     }
 }
@@ -201,16 +200,15 @@ fn without_schema(alloc: Global, why: LoadErr) -> Result<Report, AllocError>
 fn report_asked<T: Threads + Wait + RandomSource + Sync>(
     rt: &T,
     alloc: Global,
-    workspace: &Workspace,
+    over: &WorkspaceRun<'_>,
     asked: Option<&CheckedQuery>,
-    options: &Options,
 ) -> Result<Report, AllocError>
-    requires in_range { IsInRange options.now }
-    ensures { IfOk result (λ r. IsFactsBy options.now.limits workspace.now (option_copied asked.entry) (report_view r)) }
+    requires in_range { IsInRange over.now.options.now }
+    ensures { IfOk result (λ r. IsFactsBy over.now.options.now.limits over.now.workspace.now (option_copied asked.entry) (report_view r)) }
 {
-    match schema_of(alloc, workspace) {
+    match schema_of(alloc, over.workspace) {
         Ok(schema) => {
-            let report = report_schema(rt, alloc, workspace, &schema, asked, options);
+            let report = report_schema(rt, alloc, over, &schema, asked);
             drop(schema); // PROOF: one call lets the schema go
             report
         }
@@ -223,19 +221,18 @@ fn report_asked<T: Threads + Wait + RandomSource + Sync>(
 pub(crate) fn report_facts<T: Threads + Wait + RandomSource + Sync>(
     rt: &T,
     alloc: Global,
-    workspace: &Workspace,
+    over: &WorkspaceRun<'_>,
     query: Option<&[u8]>,
-    options: &Options,
 ) -> Result<Report, AllocError>
-    requires in_range { IsInRange options.now }
-    ensures { IfOk result (λ r. IsFactsOn options.now.limits workspace.now (option_copied query.entry) (report_view r)) }
+    requires in_range { IsInRange over.now.options.now }
+    ensures { IfOk result (λ r. IsFactsOn over.now.options.now.limits over.now.workspace.now (option_copied query.entry) (report_view r)) }
 {
     let Some(query) = query else {
-        return report_asked(rt, alloc, workspace, None, options);
+        return report_asked(rt, alloc, over, None);
     };
     match parse_query(alloc, query) {
         Ok(query) => {
-            let report = report_asked(rt, alloc, workspace, Some(&query), options);
+            let report = report_asked(rt, alloc, over, Some(&query));
             drop(query); // PROOF: one call lets the query go
             report
         }

@@ -9,8 +9,7 @@ ghost use Rattle.bq_run.specs.Run.{IsInRange};
 ghost use Rattle.bq_run_facts.specs.Facts.{IsFactsOver};
 
 use crate::reports::report_facts;
-use bq_label::Workspace;
-use bq_run::{ByteSink, Options, RunErr, Status, send_report};
+use bq_run::{ByteSink, RunErr, Status, WorkspaceRun, send_report};
 use std::alloc::Global;
 use std::random::RandomSource;
 use std::sync::Wait;
@@ -25,18 +24,17 @@ use std::thread::Threads;
 pub fn run_facts<T: Threads + Wait + RandomSource + Sync, W: ByteSink, F: ByteSink>(
     rt: &T,
     alloc: Global,
-    workspace: &Workspace,
+    over: &WorkspaceRun<'_>,
     query: Option<&[u8]>,
     writer: &mut W,
     faults_writer: &mut F,
-    options: &Options,
 ) -> Result<Status, RunErr>
-    requires in_range { IsInRange options.now }
+    requires in_range { IsInRange over.now.options.now }
     requires writer { W.failed writer.old < 2 ^ 64 - 1 }
     requires faults_writer { F.failed faults_writer.old < 2 ^ 64 - 1 }
 
     // What is written, and how the run ends, are the definition's.
-    ensures does { DoesOne (IsFactsOver options.now workspace.now (option_copied query.entry)) result (F.contents faults_writer.old) (F.contents faults_writer.new) (W.contents writer.old) (W.contents writer.new) }
+    ensures does { DoesOne (IsFactsOver over.now.options.now over.now.workspace.now (option_copied query.entry)) result (F.contents faults_writer.old) (F.contents faults_writer.new) (W.contents writer.old) (W.contents writer.new) }
     ensures silent { IsSilent result → Keeps (F.contents faults_writer.old) (F.contents faults_writer.new) × Keeps (W.contents writer.old) (W.contents writer.new) }
 
     // E3 is returned exactly after one failed call of a writer, which is not tried again. Nothing is read.
@@ -44,6 +42,6 @@ pub fn run_facts<T: Threads + Wait + RandomSource + Sync, W: ByteSink, F: ByteSi
     ensures write { IsErrOf result RunErr.Write → OneFailed (F.failed faults_writer.old) (F.failed faults_writer.new) (W.failed writer.old) (W.failed writer.new) }
     ensures quiet { (IsErrOf result RunErr.Write → ⊥) → (F.failed faults_writer.new ≡ F.failed faults_writer.old) × (W.failed writer.new ≡ W.failed writer.old) }
 {
-    let report = report_facts(rt, alloc, workspace, query, options)?;
+    let report = report_facts(rt, alloc, over, query)?;
     send_report(report, writer, faults_writer)
 }

@@ -60,12 +60,12 @@ fn run_end(end: Result<Status, NoAnswer>) -> Result<Status, RunErr>
 
 /// The texts of a block.
 #[derive(Drop)]
-struct Block {
+struct BlockTexts {
     header: Vec<u8>,
     body: Vec<u8>,
 }
 
-fn block_of(alloc: Global, query: &[u8], reply: Reply) -> Result<Block, AllocError>
+fn block_of(alloc: Global, query: &[u8], reply: Reply) -> Result<BlockTexts, AllocError>
     ensures header { IfOk result (λ b. b.header.items ≡ header (status_code (run_end reply.end)) (line_count (body (reply_view reply))) query.now) }
     ensures body { IfOk result (λ b. b.body.items ≡ body (reply_view reply)) }
 {
@@ -74,7 +74,7 @@ fn block_of(alloc: Global, query: &[u8], reply: Reply) -> Result<Block, AllocErr
     let mut body = text;
     body.extend_from_slice(&line)?;
     let header = header(alloc, code, line_count(&body), query)?;
-    Ok(Block { header, body })
+    Ok(BlockTexts { header, body })
 }
 
 /// Writes the block of a query. No byte is written where memory is refused.

@@ -12,8 +12,7 @@ use crate::blocks::write_block;
 use crate::ending::{SessionStatus, session_status};
 use crate::queries::next_query;
 use crate::session::{ask, open_session};
-use bq_label::Workspace;
-use bq_run::{ByteSink, ByteSource, Options, OutputForm, RunErr, write_rope};
+use bq_run::{ByteSink, ByteSource, OutputForm, RunErr, WorkspaceRun, write_rope};
 use bq_run_report::{NoAnswer, Session, Status, drop_aside};
 use std::alloc::Global;
 use std::random::RandomSource;
@@ -89,19 +88,18 @@ pub fn run_queries<
 >(
     rt: &T,
     alloc: Global,
-    workspace: &Workspace,
+    over: &WorkspaceRun<'_>,
     queries: &mut Q,
     writer: &mut W,
     faults_writer: &mut F,
-    options: &Options,
 ) -> Result<SessionStatus, RunErr>
-    requires in_range { IsInRange options.now }
+    requires in_range { IsInRange over.now.options.now }
     requires queries { Q.failed queries.old < 2 ^ 64 - 1 }
     requires writer { W.failed writer.old < 2 ^ 64 - 1 }
     requires faults_writer { F.failed faults_writer.old < 2 ^ 64 - 1 }
 
     // What is written, and how the call ends, are the definition's for the queries that the reader had.
-    ensures does { DoesAnswer options.now workspace.now (Q.remaining queries.old) result (F.contents faults_writer.old) (F.contents faults_writer.new) (W.contents writer.old) (W.contents writer.new) }
+    ensures does { DoesAnswer over.now.options.now over.now.workspace.now (Q.remaining queries.old) result (F.contents faults_writer.old) (F.contents faults_writer.new) (W.contents writer.old) (W.contents writer.new) }
 
     // E2 and E3 are returned exactly after one failed call of a device, which is not tried again.
     ensures read { IsErrOf result RunErr.Read → Q.failed queries.new ≡ Q.failed queries.old + 1 }
@@ -109,9 +107,9 @@ pub fn run_queries<
     ensures write { IsErrOf result RunErr.Write → OneFailed (F.failed faults_writer.old) (F.failed faults_writer.new) (W.failed writer.old) (W.failed writer.new) }
     ensures quiet { (IsErrOf result RunErr.Write → ⊥) → (F.failed faults_writer.new ≡ F.failed faults_writer.old) × (W.failed writer.new ≡ W.failed writer.old) }
 {
-    let session = open_session(rt, alloc, workspace, options)?;
+    let session = open_session(rt, alloc, over.workspace, over.options)?;
     write_rope(faults_writer, &session.faults)?;
-    let answered = answer_all(alloc, &session, queries, options.output, writer);
+    let answered = answer_all(alloc, &session, queries, over.options.output, writer);
     drop_aside(rt, session.graph);
     answered
 }

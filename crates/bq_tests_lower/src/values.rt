@@ -2,11 +2,12 @@
 //! and attributes of a type that rules in .bzl files haven't.
 
 use bq_base::Bytes;
+use bq_package_attribute_type::AttributeType;
 use bq_query_pattern::{PatternErr, QueryPattern};
 use bq_resolve_predeclared::{Predeclared, RuleFunction};
-use bq_value::{Function, Store, Value};
+use bq_value::{FunctionValue, Store, Value};
 use bq_value_compare::equal;
-use bq_value_rule_class::{Attribute, AttributeType};
+use bq_value_rule_class::Attribute;
 use bq_value_seed::Seed;
 use bq_value_text::text;
 use std::alloc::{AllocError, Global};
@@ -28,7 +29,7 @@ enum Around {
 fn function(alloc: Global, defaults: Vec<Value>) -> Result<Value, AllocError> {
     Value::function(
         alloc,
-        Function {
+        FunctionValue {
             module: 1,
             place: 1,
             name: Bytes::empty(),
@@ -137,11 +138,11 @@ fn functions_that_declare_rules_are_equal_by_which_they_are(
 ) -> Result<(), AllocError> {
     let alloc = rt.alloc();
     let made = attribute(alloc, AttributeType::String, false)?;
-    let string = Value::rule_function(RuleFunction::AttrString);
+    let string = Value::rule_function(RuleFunction::Attr(AttributeType::String));
     assert!(rt; are_unlike(alloc, made, string));
-    let int = Value::rule_function(RuleFunction::AttrInt);
+    let int = Value::rule_function(RuleFunction::Attr(AttributeType::Int));
     assert!(rt; are_unlike(alloc, Value::rule_function(RuleFunction::Rule), int));
-    let int = Value::rule_function(RuleFunction::AttrInt);
+    let int = Value::rule_function(RuleFunction::Attr(AttributeType::Int));
     assert!(rt; are_unlike(alloc, int, Value::built_in(Predeclared::BuiltIn(6))));
     Ok(())
 }

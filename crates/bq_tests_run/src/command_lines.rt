@@ -1,9 +1,9 @@
 //! What command lines ask for. The texts that refuse others are in the rows in `tests/rows`.
 
 use bq_base_limits::Limits;
-use bq_command_line::{Asked, Place, Wanted, Words, words_of};
+use bq_command_line::{Asked, Wanted, Words, WorkspacePlace, words_of};
 use bq_run::OutputForm;
-use bq_run_explain::{Explanation, Subject};
+use bq_run_explain::{Explanation, NumberMeaning};
 use std::alloc::{AllocError, Global};
 
 /// What words ask for: a query with a word for where it comes from, where the workspace is, the form of the answer, and the most workers
@@ -37,9 +37,9 @@ fn asks(words: &Words, how: &str, query: &str) -> bool {
 
 fn place_of<'a>(words: &Words<'a>) -> &'a str {
     match words.place {
-        Place::Input => "standard input",
-        Place::Bundle(file) => file,
-        Place::Directory(directory) => directory,
+        WorkspacePlace::Input => "standard input",
+        WorkspacePlace::Bundle(file) => file,
+        WorkspacePlace::Directory(directory) => directory,
     }
 }
 
@@ -71,8 +71,8 @@ fn are_same(found: &Limits, wanted: &Limits) -> bool {
 
 fn name_of(explanation: &Explanation) -> &'static str {
     match explanation.subject {
-        Subject::Fault(kind) => kind.name(),
-        Subject::Error(_, name) => name,
+        NumberMeaning::Fault(kind) => kind.name(),
+        NumberMeaning::Error(_, name) => name,
     }
 }
 

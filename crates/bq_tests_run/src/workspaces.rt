@@ -6,7 +6,7 @@ ghost use Rattle.std.specs.Prelude.{◌≡◌};
 use crate::devices::{make_drip, make_sip};
 use crate::options::options;
 use bq_label::Workspace;
-use bq_run::{Counted, Metered, RunErr, read_bundle, status_code};
+use bq_run::{Counted, Metered, RunErr, WorkspaceRun, read_bundle, status_code};
 use bq_run_facts::run_facts;
 use bq_run_session::{SessionStatus, run_queries, session_code};
 use std::alloc::{AllocError, Global};
@@ -47,15 +47,11 @@ fn is_session<R: Threads + Wait + RandomSource + Sync>(
     let mut queries = make_drip(lines, reader);
     let mut writer = make_sip(alloc, writer, false);
     let mut faults = make_sip(alloc, 0, false);
-    let ended = run_queries(
-        rt,
-        alloc,
+    let over = WorkspaceRun {
         workspace,
-        &mut queries,
-        &mut writer,
-        &mut faults,
-        &asked,
-    );
+        options: &asked,
+    };
+    let ended = run_queries(rt, alloc, &over, &mut queries, &mut writer, &mut faults);
     let failures = queries.failures().wrapping_add(writer.failures());
     let is_written = faults.device.held.is_empty() && writer.device.held.as_slice() == wanted;
     Ok(code_of(ended) == 5 && failures == 1 && is_written)
@@ -72,7 +68,11 @@ fn are_facts<R: Threads + Wait + RandomSource + Sync>(
     let asked = options(alloc, b"", 4, 1_000_000)?;
     let mut writer = make_sip(alloc, writer, false);
     let mut faults = make_sip(alloc, 0, false);
-    let ended = run_facts(rt, alloc, workspace, None, &mut writer, &mut faults, &asked);
+    let over = WorkspaceRun {
+        workspace,
+        options: &asked,
+    };
+    let ended = run_facts(rt, alloc, &over, None, &mut writer, &mut faults);
     let is_written = faults.device.held.is_empty() && writer.device.held.as_slice() == wanted;
     Ok(status_code(&ended) == 5 && writer.failures() == 1 && is_written)
 }
@@ -151,15 +151,11 @@ fn are_turns<R: Threads + Wait + RandomSource + Sync>(
     let mut queries = make_asking(alloc, lines, &written);
     let mut writer = make_counting(&written);
     let mut faults = make_sip(alloc, 0, false);
-    let _ = run_queries(
-        rt,
-        alloc,
+    let over = WorkspaceRun {
         workspace,
-        &mut queries,
-        &mut writer,
-        &mut faults,
-        &asked,
-    );
+        options: &asked,
+    };
+    let _ = run_queries(rt, alloc, &over, &mut queries, &mut writer, &mut faults);
     Ok(queries.device.seen.as_slice() == wanted)
 }
 

@@ -3,11 +3,11 @@ use Rattle.std.specs.Prelude.{◌≤◌}
 use Rattle.std.proofs.Common.{arith}
 use Rattle.bq_value.specs.Tries.{nodes}
 use Rattle.bq_value.specs.TrieOf.{trie_of}
-use Rattle.bq_value.specs.declared.tree.Node.{Node}
-use Rattle.bq_value.specs.declared.tree.Node.TheVariants as node
-use Rattle.bq_value.specs.declared.tree.Tree.TheDeep.{deep-Node}
+use Rattle.bq_value.specs.declared.tree.TreeNode.{TreeNode}
+use Rattle.bq_value.specs.declared.tree.TreeNode.TheVariants as node
+use Rattle.bq_value.specs.declared.tree.Tree.TheDeep.{deep-TreeNode}
 
-pub deep_le-nodes : (n : Node) → deep-Node n ≤ nodes (trie_of n)
+pub deep_le-nodes : (n : TreeNode) → deep-TreeNode n ≤ nodes (trie_of n)
 deep_le-nodes node.Bare = omega arith
 deep_le-nodes (node.Leaf c) = omega arith
 deep_le-nodes (node.Fork k halves) = omega arith

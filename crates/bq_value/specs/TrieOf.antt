@@ -1,9 +1,9 @@
 -- The trie that a node stands for.
 use Rattle.bq_value.specs.Tries.{Trie, bare, leaf, fork}
-use Rattle.bq_value.specs.declared.tree.Node.{Node}
-use Rattle.bq_value.specs.declared.tree.Node.TheVariants as node
+use Rattle.bq_value.specs.declared.tree.TreeNode.{TreeNode}
+use Rattle.bq_value.specs.declared.tree.TreeNode.TheVariants as node
 
-abbrev pub trie_of : Node → Trie
+abbrev pub trie_of : TreeNode → Trie
 trie_of node.Bare = bare
 trie_of (node.Leaf c) = leaf c
 trie_of (node.Fork k halves) = fork k halves.value.left halves.value.right

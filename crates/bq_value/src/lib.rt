@@ -26,7 +26,7 @@ mod store;
 mod tree;
 
 pub use bq_value_content::{Body, Content, Dict, copies};
-pub use bq_value_datum::{Cell, Function, Key, Node, Range, Value};
+pub use bq_value_datum::{Cell, FunctionValue, Key, Node, Range, Value};
 pub use error::EvalErr;
 pub use frozen::{Frozen, freeze};
 pub use shared::Cells;

@@ -24,12 +24,12 @@ const BLOCK: u32 = 6;
 #[cycle(tree)]
 #[derive(Drop)]
 pub(crate) struct Tree {
-    node: Node,
+    node: TreeNode,
 }
 
 #[cycle(tree)]
 #[derive(Drop)]
-enum Node {
+enum TreeNode {
     Bare,
     Leaf(Shared),
     /// In a block, a bit for each number that has a module; and the halves.
@@ -66,7 +66,9 @@ impl Tree {
     pub(crate) fn bare() -> Tree
         ensures { result ≡ bare }
     {
-        Tree { node: Node::Bare }
+        Tree {
+            node: TreeNode::Bare,
+        }
     }
 
     /// Makes a tree of this height of two halves.
@@ -84,7 +86,7 @@ impl Tree {
         let keys = keys_of(height, &left, &right);
         let halves = Arc::new(alloc, Halves { left, right })?;
         Ok(Tree {
-            node: Node::Fork(keys, halves),
+            node: TreeNode::Fork(keys, halves),
         })
     }
 
@@ -92,9 +94,9 @@ impl Tree {
         ensures { result ≡ keys self.now }
     {
         match &self.node {
-            Node::Bare => 0,
-            Node::Leaf(_) => 1,
-            Node::Fork(keys, _) => *keys,
+            TreeNode::Bare => 0,
+            TreeNode::Leaf(_) => 1,
+            TreeNode::Fork(keys, _) => *keys,
         }
     }
 
@@ -103,9 +105,9 @@ impl Tree {
         ensures { IfOk result (λ t. t ≡ self.now) }
     {
         let node = match &self.node {
-            Node::Bare => Node::Bare,
-            Node::Leaf(shared) => Node::Leaf(shared.share()?),
-            Node::Fork(keys, halves) => Node::Fork(*keys, halves.clone()?),
+            TreeNode::Bare => TreeNode::Bare,
+            TreeNode::Leaf(shared) => TreeNode::Leaf(shared.share()?),
+            TreeNode::Fork(keys, halves) => TreeNode::Fork(*keys, halves.clone()?),
         };
         Ok(Tree { node })
     }
@@ -117,14 +119,14 @@ impl Tree {
         ensures { option_copied result ≡ module_at home (entries self.now height base) }
     {
         match &self.node {
-            Node::Bare => None,
-            Node::Leaf(shared) => {
+            TreeNode::Bare => None,
+            TreeNode::Leaf(shared) => {
                 if home == base {
                     return Some(shared);
                 }
                 None
             }
-            Node::Fork(_, halves) => {
+            TreeNode::Fork(_, halves) => {
                 let middle = middle(height, base);
                 if home < middle {
                     return halves.left.get(height - 1, base, home);
@@ -150,7 +152,7 @@ impl Tree {
     {
         if height == 0 {
             return Ok(Tree {
-                node: Node::Leaf(shared.share()?),
+                node: TreeNode::Leaf(shared.share()?),
             });
         }
         let middle = middle(height, base);
@@ -174,15 +176,15 @@ impl Tree {
         ensures { IfOk result (λ t. Joins self.now other.now height (unwrap_or t self.now)) }
     {
         match &self.node {
-            Node::Bare => match &other.node {
-                Node::Bare => Ok(None),
+            TreeNode::Bare => match &other.node {
+                TreeNode::Bare => Ok(None),
                 _ => Ok(Some(other.share()?)),
             },
-            Node::Leaf(_) => Ok(None),
-            Node::Fork(keys, halves) => match &other.node {
-                Node::Bare => Ok(None),
-                Node::Leaf(_) => Ok(None),
-                Node::Fork(more, others) => {
+            TreeNode::Leaf(_) => Ok(None),
+            TreeNode::Fork(keys, halves) => match &other.node {
+                TreeNode::Bare => Ok(None),
+                TreeNode::Leaf(_) => Ok(None),
+                TreeNode::Fork(more, others) => {
                     if height <= BLOCK && *more & *keys == *more {
                         return Ok(None);
                     }

@@ -7,9 +7,8 @@ use lib.Pointwise.{bytes_decides}
 use Rattle.bq_value.specs.Datum.{Datum, none, boolean, int, string, tuple, range, cell, function, built_in, rule_function, attribute, list_of}
 use Rattle.bq_value.specs.Range.{ranges_same}
 use Rattle.bq_value_rule_class.specs.Same.{same_attribute}
-use Rattle.bq_value.specs.Codes.{number_of, numbers_differ}
-use Rattle.bq_value.specs.Same.{bool_same, same_built_in}
-use Rattle.bq_value.specs.SameLaws.{attributes_decide, built_ins_decide}
+use Rattle.bq_value.specs.Same.{bool_same, same_built_in, same_rule_function}
+use Rattle.bq_value.specs.SameLaws.{attributes_decide, built_ins_decide, rule_functions_decide}
 use Rattle.bq_value.specs.Contents.{Contents, items, pairs, rule}
 use Rattle.bq_value.specs.Cells.{StoreView, content_at}
 use Rattle.bq_value.specs.Pairs.{found}
@@ -200,7 +199,7 @@ module _ (same : Compares) (r : Relates) (h : (n m : ℕ) (x y : Datum) (b : Boo
   parts_tell s (function a i t vs) (function b j u ws) n c m e = two_tell a b i j c (answer_of ((a == b) && (i == j)) c n m e)
   parts_tell s (built_in a) (built_in b) n c m e = tested (same_built_in a b) (built_ins_decide a b).0 (built_ins_decide a b).1 c (answer_of (same_built_in a b) c n m e)
   parts_tell s (rule_function f) (rule_function g) n c m e =
-      tested (number_of f == number_of g) (λ t. numbers_differ f g (nat_true (number_of f) (number_of g) t)) (λ h. nat_test (number_of f) (number_of g) (ap number_of h)) c (answer_of (number_of f == number_of g) c n m e)
+      tested (same_rule_function f g) (rule_functions_decide f g).0 (rule_functions_decide f g).1 c (answer_of (same_rule_function f g) c n m e)
   parts_tell s (attribute a) (attribute b) n c m e =
       tested (same_attribute a b) (attributes_decide a b).0 (attributes_decide a b).1 c (answer_of (same_attribute a b) c n m e)
   parts_tell s _ _ n c m e = unlike n (λ h. h) c m e

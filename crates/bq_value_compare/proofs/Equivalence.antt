@@ -8,9 +8,8 @@ use Rattle.bq_value.specs.Range.{ranges_same}
 use Rattle.bq_resolve_predeclared.specs.declared.rule_function.RuleFunction.{RuleFunction}
 use Rattle.bq_value_rule_class.specs.Same.{same_attribute}
 use Rattle.bq_value_rule_class.specs.declared.attribute.Attribute.{Attribute}
-use Rattle.bq_value.specs.Codes.{number_of}
-use Rattle.bq_value.specs.Same.{bool_same, same_built_in}
-use Rattle.bq_value.specs.SameLaws.{attributes_decide, built_ins_decide}
+use Rattle.bq_value.specs.Same.{bool_same, same_built_in, same_rule_function}
+use Rattle.bq_value.specs.SameLaws.{attributes_decide, built_ins_decide, rule_functions_decide}
 use Rattle.bq_value.specs.Contents.{Contents, items, pairs, rule, KeysDiffer}
 use Rattle.bq_value.specs.Cells.{StoreView, content_at}
 use Rattle.bq_value.specs.Pairs.{found, HasNoKeyTwice}
@@ -203,7 +202,7 @@ module _ (same : Compares) (h : (n m : ℕ) (x : Datum) (b : Bool) → same n x 
   parts_itself s ds (cell a i) n b m e = cells_itself ((a == a) && (i == i)) (one_itself a i) (content_at s a i) (ds a i) n b m e
   parts_itself s ds (function a i t vs) n b m e = sym (answer_of ((a == a) && (i == i)) b n m e) ∙ one_itself a i
   parts_itself s ds (built_in a) n b m e = sym (answer_of (same_built_in a a) b n m e) ∙ (built_ins_decide a a).1 refl
-  parts_itself s ds (rule_function f) n b m e = sym (answer_of (number_of f == number_of f) b n m e) ∙ nat_test (number_of f) (number_of f) refl
+  parts_itself s ds (rule_function f) n b m e = sym (answer_of (same_rule_function f f) b n m e) ∙ (rule_functions_decide f f).1 refl
   parts_itself s ds (attribute a) n b m e = sym (answer_of (same_attribute a a) b n m e) ∙ (attributes_decide a a).1 refl
 
 pub equal_itself : (l : ℕ) (s : StoreView) → KeysAreDistinct s → (n m : ℕ) (x : Datum) (b : Bool) → equal_at l s n x x ≡ Ok (b, m) → b ≡ true

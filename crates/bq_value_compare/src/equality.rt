@@ -6,7 +6,7 @@ ghost use Rattle.bq_value_compare.specs.Equality.{equal_at, range_equal, functio
 
 use crate::MAX_LEVELS;
 use bq_base::EvalFault;
-use bq_value::{Body, Cell, Content, Dict, Function, Node, Range, Store, Value};
+use bq_value::{Body, Cell, Content, Dict, FunctionValue, Node, Range, Store, Value};
 
 /// Returns whether two values are equal, and how many of the steps are left.
 pub fn equal(store: &Store, steps: u64, a: &Value, b: &Value) -> Result<(bool, u64), EvalFault>
@@ -60,7 +60,7 @@ fn range_equal(x: Range, b: &Value) -> bool
     }
 }
 
-fn function_equal(f: &Function, b: &Value) -> bool
+fn function_equal(f: &FunctionValue, b: &Value) -> bool
     ensures { result ≡ function_equal f.now.module f.now.place b.now }
 {
     match &b.node {

@@ -1,118 +1,47 @@
 -- That values can be told apart: each has a code of its own, the number of its kind and what it is made of.
-use Rattle.std.specs.Prelude.{◌≡◌, ℕ, zero, suc, List, [], ◌∷◌, refl}
+use Rattle.std.specs.Prelude.{◌≡◌, ℕ, List, Option, Some, None, refl}
 use Rattle.std.proofs.Common.{sym, ◌∙◌, ap, arith}
-use Rattle.std.specs.Coded.{coded_ℕ, coded_ℤ, coded_bool, coded_list}
+use Rattle.std.specs.Coded.{coded_ℕ, coded_ℤ, coded_bool, coded_list, coded_option}
 use base.Stored.{Coded, Gv, gnil, gnum, gcons}
+use denote.Enum.Declared.{tag_of}
+use Rattle.bq_package_attribute_type.specs.AttributeType.{coded_type}
+use Rattle.bq_resolve_predeclared.proofs.Found.{each_name}
+use Rattle.bq_resolve_predeclared.specs.HostFunctions.{host_function_name}
+use Rattle.bq_resolve_predeclared.specs.contracts.predeclared.Predeclared as variants
 use Rattle.bq_resolve_predeclared.specs.declared.host_function.HostFunction.{HostFunction}
 use Rattle.bq_resolve_predeclared.specs.declared.host_function.HostFunction.TheVariants as host
 use Rattle.bq_resolve_predeclared.specs.declared.predeclared.Predeclared.{Predeclared}
 use Rattle.bq_resolve_predeclared.specs.declared.predeclared.Predeclared.TheVariants as p
 use Rattle.bq_resolve_predeclared.specs.declared.rule_function.RuleFunction.{RuleFunction}
-use Rattle.bq_resolve_predeclared.specs.declared.rule_function.RuleFunction.TheVariants as f
+use Rattle.bq_resolve_predeclared.specs.declared.rule_function.RuleFunction.TheVariants as rules
 use Rattle.bq_value_rule_class.specs.Codes.{coded_attribute}
 pub use Rattle.bq_value_rule_class.specs.Codes.{coded_class}
 use Rattle.bq_value_datum.specs.Datum.{BuiltIn, predeclared, schema_rule, Datum, none, boolean, int, string, tuple, range, cell, function, built_in, rule_function, attribute, Data, end, datum}
-
-abbrev pub number_of : RuleFunction → ℕ
-number_of f.Rule = 0
-number_of f.AttrString = 1
-number_of f.AttrInt = 2
-number_of f.AttrBool = 3
-number_of f.AttrStringList = 4
-number_of f.AttrLabel = 5
-number_of f.AttrLabelList = 6
-
-abbrev numbered : ℕ → RuleFunction
-numbered zero = f.Rule
-numbered (suc zero) = f.AttrString
-numbered (suc (suc zero)) = f.AttrInt
-numbered (suc (suc (suc zero))) = f.AttrBool
-numbered (suc (suc (suc (suc zero)))) = f.AttrStringList
-numbered (suc (suc (suc (suc (suc zero))))) = f.AttrLabel
-numbered _ = f.AttrLabelList
-
-numbered-number_of : (g : RuleFunction) → numbered (number_of g) ≡ g
-numbered-number_of f.Rule = refl
-numbered-number_of f.AttrString = refl
-numbered-number_of f.AttrInt = refl
-numbered-number_of f.AttrBool = refl
-numbered-number_of f.AttrStringList = refl
-numbered-number_of f.AttrLabel = refl
-numbered-number_of f.AttrLabelList = refl
-
-pub numbers_differ : (g h : RuleFunction) → number_of g ≡ number_of h → g ≡ h
-numbers_differ g h e = sym (numbered-number_of g) ∙ (ap numbered e ∙ numbered-number_of h)
-
--- a number for each function of a host, but one for all rules
-abbrev pub host_number : HostFunction → ℕ
-host_number host.Glob = 7
-host_number host.PackageName = 8
-host_number host.Package = 9
-host_number host.Licenses = 10
-host_number host.ExportsFiles = 11
-host_number host.PackageGroup = 12
-host_number (host.Rule place) = 13
-
--- a number for what each predeclared name stands for, but one for all built-in functions, and one for all rules
-abbrev pub predeclared_number : Predeclared → ℕ
-predeclared_number p.None = 14
-predeclared_number p.True = 15
-predeclared_number p.False = 16
-predeclared_number (p.BuiltIn place) = 17
-predeclared_number (p.Host g) = host_number g
-predeclared_number (p.RuleFunction g) = number_of g
-
--- the place of a built-in function in the table of their names, and of a rule in the schema
-abbrev pub place_of : Predeclared → ℕ
-place_of (p.BuiltIn place) = place
-place_of (p.Host (host.Rule place)) = place
-place_of _ = 0
-
--- those of these numbers, where a built-in function or a rule has this place
-abbrev all_numbered : ℕ → List Predeclared
-all_numbered place =
-    p.RuleFunction f.Rule ∷ p.RuleFunction f.AttrString ∷ p.RuleFunction f.AttrInt ∷ p.RuleFunction f.AttrBool ∷ p.RuleFunction f.AttrStringList ∷ p.RuleFunction f.AttrLabel ∷ p.RuleFunction f.AttrLabelList
-    ∷ p.Host host.Glob ∷ p.Host host.PackageName ∷ p.Host host.Package ∷ p.Host host.Licenses ∷ p.Host host.ExportsFiles ∷ p.Host host.PackageGroup ∷ p.Host (host.Rule place)
-    ∷ p.None ∷ p.True ∷ p.False ∷ p.BuiltIn place ∷ []
-
-abbrev nth_or : List Predeclared → ℕ → Predeclared
-nth_or [] n = p.None
-nth_or (x ∷ xs) zero = x
-nth_or (x ∷ xs) (suc n) = nth_or xs n
-
-abbrev predeclared_at : ℕ → ℕ → Predeclared
-predeclared_at place n = nth_or (all_numbered place) n
-
-predeclared_at-number : (x : Predeclared) → predeclared_at (place_of x) (predeclared_number x) ≡ x
-predeclared_at-number p.None = refl
-predeclared_at-number p.True = refl
-predeclared_at-number p.False = refl
-predeclared_at-number (p.BuiltIn place) = refl
-predeclared_at-number (p.Host host.Glob) = refl
-predeclared_at-number (p.Host host.PackageName) = refl
-predeclared_at-number (p.Host host.Package) = refl
-predeclared_at-number (p.Host host.Licenses) = refl
-predeclared_at-number (p.Host host.ExportsFiles) = refl
-predeclared_at-number (p.Host host.PackageGroup) = refl
-predeclared_at-number (p.Host (host.Rule place)) = refl
-predeclared_at-number (p.RuleFunction f.Rule) = refl
-predeclared_at-number (p.RuleFunction f.AttrString) = refl
-predeclared_at-number (p.RuleFunction f.AttrInt) = refl
-predeclared_at-number (p.RuleFunction f.AttrBool) = refl
-predeclared_at-number (p.RuleFunction f.AttrStringList) = refl
-predeclared_at-number (p.RuleFunction f.AttrLabel) = refl
-predeclared_at-number (p.RuleFunction f.AttrLabelList) = refl
-
-pub predeclared_differ : (x y : Predeclared) → predeclared_number x ≡ predeclared_number y → place_of x ≡ place_of y → x ≡ y
-predeclared_differ x y number place =
-    let alike : predeclared_at (place_of x) (predeclared_number x) ≡ predeclared_at (place_of y) (predeclared_number y) = λ i. predeclared_at (place i) (number i) in
-    sym (predeclared_at-number x) ∙ (alike ∙ predeclared_at-number y)
+use Rattle.bq_value_datum.specs.Same.{rule_place}
 
 abbrev pub coded_text : Coded (List ℕ)
 coded_text = coded_list coded_ℕ
 
+abbrev coded_name : Coded (Option (List ℕ))
+coded_name = coded_option coded_text
+
+-- a function that declares rules: `rule`, or the type of the attributes that it makes
+abbrev rule_function_gv : RuleFunction → Gv
+rule_function_gv rules.Rule = gcons (gnum 0) gnil
+rule_function_gv (rules.Attr kind) = gcons (gnum 1) (coded_type.code kind)
+
+-- what a variant holds
+abbrev part_gv : Predeclared → Gv
+part_gv (p.BuiltIn place) = gnum place
+part_gv (p.Host f) = gcons (coded_name.code (host_function_name f)) (gnum (rule_place f))
+part_gv (p.RuleFunction f) = rule_function_gv f
+part_gv _ = gnil
+
+abbrev pub predeclared_gv : Predeclared → Gv
+predeclared_gv x = gcons (gnum (tag_of variants.the_type x)) (part_gv x)
+
 abbrev pub built_in_gv : BuiltIn → Gv
-built_in_gv (predeclared x) = gcons (gnum 0) (gcons (gnum (predeclared_number x)) (gnum (place_of x)))
+built_in_gv (predeclared x) = gcons (gnum 0) (predeclared_gv x)
 built_in_gv (schema_rule place name) = gcons (gnum 1) (gcons (gnum place) (coded_text.code name))
 
 abbrev mutual
@@ -126,7 +55,7 @@ abbrev mutual
   datum_gv (cell m n) = gcons (gnum 6) (gcons (gnum m) (gnum n))
   datum_gv (function m n name vs) = gcons (gnum 7) (gcons (gcons (gnum m) (gnum n)) (gcons (coded_text.code name) (data_gv vs)))
   datum_gv (built_in a) = gcons (gnum 8) (built_in_gv a)
-  datum_gv (rule_function g) = gcons (gnum 9) (gnum (number_of g))
+  datum_gv (rule_function f) = gcons (gnum 9) (rule_function_gv f)
   datum_gv (attribute a) = gcons (gnum 10) (coded_attribute.code a)
 
   pub data_gv : Data → Gv
@@ -145,9 +74,41 @@ abbrev num : Gv → ℕ
 num (gnum n) = n
 num _ = 0
 
+-- functions of a host can be told apart by their names and places
+nameless : (f : HostFunction) → host_function_name f ≡ None → f ≡ host.Rule (rule_place f)
+nameless (host.Rule place) e = refl
+nameless _ e = absurd (cc)
+
+abbrev host_in : Option Predeclared → HostFunction
+host_in (Some (p.Host f)) = f
+host_in _ = host.Glob
+
+hosts_differ_by : (f g : HostFunction) (o : Option (List ℕ)) → host_function_name f ≡ o → host_function_name g ≡ o → rule_place f ≡ rule_place g → f ≡ g
+hosts_differ_by f g (Some name) e h place = ap host_in (sym (each_name (p.Host f) name e) ∙ each_name (p.Host g) name h)
+hosts_differ_by f g None e h place = nameless f e ∙ (ap host.Rule place ∙ sym (nameless g h))
+
+pub hosts_differ : (f g : HostFunction) → host_function_name f ≡ host_function_name g → rule_place f ≡ rule_place g → f ≡ g
+hosts_differ f g e place = hosts_differ_by f g (host_function_name g) e refl place
+
+functions_differ : (f g : RuleFunction) → rule_function_gv f ≡ rule_function_gv g → f ≡ g
+functions_differ rules.Rule rules.Rule e = refl
+functions_differ (rules.Attr kind) (rules.Attr other) e = ap rules.Attr (coded_type.inj kind other (ap right e))
+functions_differ _ _ e = absurd (omega (arith, ap (λ g. num (left g)) e))
+
+predeclared_differ : (x y : Predeclared) → predeclared_gv x ≡ predeclared_gv y → x ≡ y
+predeclared_differ p.None p.None e = refl
+predeclared_differ p.True p.True e = refl
+predeclared_differ p.False p.False e = refl
+predeclared_differ (p.BuiltIn m) (p.BuiltIn n) e = ap p.BuiltIn (ap (λ g. num (right g)) e)
+predeclared_differ (p.Host f) (p.Host g) e =
+    let name : host_function_name f ≡ host_function_name g = coded_name.inj (host_function_name f) (host_function_name g) (ap (λ v. left (right v)) e) in
+    let place : rule_place f ≡ rule_place g = ap (λ v. num (right (right v))) e in
+    ap p.Host (hosts_differ f g name place)
+predeclared_differ (p.RuleFunction f) (p.RuleFunction g) e = ap p.RuleFunction (functions_differ f g (ap right e))
+predeclared_differ _ _ e = absurd (omega (arith, ap (λ g. num (left g)) e))
+
 pub same_coded : (x y : BuiltIn) → built_in_gv x ≡ built_in_gv y → x ≡ y
-same_coded (predeclared x) (predeclared y) e =
-    ap predeclared (predeclared_differ x y (ap (λ g. num (left (right g))) e) (ap (λ g. num (right (right g))) e))
+same_coded (predeclared x) (predeclared y) e = ap predeclared (predeclared_differ x y (ap right e))
 same_coded (schema_rule m s) (schema_rule n t) e =
     let place : m ≡ n = ap (λ g. num (left (right g))) e in
     let name : s ≡ t = coded_text.inj s t (ap (λ g. right (right g)) e) in
@@ -177,7 +138,7 @@ mutual
       let defaults : vs ≡ ws = same_data vs ws (ap (λ g. right (right (right g))) e) in
       λ i. function (home i) (place i) (name i) (defaults i)
   same_datum (built_in a) (built_in b) e = ap built_in (same_coded a b (ap right e))
-  same_datum (rule_function a) (rule_function b) e = ap rule_function (numbers_differ a b (ap (λ g. num (right g)) e))
+  same_datum (rule_function a) (rule_function b) e = ap rule_function (functions_differ a b (ap right e))
   same_datum (attribute a) (attribute b) e = ap attribute (coded_attribute.inj a b (ap right e))
   same_datum _ _ e = absurd (omega (arith, ap (λ g. num (left g)) e))
 

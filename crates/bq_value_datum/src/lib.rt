@@ -24,4 +24,4 @@ mod value;
 pub use bq_value_rule_class::RuleClass;
 pub use key::Key;
 pub use range::Range;
-pub use value::{Cell, Function, Node, Value};
+pub use value::{Cell, FunctionValue, Node, Value};

@@ -1,12 +1,11 @@
 //! When two values are the same in each part, and what a value feeds to a hasher. Dicts find their keys by these.
 
-ghost use Rattle.std.specs.Prelude.{◌≡◌, fold};
+ghost use Rattle.std.specs.Prelude.{◌≡◌, fold, option_copied};
 ghost use Rattle.bq_value_datum.specs.Datum.{none, boolean, int, string, tuple, range, cell, function, predeclared, schema_rule, built_in, rule_function, attribute, data_of};
-ghost use Rattle.bq_value_datum.specs.Codes.{number_of, host_number, predeclared_number, place_of};
-ghost use Rattle.bq_value_datum.specs.Same.{same, same_all, feed, feed_all};
+ghost use Rattle.bq_value_datum.specs.Same.{same_name, rule_place, same_host, same_rule_function, same_predeclared, same, same_all, feed, feed_all};
 
 use crate::range::Range;
-use crate::value::{Cell, Function, Node, Value};
+use crate::value::{Cell, FunctionValue, Node, Value};
 use bq_resolve_predeclared::{HostFunction, Predeclared, RuleFunction};
 use bq_value_rule_class::Attribute;
 use std::hash::{Hash, Hasher};
@@ -57,10 +56,7 @@ impl Value {
         ensures { result ≡ same (built_in (predeclared function)) self.now }
     {
         match &self.node {
-            Node::BuiltIn(other) => {
-                predeclared_number(function) == predeclared_number(*other)
-                    && place_of(function) == place_of(*other)
-            }
+            Node::BuiltIn(other) => is_same_predeclared(function, *other),
             _ => false,
         }
     }
@@ -80,7 +76,7 @@ impl Value {
         ensures { result ≡ same (rule_function function) self.now }
     {
         match &self.node {
-            Node::RuleFunction(other) => number_of(function) == number_of(*other),
+            Node::RuleFunction(other) => is_same_rule_function(function, *other),
             _ => false,
         }
     }
@@ -96,58 +92,72 @@ impl Value {
     }
 }
 
-/// Returns a number for each function that declares rules.
-fn number_of(function: RuleFunction) -> u8
-    ensures { result ≡ number_of function }
+/// Returns whether two names, or none, are the same.
+fn is_same_name(a: Option<&[u8]>, b: Option<&[u8]>) -> bool
+    ensures { result ≡ same_name (option_copied a.entry) (option_copied b.entry) }
+{
+    match a {
+        None => match b {
+            None => true,
+            Some(_) => false,
+        },
+        Some(name) => match b {
+            None => false,
+            Some(other) => name == other,
+        },
+    }
+}
+
+/// Returns the place of a rule in the schema, and 0 of a build function.
+fn rule_place(function: HostFunction) -> u32
+    ensures { result ≡ rule_place function }
 {
     match function {
-        RuleFunction::Rule => 0,
-        RuleFunction::AttrString => 1,
-        RuleFunction::AttrInt => 2,
-        RuleFunction::AttrBool => 3,
-        RuleFunction::AttrStringList => 4,
-        RuleFunction::AttrLabel => 5,
-        RuleFunction::AttrLabelList => 6,
-    }
-}
-
-/// Returns a number for each function of a host, but one for all rules.
-fn host_number(function: HostFunction) -> u8
-    ensures { result ≡ host_number function }
-{
-    match function {
-        HostFunction::Glob => 7,
-        HostFunction::PackageName => 8,
-        HostFunction::Package => 9,
-        HostFunction::Licenses => 10,
-        HostFunction::ExportsFiles => 11,
-        HostFunction::PackageGroup => 12,
-        HostFunction::Rule(_) => 13,
-    }
-}
-
-/// Returns a number for what each predeclared name stands for, but one for all built-in functions, and one for all rules.
-fn predeclared_number(predeclared: Predeclared) -> u8
-    ensures { result ≡ predeclared_number predeclared }
-{
-    match predeclared {
-        Predeclared::None => 14,
-        Predeclared::True => 15,
-        Predeclared::False => 16,
-        Predeclared::BuiltIn(_) => 17,
-        Predeclared::Host(function) => host_number(function),
-        Predeclared::RuleFunction(function) => number_of(function),
-    }
-}
-
-/// Returns the place of a built-in function in the table of their names, or of a rule in the schema, and 0 of all else.
-fn place_of(predeclared: Predeclared) -> u32
-    ensures { result ≡ place_of predeclared }
-{
-    match predeclared {
-        Predeclared::BuiltIn(place) => place,
-        Predeclared::Host(HostFunction::Rule(place)) => place,
+        HostFunction::Rule(place) => place,
         _ => 0,
+    }
+}
+
+/// Returns whether two functions of a host are the same.
+fn is_same_host(a: HostFunction, b: HostFunction) -> bool
+    ensures { result ≡ same_host a b }
+{
+    is_same_name(a.name(), b.name()) && rule_place(a) == rule_place(b)
+}
+
+/// Returns whether two functions that declare rules are the same.
+fn is_same_rule_function(a: RuleFunction, b: RuleFunction) -> bool
+    ensures { result ≡ same_rule_function a b }
+{
+    match a {
+        RuleFunction::Rule => matches!(b, RuleFunction::Rule),
+        RuleFunction::Attr(kind) => match b {
+            RuleFunction::Attr(other) => kind == other,
+            _ => false,
+        },
+    }
+}
+
+/// Returns whether two predeclared values are the same.
+fn is_same_predeclared(a: Predeclared, b: Predeclared) -> bool
+    ensures { result ≡ same_predeclared a b }
+{
+    match a {
+        Predeclared::None => matches!(b, Predeclared::None),
+        Predeclared::True => matches!(b, Predeclared::True),
+        Predeclared::False => matches!(b, Predeclared::False),
+        Predeclared::BuiltIn(place) => match b {
+            Predeclared::BuiltIn(other) => place == other,
+            _ => false,
+        },
+        Predeclared::Host(function) => match b {
+            Predeclared::Host(other) => is_same_host(function, other),
+            _ => false,
+        },
+        Predeclared::RuleFunction(function) => match b {
+            Predeclared::RuleFunction(other) => is_same_rule_function(function, other),
+            _ => false,
+        },
     }
 }
 
@@ -200,7 +210,7 @@ fn is_same_tuple(xs: &[Value], b: &Value) -> bool
 }
 
 #[cycle(same)]
-fn is_same_function(f: &Function, b: &Value) -> bool
+fn is_same_function(f: &FunctionValue, b: &Value) -> bool
     ensures { result ≡ same (function f.now.module f.now.place f.now.name (data_of f.now.defaults.items)) b.now }
 {
     match &b.node {

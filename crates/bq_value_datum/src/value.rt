@@ -30,7 +30,7 @@ pub enum Node {
     Tuple(Arc<Vec<Value>>),
     Range(Range),
     Cell(Cell),
-    Function(Arc<Function>),
+    Function(Arc<FunctionValue>),
     /// A built-in function that has a name of its own: one of the language, or a build function.
     BuiltIn(Predeclared),
     /// A rule of the schema: its place there, and its name.
@@ -51,7 +51,7 @@ pub struct Cell {
 /// A function: its module, the place of its `def` there, its name, and the values of its defaults in order.
 #[cycle(value)]
 #[derive(Drop)]
-pub struct Function {
+pub struct FunctionValue {
     pub module: u32,
     pub place: u32,
     pub name: Bytes,
@@ -121,9 +121,9 @@ fn drop_tuple(items: Arc<Vec<Value>>) {
 
 #[cycle(give_up)]
 #[inline(never)]
-fn drop_function(function: Arc<Function>) {
+fn drop_function(function: Arc<FunctionValue>) {
     if let Some(function) = Arc::into_inner(function) {
-        let Function { defaults, .. } = function;
+        let FunctionValue { defaults, .. } = function;
         give_up(defaults);
     }
 }
@@ -184,7 +184,7 @@ impl Value {
             Node::Function(shared) => match Arc::into_inner(shared) {
                 None => None,
                 Some(function) => {
-                    let Function { defaults, .. } = function;
+                    let FunctionValue { defaults, .. } = function;
                     Some(defaults)
                 }
             },
@@ -282,7 +282,7 @@ impl Value {
         })
     }
 
-    pub fn function(alloc: Global, parts: Function) -> Result<Value, AllocError>
+    pub fn function(alloc: Global, parts: FunctionValue) -> Result<Value, AllocError>
         ensures { IfOk result (λ v. v ≡ function parts.module parts.place parts.name (data_of parts.defaults.items)) }
     {
         Ok(Value {
@@ -334,7 +334,7 @@ fn share_tuple(items: &Arc<Vec<Value>>) -> Result<Value, AllocError>
 }
 
 #[inline(never)]
-fn share_function(parts: &Arc<Function>) -> Result<Value, AllocError>
+fn share_function(parts: &Arc<FunctionValue>) -> Result<Value, AllocError>
     ensures { IfOk result (λ v. v ≡ function parts.now.value.module parts.now.value.place parts.now.value.name (data_of parts.now.value.defaults.items)) }
 {
     Ok(Value {

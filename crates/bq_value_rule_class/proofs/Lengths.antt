@@ -3,7 +3,7 @@ use Rattle.std.proofs.Common.{◌≡◌, ◌≢◌, ◌∙◌, false, List, [], 
 use Rattle.std.specs.Prelude.{◌&&◌}
 use Rattle.std.proofs.Math.Bool.{and-false}
 use Rattle.bq_label.specs.Label.{LabelParts}
-use Rattle.bq_value_rule_class.specs.Same.{same_label, same_labels}
+use Rattle.bq_value_rule_class.specs.Value.{same_label, same_labels}
 
 pub apart : (xs ys : List LabelParts) → length xs ≢ length ys → same_labels xs ys ≡ false
 apart [] [] h = absurd (h refl)

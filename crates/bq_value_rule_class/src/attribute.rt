@@ -1,9 +1,10 @@
 //! What a rule says of one of its attributes.
 
 ghost use Rattle.std.specs.Prelude.{◌≡◌, IfOk};
+ghost use Rattle.bq_value_rule_class.specs.Same.{same_default, same_attribute};
 
-use crate::attribute_type::AttributeType;
 use crate::value::AttributeValue;
+use bq_package_attribute_type::AttributeType;
 use std::alloc::AllocError;
 
 /// What a rule says of one of its attributes.
@@ -30,5 +31,26 @@ impl Attribute {
             is_mandatory: self.is_mandatory,
             default,
         })
+    }
+
+    /// Returns whether both have one type and one default, and both are mandatory or neither is.
+    pub fn is_same(&self, other: &Attribute) -> bool
+        ensures { result ≡ same_attribute self.now other.now }
+    {
+        self.kind.name() == other.kind.name()
+            && self.is_mandatory == other.is_mandatory
+            && is_same_default(&self.default, &other.default)
+    }
+}
+
+fn is_same_default(a: &Option<AttributeValue>, b: &Option<AttributeValue>) -> bool
+    ensures { result ≡ same_default a.now b.now }
+{
+    match a {
+        None => b.is_none(),
+        Some(x) => match b {
+            None => false,
+            Some(y) => x.is_same(y),
+        },
     }
 }

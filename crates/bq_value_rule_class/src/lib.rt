@@ -9,29 +9,31 @@
 //!
 //! In reading order:
 //!
-//! - `attribute_type`: the types of attributes, and the attributes that all rules have;
 //! - `list`: the lists that attributes have as values;
-//! - `value`: typed values of attributes;
-//! - `same`: when two values, or two attributes, are the same;
+//! - `same`: when two parts of values are the same;
+//! - `lists`: how integers and lists are written;
+//! - `value`: typed values of attributes: which labels they hold, how they are written, and when two are the same;
 //! - `attribute`: what a rule says of one of its attributes;
 //! - `attributes`: attributes by their names, in order;
 //! - `class`: the attributes of a rule, shared;
+//! - `common`: the attributes that all rules have;
 //! - `laws`: what holds of these definitions.
 #![tactic(auto)]
 
 mod attribute;
-mod attribute_type;
 mod attributes;
 mod class;
+mod common;
 mod laws;
 mod list;
+mod lists;
 mod same;
 mod value;
 
 pub use attribute::Attribute;
-pub use attribute_type::{AttributeType, common_attribute, type_named};
 pub use attributes::Attributes;
 pub use class::RuleClass;
-pub use laws::{each_type_is_named, same_attributes_are_equal};
+pub use common::common_attribute;
+pub use laws::same_attributes_are_equal;
 pub use list::SharedList;
-pub use value::AttributeValue;
+pub use value::{AttributeValue, default_text};

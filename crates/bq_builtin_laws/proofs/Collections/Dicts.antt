@@ -6,6 +6,7 @@ use Rattle.bq_value.specs.Datum.{Datum, none, cell, or_none}
 use Rattle.bq_value_compare.specs.KeyWalk.{walked_at, keyed}
 use Rattle.bq_value_compare.specs.Looked.{Looked, max_levels}
 use Rattle.bq_builtin_machine.specs.Action.{Action, Run, done, stopped, following, given, look, pure, ◌>>=◌, ◌>>◌}
+use Rattle.bq_builtin_machine.specs.Answer.{and_then}
 use Rattle.bq_builtin_machine.specs.Args.{Passed}
 use Rattle.bq_builtin_machine.specs.Binding.{bind}
 use Rattle.bq_builtin_machine.specs.Cells.{Change, changing, content, may_change}
@@ -15,6 +16,7 @@ use Rattle.bq_builtin_machine.specs.State.{State}
 use Rattle.bq_builtin_in_place.specs.InPlace.{dict_united, pair_put, set_item, set_index}
 use Rattle.bq_builtin_collections.specs.Arguments.{no_argument, one_or_two}
 use Rattle.bq_builtin_collections.specs.Dict as dict
+use Rattle.bq_builtin_laws.specs.Collections.DictCalls as call
 use Rattle.bq_builtin_collections.specs.Dict.{DictChange, on_pairs, emptied, taken_out, first_out, with_default, key_to_change, pairs_in}
 use Rattle.bq_builtin_collections.specs.PairsGiven.{Pairs, GivenView, pairs_signature, first_value, nothing_read, dict_of, take_elements, read_by, read, read_optional, pairs_given, all_pairs}
 use Rattle.bq_builtin_refusal_laws.specs.Refusals.{Check, fault_of, fault_in, fault_after, first_fault, IsRefusedForFirst}
@@ -34,17 +36,17 @@ module _ (home number : ℕ) (args : List Datum) (why : EvalFault) (s : State) w
   unfolding dict.pop
   no_pop h = given_refused (one_or_two args) why _ s h
 
-  pub no_popitem : no_argument args ≡ Err why → IsRefusedForFirst (dict.popitem home number args s) (Some why ∷ [])
+  pub no_popitem : no_argument args ≡ Err why → IsRefusedForFirst (call.popitem home number args s) (Some why ∷ [])
   unfolding dict.popitem
-  no_popitem h = given_refused (no_argument args) why _ s h
+  no_popitem h = given_refused (and_then (no_argument args) (λ _. Ok first_out)) why _ s (ap (λ r. and_then r (λ _. Ok first_out)) h)
 
   pub no_setdefault : one_or_two args ≡ Err why → IsRefusedForFirst (dict.setdefault home number args s) (Some why ∷ [])
   unfolding dict.setdefault
   no_setdefault h = given_refused (one_or_two args) why _ s h
 
-  pub no_clear : no_argument args ≡ Err why → IsRefusedForFirst (dict.clear home number args s) (Some why ∷ [])
+  pub no_clear : no_argument args ≡ Err why → IsRefusedForFirst (call.clear home number args s) (Some why ∷ [])
   unfolding dict.clear
-  no_clear h = given_refused (no_argument args) why _ s h
+  no_clear h = given_refused (and_then (no_argument args) (λ _. Ok emptied)) why _ s (ap (λ r. and_then r (λ _. Ok emptied)) h)
 
 -- ---- what a change refuses
 
@@ -68,7 +70,7 @@ module _ (home number : ℕ) (ps : Pairs) (s : State) (known : IsDict s home num
   unfolding on_pairs
   changed f = changing_refused home number (on_pairs f) s (pairs ps) known ∙ last (frozen s home) (walked s home number) (fault_in (as_pairs (f ps))) (fault_in (f ps)) (pairs_refused (f ps))
 
-  pub clear_refused : IsRefusedForFirst (dict.clear home number [] s) (clearing s home number)
+  pub clear_refused : IsRefusedForFirst (call.clear home number [] s) (clearing s home number)
   unfolding dict.clear no_argument emptied
   clear_refused = changed emptied ∙ two (frozen s home) (walked s home number)
     where
@@ -77,7 +79,7 @@ module _ (home number : ℕ) (ps : Pairs) (s : State) (known : IsDict s home num
       two None (Some k) = refl
       two None None = refl
 
-  pub popitem_refused : IsRefusedForFirst (dict.popitem home number [] s) (taking_first s home number ps)
+  pub popitem_refused : IsRefusedForFirst (call.popitem home number [] s) (taking_first s home number ps)
   unfolding dict.popitem no_argument
   popitem_refused = changed first_out
 

@@ -1,23 +1,24 @@
 -- Built-in functions have numbers of steps and outcomes of their own.
-use Rattle.std.proofs.Common.{ℕ, zero, suc, List, [], ◌∷◌, Result, slice_get}
-use Rattle.bq_base.specs.declared.fault.EvalFault.{EvalFault}
+use Rattle.std.proofs.Common.{ℕ, zero, suc, List, [], ◌∷◌, slice_get}
+use Rattle.std.specs.List.{AllByRecursion}
+use Rattle.std.specs.Map.{values_of}
 use Rattle.bq_base.specs.declared.fault.EvalFault.TheVariants as fault
 use Rattle.bq_resolve_predeclared.specs.declared.predeclared.Predeclared.{Predeclared}
 use Rattle.bq_resolve_predeclared.specs.declared.predeclared.Predeclared.TheVariants as p
-use Rattle.bq_value.specs.Cells.{StoreView}
 use Rattle.bq_value.specs.Datum.{Datum, none, string}
-use Rattle.bq_builtin_machine.specs.Action.{◌>>=◌, ◌>>◌, pure, given, look}
+use Rattle.bq_builtin_machine.specs.Action.{◌>>◌, pure, given}
 use Rattle.bq_builtin_machine.specs.Args.{Passed}
-use Rattle.bq_builtin_machine.specs.Cells.{new_list}
+use Rattle.bq_builtin_collections.specs.Calling.{Calling}
 use Rattle.bq_builtin_machine.specs.Machine as machine
 use Rattle.bq_builtin_machine.specs.Machine.{walk}
 use Rattle.bq_builtin.specs.Arguments.{by_place, only_argument}
-use Rattle.bq_builtin.specs.Call.{Calling, gives, lists, does, functions, called_if_any, call_function}
+use Rattle.bq_builtin.specs.Call.{functions, called_if_any, call_function}
 use Rattle.bq_builtin.specs.Texts.{str, repr, space, separator_in, joined_texts, print, fail}
 use Rattle.bq_builtin_laws.specs.Steps.Laws.{Own}
-use Rattle.bq_builtin_laws.proofs.Steps.Machine.{pure_owns, stop_owns, given_owns, bind_owns, then_owns, look_owns, walk_owns, print_owns, fail_owns}
+use Rattle.bq_builtin_laws.proofs.Steps.Machine.{pure_owns, stop_owns, given_owns, bind_owns, then_owns, walk_owns, print_owns, fail_owns}
 use Rattle.bq_builtin_laws.proofs.Steps.Operators.{text_owns, repr_owns}
-use Rattle.bq_builtin_laws.proofs.Steps.Collections.{new_list_owns, dict_made_owns}
+use Rattle.bq_builtin_laws.proofs.Steps.Collections.{dict_made_owns}
+use Rattle.bq_builtin_laws.proofs.Steps.Rows.{ActionOwns, called_owns, ActionsOwn, each_owns}
 use Rattle.bq_builtin_laws.proofs.Steps.Walks.{joined_takes}
 
 str_owns : (args : Passed) → Own (str args)
@@ -44,31 +45,16 @@ failing_owns args =
     bind_owns (given (by_place args)) _ (given_owns (by_place args))
     (λ vs. bind_owns (walk (λ store n. joined_texts space store n vs)) (λ t. machine.fail t) (walk_owns (λ store n. joined_texts space store n vs) (λ store. joined_takes space store vs)) (λ t. fail_owns Datum t))
 
--- the values of a new list that the store gives
-listed_owns : (values : StoreView → Result (List Datum) EvalFault) → Own (look (λ s. values s.store) >>= λ xs. new_list xs)
-listed_owns values = bind_owns (look (λ s. values s.store)) (λ xs. new_list xs) (look_owns values) (λ xs. new_list_owns xs)
-
--- what is left to show of functions: that those own their steps which neither give a value nor a list
-abbrev ActionsOwn : List (List ℕ × Calling) → Type 0
-ActionsOwn [] = Unit {0}
-ActionsOwn ((name, gives value) ∷ others) = ActionsOwn others
-ActionsOwn ((name, lists values) ∷ others) = ActionsOwn others
-ActionsOwn ((name, does action) ∷ others) = ((args : Passed) → Own (action args)) × ActionsOwn others
-
-called_owns : (table : List (List ℕ × Calling)) (place : ℕ) (args : Passed) → ActionsOwn table → Own (called_if_any (slice_get table place) args)
-called_owns [] place args own = stop_owns Datum fault.WrongType
-called_owns ((name, gives value) ∷ others) zero args own = look_owns (λ s. value s args)
-called_owns ((name, lists values) ∷ others) zero args own = listed_owns (λ s. values s args)
-called_owns ((name, does action) ∷ others) zero args own = own.0 args
-called_owns ((name, gives value) ∷ others) (suc place) args own = called_owns others place args own
-called_owns ((name, lists values) ∷ others) (suc place) args own = called_owns others place args own
-called_owns ((name, does action) ∷ others) (suc place) args own = called_owns others place args own.1
+at_place : (table : List (List ℕ × Calling)) (place : ℕ) (args : Passed) → AllByRecursion ActionOwns (values_of table) → Own (called_if_any (slice_get table place) args)
+at_place [] place args own = stop_owns Datum fault.WrongType
+at_place (function ∷ others) zero args own = called_owns function.1 args own.0
+at_place (function ∷ others) (suc place) args own = at_place others place args own.1
 
 -- `dict`, `fail`, `print`, `repr`, `select` and `str`
-actions_own : ActionsOwn functions
+actions_own : ActionsOwn (values_of functions)
 actions_own = (dict_made_owns, (failing_owns, (printed_owns, (shown_owns, ((λ args. stop_owns Datum fault.Select), (str_owns, tt))))))
 
 pub function_owns : (function : Predeclared) (args : Passed) → Own (call_function function args)
 unfolding call_function
-function_owns (p.BuiltIn place) args = called_owns functions place args actions_own
+function_owns (p.BuiltIn place) args = at_place functions place args (each_owns (values_of functions) actions_own)
 function_owns function args = stop_owns Datum fault.WrongType

@@ -82,7 +82,7 @@ pub data Taken (s : SignatureView) (name : List ℕ) (v : Datum) (b c : BoundVie
   by_parameter : (i : ℕ) → place_of s name ≡ Some i → Fills i v b c → Taken s name v b c
   by_rest : place_of s name ≡ None → s.takes_keywords ≡ true → Keeps name v b c → Taken s name v b c
 
-taken_by : (o : Option ℕ) (s : SignatureView) (name : List ℕ) (v : Datum) (b c : BoundView) → place_of s name ≡ o → take_named_by o s name v b ≡ Ok c → Taken s name v b c
+taken_by : (o : Option ℕ) (s : SignatureView) (name : List ℕ) (v : Datum) (b c : BoundView) → place_of s name ≡ o → take_named_by o s.takes_keywords name v b ≡ Ok c → Taken s name v b c
 taken_by (Some i) s name v b c e h = by_parameter i e (filled i v b c h)
 taken_by None s name v b c e h = let k = kept s.takes_keywords name v b c h in by_rest e k.0 k.1
 
@@ -332,7 +332,7 @@ only_keyword false u b kind h = cc
 only_keyword true true b kind h = cc
 only_keyword true false b kind h = cc
 
-only_named : (o : Option ℕ) (s : SignatureView) (name : List ℕ) (v : Datum) (b : BoundView) (kind : EvalFault) → take_named_by o s name v b ≡ Err kind → kind ≡ Args
+only_named : (o : Option ℕ) (s : SignatureView) (name : List ℕ) (v : Datum) (b : BoundView) (kind : EvalFault) → take_named_by o s.takes_keywords name v b ≡ Err kind → kind ≡ Args
 unfolding fill take_keyword
 only_named (Some i) s name v b kind h = only_fill (slice_get b.values i) i v b kind h
 only_named None s name v b kind h = only_keyword s.takes_keywords (is_some (found (string name) b.keywords)) (record b { keywords = put (string name) v b.keywords }) kind h

@@ -194,7 +194,7 @@ module _ (s : SignatureView) (p : Passed) (done rest : Named) (name : List ℕ) 
       named_twice x.at (length done) name x.value v (slice_get_within done x.at (name, x.value) x.there) (earlier x.at (name, x.value) x.there) here
   by_keyword true false why takes e place h = absurd (cc)
 
-  by_place : (o : Option ℕ) (why : EvalFault) → place_of s name ≡ o → take_named_by o s name v b ≡ Err why → IsMisfit s p
+  by_place : (o : Option ℕ) (why : EvalFault) → place_of s name ≡ o → take_named_by o s.takes_keywords name v b ≡ Err why → IsMisfit s p
   unfolding fill take_keyword
   by_place (Some i) why place h = by_value i (slice_get b.values i) why refl place h
   by_place None why place h = by_keyword s.takes_keywords (is_some (found (string name) b.keywords)) why refl refl place h

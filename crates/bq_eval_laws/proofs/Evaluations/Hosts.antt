@@ -5,8 +5,8 @@ use Rattle.bq_base.specs.declared.fault.EvalFault.TheVariants.{BadValue, NotInPa
 use Rattle.bq_resolve_predeclared.specs.declared.predeclared.Predeclared.{Predeclared}
 use Rattle.bq_resolve_predeclared.specs.declared.predeclared.Predeclared.TheVariants as p
 use Rattle.bq_resolve_predeclared.specs.declared.rule_function.RuleFunction.{RuleFunction}
+use Rattle.bq_resolve_predeclared.specs.declared.rule_function.RuleFunction.TheVariants as f
 use Rattle.bq_value_rule_class.specs.Class.{Class}
-use Rattle.bq_value_rule_class.specs.declared.attribute_type.AttributeType.{AttributeType}
 use Rattle.bq_resolve_scope.specs.Names.{Name}
 use Rattle.bq_value.specs.Cells.{content_at, kind_of}
 use Rattle.bq_value.specs.Contents.{rule}
@@ -22,7 +22,7 @@ use Rattle.bq_builtin_machine.specs.State.{State}
 use Rattle.bq_builtin.specs.Call.{call_function}
 use Rattle.bq_package_rule_functions.specs.Attribute.{attribute}
 use Rattle.bq_package_host.specs.Host.{ReadDefault}
-use Rattle.bq_package_rule_functions.specs.Call.{new_attribute, new_rule, declare, type_of, call_rule_function, class_in, call_kind, call_class, call_cell}
+use Rattle.bq_package_rule_functions.specs.Call.{new_attribute, new_rule, declare, call_rule_function, class_in, call_kind, call_class, call_cell}
 use Rattle.bq_package_rule_functions.specs.Rule.{class}
 use Rattle.bq_eval_operations.specs.Calling.{HostCalls, call_built_in}
 use Rattle.bq_eval_operations.specs.Runtime.{primitives}
@@ -34,7 +34,7 @@ use Rattle.bq_builtin_laws.specs.Steps.Laws.{Own}
 use Rattle.bq_builtin_laws.proofs.Steps.Machine.{pure_owns, stop_owns, bind_owns, look_owns, step_owns, enter_owns, leave_owns, new_owns, begin_owns, end_owns, line_takes}
 use Rattle.bq_builtin_laws.proofs.Steps.Operators.{binary_owns, unary_owns, compare_owns, index_owns, slice_owns, augment_owns, set_index_owns}
 use Rattle.bq_eval_laws.proofs.Evaluations.Making.{add_owns, put_pair_owns, add_pair_owns, pass_owns, pass_named_owns, pass_all_owns, pass_all_named_owns, parts_owns}
-use Rattle.bq_builtin_laws.proofs.Steps.Collections.{method_owns}
+use Rattle.bq_builtin_laws.proofs.Steps.Methods.{method_owns}
 use Rattle.bq_builtin_laws.proofs.Steps.Functions.{function_owns}
 
 -- ---- what a machine does, beside what a host keeps
@@ -92,17 +92,17 @@ module _ {W : Type 0} (names : List Name) (host : HostCalls W) (hosts : HostTake
 
   -- ---- what declares rules, and rules
 
-  declare_owns : (read : ReadDefault) (in_build : Bool) (type : Option AttributeType) (args : Passed) → Own (declare read in_build type args)
+  declare_owns : (read : ReadDefault) (in_build : Bool) (function : RuleFunction) (args : Passed) → Own (declare read in_build function args)
   unfolding new_attribute new_rule
-  declare_owns read in_build None args = bind_owns (look (λ s. class in_build s.store args)) (λ x. new_content (rule x)) (look_owns (λ s. class in_build s args)) (λ x. new_owns (rule x))
-  declare_owns read in_build (Some type) args =
+  declare_owns read in_build f.Rule args = bind_owns (look (λ s. class in_build s.store args)) (λ x. new_content (rule x)) (look_owns (λ s. class in_build s args)) (λ x. new_owns (rule x))
+  declare_owns read in_build (f.Attr type) args =
       bind_owns (look (λ s. attribute read s.store type args)) (λ x. pure (datum.attribute x)) (look_owns (λ s. attribute read s type args)) (λ x. pure_owns (datum.attribute x))
 
   rule_function_owns : (function : RuleFunction) (args : Passed) → HostOwns (call_rule_function host function args)
   unfolding call_rule_function
   rule_function_owns function args s =
-      let declared : Action State Datum = declare (host.read_default s.1) (host.in_build s.1) (type_of function) args in
-      here_at_state hosted (call_rule_function host function args) (on_machine declared) s (λ n. refl) refl (lifted Datum declared (declare_owns (host.read_default s.1) (host.in_build s.1) (type_of function) args) s)
+      let declared : Action State Datum = declare (host.read_default s.1) (host.in_build s.1) function args in
+      here_at_state hosted (call_rule_function host function args) (on_machine declared) s (λ n. refl) refl (lifted Datum declared (declare_owns (host.read_default s.1) (host.in_build s.1) function args) s)
 
   kind_owns : (kind : Option (List ℕ)) (x : Class) (args : Passed) → HostOwns (call_kind host kind x args)
   kind_owns None x args = lifted Datum (action.stop BadValue) (stop_owns Datum BadValue)

@@ -23,7 +23,7 @@ use Rattle.bq_eval_laws.specs.Evaluations.Files.{HostTakes}
 use Rattle.bq_eval_laws.proofs.Evaluations.Hosts.{beside_owns}
 use Rattle.bq_builtin_laws.specs.Steps.Laws.{Own}
 use Rattle.bq_builtin_laws.specs.Steps.Steps.{hosted, Begins, leaving, printed, Leaves, InLine, TakesInLine}
-use Rattle.bq_builtin_laws.proofs.Steps.Collections.{new_list_owns}
+use Rattle.bq_builtin_laws.proofs.Steps.Rows.{new_list_owns}
 use Rattle.bq_builtin_laws.proofs.Steps.Machine.{given_owns, bind_owns}
 use Rattle.bq_builtin_laws.proofs.Steps.Owning.{begins_itself, stays_itself, here_at_no_cost, here_at_state}
 

@@ -5,7 +5,7 @@ use Rattle.bq_base.specs.declared.fault.EvalFault.{EvalFault}
 use Rattle.bq_base.specs.declared.fault.EvalFault.TheVariants as f
 use Rattle.bq_base.proofs.Choices.{by_bool}
 use Rattle.bq_label.specs.Label.{LabelParts}
-use Rattle.bq_value_rule_class.specs.declared.attribute_type.AttributeType.{AttributeType}
+use Rattle.bq_package_attribute_type.specs.declared.attribute_type.AttributeType.{AttributeType}
 use Rattle.bq_package_target.specs.Value.{attribute_type}
 use Rattle.bq_package_target.specs.declared.value.GivenAttribute.{GivenAttribute}
 use Rattle.bq_value.specs.Datum.{Datum}

@@ -1,6 +1,7 @@
 -- The trees of resolved files may cross threads.
 use denote.Param.Send.{IsSend, IsSync, sendable}
 use Rattle.std.proofs.Crossing.{crosses}
+use Rattle.bq_package_attribute_type.specs.contracts.attribute_type.AttributeType as AttributeType
 use Rattle.bq_resolve_predeclared.specs.contracts.rule_function.RuleFunction as RuleFunction
 use Rattle.bq_resolve_predeclared.specs.contracts.predeclared.Predeclared as Predeclared
 use Rattle.bq_parse_grammar.proofs.tree.Argument.TheLaws.TheKnot as Trees
@@ -24,11 +25,17 @@ use Rattle.bq_resolve_scope.specs.contracts.file.Outside as Outside
 use Rattle.bq_resolve_scope.specs.contracts.file.FileLine as FileLine
 use Rattle.bq_resolve_scope.specs.contracts.file.ResolvedFile as ResolvedFile
 
+pub attribute_type_send : IsSend (AttributeType.the_field).row
+attribute_type_send = search (crosses, sendable) depth 60 fits 20000
+
+pub attribute_type_sync : IsSync (AttributeType.the_field).row
+attribute_type_sync = search (crosses, sendable) depth 60 fits 20000
+
 pub rule_function_send : IsSend (RuleFunction.the_field).row
-rule_function_send = search (crosses, sendable) depth 60 fits 20000
+rule_function_send = let attribute_type = attribute_type_send in search (crosses, sendable) depth 60 fits 20000
 
 pub rule_function_sync : IsSync (RuleFunction.the_field).row
-rule_function_sync = search (crosses, sendable) depth 60 fits 20000
+rule_function_sync = let attribute_type = attribute_type_sync in search (crosses, sendable) depth 60 fits 20000
 
 pub predeclared_send : IsSend (Predeclared.the_field).row
 predeclared_send = let rule_function = rule_function_send in search (crosses, sendable) depth 60 fits 20000

@@ -37,7 +37,7 @@ use Rattle.bq_eval_language_spec.specs.Module.{Own, top_level, top_levels, eval_
 use Rattle.bq_eval_language_spec.specs.Slots as slots
 use Rattle.bq_eval_language_spec.specs.Slots.{by_slots, own_of, first_globals, frozen_units}
 use Rattle.bq_eval_language_spec.specs.Statements.{Flow, next, leave, again, answer, go_on}
-use Rattle.bq_package_rule_functions.specs.Call.{class_in, declare, type_of, call_rule_function, call_kind, call_class, call_cell}
+use Rattle.bq_package_rule_functions.specs.Call.{class_in, declare, call_rule_function, call_kind, call_class, call_cell}
 use Rattle.bq_eval_operations.specs.Calling.{HostCalls, call_built_in}
 use Rattle.bq_eval_operations.specs.Making as making
 use Rattle.bq_eval_operations.specs.Passing as passing
@@ -90,7 +90,7 @@ module _ {W : Type 0} (At : ℕ → Type 0) (P : W → Type 0) where
 
     rule_function_keeps : (function : RuleFunction) (args : Passed) (s : State × W) → P s.1 → Left P (call_rule_function host function args s)
     unfolding call_rule_function
-    rule_function_keeps function args s h = beside_left P s.1 h (declare (host.read_default s.1) (host.in_build s.1) (type_of function) args s.0)
+    rule_function_keeps function args s h = beside_left P s.1 h (declare (host.read_default s.1) (host.in_build s.1) function args s.0)
 
     kind_keeps : (in_build : Bool) (kind : Option (List ℕ)) (class : Class) (args : Passed) (s : State × W) → At s.0.line → P s.1
         → Left P ((if in_build then call_kind host kind class args else on_machine (action.stop NotInPackage)) s)

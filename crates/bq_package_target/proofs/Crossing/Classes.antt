@@ -4,7 +4,7 @@ use Rattle.std.proofs.Crossing.{crosses}
 use Rattle.bq_base.proofs.bytes.Bytes.TheSendSync as Bytes
 use Rattle.bq_base_names.proofs.name_set.NameSet.TheSendSync as Names
 use Rattle.bq_label.specs.contracts.label.Label as Label
-use Rattle.bq_value_rule_class.specs.contracts.attribute_type.AttributeType as AttributeType
+use Rattle.bq_package_attribute_type.specs.contracts.attribute_type.AttributeType as AttributeType
 use Rattle.bq_value_rule_class.specs.contracts.value.AttributeValue as AttributeValue
 use Rattle.bq_value_rule_class.specs.contracts.attribute.Attribute as Attribute
 use Rattle.bq_value_rule_class.specs.contracts.attributes.Attributes as Attributes

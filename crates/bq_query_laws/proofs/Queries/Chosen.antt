@@ -16,10 +16,11 @@ use Rattle.bq_package_target.specs.declared.target.TargetKind.{TargetKind}
 use Rattle.bq_package_target.specs.declared.target.TargetKind.TheVariants as k
 use Rattle.bq_package_target.specs.declared.value.GivenAttribute.{GivenAttribute}
 use Rattle.bq_package_target_laws.proofs.Writing.{none_in}
-use Rattle.bq_query_target_sets.specs.Labels.{labels_in, labels_named, is_among}
+use Rattle.bq_value_rule_class.specs.Value.{all_labels_of, value_text}
+use Rattle.bq_query_target_sets.specs.Labels.{labels_named, is_among}
 use Rattle.bq_query_target_sets.specs.Matching.{is_match, has_kind, has_text, has_attribute}
 use Rattle.bq_query_target_sets.specs.Order.{is_text}
-use Rattle.bq_query_target_sets.specs.Texts.{kind_text, value_text, given, text_by, attribute_text}
+use Rattle.bq_query_target_sets.specs.Texts.{kind_text, given, text_by, attribute_text}
 use Rattle.bq_query_target_sets.specs.Words.{Those}
 use Rattle.bq_query.specs.Stands.{Bound}
 use Rattle.bq_query_target_graph.specs.Graph.{GraphParts}
@@ -86,21 +87,18 @@ kind_matches pattern t = (λ h. (kind_text t.kind, kind_is t, h), λ h. subst (�
 alone : {X : Type 0} (x z : X) → Contains (x ∷ []) z → x ≡ z
 alone x z c = elim (head_or_tail x [] z c) [ inl e ↦ e | inr later ↦ absurd (none_in z later) ]
 
-value_holds : (value : AttributeValue) (l : LabelParts) → Contains (labels_in value) l → HoldsLabel l value
+value_holds : (value : AttributeValue) (l : LabelParts) → Contains (all_labels_of value) l → HoldsLabel l value
 value_holds (v.Label m) l c = HoldsLabel.label (ap v.Label (alone m l c))
 value_holds (v.LabelList ms) l c = HoldsLabel.labels ms refl c
 value_holds (v.Output m) l c = HoldsLabel.output (ap v.Output (alone m l c))
 value_holds (v.OutputList ms) l c = HoldsLabel.outputs ms refl c
-value_holds (v.String s) l c = absurd (none_in l c)
-value_holds (v.Int n) l c = absurd (none_in l c)
-value_holds (v.Bool b) l c = absurd (none_in l c)
-value_holds (v.StringList ss) l c = absurd (none_in l c)
+value_holds _ l c = absurd (none_in l c)
 
-holds_value : (value : AttributeValue) (l : LabelParts) → HoldsLabel l value → Contains (labels_in value) l
-holds_value value l (HoldsLabel.label e) = subst (λ w. Contains (labels_in w) l) (sym e) (at_head l [])
-holds_value value l (HoldsLabel.labels ls e c) = subst (λ w. Contains (labels_in w) l) (sym e) c
-holds_value value l (HoldsLabel.output e) = subst (λ w. Contains (labels_in w) l) (sym e) (at_head l [])
-holds_value value l (HoldsLabel.outputs ls e c) = subst (λ w. Contains (labels_in w) l) (sym e) c
+holds_value : (value : AttributeValue) (l : LabelParts) → HoldsLabel l value → Contains (all_labels_of value) l
+holds_value value l (HoldsLabel.label e) = subst (λ w. Contains (all_labels_of w) l) (sym e) (at_head l [])
+holds_value value l (HoldsLabel.labels ls e c) = subst (λ w. Contains (all_labels_of w) l) (sym e) c
+holds_value value l (HoldsLabel.output e) = subst (λ w. Contains (all_labels_of w) l) (sym e) (at_head l [])
+holds_value value l (HoldsLabel.outputs ls e c) = subst (λ w. Contains (all_labels_of w) l) (sym e) c
 
 -- the first of some attributes that has this name
 record First (all : List GivenAttribute) (name : List ℕ) (a : GivenAttribute) : Type 0 where
@@ -214,7 +212,7 @@ record Named (name : List ℕ) (r : Target) (l : LabelParts) : Type 0 where
   holds : HoldsLabel l attribute.value
 
 abbrev labels_by : Option GivenAttribute → List LabelParts
-labels_by o = elim o [ Some a ↦ labels_in a.value | None ↦ [] ]
+labels_by o = elim o [ Some a ↦ all_labels_of a.value | None ↦ [] ]
 
 abbrev named_by : TargetKind → List ℕ → Target → List LabelParts
 named_by kind name t = if is_some (class_by kind) then labels_by (given name t) else []

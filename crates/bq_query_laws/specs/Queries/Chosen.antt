@@ -13,7 +13,7 @@ use Rattle.bq_package_target.specs.declared.target.Target.{Target}
 use Rattle.bq_package_target.specs.declared.target.TargetKind.TheVariants as k
 use Rattle.bq_package_target.specs.declared.value.GivenAttribute.{GivenAttribute}
 use Rattle.bq_package_target.specs.Value.{attribute_type}
-use Rattle.bq_query_target_sets.specs.Texts.{value_text, default_text}
+use Rattle.bq_value_rule_class.specs.Value.{value_text, default_text}
 use Rattle.bq_query.specs.Stands.{Stands, Bound}
 use Rattle.bq_query_target_graph.specs.Graph.{GraphParts}
 

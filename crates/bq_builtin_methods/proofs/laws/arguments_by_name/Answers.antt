@@ -5,4 +5,5 @@ pub returns-clause-lists : goal.returns-clause-lists
 returns-clause-lists c = λ name method found home number values s at args argument others named. list_by_name name method home number values args argument others s at found named
 
 pub returns-clause-dicts : goal.returns-clause-dicts
-returns-clause-dicts c = λ name method found home number dict s at args argument others named. dict_by_name name method home number dict args argument others s at found named
+returns-clause-dicts c = λ name fewest most calling found home number dict s at args argument others named.
+    dict_by_name name fewest most calling home number dict args argument others s at found named

@@ -1,8 +1,6 @@
 use Rattle.std.proofs.Common.{arith}
-use Rattle.bq_label.specs.Label.{full_form}
 use Rattle.std.proofs.lemmas.Grind.{common_steps}
 use Rattle.bq_label.proofs.print.print_label.Goals as goal
 
 pub returns : goal.returns
-unfolding full_form
 returns c = grind (arith, common_steps)

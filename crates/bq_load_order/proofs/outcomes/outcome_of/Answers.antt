@@ -14,15 +14,15 @@ pub first_at_limit-requires-clause-known : goal.first_at_limit-requires-clause-k
 first_at_limit-requires-clause-known g c l h = c.row-loads.ensures.valid.1 c.args.m l (subst (λ xs. Has xs l) c.row-loads.ensures.row h)
 
 pub first_at_limit-requires-clause-acyclic : goal.first_at_limit-requires-clause-acyclic
-first_at_limit-requires-clause-acyclic g c l h = loads_not_cyclic c.args.graph.now c.args.m l c.requires.ready.acyclic (subst (λ xs. Has xs l) c.row-loads.ensures.row h)
+first_at_limit-requires-clause-acyclic g c l h = loads_not_cyclic c.args.ordered.now.graph.now c.args.m l c.requires.ready.acyclic (subst (λ xs. Has xs l) c.row-loads.ensures.row h)
 
 pub returns-then-is_too_deep : goal.returns-then-is_too_deep
 returns-then-is_too_deep g c =
-    deep_outcome (g.E.Evaluate.means c.args.evaluator.now) c.args.graph.now c.args.m (sym c.is_too_deep.ensures ∙ c.if-is_too_deep.true) c.first_at_limit.result c.row-loads.result.now c.first_at_limit.ensures c.row-loads.ensures.row
+    deep_outcome (g.E.Evaluate.means c.args.evaluator.now) c.args.ordered.now.graph.now c.args.m (sym c.is_too_deep.ensures ∙ c.if-is_too_deep.true) c.first_at_limit.result c.row-loads.result.now c.first_at_limit.ensures c.row-loads.ensures.row
 
 pub returns : goal.returns
 returns g c =
     let found = map (slot g.E.Evaluate.see g.E.Evaluate.see_fault) c.args.found.now in
     c.in_ok-outcome_by.ensures
-    ∙ found_outcome (g.E.Evaluate.means c.args.evaluator.now) c.args.graph.now found c.args.m c.requires.ready (sym c.is_too_deep.ensures ∙ c.if-is_too_deep.false)
+    ∙ found_outcome (g.E.Evaluate.means c.args.evaluator.now) c.args.ordered.now.graph.now found c.args.m c.requires.ready (sym c.is_too_deep.ensures ∙ c.if-is_too_deep.false)
     (seen g.E.Evaluate.see c.in_ok-imports.imports) (c.in_ok-imports.ensures ∙ ap (values (found_at found)) c.row-loads.ensures.row)

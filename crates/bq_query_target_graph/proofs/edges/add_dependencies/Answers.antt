@@ -1,7 +1,7 @@
 use Rattle.std.proofs.Common.{◌∙◌, ◌++◌, position, append-nil, ap, sym}
 use Rattle.std.specs.List.{flat_map}
 use Rattle.bq_label.specs.Label.{LabelParts}
-use Rattle.bq_package_target.specs.Value.{labels_of}
+use Rattle.bq_value_rule_class.specs.Value.{labels_of}
 use Rattle.bq_label_set.specs.Labels.{same_label, has_label}
 use Rattle.bq_query_target_graph.specs.BuildFiles.{file_of}
 use Rattle.bq_query_target_graph.specs.Edges.{edge_by, edges_to}
@@ -24,7 +24,7 @@ loop-given-preserved c =
     let f = dangling (has_label s.labels.now) (file_of s.files.now s.target.now.label) s.target.now.line in
     record {
       edges = given_each e (λ a. labels_of a.value) all l.given-index given c.args.found.now.edges.items l.found.edges.items now.edges.items c.loop-given-test.true c.given-item.is l.invariant.edges
-          (added.edges ∙ ap (λ ls. l.found.edges.items ++ edges_to s.labels.now s.number ls) c.labels_of.ensures);
+          (added.edges ∙ ap (λ ls. l.found.edges.items ++ edges_to s.labels.now s.number ls) c.labels.ensures);
       lines = given_each f (λ a. labels_of a.value) all l.given-index given c.args.found.now.dangling.items l.found.dangling.items now.dangling.items c.loop-given-test.true c.given-item.is l.invariant.lines
-          (added.lines ∙ ap (λ ls. l.found.dangling.items ++ flat_map f ls) c.labels_of.ensures);
+          (added.lines ∙ ap (λ ls. l.found.dangling.items ++ flat_map f ls) c.labels.ensures);
     }

@@ -1,10 +1,9 @@
-use Rattle.std.proofs.Common.{◌≡◌, [], ap, refl, rules, arith}
-use Rattle.std.proofs.lemmas.Grind.{common_steps}
-use Rattle.bq_query_target_sets.specs.Labels.{labels_in, is_among}
-use Rattle.bq_query_target_sets.proofs.Tests.{adds_none}
+use Rattle.std.proofs.Common.{List, subst}
+use Rattle.bq_label.specs.Label.{LabelParts}
+use Rattle.bq_query_target_sets.specs.Labels.{is_among}
+use Rattle.bq_query_target_sets.specs.Words.{Adds}
 use Rattle.bq_query_target_sets.proofs.labels.add_value.Goals as goal
 
-pub returns-in_default : goal.returns-in_default
-returns-in_default c =
-    let none : labels_in c.args.value.now ≡ [] = first_of (search rules, grind (arith, common_steps)) in
-    adds_none (is_among (labels_in c.args.value.now)) c.args.targets.now c.args.marks.now.items c.args.marks.now.items (λ t. ap (λ ls. is_among ls t) none) refl
+pub returns : goal.returns
+returns c =
+    subst (λ (ls : List LabelParts). Adds (is_among ls) c.args.targets.now c.args.marks.now.items c.add_labels.new.marks.items) c.all_labels.ensures c.add_labels.ensures

@@ -12,5 +12,5 @@ pub returns-in-Err : goal.returns-in-Err
 returns-in-Err g c =
     let why = c.in-Err.why in
     IfOk-weaker c.without_schema.result (λ r. (line : ℕ) × (why ≡ e.Schema line) × (report_view r ≡ refused (Schema line)))
-    (λ r. IsFactsBy c.args.options.now.limits c.args.workspace.now (option_copied c.args.asked) (report_view r))
+    (λ r. IsFactsBy c.args.over.now.options.now.limits c.args.over.now.workspace.now (option_copied c.args.asked) (report_view r))
     (λ r h. IsFactsBy.wrong_schema h.0 (c.in-Err.ensures h.0 h.1) h.2) c.without_schema.ensures

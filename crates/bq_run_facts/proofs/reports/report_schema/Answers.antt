@@ -15,9 +15,9 @@ both (Err e) P Q R f p q = tt
 
 pub returns-in-Ok : goal.returns-in-Ok
 returns-in-Ok g c =
-    let files = c.args.workspace.now in
+    let files = c.args.over.now.workspace.now in
     let rules = c.args.schema.now in
-    let limits = c.args.options.now.limits in
+    let limits = c.args.over.now.options.now.limits in
     let graph = c.in-Ok.graph in
     let asked = option_copied c.args.asked in
     IfOk-weaker c.report_graph.result (λ r. TellsGraph files rules limits.steps graph asked (report_view r))
@@ -26,8 +26,8 @@ returns-in-Ok g c =
 
 pub returns-in-Err : goal.returns-in-Err
 returns-in-Err g c =
-    let files = c.args.workspace.now in
-    let limits = c.args.options.now.limits in
+    let files = c.args.over.now.workspace.now in
+    let limits = c.args.over.now.options.now.limits in
     let asked = option_copied c.args.asked in
     both c.without_graph.result (λ r. c.in-Err.why ≡ e.TooManyModules) (λ r. report_view r ≡ refused TooManyModules) (λ r. IsFactsBy limits files asked (report_view r))
     (λ r h k. IsFactsBy.too_many c.args.schema.now c.requires.schema (c.in-Err.ensures.0 h) k) c.without_graph.ensures.why c.without_graph.ensures.report

@@ -12,12 +12,12 @@ returns-in_err-session-clause-does g c =
 pub returns-in_err-write_rope-clause-does : goal.returns-in_err-write_rope-clause-does
 returns-in_err-write_rope-clause-does g c =
     let p = err_from_is_err_and c.from_residual-in_err-write_rope.result c.from_residual-in_err-write_rope.ensures.1 in
-    rw (p.1, p.2) (faults_cut c.args.options.now c.args.workspace.now c.in_ok-session.session c.in_ok-session.ensures (g.Q.ByteSource.remaining c.args.queries.now)
+    rw (p.1, p.2) (faults_cut c.args.over.now.options.now c.args.over.now.workspace.now c.in_ok-session.session c.in_ok-session.ensures (g.Q.ByteSource.remaining c.args.queries.now)
     (g.F.ByteSink.contents c.args.faults_writer.now) (g.F.ByteSink.contents c.write_rope.new.writer) (g.W.ByteSink.contents c.args.writer.now) (g.W.ByteSink.contents c.args.writer.now)
     c.write_rope.ensures.begins (keeps_itself (g.W.ByteSink.contents c.args.writer.now)))
 
 pub returns-clause-does : goal.returns-clause-does
 returns-clause-does g c =
-    all_written c.args.options.now c.args.workspace.now c.in_ok-session.session c.in_ok-session.ensures (g.Q.ByteSource.remaining c.args.queries.now)
+    all_written c.args.over.now.options.now c.args.over.now.workspace.now c.in_ok-session.session c.in_ok-session.ensures (g.Q.ByteSource.remaining c.args.queries.now)
     (g.F.ByteSink.contents c.args.faults_writer.now) (g.F.ByteSink.contents c.write_rope.new.writer) (g.W.ByteSink.contents c.args.writer.now) (g.W.ByteSink.contents c.answer_all-answered.new.writer)
     c.answer_all-answered.result c.in_ok-write_rope.ensures.whole c.answer_all-answered.ensures.does

@@ -1,0 +1,2 @@
+-- the type that a name finds has the name
+pub mod Named
