@@ -95,7 +95,7 @@ def tf_{name}(name, srcs = [], hdrs = [], deps = [], copts = [], linkopts = [], 
         srcs = srcs + if_cuda(["gpu.cc"]),
         hdrs = hdrs,
         copts = tf_copts() + copts + select({{
-            "//tensorflow:windows": ["/W0"],
+            "//tensorflow:windows": ["/utf-8"],
             "//conditions:default": ["-Wno-sign-compare"],
         }}),
         deps = deps + if_mkl(["@mkl//:lib"]) + [clean_dep("//tensorflow/core:p0")],
