@@ -177,6 +177,18 @@ def wide():
         yield f"tree/package_{p}/BUILD", 'load("//rules:loop.bzl", "turns")\nfilegroup(name = "t", srcs = ["x" + str(turns(1000)) + ".txt"])\n'
 
 
+def large(packages):
+    """Packages of ten files each, whose targets a macro declares, each of which depends on the next package."""
+    yield "rules/BUILD", ""
+    yield "rules/first.bzl", MACROS.format(name="first")
+    for p in range(packages):
+        following = f', "//tree/area_{(p + 1) // 1000}/package_{p + 1}:a_first_0"' if p + 1 < packages else ""
+        directory = f"tree/area_{p // 1000}/package_{p}"
+        yield f"{directory}/BUILD", f'load("//rules:first.bzl", "first")\nfirst(name = "a", srcs = glob(["*.cc"]) + ["x"{following}])\n'
+        for k in range(9):
+            yield f"{directory}/source_{k}.cc", ""
+
+
 def write_bundle(path, files):
     """Writes the bundle of files; gives its size."""
     with open(path, "w", encoding="ascii") as out:

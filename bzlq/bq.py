@@ -40,6 +40,8 @@ MAX_QUERY_BYTES = 1 << 20
 LARGE = "bq reads a bundle of this size with --large"
 # a query that is answered once the workspace is loaded
 NOTHING = b"set()"
+# the formats of facts that are read here; the first, up to bq 1.5, has no first line and no names
+FORMATS = (1, 2)
 # how many bytes are read at once
 SHARE = 1 << 18
 # how long a process may take to end by itself, in seconds
@@ -396,7 +398,8 @@ class Workspace:
 
 @dataclass(frozen=True)
 class Target:
-    """A target. A source file has neither line nor attributes nor dependencies. The line is that of the statement which declares it."""
+    """A target. A source file has neither line nor attributes, names nor dependencies. The line is that of the statement which declares it. Names
+    are the labels that it names, whether these are targets or not; None where a bq up to 1.5 has told the facts, which don't have them then."""
 
     label: str
     kind: str
@@ -404,6 +407,7 @@ class Target:
     line: int = 0
     attributes: Mapping[str, str | int | bool | list[str]] = field(default_factory=dict)
     deps: Sequence[str] = ()
+    names: Sequence[str] | None = ()
 
     @property
     def lost(self) -> Sequence[str]:
@@ -448,25 +452,46 @@ class Fault:
 
 @dataclass(frozen=True)
 class Facts:
-    """What is behind an answer: the targets and the modules by their labels, in order, and the faults."""
+    """What is behind an answer: the targets and the modules by their labels, in order, and the faults; and what the first line says: the version
+    of bq, and the limits of the run. Both are empty where a bq up to 1.5 has told the facts."""
 
     targets: dict[str, Target] = field(default_factory=dict)
     modules: dict[str, Module] = field(default_factory=dict)
     faults: list[Fault] = field(default_factory=list)
     packages: dict[str, dict] = field(default_factory=dict)  # what calls of package(..) say, of bzlq --facts
 
+    version: str = ""
+    limits: Mapping[str, int] = field(default_factory=dict)
+
     @staticmethod
     def of_lines(lines: Iterable[bytes]) -> "Facts":
         """The facts that these lines of `bq --facts` tell."""
-        found = Facts()
-        for line in lines:
-            found.add(json.loads(line))
+        parsed = map(json.loads, lines)
+        first = next(parsed, None)
+        if first is None or "facts" not in first:
+            # (of a bq up to 1.5)
+            found = Facts()
+            for told in [first, *parsed] if first else []:
+                found.add({**told, "names": None})
+            return found
+        if first["facts"] not in FORMATS:
+            raise ProcessError(f"the facts are of format {first['facts']}, and bq.py reads {' and '.join(map(str, FORMATS))}")
+        found = Facts(version=first["version"], limits=first["limits"])
+        for told in parsed:
+            found.add(told)
+        found.hold_to(first)
         return found
+
+    def hold_to(self, first: dict) -> None:
+        """Refuses facts that aren't as many as the first line says, since the text was cut off."""
+        for what, there in (("targets", self.targets), ("modules", self.modules), ("faults", self.faults)):
+            if len(there) != first[what]:
+                raise ProcessError(f"the facts were cut off: they have {len(there)} of {first[what]} {what}")
 
     def add(self, told: dict) -> None:
         """Adds what a line of facts says."""
         if "target" in told:
-            more = (told["line"], told["attributes"], told["deps"]) if "line" in told else ()
+            more = (told["line"], told["attributes"], told["deps"], told["names"]) if "line" in told else ()
             self.targets[told["target"]] = Target(told["target"], told["kind"], told["file"], *more)
         elif "package" in told:
             self.packages[told["package"]] = told

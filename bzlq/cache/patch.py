@@ -345,7 +345,7 @@ def said(file):
     """What a BUILD file says, without its lines, which count for messages alone."""
     calls = [{name: value for name, value in vars(it).items() if name != "line"} for it in file.calls]
     lined = [[(label, clauses) for label, _, clauses in file.loads], [it[:2] for it in file.uses], [(it[0], it[1], it[3]) for it in file.members],
-             [it[:3] for it in file.member_calls], [what for _, what in file.faults], [(it.names, it.is_def) for it in file.statements]]
+             [it[:3] for it in file.member_calls], [what for _, what in file.faults], [it[:4] for it in file.decisions], [(it.names, it.is_def) for it in file.statements]]
     others = {name: value for name, value in vars(file).items()
-              if name not in ("calls", "loads", "uses", "members", "member_calls", "faults", "statements", "size", "is_odd")}
+              if name not in ("calls", "loads", "uses", "members", "member_calls", "faults", "decisions", "statements", "size", "is_odd")}
     return calls, lined, others

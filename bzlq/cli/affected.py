@@ -175,6 +175,7 @@ def compared(words, folder):
 def affected(words, name):
     """Writes the list, and what there is to say of it; gives the status."""
     sort_words(words)
+    pattern(words.kind)  # (a wrong one is refused before anything is read)
     for folder in words.overlay:
         if not os.path.isdir(folder):
             raise Refused(f"there is no directory {folder}")

@@ -7,8 +7,8 @@ import os
 import re
 
 from bzlq.workspace.files import ROOT_FILES, SCHEMA, Refused, ignored, is_path, read_file, unreadable
+from bzlq.workspace.loads import loads_of
 
-LOAD = re.compile(rb"""\bload\(\s*["']([^"'\n]+)["']""")
 LABEL = re.compile(rb"""["'](?:@|@@)?//([^"':\n]*)(?::[^"'\n]*)?["']""")
 NAMES = ("BUILD.bazel", "BUILD")
 
@@ -85,7 +85,7 @@ class Part:
             self.seen.add(path)
             text = self.files[path] = self.text(path)
             named |= {it.decode("utf-8", "replace") for it in LABEL.findall(text)}
-            loaded = [self.path_of(it.decode("utf-8", "replace"), path) for it in LOAD.findall(text)]
+            loaded = [self.path_of(it, path) for it in loads_of(text)]
             pending += [it for it in loaded if it and os.path.isfile(os.path.join(self.root, it))]
             for it in filter(None, loaded):
                 owner = self.package_of(os.path.dirname(it))

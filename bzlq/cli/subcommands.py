@@ -28,6 +28,7 @@ MODULES = {
     "closures": "the targets that depend on most others",
     "shared": "the files that several rules have as sources",
     "diff": "how an answer differs between two revisions of git",
+    "join": "joins the facts of parts of a workspace, and answers over the whole",
 }
 # those that are modules with a function of their name
 ASKING = {
@@ -36,7 +37,7 @@ ASKING = {
 }
 OTHERS = {
     "query": "answers a query, as without a word",
-    "facts": "the facts of the targets of a query, or of the whole workspace, as JSON",
+    "facts": "the facts of the targets of a query, or of the whole workspace, as JSON; with --split N parts of it",
     "queries": "answers each line of a file, or of standard input, over one load",
     "owner": "the targets that use files",
     "lint": "the faults of BUILD and .bzl files: of those that have changed according to git, or of FILE ..",
@@ -157,6 +158,8 @@ def run(words):
     word, rest = (words or [""])[0], words[1:]
     if word in MODULES or word == "bundle" and rest:
         return script(word, rest)
+    if word == "facts" and any(it.partition("=")[0] == "--split" for it in rest):
+        return script("split", rest)
     if word in ASKING:
         # (not at the top: they import this)
         module = importlib.import_module(f"bzlq.cli.{word}")

@@ -9,7 +9,7 @@ from bzlq.hints.machine import Machine
 from bzlq.hints.package import place_in
 from bzlq.hints.suggestions import did_you_mean
 from bzlq.hints.sources import TooLate
-from bzlq.overlay.arguments import DIRECTORY, PREFIX
+from bzlq.overlay.arguments import PREFIX, STUB
 
 # for how many processor seconds files are evaluated again, and how many calls around a place are shown
 SECONDS = 2
@@ -127,7 +127,7 @@ class Hints:
         if not wrong or wrong.number != fault.number or statement is None:
             return fault.line, statement.col_offset + 1 if statement else 1, fault.detail
         nodes, functions = [wrong.place, *((of, call) for of, call, _ in wrong.calls)], [name for *_, name in wrong.calls]
-        while len(nodes) > 1 and nodes[0][0].startswith(DIRECTORY):  # (what stands for a rule in an overlay)
+        while len(nodes) > 1 and self.sources.text(nodes[0][0]).startswith(STUB):  # (what stands for a rule in an overlay)
             del nodes[0], functions[0]
         nodes[0] = (nodes[0][0], place_in(nodes[0][1], wrong))
         stack = [(of, node.lineno, node.col_offset + 1) for of, node in nodes]

@@ -8,6 +8,7 @@ from bzlq.overlay.definitions import definition, value_for
 from bzlq.overlay.extra_targets import text_of
 from bzlq.overlay.global_names import VALUE, GlobalNames
 from bzlq.overlay.guesses import by_values
+from bzlq.overlay.lost_values import lost_names
 from bzlq.overlay.reading import BUILD_FUNCTIONS, BUILT_INS, LEFT_OUT, Statement, read
 from bzlq.overlay.replaced import Replaced
 from bzlq.overlay.replacements import NATIVE_VALUES
@@ -178,6 +179,7 @@ class Facts:
         self.loaders = Counter()  # how many files load a symbol: (repository, package, name), symbol
         self.tests_in = {}  # the tests of packages that have a `test_suite` without `tests`, once they are known
         self.taken = {}  # what places take, by keyword, once they are asked for
+        self.lost_in = {}  # the names of a BUILD file in whose values something isn't there, once they are asked for, by its path
         self.inner_calls, self.binders = {}, {}  # a path -> the calls in each function, and the statements that bind each name, once they are asked for
         self.reached = self.files_reached()
         self.find_stand_ins()
@@ -187,6 +189,7 @@ class Facts:
         for given in self.given.values():
             for keyword, kinds in given.items():
                 self.everywhere[keyword].update(kinds)
+        self.lost_names = lost_names(self, sorted(path for path in self.reached if not workspace.files[path].is_build), {})  # those of .bzl files
 
     def kept(self):
         """What a copy of a file depends on, beside what files say: all of it is of plain values."""
@@ -196,6 +199,7 @@ class Facts:
             "stubs": [(place, symbol, it.kept()) for place, symbols in self.stubs.items() for symbol, it in symbols.items()],
             "everywhere": {keyword: {kind: count for kind, count in kinds.items() if count} for keyword, kinds in self.everywhere.items()},
             "further": [(place, found) for place, found in self.further.items()],
+            "lost_names": sorted(self.lost_names.items()),
         }
 
     @classmethod
@@ -211,7 +215,7 @@ class Facts:
         for place, symbol, it in kept["stubs"]:
             found.stubs[place][symbol] = Stub.of_kept(it)
         found.everywhere = defaultdict(Counter, {keyword: Counter(kinds) for keyword, kinds in kept["everywhere"].items()})
-        found.further = dict(kept["further"])
+        found.further, found.lost_names, found.lost_in = dict(kept["further"]), dict(kept["lost_names"]), {}
         return found
 
     def for_copies(self):
@@ -504,6 +508,16 @@ class Facts:
         repository, package, base = found[1]
         place = package if repository is None else (f"@{repository}" if repository else "") + f"//{package}:{base}"
         return f"value: {found[2]} of {place}"
+
+    def value_lost(self, file, name):
+        """The same, and what is said of a name in whose value, or in whose function, such a one is."""
+        told, bound = self.lost_value(file, name), self.names.binding(file, name)
+        if told or not bound:
+            return told
+        path = bound[0].path
+        if bound[0].is_build and path not in self.lost_in:
+            self.lost_in[path] = lost_names(self, [path], self.lost_names)
+        return (self.lost_in[path] if bound[0].is_build else self.lost_names).get((path, bound[1]), "")
 
     def members_of(self, path):
         """The texts that stand for members of what a file binds."""

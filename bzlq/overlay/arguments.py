@@ -12,6 +12,7 @@ a `select`, so the marks come to the calls as they are, and are taken out there.
 A large workspace calls these functions a hundred thousand times, so they look at elements one by one only where something is odd: `str`, `in`,
 `count` and `remove` look at a whole list in a step or a few.
 """
+from bzlq.overlay.lost_values import passed_on
 from bzlq.overlay.rule_sets import BAZEL
 from bzlq.overlay.starlark_text import starlark
 
@@ -31,6 +32,8 @@ ATTRIBUTES = {"bzlq_edges": "label_list", LOST_ATTRIBUTE: "string_list"}
 TEXTS = ("define_values", "env", "exec_properties", "rustc_env", "substitutions", "values")
 DIRECTORY = "external/bzlq"
 LABEL = "@bzlq//:given.bzl"
+# what a file begins with that stands for one which isn't there
+STUB = "# A stub that tools/stubs wrote.\n"
 # (as long as `native.`, so that columns stay)
 PREFIX = "bzlq_r_"
 
@@ -117,18 +120,20 @@ def _list(value, edges):
     if _MARK not in text:
         return value
     pieces = text.split("\\"" + _MARK)
-    if "\\\\" in text or text.count(_MARK) != len(pieces) - 1:
+    if "\\\\" in text or _END in text or text.count(_MARK) != len(pieces) - 1:
         return _unmarked(value, edges)
     found = list(value)
     for it in pieces[1:]:
         conditions = it.partition("\\"")[0]
+        if _MARK + conditions not in found:
+            return _unmarked(value, edges)
         found.remove(_MARK + conditions)
         edges[conditions] = None
     return found
 
 def _unmarked(value, edges):
     """The same for marks that a list's text doesn't show."""
-    if [it for it in value if type(it) == "string" and it.find(_MARK) > 0]:
+    if [it for it in value if str(it).find(_MARK) > 0 or _END in str(it)]:
         fail("a select in a list: write [..] + select(..)")
     for it in value:
         if type(it) == "string" and it.startswith(_MARK):
@@ -184,6 +189,8 @@ def bzlq_given(rule, lost, given):
         labels = [it for it in {it: None for it in _AND.join(edges.keys()).split(_AND)} if it and it != _DEFAULT]
         if labels:
             found["bzlq_edges"] = labels
+    if _PASSED:
+        lost = lost + _PASSED.get(native.package_name(), [])
     if lost:
         found["bzlq_lost"] = {it: None for it in lost}.keys()
     return found
@@ -225,7 +232,7 @@ BY_NAMES = "# Which labels are further targets depends on which files there are.
 def given_files(schema, facts, mark):
     """The files of the repository `@bzlq`, by their paths: tables that are too long for one file are in others."""
     mark += BY_NAMES if facts.further else ""
-    tables = {**schema.tables(), "_TEXTS": dict.fromkeys(TEXTS), "_TESTS_IN": facts.tests_in, "_LEFT_OUT": facts.workspace.left_out}
+    tables = {**schema.tables(), "_TEXTS": dict.fromkeys(TEXTS), "_TESTS_IN": facts.tests_in, "_LEFT_OUT": facts.workspace.left_out, "_PASSED": passed_on(facts)}
     parts = {name: [it for it in map(entry, table.items()) if len(it) <= MOST_OF_ENTRY] for name, table in tables.items()}
     if sum(len(it) for part in parts.values() for it in part) <= MOST_OF_TABLES:
         found, lines = {}, [f"{name} = {{{', '.join(part)}}}\n" for name, part in parts.items()]

@@ -334,7 +334,8 @@ class Copy:
     def may_lose(self, call):
         """Whether what stands for a rule is to be called in its place: it is a test, or some argument may be a dict or have a `select`."""
         is_odd = call.func.id in TESTS or has_output_as_input(call) or call.func.id == "test_suite" and not any(key.arg == "tests" for key in call.keywords)
-        return is_odd or bool(self.facts.workspace.left_out_of(self.file)) or any(not self.is_plain(key.value) for key in call.keywords if key.arg != "name")
+        return is_odd or bool(self.facts.workspace.left_out_of(self.file)) or any(
+            not self.is_plain(key.value) if key.arg != "name" else self.values_lost(nodes_of(key.value)) for key in call.keywords)
 
     def is_plain(self, node):
         """Whether a value is shown, and is neither a dict nor has a `select`."""
@@ -381,9 +382,12 @@ class Copy:
     def values_lost(self, nodes):
         """What values nodes name that aren't there."""
         found = {}
+        # (what a statement calls, or a comprehension as one, gives no value)
+        calls = [it.value.elt if isinstance(it.value, ast.ListComp) else it.value for it in nodes if isinstance(it, ast.Expr)]
+        others = {id(it.func) for it in calls if isinstance(it, ast.Call)}
         for part in nodes:
-            if isinstance(part, ast.Name) and part.id not in self.locals and part.id in self.file.globals:
-                if told := self.facts.lost_value(self.file, part.id):
+            if isinstance(part, ast.Name) and part.id not in self.locals and part.id in self.file.globals and id(part) not in others:
+                if told := self.facts.value_lost(self.file, part.id):
                     found[told] = None
         return list(found)
 

@@ -1,11 +1,13 @@
-"""Which calls of BUILD files declare nothing over the overlay: their macro isn't there, or could not be read, and nothing tells that it makes targets.
+"""Which calls of BUILD files declare nothing over the overlay: their macro isn't there, or could not be read, and nothing tells that it makes targets;
+and which loops and conditions declare targets by a value that isn't there.
 
-Takes the facts of a workspace; gives a `Silence` for each such function, and the lines that tell them.
+Takes the facts of a workspace; gives a `Silence` for each such function, an `Undecided` for each such value, and the lines that tell them.
 """
 import bisect
 import os
 from dataclasses import dataclass, field
 
+from bzlq.overlay.lost_values import undecided
 from bzlq.overlay.reading import BUILD_FUNCTIONS, BUILT_INS
 
 # what a BUILD file calls and what declares nothing that a query could name
@@ -24,9 +26,18 @@ class Silence:
     inside: list = field(default_factory=list)  # those of them in a macro
     empty: list = field(default_factory=list)  # the packages in which nothing else is called
 
+    def told(self, is_all):
+        """The line that tells it."""
+        calls = "1 call" if len(self.calls) == 1 else f"{len(self.calls)} calls"
+        where = self.empty or self.calls
+        shown = ", ".join(where if is_all else where[:SHOWN]) + (", .." if len(where) > SHOWN and not is_all else "")
+        packages = "1 package is" if len(self.empty) == 1 else f"{len(self.empty)} packages are"
+        what = f"; {packages} empty" if self.empty else " (in a macro)" if len(self.inside) == len(self.calls) else ""
+        return f"{calls} of {self.symbol} ({self.at}: {self.why}) may declare targets and declare{'s' if len(self.calls) == 1 else ''} none{what}: {shown}"
+
 
 def silences(facts):
-    """The functions whose calls as statements declare nothing, those with most calls first."""
+    """The functions whose calls as statements declare nothing, those with most calls first; then what decides which targets are declared, and isn't known."""
     found, macros = {}, called(facts)
     for path in sorted(facts.reached):
         file = facts.workspace.files[path]
@@ -40,7 +51,7 @@ def silences(facts):
         if file.is_build and quiet and len(quiet) == len(said):
             for key in {key for key, *_ in quiet}:
                 found[key].empty.append("//" + os.path.dirname(path))
-    return sorted(found.values(), key=lambda it: (-len(it.empty), -len(it.calls), it.symbol))
+    return sorted(found.values(), key=lambda it: (-len(it.empty), -len(it.calls), it.symbol)) + undecided(facts, macros)
 
 
 def called(facts):
@@ -95,11 +106,5 @@ def place_of(facts, place, symbol):
 
 
 def warnings(found, is_all=False):
-    """A line for each of these functions."""
-    for it in found:
-        calls = "1 call" if len(it.calls) == 1 else f"{len(it.calls)} calls"
-        where = it.empty or it.calls
-        shown = ", ".join(where if is_all else where[:SHOWN]) + (", .." if len(where) > SHOWN and not is_all else "")
-        packages = "1 package is" if len(it.empty) == 1 else f"{len(it.empty)} packages are"
-        what = f"; {packages} empty" if it.empty else " (in a macro)" if len(it.inside) == len(it.calls) else ""
-        yield f"{calls} of {it.symbol} ({it.at}: {it.why}) may declare targets and declare{'s' if len(it.calls) == 1 else ''} none{what}: {shown}"
+    """A line for each of these."""
+    yield from (it.told(is_all) for it in found)

@@ -34,6 +34,8 @@ RELATIVE_LOAD = re.compile(rb"load\(\s*[\"'][^/@:]")
 LABEL = re.compile(rb"[\"']@([\w.+~-]+)(?://([^:\"'\s]*)(?::([^\"'\s]+))?)?[\"']")
 # how many attributes all rules of a file may have together
 MOST_ATTRIBUTES = 200_000
+# how many names are followed to what decides about a call
+MOST_NAMES = 200
 # what stands for a byte that Python doesn't take
 PLACEHOLDER = "\x1a"
 # a return that ends no line: in a comment or a text it is a byte as any other
@@ -141,6 +143,7 @@ class File:
     members: list = field(default_factory=list)  # (name, member, line, whether it is called)
     member_calls: list = field(default_factory=list)  # (name, member, keywords, line), of those that are statements
     faults: list = field(default_factory=list)  # (line, what bq leaves out)
+    decisions: list = field(default_factory=list)  # what decides which calls are made: (its names, the function around, the first of the calls, the one after the last, line)
     labels: list = field(default_factory=list)  # the labels of other repositories that its text names, each as (repository, package, name)
     is_odd: bool = False  # whether its text has what a copy may have something else for
 
@@ -234,6 +237,7 @@ class Reader(ast.NodeVisitor):
         self.all_names = file.globals
         self.own_names(set())
         self.bound = {}
+        self.binds = {}  # the names that the function around binds, with those in their values
         self.makers = set()  # parameters whose members declare targets
         self.labels = set()  # names that the function around binds to labels
         self.wanted = ""
@@ -293,9 +297,10 @@ class Reader(ast.NodeVisitor):
         for it in nodes:
             if isinstance(it, ast.Assign) and len(it.targets) == 1 and isinstance(it.targets[0], ast.Name) and it.targets[0].id not in parameters:
                 self.bound.setdefault(it.targets[0].id, kind_of(it.value))
+        self.binds = values_bound(nodes)
         for part in node.body:
             self.visit(part)
-        self.inside, self.makers, self.labels, self.bound = "", set(), set(), {}
+        self.inside, self.makers, self.labels, self.bound, self.binds = "", set(), set(), {}, {}
         self.own_names(set())
 
     def visit_Lambda(self, node):
@@ -309,8 +314,29 @@ class Reader(ast.NodeVisitor):
                 self.call(node.value, True)
             case ast.ListComp(elt=ast.Call() as call):
                 self.in_scope(node.value, call)
+            case ast.IfExp(test=test):
+                self.deciding([test], lambda: self.wanting("", node.value))
+            case ast.BoolOp(values=values):
+                self.deciding(values[:-1], lambda: self.wanting("", node.value))
             case _:
                 self.wanting("", node.value)
+
+    def deciding(self, parts, read):
+        """Reads calls that these parts decide about."""
+        first = len(self.file.calls)
+        read()
+        if len(self.file.calls) > first and (names := self.names_in(parts)):
+            self.file.decisions.append((names, self.inside, first, len(self.file.calls), parts[0].lineno))
+
+    def names_in(self, parts):
+        """The global names in these parts, also by what the function around binds its own names to."""
+        found, pending = {}, [it.id for part in parts for it in nodes_of(part) if isinstance(it, ast.Name)]
+        while pending and len(found) < MOST_NAMES:
+            name = pending.pop()
+            if name not in found:
+                found[name] = name not in self.locals and name in self.file.globals
+                pending += self.binds.get(name, ()) if name in self.locals else ()
+        return sorted(name for name, is_global in found.items() if is_global)
 
     def visit_Call(self, node):
         """Reads a call whose value is used."""
@@ -429,18 +455,32 @@ class Reader(ast.NodeVisitor):
         """Visits a comprehension; with `statement`, a call whose value nobody takes, as `[rule(..) for ..]` has it."""
         before = self.locals
         self.own_names(before | {part.id for clause in node.generators for part in ast.walk(clause.target) if isinstance(part, ast.Name)})
+        parts = [part for clause in node.generators for part in (clause.iter, *clause.ifs)]
         if statement:
-            self.call(statement, True)
+            self.deciding(parts, lambda: self.call(statement, True))
             for clause in node.generators:
                 self.visit(clause)
         else:
-            self.generic_visit(node)
+            self.deciding(parts, lambda: self.generic_visit(node))
         self.own_names(before)
 
     def visit_For(self, node):
         """Reads a loop."""
         self.wanting("list", node.iter)
-        for part in node.body:
+        self.deciding([node.iter], lambda: self.all_of(node.body))
+
+    def visit_If(self, node):
+        """Reads a condition, with those of each `elif`, which lie one in another."""
+        chain = [node]
+        while len(chain[-1].orelse) == 1 and isinstance(chain[-1].orelse[0], ast.If):
+            chain.append(chain[-1].orelse[0])
+        tests = [it.test for it in chain]
+        self.all_of(tests)
+        self.deciding(tests, lambda: self.all_of([part for it in chain for part in it.body] + chain[-1].orelse))
+
+    def all_of(self, parts):
+        """Reads statements, or expressions."""
+        for part in parts:
             self.visit(part)
 
     def visit_Subscript(self, node):
@@ -481,6 +521,23 @@ def names_bound(function, nodes):
     found = {it.arg for it in [*arguments.posonlyargs, *arguments.args, *arguments.kwonlyargs]}
     found |= {it.arg for it in (arguments.vararg, arguments.kwarg) if it}
     return found | {it.id for it in nodes if isinstance(it, ast.Name) and isinstance(it.ctx, ast.Store)}
+
+
+def values_bound(nodes):
+    """The names that are bound in these nodes, each with the names in what it is bound to, or taken from."""
+    found = {}
+    for node in nodes:
+        match node:
+            case ast.Assign(targets=targets, value=value):
+                pass
+            case ast.AugAssign(target=target, value=value) | ast.For(target=target, iter=value):
+                targets = [target]
+            case _:
+                continue
+        names = {it.id for it in nodes_of(value) if isinstance(it, ast.Name)}
+        for name in {it.id for target in targets for it in nodes_of(target) if isinstance(it, ast.Name)}:
+            found.setdefault(name, set()).update(names)
+    return found
 
 
 def entries(node):

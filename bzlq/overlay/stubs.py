@@ -22,7 +22,7 @@ from collections import Counter, defaultdict
 
 from bzlq.cli import process
 from bzlq.overlay.analysis import Facts, Workspace
-from bzlq.overlay.arguments import LABEL as GIVEN, given_files
+from bzlq.overlay.arguments import LABEL as GIVEN, STUB, given_files
 from bzlq.overlay.copies import copies
 from bzlq.overlay.definitions import definition
 from bzlq.overlay.extra_targets import further_targets, text_of
@@ -36,7 +36,6 @@ from bzlq.workspace.files import SCHEMA, Refused, files, is_path, likely_root
 MOST_OF_FILE = 900_000
 # how long a label's package and name may be for which a target is made: no file has a longer path
 LONGEST = 4096
-MARK = "# A stub that tools/stubs wrote.\n"
 USES_GIVEN = f'load("{GIVEN}", "bzlq_given")\n'
 COPIED = b"# A copy that tools/stubs made.\n"
 # how many repositories, and kinds of what can't be loaded, are printed without --all
@@ -66,7 +65,7 @@ def stub_files(facts):
             lines = {symbol: definition(repository, symbol, stub, facts.lost_of(place, symbol)) + text_of(facts.further.get((place, symbol))) for symbol, stub in known}
             text = "\n".join(line.replace("): ", "):\n    ", 1) + "\n" for line in fitting(lines, lambda symbol: facts.loaders[place, symbol]))
             text = USES_GIVEN + text if "bzlq_given(" in text else text
-        found[path] = MARK + text, directory
+        found[path] = STUB + text, directory
     return found
 
 
@@ -134,7 +133,7 @@ def build_files(workspace, targets, bzl_files, room, written):
             is_own = repository == workspace.name
             lines[name] = f'alias(name = "{name}", actual = "@//{package}:{name}")\n' if is_own else f'filegroup(name = "{name}")\n'
         # (those that a text names go before those that a macro makes up)
-        found[f"{directory}/BUILD"] = MARK + "".join(fitting(lines, lambda name: (repository, package, name) in written))
+        found[f"{directory}/BUILD"] = STUB + "".join(fitting(lines, lambda name: (repository, package, name) in written))
     return found
 
 
@@ -177,7 +176,7 @@ def remove_old(overlay):
     for path in list(files(overlay)) if os.path.isdir(overlay) else []:
         with open(os.path.join(overlay, path), "rb") as file:
             text = file.read()
-        if text.startswith(MARK.encode()) or text.endswith(COPIED):
+        if text.startswith(STUB.encode()) or text.endswith(COPIED):
             os.remove(os.path.join(overlay, path))
 
 
@@ -223,7 +222,7 @@ class Overlay:
         self.files = {path: text.encode() for path, text in texts.items()}
         self.files |= {path: marked(facts, path, text) for path, (text, _) in self.copied.items()} if copied is None else copied
         if any(GIVEN.encode() in text for path, text in self.files.items() if path != SCHEMA):
-            self.files |= {path: text.encode() for path, text in given_files(self.schema, facts, MARK).items()}
+            self.files |= {path: text.encode() for path, text in given_files(self.schema, facts, STUB).items()}
 
     def write(self, folder):
         """Writes the files, and removes those that an earlier run wrote."""

@@ -52,7 +52,7 @@ _bzlq() {
     esac
     _bzlq_labels && return
     if [ "$COMP_CWORD" = 1 ]; then
-        mapfile -t COMPREPLY < <(compgen -W 'query ask watch facts queries affected why graph users visible diff closures shared owner loads unused cycles lint hints stubs bundle' -- "$word")
+        mapfile -t COMPREPLY < <(compgen -W 'query ask watch facts queries affected why graph users visible diff join closures shared owner loads unused cycles lint hints stubs bundle' -- "$word")
     else
         compopt -o filenames 2>/dev/null
         mapfile -t COMPREPLY < <(compgen -f -- "$word")

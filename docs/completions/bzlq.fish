@@ -24,6 +24,7 @@ complete -c bzlq -n __fish_use_subcommand -a loads -d 'who loads a .bzl file, di
 complete -c bzlq -n __fish_use_subcommand -a unused -d 'the rules that nothing depends on'
 complete -c bzlq -n __fish_use_subcommand -a cycles -d 'the cycles of targets'
 complete -c bzlq -n __fish_use_subcommand -a visible -d 'whether A may depend on B, and by which line; or the edges that break a visibility'
+complete -c bzlq -n __fish_use_subcommand -a join -d 'joins the facts of parts of a workspace, and answers over the whole'
 complete -c bzlq -n __fish_use_subcommand -a closures -d 'the targets that depend on most others'
 complete -c bzlq -n __fish_use_subcommand -a shared -d 'the files that several rules have as sources'
 complete -c bzlq -n __fish_use_subcommand -a diff -d 'how an answer differs between two revisions of git'

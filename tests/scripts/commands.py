@@ -52,7 +52,7 @@ WORDS = (
     ("a", "owner lib/x.c", "//a:a\n", 3),
     ("a", "users :a", "../BUILD:1: //:all_of_it -> //a:a (srcs)\n", 3),
     ("a", "query :a", "//a:a\n", 3),
-    ("a", "facts lib/x.c | head -1", '{"target":"//a:lib/x.c","kind":"source file","file":"a/lib/x.c"}\n', 0),
+    ("a", "facts lib/x.c | grep '^{\"target\"'", '{"target":"//a:lib/x.c","kind":"source file","file":"a/lib/x.c"}\n', 0),
     ("", "bundle | bq //a:a", "//a:a\n", 3),
     ("", "bundle 'a b' | bq //:c", "//:c\n", 0),
     ("", "lint f/BUILD", FAULT, 1),

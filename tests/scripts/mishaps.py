@@ -33,7 +33,7 @@ def many_files(bench):
     bench.compare("many files", bench.run("bzlq //a", "many"), ("//a:a\n", "bzlq: reading the workspace\n", 0))
     found = bench.run("bzlq 'deps(//:x)'", "many")
     bench.compare("all of them", (found[0].count("\n"), found[1:]), (66_001, ("", 0)))
-    bench.compare("their facts", bench.run("bzlq facts //a", "many")[0].count("\n"), 3)
+    bench.compare("their facts", bench.run("bzlq facts //a", "many")[0].count("\n"), 4)
     bench.run("touch l0/1000.txt", "many")
     bench.compare("a path to one that has come", bench.run("bzlq why //:x //:l1/1000.txt", "many"), ("BUILD:1: //:x -> //:l1/1000.txt (srcs)\n", "", 0))
     bench.compare("its bundle's path", bench.run("bzlq --bundle-path", "many")[1:], (f"bzlq: {LARGE}\n", 0))

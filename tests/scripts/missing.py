@@ -106,6 +106,16 @@ LOSSES = {
     "value": ({"a/BUILD": 'load("@r//:m.bzl", "files")\nfilegroup(name = "t", srcs = files("a", ["b.c"]))\n'}, "deps(//a:t)", "//a:b.c\n//a:t\n", "value that isn't there 1", 3),
     "value, in a macro": ({"a/BUILD": 'load(":m.bzl", "m")\nm(name = "t")\n', "a/m.bzl": 'load("@r//:m.bzl", "MORE")\ndef m(name):\n    native.filegroup(name = name, srcs = MORE)\n'},
                           "//a:t", "//a:t\n", "value that isn't there 1", 3),
+    "value, by another name": ({"a/BUILD": 'load("@r//:m.bzl", "MORE")\nALL = MORE + ["x"]\nfilegroup(name = "t", srcs = ALL)\n'}, "deps(//a:t)", "//a:t\n//a:x\n", "value that isn't there 1", 3),
+    "value, by another file": ({"a/BUILD": 'load(":m.bzl", "ALL")\nfilegroup(name = "t", srcs = ALL)\n', "a/m.bzl": 'load("@r//:m.bzl", "MORE")\nALL = MORE + ["x"]\n'},
+                               "deps(//a:t)", "//a:t\n//a:x\n", "value that isn't there 1", 3),
+    "value, by a function": ({"a/BUILD": 'load(":m.bzl", "m")\nm("t")\n', "a/m.bzl": 'load("@r//:m.bzl", "MORE")\ndef f():\n    return MORE\ndef m(name):\n    native.filegroup(name = name, srcs = f())\n'},
+                             "//a:t", "//a:t\n", "value that isn't there 1", 3),
+    "value, given to a macro": ({"a/BUILD": 'load("@r//:m.bzl", "MORE")\nload(":m.bzl", "m")\nm("t", MORE)\n', "a/m.bzl": "def m(name, srcs):\n    native.filegroup(name = name, srcs = srcs)\n",
+                                 "b/BUILD": 'load("//a:m.bzl", "m")\nm("t", [])\n', "m.bzl": "", "BUILD": ""}, "//a:t + //b:t", "//a:t\n//b:t\n", "1 of 2 targets of this answer is an approximation: value", 3),
+    "value, given by a macro to another": ({"a/BUILD": 'load(":m.bzl", "m")\nm("t")\n', "a/m.bzl": 'load("@r//:m.bzl", "MORE")\ndef n(name, srcs):\n    native.filegroup(name = name, srcs = srcs)\n'
+                                            'def m(name):\n    n(name, MORE)\n'}, "//a:t", "//a:t\n", "value that isn't there 1", 3),
+    "value, in a name": ({"a/BUILD": 'load("@r//:m.bzl", "MORE")\nfilegroup(name = "t%d" % len(MORE))\n'}, "//a:all", "//a:t0\n", "value that isn't there 1", 3),
     "value, under a query of users": ({"a/BUILD": 'load("@r//:m.bzl", "files")\nfilegroup(name = "t", srcs = files("a"))\nfilegroup(name = "u")\n'}, "rdeps(//..., //a:u)",
                                       "//a:u\n", "1 of the targets that this query looks through may lack edges", 3),
     "edges": ({"a/BUILD": 'load("@r//:m.bzl", "pack")\npack(name = "t", odd_of = ["a.txt"])\n'}, "//a:t", "//a:t\n", "kind made up 1, edges by a type that was guessed 1", 3),
@@ -127,8 +137,41 @@ def losses(bench):
     bench.compare("lost, by --strict", bench.run("bzlq --strict //...", "ws")[2], 3)
     bench.lay_out("ws", {"WORKSPACE": "", **LOSSES["dict"][0]})
     bench.compare("lost, a dict by --strict", [bench.run(f"bzlq {word} //...", "ws")[2] for word in ("", "--strict")], [0, 3])
-    bench.compare("lost, in facts", bench.run("bzlq --facts //...", "ws")[0].splitlines()[0],
-                  '{"target":"//a:t","kind":"config_setting rule","file":"a/BUILD","line":1,"attributes":{"name":"t","bzlq_lost":["dict: values"]},"deps":[]}')
+    bench.compare("lost, in facts", bench.run("bzlq --facts //...", "ws")[0].splitlines()[1],
+                  '{"target":"//a:t","kind":"config_setting rule","file":"a/BUILD","line":1,"attributes":{"name":"t","bzlq_lost":["dict: values"]},"names":[],"deps":[]}')
+
+
+L = 'load("@r//:m.bzl", "SOME", "f")\n'
+# what declares targets by a value that isn't there: a BUILD file, a file that it loads, the file and line that is named, and the value
+LOOPS = {
+    "a loop": (L + '[filegroup(name = "x" + it) for it in SOME]\n', "", "a/BUILD:2", "SOME"),
+    "a filter": (L + '[filegroup(name = "x" + it) for it in ["a", "b"] if it in SOME]\n', "", "a/BUILD:2", "SOME"),
+    "a condition": (L + 'filegroup(name = "x") if SOME else None\n', "", "a/BUILD:2", "SOME"),
+    "a condition with and": (L + 'f("a") and filegroup(name = "x")\n', "", "a/BUILD:2", "f"),
+    "a loop of macros": (L + 'load(":m.bzl", "m")\n[m(name = it) for it in SOME]\n', "def m(name):\n    native.filegroup(name = name)\n", "a/BUILD:3", "SOME"),
+    "a loop in a macro": ('load(":m.bzl", "m")\nm("x")\n', L + "def m(name):\n    for it in SOME:\n        native.filegroup(name = name + it)\n", "a/m.bzl:3", "SOME"),
+    "a loop over a variable": ('load(":m.bzl", "m")\nm("x")\n', L + "def m(name):\n    some = []\n    for it in f(SOME):\n        some.append(it)\n    some += SOME\n    [native.filegroup(name = it) for it in some]\n",
+                               "a/m.bzl:7", "SOME"),
+    "a condition in a macro": ('load(":m.bzl", "m")\nm("x")\n', L + 'def m(name):\n    if f("linux"):\n        n(name)\ndef n(name):\n    native.filegroup(name = name)\n', "a/m.bzl:3", "f"),
+}
+# where such a value decides about other things
+OTHER_LOOPS = {
+    "a loop of texts": (L + 'filegroup(name = "x", tags = ["a" + it for it in ["b"]])\n', ""),
+    "a loop of calls that declare nothing": (L + "[fail(it) for it in SOME]\n[print(it) for it in SOME]\n", ""),
+    "a macro that isn't called": ('load(":m.bzl", "m")\nm("x")\n', L + "def m(name):\n    native.filegroup(name = name)\ndef n(name):\n    for it in SOME:\n        native.filegroup(name = name + it)\n"),
+    "a condition on a check": ('load(":m.bzl", "m")\nm("x")\n', L + 'def c(name):\n    fail(name)\ndef m(name):\n    if SOME:\n        c(name)\n    native.filegroup(name = name)\n'),
+}
+
+
+def loops(bench):
+    """Loops and conditions that declare targets by a value that isn't there."""
+    for what, (build, loaded, place, value) in LOOPS.items():
+        bench.lay_out("ws", {"WORKSPACE": "", "a/BUILD": build, "a/m.bzl": loaded})
+        line = f"bzlq: targets may be missing: 1 loop or condition declares targets by {value} of @r//:m.bzl, whose value isn't known: {place}\n"
+        told(bench, f"{what}, by a value that isn't there", bench.run("bzlq //a:all", "ws"), "", [line], 3)
+    for what, (build, loaded) in OTHER_LOOPS.items():
+        bench.lay_out("ws", {"WORKSPACE": "", "a/BUILD": build, "a/m.bzl": loaded})
+        bench.compare(f"{what}, by a value that isn't there", "whose value isn't known" in bench.run("bzlq //a:all", "ws")[1], False)
 
 
 def packages(bench):
@@ -169,6 +212,10 @@ def mistakes(bench):
 OTHERS = (
     ("a mandatory attribute", 'genrule(name = "g", cmd = "x")\n', "app/BUILD:1:1: F72 MissingAttribute: the rule genrule misses the attribute 'outs'"),
     ("a select in a list", 'filegroup(name = "x", srcs = ["a", select({"//conditions:default": "b"})])\n', 'app/BUILD:1:1: F56 Fail: "a select in a list: write [..] + select(..)"'),
+    *((f"a select in a list, of {it}", f'filegroup(name = "x", srcs = ["a", select({{"//log": {it}}})])\n', 'app/BUILD:1:1: F56 Fail: "a select in a list: write [..] + select(..)"')
+      for it in ('["b"]', "None", '""')),
+    ("a wrong attribute of a rule that is loaded", 'load("@rules_cc//cc:defs.bzl", "cc_library")\ncc_library(name = "x", scrs = ["a.c"])\n',
+     "app/BUILD:2:24: F71 NoAttribute: no attribute 'scrs' in rule 'cc_library' (did you mean 'srcs'?)"),
     ("a wrong attribute beside a select", 'filegroup(name = "x", dta = select({"//conditions:default": ["b"]}))\n',
      "app/BUILD:1:23: F71 NoAttribute: no attribute 'dta' in rule 'filegroup' (did you mean 'data'?)"),
 )
@@ -204,5 +251,5 @@ def replaced(bench):
 
 def check(bench):
     """Tries all of it."""
-    for part in (tests, settings, further, names, unreadable, losses, guessed, packages, defaults, mistakes, rows, replaced):
+    for part in (tests, settings, further, names, unreadable, losses, loops, guessed, packages, defaults, mistakes, rows, replaced):
         part(bench)

@@ -108,7 +108,9 @@ def shapes():
     def each(text, before="", after="\n"):
         return lambda n: before + "".join(text.replace("#", str(at)) for at in range(n)) + after
 
+    absent = "load('@r//a:b.bzl', 'foo', 'bar')\n"
     builds = {
+        "loops": each("[foo(name = 'x#') for it in bar]\n", absent), "values": each("y# = bar + ['a']\nfoo(name = 'x#', srcs = y#)\n", absent),
         "statements": each("x# = 1\n"), "sums": each(" + ['#']", "filegroup(name = 'x', srcs = []", ")\n"), "selects": each(" + select({':a#': ['b']})", "filegroup(name = 'x', srcs = []", ")\n"),
         "calls": each("foo(name = 'x#', a = 1)\n", "load('@r//a:b.bzl', 'foo')\n"), "rules": each("load('@r#//a:b.bzl', 'c#')\nc#(name = 'x#')\n"),
         "symbols": lambda n: each(", 'c#'", "load('@r//a:b.bzl'", ")\n")(n) + each("c#(name = 'x#')\n")(n), "late loads": lambda n: each("c#(name = 'x#')\n")(n) + each("load('@r//a:b.bzl', 'c#')\n")(n),
@@ -118,6 +120,8 @@ def shapes():
         "suites": each("test_suite(name = 'x#')\n"), "globs": each("filegroup(name = 'x#', srcs = glob(['a'], exclude = ['//x']))\n"),
     }
     files = {
+        "conditions": each("  if bar:\n    native.filegroup(name = 'x#')\n", absent + "def x(name):\n"), "elifs": each("  elif bar:\n    foo(name = 'x#')\n", absent + "def x(name):\n  if bar:\n    pass\n"),
+        "a chain of values": lambda n: absent + "x0 = bar + []\n" + "".join(f"x{at + 1} = x{at} + []\n" for at in range(n)) + f"def x(name):\n  [foo(name = it) for it in x{n}]\n",
         "functions": each("def f#():\n  native.filegroup(name = 'x')\n"), "left out": each("x# = struct(a = 1)\n"), "members": each("x# = struct(a = 1)\ny# = x#.a\n"),
         "names": each("x# = y#\ny# = x#\n", "x = 1\n"), "a chain of names": lambda n: "x0 = 1\n" + "".join(f"x{at + 1} = x{at}\n" for at in range(n)) + f"x = x{n}\n",
         "a chain back": lambda n: "x = x0.a\n" + "".join(f"x{at} = x{at + 1}.a\n" for at in range(n)) + f"x{n} = struct()\n", "a circle": lambda n: "x = x0\n" + "".join(f"x{at} = x{(at + 1) % n}\n" for at in range(n)),

@@ -2,6 +2,7 @@
 import random
 import re
 import shutil
+import subprocess
 
 from bzlq import bq
 from bzlq.facts.graph import components, shortest, shortest_cycle
@@ -120,7 +121,10 @@ def module(bench):
     bench.compare("its attributes", dict(made.attributes), {"name": "gen", "outs": ["//c:made.c"], "srcs": ["//c:c in.txt"]})
     loads = [(it.label, it.file, it.line, dict(it.symbols)) for it in found.modules["//b:BUILD"].loads]
     bench.compare("loads", loads, [("//tools:b.bzl", "tools/b.bzl", 2, {"outer": "outer", "it": "outer"})])
+    bench.compare("the first line", (found.version, found.limits["modules"], found.limits["steps"]), (version(program), 16384, 1000000))
     with bq.Workspace(f"{bench.room}/f", program=program) as workspace:
+        names = workspace.facts("//:a").targets["//:a"].names
+        bench.compare("names, of what is there and what isn't", names, ["//:c", "//b:b"])
         faults = [str(it) for it in workspace.facts().faults]
         bench.compare("faults of facts", faults, ["BUILD:1: F79 DanglingLabel //b:b", "e/BUILD:1: F42 DivZero"])
         bench.compare("a query after them", workspace.query("//:c"), ["//:c"])
@@ -128,6 +132,30 @@ def module(bench):
             bench.compare(f"facts of {query!r}", refusal(lambda query=query: workspace.facts(query)), (kind, said))
     bench.compare("facts of what isn't there", refusal(lambda: bq.facts("none", program=program))[0], bq.ProcessError)
     bench.compare("a program that tells no facts", refusal(lambda: bq.facts(f"{bench.room}/w", program="/bin/echo"))[0], bq.ProcessError)
+
+
+# the first line of facts, and lines of bq 1.5
+FIRST = b'{"facts":%d,"version":"1.6.0","limits":{"files":1},"targets":1,"modules":0,"faults":0}'
+OLD = [b'{"target":"//a:x","kind":"lib rule","file":"a/BUILD","line":1,"attributes":{},"deps":["//a:f"]}', b'{"target":"//a:f","kind":"source file","file":"a/f"}',
+       b'{"module":"//a:BUILD","file":"a/BUILD","loads":[]}']
+NEW = b'{"target":"//a:x","kind":"lib rule","file":"a/BUILD","line":1,"attributes":{},"names":["//a:f","//b:g"],"deps":["//a:f"]}'
+
+
+def formats(bench):
+    """Facts of this format and of the one before, of a later one, and texts that were cut off."""
+    old = bq.Facts.of_lines(OLD)
+    told = [(it.label, it.names, list(it.deps)) for it in old.targets.values()]
+    bench.compare("facts of bq 1.5", (told, list(old.modules), old.version, old.limits), ([("//a:x", None, ["//a:f"]), ("//a:f", (), [])], ["//a:BUILD"], "", {}))
+    bench.compare("no facts of bq 1.5", bq.Facts.of_lines([]), bq.Facts())
+    new = bq.Facts.of_lines([FIRST % 2, NEW])
+    bench.compare("facts of bq 1.6", (new.targets["//a:x"].names, new.version, new.limits), (["//a:f", "//b:g"], "1.6.0", {"files": 1}))
+    bench.compare("facts that were cut off", refusal(lambda: bq.Facts.of_lines([FIRST % 2])), (bq.ProcessError, "the facts were cut off: they have 0 of 1 targets"))
+    bench.compare("facts of a later format", refusal(lambda: bq.Facts.of_lines([FIRST % 3, NEW])), (bq.ProcessError, "the facts are of format 3, and bq.py reads 1 and 2"))
+
+
+def version(program):
+    """The version of bq, as it prints it."""
+    return subprocess.run([program, "--version"], capture_output=True, text=True, check=True).stdout.split()[1]
 
 
 def refusal(call):
@@ -168,4 +196,5 @@ def check(bench):
     scripts(bench)
     places(bench)
     module(bench)
+    formats(bench)
     graphs(bench)

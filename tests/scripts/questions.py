@@ -37,7 +37,8 @@ QUESTIONS = (
      "=== 0 4 deps(//app)\n//app:app\n//app:main.c\n//log:log\n//log:log.c\n=== 0 2 //log:all\n//log:log\n//log:log_test\n", 0),
     ("What does a change concern, between two revisions?", "bzlq affected v1 v2", "//app:BUILD\n//app:app\n//app:app_test\n//log:BUILD\n//log:log\n//log:log.c\n//log:log_test\n//ring:c\n", 0),
     ("What are a target's attributes, edges and place?", "bzlq facts //log",
-     re.compile(r'\{"target":"//log:log","kind":"cc_library rule","file":"log/BUILD","line":2,"attributes":\{.*\},"deps":\["//log:log.c"\]\}\n.*', re.S), 0),
+     re.compile(r'\{"facts":2,.*,"targets":1,.*\}\n'
+                r'\{"target":"//log:log","kind":"cc_library rule","file":"log/BUILD","line":2,"attributes":\{.*\},"names":\["//log:log.c"\],"deps":\["//log:log.c"\]\}\n.*', re.S), 0),
     ("Which targets use a file?", "bzlq owner log/log.c", "//log:log\n//log:log_test\n", 0),
     ("What was changed, and what was deleted?", "bzlq affected --json --kind cc_library v1 v2",
      '{"target":"//log:log","distance":1,"because":{"target":"//log:log.c","change":"contents"}}\n{"deleted":"//log:gone","kind":"cc_library rule"}\n', 0),

@@ -29,7 +29,7 @@ fn push_detail_of(alloc: Global, text: &mut Rope, line: &FaultLine) -> Result<()
     text.push_bytes(alloc, &line.detail)
 }
 
-/// Appends `LABEL:LINE: F<number> <Name> DETAIL` and a newline.
+/// Appends `LABEL:LINE: F<number> <Name> DETAIL` and a newline. A long label is shared, not copied.
 #[tactic(auto, unfolding(crate::specs::LineText::line_text))]
 pub(crate) fn push_line(alloc: Global, text: &mut Rope, line: &FaultLine) -> Result<(), AllocError>
     ensures { IfOk result (λ _. text.new ≡ text.old ++ line_text line.now) }
@@ -38,7 +38,7 @@ pub(crate) fn push_line(alloc: Global, text: &mut Rope, line: &FaultLine) -> Res
     let number = line.kind.number();
     let name = line.kind.name();
     let fault = format!(in alloc; ":{place}: F{number} {name}")?;
-    text.push_slice(line.label.as_slice())?;
+    text.push_bytes(alloc, &line.label)?;
     text.push_slice(fault.as_bytes())?;
     push_detail_of(alloc, text, line)?;
     text.push_slice(b"\n")?;

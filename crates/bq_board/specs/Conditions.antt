@@ -24,9 +24,11 @@ module _ {B : Type 0} (p : Loads) where
   abbrev pub KeepsAt : View B → View B → ℕ → Type 0
   KeepsAt v w k = (Holds v k → Holds w k) × (Owes v k → Owes w k)
 
+  -- what the seat held or owed before it holds or owes after: of each module
   abbrev pub KeepsAll : View B → View B → Type 0
   KeepsAll v w = (k : ℕ) → KeepsAt v w k
 
+  -- and of each module but `m`
   abbrev pub KeepsOthers : View B → ℕ → View B → Type 0
   KeepsOthers v m w = (k : ℕ) → k ≢ m → KeepsAt v w k
 

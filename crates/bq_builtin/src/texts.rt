@@ -43,7 +43,7 @@ fn type_name(store: &Store, value: &Value) -> Result<&'static [u8], EvalErr>
         Node::Function(_) => Ok(b"function"),
         Node::BuiltIn(_) => Ok(b"builtin_function_or_method"),
         Node::SchemaRule(_, _) => Ok(b"builtin_function_or_method"),
-        Node::RuleFunction(_) => Ok(b"builtin_function_or_method"),
+        Node::Rule | Node::Attr(_) => Ok(b"builtin_function_or_method"),
         Node::Attribute(_) => Ok(b"Attribute"),
     }
 }

@@ -46,6 +46,6 @@ places s = min s.placed (length s.parameters)
 abbrev pub place_in : BTreeMap (Bor (List ℕ)) ℕ → List ℕ → Option ℕ
 place_in m name = get_by (λ k. slice_cmp nat_cmp name k.now) m
 
--- it has the place of the first parameter of each name, where the first of these is of that place
+-- the map gives each name the place of the first parameter of that name in the list, which begins at place `i`, and no other name a place
 abbrev pub HasPlaces : ℕ → List ParameterView → BTreeMap (Bor (List ℕ)) ℕ → Type 0
 HasPlaces i ps m = (name : List ℕ) → place_in m name ≡ position_from (is_called name) i ps

@@ -21,9 +21,9 @@ With --queries the workspace is loaded once for all the queries of a file, one a
 standard output gets a line `=== STATUS LINES QUERY`, at once, and then that many lines: the answer, or
 the error.
 
-With --facts standard output gets JSON, an object a line: each target of the query, or each target if
-there is none, with its kind, file, line, attributes and direct dependencies; each BUILD and .bzl file
-with its loads; and each fault.
+With --facts standard output gets JSON, an object a line: one that says how many follow; each target of
+the query, or each target if there is none, with its kind, file, line, attributes, the labels that it
+names and direct dependencies; each BUILD and .bzl file with its loads; and each fault.
 
 Examples:
   bq --dir . 'deps(//some/package:target)'
@@ -41,7 +41,7 @@ Exit status:
   5  reading the input or writing the output failed"#;
 
 /// The version of the program. The man page and the packages take it from this line (`dev/release`).
-pub const VERSION: &str = "1.5.1";
+pub const VERSION: &str = "1.6.0";
 
 pub const MAX_STEPS: u64 = 1_000_000_000;
 

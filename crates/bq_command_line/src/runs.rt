@@ -4,6 +4,7 @@ ghost use Rattle.std.specs.Prelude.{◌≡◌, ◌-◌, ◌^◌, ◌<◌, IfOk};
 ghost use Rattle.bq_base_limits.specs.Limits.{AreBounded};
 ghost use Rattle.bq_run.specs.Run.{IsInRange};
 
+use crate::command::VERSION;
 use crate::messages::announce_input;
 use crate::words::{Wanted, Words, WorkspacePlace};
 use bq_base_limits::Limits;
@@ -204,7 +205,15 @@ fn run_for_facts<T: Threads + Wait + RandomSource + Sync>(
         workspace: &workspace,
         options: &words.options,
     };
-    run_facts(threads, alloc, &over, query, &mut writer, &mut faults)
+    run_facts(
+        threads,
+        alloc,
+        VERSION.as_bytes(),
+        &over,
+        query,
+        &mut writer,
+        &mut faults,
+    )
 }
 
 /// Writes the error line, if there is one, and returns the exit status.

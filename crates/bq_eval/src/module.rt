@@ -15,4 +15,6 @@ pub struct ResolvedModule<'a> {
     pub imports: &'a [Value],
     /// The files of the modules that these reach, by number.
     pub files: &'a [Option<&'a ResolvedFile>],
+    /// Whether the statements of its file may be dropped once they have run, since nobody runs them again.
+    pub once: bool,
 }

@@ -12,6 +12,7 @@ use bq_eval_frame::Frame;
 use bq_eval_rules::{Context, Globals, Program, Runtime, run_file};
 use bq_resolve_scope::{FileLine, LoadStmt};
 use bq_value::EvalErr;
+use sqlite_items::Items;
 use std::alloc::Global;
 
 /// Runs statements, and returns their globals as those of one of the modules of a program.
@@ -40,13 +41,15 @@ fn run_program<'f, R: Runtime>(
     Ok(globals)
 }
 
-/// Runs a file, and returns its globals.
+/// Runs these statements of a file, and returns its globals.
 #[tactic(auto, using(crate::proofs::Programs::module_of_program))]
-pub(crate) fn run_module<'f, R: Runtime>(
+fn run_statements<'f, R: Runtime>(
     alloc: Global,
     module: &ResolvedModule<'_>,
+    stmts: &[FileLine],
     runtime: &mut R,
 ) -> Result<Frame<'f>, EvalErr>
+    requires { stmts.now ≡ «module».now.file.now.statements }
     ensures { Acts R.means slots_of result (R.seen runtime.new) (file_run R.means «module».now (R.seen runtime.old)) }
 {
     let file = module.file;
@@ -58,6 +61,33 @@ pub(crate) fn run_module<'f, R: Runtime>(
         frozen: module.loaded,
     };
     let loads = file.loads.as_slice();
-    let stmts = file.statements.as_slice();
     run_program(alloc, &program, loads, stmts, runtime)
+}
+
+/// Puts the statements of a file back if it may be run again, and else drops them: it may where memory was refused.
+fn settle(module: &ResolvedModule<'_>, stmts: Items<FileLine>, ran: &Result<Frame<'_>, EvalErr>)
+    requires { stmts ≡ «module».now.file.now.statements }
+{
+    let is_over = !matches!(ran, Err(EvalErr::Memory));
+    if module.once && is_over {
+        return;
+    }
+    module.file.statements.put_back(stmts);
+}
+
+/// Runs a file, and returns its globals. Its statements are taken out of it, so that they can be dropped once they have run. A file
+/// without them, since they are run already, is as one for which memory is refused.
+pub(crate) fn run_module<'f, R: Runtime>(
+    alloc: Global,
+    module: &ResolvedModule<'_>,
+    runtime: &mut R,
+) -> Result<Frame<'f>, EvalErr>
+    ensures { Acts R.means slots_of result (R.seen runtime.new) (file_run R.means «module».now (R.seen runtime.old)) }
+{
+    let Some(stmts) = module.file.statements.take() else {
+        return Err(EvalErr::Memory);
+    };
+    let ran = run_statements(alloc, module, stmts.as_slice(), runtime);
+    settle(module, stmts, &ran);
+    ran
 }

@@ -56,11 +56,12 @@ module _ {S : Type 0} (m : Primitives S) (file : FileParts) (round : Round) (sur
       (language.block m by_names (eval_in m by_names call round) (language.run_in m by_names (eval_in m by_names call round)) body env s)
       (language.block m by_slots (eval_in m by_slots other surroundings) (language.run_in m by_slots (eval_in m by_slots other surroundings)) zs frame s)
 
--- the small statements of a line outside functions, where names are the file's globals
+-- the frame has the values that the environment has for the file's globals, each in the slot of its place among them
 abbrev pub GlobalsShow : FileParts → Env → Frame → Type 0
 GlobalsShow file env frame = Reads (λ name. place_among name file.globals) env frame
 
 module _ {S : Type 0} (m : Primitives S) (file : FileParts) (eval : Eval S Env) (other : Eval S Frame) where
+  -- a line outside functions does the same by names and by slots, where the frame shows the environment
   abbrev pub LinesAgree : Type 0
   LinesAgree =
       (xs ys : List SmallStmt) (p q : Passed) → each (scope.small_stmt file [] false) [] xs p ≡ Ok (ys, q)

@@ -21,7 +21,7 @@ use crate::units::{TreeUnit, unit_at};
 use bq_base::EvalFault;
 use bq_builtin_machine::{Args, Bound, MAX_SEARCHED};
 use bq_eval_frame::Frame;
-use bq_resolve_predeclared::{HostFunction, Predeclared};
+use bq_resolve_predeclared::{HostFunction, Predeclared, RuleFunction};
 use bq_resolve_scope::Function;
 use bq_value::{EvalErr, FunctionValue, Node, Value};
 use std::alloc::Global;
@@ -168,7 +168,10 @@ pub fn call<R: Runtime>(
             let rule = Predeclared::Host(HostFunction::Rule(*place));
             runtime.call_built_in(context.alloc, rule, args)
         }
-        Node::RuleFunction(function) => runtime.call_rule_function(context.alloc, *function, args),
+        Node::Rule => runtime.call_rule_function(context.alloc, RuleFunction::Rule, args),
+        Node::Attr(kind) => {
+            runtime.call_rule_function(context.alloc, RuleFunction::Attr(*kind), args)
+        }
         Node::Cell(cell) => runtime.call_cell(context.alloc, *cell, args),
         _ => Err(EvalErr::Bad(EvalFault::WrongType)),
     }

@@ -1,6 +1,8 @@
--- In reading order: members of filtered lists, direct dependencies, objects cut in two, lists of loads, and labels in full.
+-- In reading order: members of filtered lists, direct dependencies, the labels that targets name, objects cut in two, lists of loads, and labels in
+-- full.
 pub mod Filtered
 pub mod Direct
+pub mod NamedLabels
 pub mod Objects
 pub mod Loads
 pub mod Paths

@@ -3,8 +3,9 @@ use Rattle.std.proofs.Common.{◌≡◌, ◌∙◌, ℕ, List, [], ◌∷◌, �
 use Rattle.std.specs.Prelude.{codes}
 use Rattle.std.specs.List.{zip}
 use Rattle.std.specs.Fmt.{decimal}
+use Rattle.bq_base_limits.specs.declared.limits.Limits.{Limits}
 use Rattle.bq_label.specs.Label.{LabelParts}
-use Rattle.bq_facts_json.specs.Json.{Json, Named, member_of, value_text}
+use Rattle.bq_facts_json.specs.Json.{Json, Named, fields_of, member_of, object, value_text}
 use Rattle.bq_facts_json.specs.Values.{Member, json_object}
 use Rattle.bq_facts_json.proofs.Texts.{array_text, object_text}
 use Rattle.bq_package_target.specs.declared.target.Target.{Target}
@@ -15,14 +16,32 @@ use Rattle.bq_resolve_scope.specs.declared.loads.LoadStmt.{LoadStmt}
 use Rattle.bq_resolve_scope.specs.declared.loads.LoadedSymbol.{LoadedSymbol}
 use Rattle.bq_package_typed_value.specs.Json.{json_labels}
 use Rattle.bq_facts.specs.Attributes.{attribute_member, json_attributes}
+use Rattle.bq_facts.specs.declared.header.Counts.{Counts}
+use Rattle.bq_facts.specs.declared.header.Origin.{Origin}
 use Rattle.bq_facts.specs.FaultObject.{fault_object}
-use Rattle.bq_facts.specs.Laws.{FaultLinesAreObjects, ModuleLinesAreObjects, TargetLinesAreObjects}
+use Rattle.bq_facts.specs.Header.{count_members, format, header_line, json_limits}
+use Rattle.bq_facts.specs.Laws.{FaultLinesAreObjects, HeadersAreObjects, ModuleLinesAreObjects, TargetLinesAreObjects}
+use Rattle.bq_facts.specs.Members.{number_member, string_member}
 use Rattle.bq_facts.specs.ModuleLine.{file_members, load_object, module_line, symbol_member}
-use Rattle.bq_facts.specs.Objects.{attribute_named, attributes_value, declaration_of, fault_named, load_named, load_value, module_named, symbol_named, target_named}
-use Rattle.bq_facts.specs.TargetLine.{declared_by, declared_members, named, target_line}
+use Rattle.bq_facts.specs.Objects.{attribute_named, attributes_value, declaration_of, fault_named, header_named, limits_named, load_named, load_value, module_named, symbol_named, target_named}
+use Rattle.bq_facts.specs.TargetLine.{declared_by, declared_members, named, names_member, target_line}
 
 abbrev newline : List ℕ → List ℕ
 newline t = t ++ 10 ∷ []
+
+-- ---- the first line
+
+limits_text : (l : Limits) → json_limits l ≡ value_text (object (fields_of (limits_named l)))
+unfolding json_limits
+limits_text l = object_text (limits_named l)
+
+abbrev header_with : Origin → List ℕ → Counts → List Member
+header_with o limits c =
+    number_member (codes "facts") format ∷ string_member (codes "version") o.version ∷ record { key = codes "limits"; value = limits } ∷ count_members c
+
+pub header_lines : HeadersAreObjects
+unfolding header_line
+header_lines o c = ap (λ (limits : List ℕ). newline (json_object (header_with o limits c))) (limits_text o.limits) ∙ ap newline (object_text (header_named o c))
 
 -- ---- targets
 
@@ -36,7 +55,10 @@ attributes_text given = ap json_object (members_are given) ∙ object_text (map 
 
 abbrev members_with : Target → List ℕ → List LabelParts → List Member
 members_with t attributes deps =
-    record { key = codes "line"; value = decimal t.line } ∷ record { key = codes "attributes"; value = attributes } ∷ record { key = codes "deps"; value = json_labels deps } ∷ []
+    record { key = codes "line"; value = decimal t.line }
+    ∷ record { key = codes "attributes"; value = attributes }
+    ∷ names_member t
+    ∷ record { key = codes "deps"; value = json_labels deps } ∷ []
 
 declared_are : (t : Target) (deps : List LabelParts) → declared_members t deps ≡ members_with t (value_text (attributes_value t.attributes)) deps
 declared_are t deps = ap (λ a. members_with t a deps) (attributes_text t.attributes)

@@ -2,6 +2,8 @@ pub mod Labels
 pub mod Attributes
 pub mod Members
 pub mod Deps
+pub mod Names
+pub mod Header
 pub mod TargetLine
 pub mod ModuleLine
 pub mod FaultObject

@@ -2,6 +2,7 @@
 use Rattle.std.specs.Prelude.{ℕ, pos, List, [], ◌∷◌, ◌++◌, map, codes}
 use Rattle.std.specs.List.{zip}
 use Rattle.bq_base.specs.Fault.{fault_name}
+use Rattle.bq_base_limits.specs.declared.limits.Limits.{Limits}
 use Rattle.bq_label.specs.Label.{LabelParts, full_form}
 use Rattle.bq_label.specs.Packages.{label_path}
 use Rattle.bq_base_fault_line.specs.declared.fault_line.FaultLine.{FaultLine}
@@ -15,7 +16,11 @@ use Rattle.bq_package_typed_value.specs.Types.{value_json}
 use Rattle.bq_query_target_sets.specs.Texts.{kind_text}
 use Rattle.bq_resolve_scope.specs.declared.loads.LoadStmt.{LoadStmt}
 use Rattle.bq_resolve_scope.specs.declared.loads.LoadedSymbol.{LoadedSymbol}
+use Rattle.bq_facts.specs.declared.header.Counts.{Counts}
+use Rattle.bq_facts.specs.declared.header.Origin.{Origin}
 use Rattle.bq_facts.specs.FaultObject.{fault_code, file_labelled}
+use Rattle.bq_facts.specs.Header.{format}
+use Rattle.bq_facts.specs.Names.{named_labels}
 
 abbrev pub labelled : List ℕ → LabelParts → Named
 labelled key l = record { key = key; value = string (full_form l) }
@@ -26,6 +31,22 @@ numbered key n = record { key = key; value = number (pos n) }
 abbrev pub written : List ℕ → List ℕ → Named
 written key text = record { key = key; value = string text }
 
+-- ---- the first line
+
+abbrev pub limits_named : Limits → List Named
+limits_named l =
+    numbered (codes "files") l.files ∷ numbered (codes "directories") l.directories ∷ numbered (codes "modules") l.modules
+    ∷ numbered (codes "loads") l.edges ∷ numbered (codes "bytes") l.bundle_bytes ∷ numbered (codes "steps") l.steps ∷ []
+
+abbrev pub header_named : Origin → Counts → List Named
+header_named o c =
+    numbered (codes "facts") format ∷ written (codes "version") o.version
+    ∷ record { key = codes "limits"; value = object (fields_of (limits_named o.limits)) }
+    ∷ numbered (codes "targets") c.targets ∷ numbered (codes "modules") c.modules ∷ numbered (codes "faults") c.faults ∷ []
+
+abbrev pub header_value : Origin → Counts → Json
+header_value o c = object (fields_of (header_named o c))
+
 -- ---- targets
 
 abbrev pub attribute_named : GivenAttribute → Named
@@ -34,10 +55,13 @@ attribute_named a = record { key = a.name; value = value_json a.value }
 abbrev pub attributes_value : List GivenAttribute → Json
 attributes_value given = object (fields_of (map attribute_named given))
 
--- the line of the statement that declares the target, its attributes, and what it depends on
+-- the line of the statement that declares the target, its attributes, the labels that it names, and what it depends on
 abbrev pub declaration : Target → List LabelParts → List Named
 declaration t deps =
-    numbered (codes "line") t.line ∷ record { key = codes "attributes"; value = attributes_value t.attributes } ∷ record { key = codes "deps"; value = labels_json deps } ∷ []
+    numbered (codes "line") t.line
+    ∷ record { key = codes "attributes"; value = attributes_value t.attributes }
+    ∷ record { key = codes "names"; value = labels_json (named_labels t) }
+    ∷ record { key = codes "deps"; value = labels_json deps } ∷ []
 
 -- a source file is declared nowhere
 abbrev pub declaration_of : TargetKind → Target → List LabelParts → List Named

@@ -1,5 +1,5 @@
 -- The line of a target (`--facts`). A source file has its own path; any other target has the path of its package's BUILD file, the line of the
--- top-level statement that declares it, its attributes and what it depends on.
+-- top-level statement that declares it, its attributes, the labels that it names and what it depends on.
 use Rattle.std.specs.Prelude.{ℕ, List, [], ◌∷◌, ◌++◌, Option, Some, None, codes, if◌then◌else◌}
 use Rattle.std.specs.Fmt.{decimal}
 use Rattle.bq_label.specs.declared.packages.BuildFile.{BuildFile}
@@ -14,11 +14,12 @@ use Rattle.bq_package_typed_value.specs.Json.{json_labels}
 use Rattle.bq_query_target_sets.specs.Texts.{kind_text}
 use Rattle.bq_facts.specs.Attributes.{json_attributes}
 use Rattle.bq_facts.specs.Members.{string_member}
+use Rattle.bq_facts.specs.Names.{named_labels}
 
 -- every target's package has a BUILD file
 abbrev pub build_path : Option BuildFile → List ℕ
 build_path None = []
-build_path (Some b) = b.file.path
+build_path (Some b) = b.path
 
 -- the path of a target's file in a workspace with these packages
 abbrev pub file_of : List BuildFile → Target → List ℕ
@@ -28,10 +29,14 @@ file_of packages t = if is_source t.kind then label_path t.label else build_path
 abbrev pub named : Target → List ℕ → List Member
 named t file = string_member (codes "target") (full_form t.label) ∷ string_member (codes "kind") (kind_text t.kind) ∷ string_member (codes "file") file ∷ []
 
+abbrev pub names_member : Target → Member
+names_member t = record { key = codes "names"; value = json_labels (named_labels t) }
+
 abbrev pub declared_members : Target → List LabelParts → List Member
 declared_members t deps =
     record { key = codes "line"; value = decimal t.line }
     ∷ record { key = codes "attributes"; value = json_attributes t.attributes }
+    ∷ names_member t
     ∷ record { key = codes "deps"; value = json_labels deps } ∷ []
 
 -- those of a target that a call declares

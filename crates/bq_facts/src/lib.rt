@@ -1,7 +1,8 @@
-//! Targets, modules and fault lines of a run come in; a line of JSON for each goes out, as `bq --facts` prints them.
+//! Targets, modules and fault lines of a run come in; a line of JSON for each goes out, as `bq --facts` prints them, after a first line that
+//! says how many there are.
 //!
-//! The promise: the lines of a target, of a module and of a fault are the definitions' (`specs/TargetLine.antt`, `specs/ModuleLine.antt`,
-//! `specs/FaultObject.antt`), and the numbers that [`direct_deps`] returns for a target of the graph are those of `deps(x, 1) - x`
+//! The promise: the first line and those of a target, of a module and of a fault are the definitions' (`specs/Header.antt`,
+//! `specs/TargetLine.antt`, `specs/ModuleLine.antt`, `specs/FaultObject.antt`), and the numbers that [`direct_deps`] returns for a target of the graph are those of `deps(x, 1) - x`
 //! ([`direct_deps_are_deps`]).
 //!
 //! In reading order:
@@ -10,6 +11,8 @@
 //! - `attributes`: the attributes that a target keeps;
 //! - `members`: the parts of objects;
 //! - `deps`: what a target depends on directly;
+//! - `names`: the labels that a target names;
+//! - `header`: the first line;
 //! - `target_line`: targets;
 //! - `symbols`, `module_line`: modules with their loads;
 //! - `fault_object`: faults;
@@ -19,16 +22,22 @@
 mod attributes;
 mod deps;
 mod fault_object;
+mod header;
 mod labels;
 mod laws;
 mod members;
 mod module_line;
+mod names;
 mod symbols;
 mod target_line;
 
 pub use deps::direct_deps;
 pub use fault_object::push_fault;
+pub use header::{Counts, Origin, push_header};
 pub use labels::labels_at;
-pub use laws::{direct_deps_are_deps, lines_are_of_objects, paths_of_labels};
+pub use laws::{
+    direct_deps_are_deps, lines_are_of_objects, names_are_dependencies, paths_of_labels,
+};
 pub use module_line::push_module;
+pub use names::named_labels;
 pub use target_line::{file_of, push_target};

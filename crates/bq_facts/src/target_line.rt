@@ -5,10 +5,11 @@ ghost use Rattle.std.specs.List.{join_by};
 ghost use Rattle.std.specs.Option.{option_copied};
 ghost use Rattle.bq_facts_json.specs.Values.{comma, member_text};
 ghost use Rattle.bq_facts.specs.Members.{further_members};
-ghost use Rattle.bq_facts.specs.TargetLine.{build_path, file_of, named, declared_members, declared_by, target_line};
+ghost use Rattle.bq_facts.specs.TargetLine.{build_path, file_of, named, names_member, declared_members, declared_by, target_line};
 
 use crate::attributes::push_attributes;
 use crate::members::{next_string, open_with_string};
+use crate::names::named_labels;
 use bq_facts_json::{close_object, next_key, push_number};
 use bq_label::{BuildFile, Label, Packages, label_path, write_label};
 use bq_package_target::{Target, TargetKind};
@@ -22,7 +23,7 @@ fn build_path(build_file: Option<&BuildFile>) -> &[u8]
 {
     match build_file {
         None => &[],
-        Some(build_file) => build_file.file.path.as_slice(),
+        Some(build_file) => build_file.path.as_slice(),
     }
 }
 
@@ -55,7 +56,16 @@ fn push_named(
     next_string(text, b"file", file)
 }
 
-/// Appends the line, the attributes and the dependencies of a target.
+/// Appends the labels that a target names.
+fn push_names(alloc: Global, text: &mut Vec<u8>, target: &Target) -> Result<(), AllocError>
+    ensures { OnOk result (text.new.items ≡ text.old.items ++ (comma ++ member_text (names_member target.now))) }
+{
+    let names = named_labels(alloc, target)?;
+    next_key(text, b"names")?;
+    push_labels(alloc, text, &names)
+}
+
+/// Appends the line, the attributes, the names and the dependencies of a target.
 fn push_declared(
     alloc: Global,
     text: &mut Vec<u8>,
@@ -68,6 +78,7 @@ fn push_declared(
     push_number(text, target.line)?;
     next_key(text, b"attributes")?;
     push_attributes(alloc, text, target.attributes.as_slice())?;
+    push_names(alloc, text, target)?;
     next_key(text, b"deps")?;
     push_labels(alloc, text, deps)
 }
@@ -90,7 +101,7 @@ fn push_rest(
 }
 
 /// Appends the line of a target: an object with its label, its kind, the path of its file, and, unless it is a source file, the line of
-/// the statement that declares it, its attributes and the labels of what it depends on.
+/// the statement that declares it, its attributes, the labels that it names and those of what it depends on.
 pub fn push_target(
     alloc: Global,
     text: &mut Vec<u8>,

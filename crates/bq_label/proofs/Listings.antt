@@ -166,27 +166,27 @@ kept_by : (b : BuildFile) (v : Option BuildFile) (bs : List BuildFile) → Conta
 kept_by b None bs c = c
 kept_by b (Some a) bs c = in_tail a bs b c
 
-contained : (paths : List (List ℕ)) (fs : List File) (f : File) (b : BuildFile) → Contains fs f → package_of_file paths f ≡ Some b → Contains (build_files paths fs) b
+contained : (paths : List (List ℕ)) (fs : List File) (f : File) (b : BuildFile) → Contains fs f → package_of_file paths f.path ≡ Some b → Contains (build_files paths (paths_of fs)) b
 contained paths [] f b c e = absurd (none_in f c)
 contained paths (g ∷ fs) f b c e = elim (head_or_tail g fs f c) [
   | inl is ↦
-      let here : package_of_file paths g ≡ Some b = ap (package_of_file paths) is ∙ e in
-      subst (λ (v : Option BuildFile). Contains (cons_option v (build_files paths fs)) b) (sym here) (at_head b (build_files paths fs))
-  | inr d ↦ kept_by b (package_of_file paths g) (build_files paths fs) (contained paths fs f b d e)
+      let here : package_of_file paths g.path ≡ Some b = ap (λ (x : File). package_of_file paths x.path) is ∙ e in
+      subst (λ (v : Option BuildFile). Contains (cons_option v (build_files paths (paths_of fs))) b) (sym here) (at_head b (build_files paths (paths_of fs)))
+  | inr d ↦ kept_by b (package_of_file paths g.path) (build_files paths (paths_of fs)) (contained paths fs f b d e)
 ]
 
-won : (paths : List (List ℕ)) (f : File) (p : PackageParts) (n : List ℕ) → is_build_file paths f.path ≡ true → split_repository f.path ≡ Some (p.repo, joined p.package n) → package_of_file paths f ≡ Some (build_file f (p.repo, joined p.package n))
+won : (paths : List (List ℕ)) (path : List ℕ) (p : PackageParts) (n : List ℕ) → is_build_file paths path ≡ true → split_repository path ≡ Some (p.repo, joined p.package n) → package_of_file paths path ≡ Some (build_file path (p.repo, joined p.package n))
 unfolding package_of_file
-won paths f p n w h = rw (w, h) refl
+won paths path p n w h = rw (w, h) refl
 
 listed : (files : List File) (f : File) (p : PackageParts) (n : List ℕ) → Contains files f → list_any is_slash n ≡ false → is_build_file (paths_of files) f.path ≡ true → split_repository f.path ≡ Some (p.repo, joined p.package n) → IsListed (packages_of files) p
 unfolding packages_of
 listed files f p n c plain w h =
-    let found : List BuildFile = build_files (paths_of files) files in
-    let b : BuildFile = build_file f (p.repo, joined p.package n) in
+    let found : List BuildFile = build_files (paths_of files) (paths_of files) in
+    let b : BuildFile = build_file f.path (p.repo, joined p.package n) in
     record {
       entry = b;
-      known = Contains-permutation found (in_order package_cmp found) b (in_order_moves package_cmp by_package found) (contained (paths_of files) files f b c (won (paths_of files) f p n w h));
+      known = Contains-permutation found (in_order package_cmp found) b (in_order_moves package_cmp by_package found) (contained (paths_of files) files f b c (won (paths_of files) f.path p n w h));
       id = ap (λ (d : List ℕ). package_at p.repo d) (joined_directory p.package n plain);
     }
 

@@ -71,26 +71,26 @@ FileIs files l (Some f) = IsFileOf files l f
 unfoldable pub directory_of : List ℕ → List ℕ
 directory_of path = take (length path - length (last_segment path) - 1) path
 
--- the file is its directory's BUILD file: `BUILD.bazel`, or `BUILD` where there is no `BUILD.bazel` beside it
+-- the file at the path is its directory's BUILD file: `BUILD.bazel`, or `BUILD` where there is no `BUILD.bazel` beside it
 unfoldable pub is_build_file : List (List ℕ) → List ℕ → Bool
 is_build_file paths path = bytes_eq (last_segment path) (codes "BUILD.bazel")
     || (bytes_eq (last_segment path) (codes "BUILD") && not (list_any (bytes_eq (path ++ codes ".bazel")) paths))
 
--- the package of a BUILD file, by where it was found
-abbrev pub build_file : File → List ℕ × List ℕ → BuildFile
-build_file f found = record { id = package_at found.0 (directory_of found.1); file = f }
+-- the package of the BUILD file at a path, by the repository of the path and its path there
+abbrev pub build_file : List ℕ → List ℕ × List ℕ → BuildFile
+build_file path found = record { id = package_at found.0 (directory_of found.1); path = path }
 
 -- the BUILD file's own label
 unfoldable pub build_label : BuildFile → Option LabelParts
-build_label b = if is_path (last_segment b.file.path) then Some (label_in b.id (last_segment b.file.path)) else None
+build_label b = if is_path (last_segment b.path) then Some (label_in b.id (last_segment b.path)) else None
 
--- the package whose BUILD file this is
-unfoldable pub package_of_file : List (List ℕ) → File → Option BuildFile
-package_of_file paths f = if is_build_file paths f.path then option_map (build_file f) (split_repository f.path) else None
+-- the package whose BUILD file is at this path
+unfoldable pub package_of_file : List (List ℕ) → List ℕ → Option BuildFile
+package_of_file paths path = if is_build_file paths path then option_map (build_file path) (split_repository path) else None
 
--- the packages whose BUILD files these are, in the order of the files
-abbrev pub build_files : List (List ℕ) → List File → List BuildFile
-build_files paths files = filter_map (package_of_file paths) files
+-- the packages whose BUILD files are at these paths, in their order
+abbrev pub build_files : List (List ℕ) → List (List ℕ) → List BuildFile
+build_files paths ps = filter_map (package_of_file paths) ps
 
 -- packages by the bytes of their repositories, and then of their paths
 abbrev pub id_cmp : PackageParts → PackageParts → Ordering
@@ -100,9 +100,9 @@ id_cmp p q = ordering_then (slice_cmp nat_cmp p.repo q.repo) (slice_cmp nat_cmp 
 abbrev pub package_cmp : BuildFile → BuildFile → Ordering
 package_cmp a b = id_cmp a.id b.id
 
--- the packages of a workspace, in their order
+-- the packages of a workspace, in their order; no file's content counts
 unfoldable pub packages_of : List File → List BuildFile
-packages_of files = in_order package_cmp (build_files (paths_of files) files)
+packages_of files = in_order package_cmp (build_files (paths_of files) (paths_of files))
 
 -- a BUILD file is that of a package
 abbrev pub is_package_id : List ℕ → List ℕ → BuildFile → Bool
@@ -145,16 +145,16 @@ HasNoneLonger packages repo path n = (k : ℕ) → n < k → k < length path →
 abbrev pub build_path : PackageParts → List ℕ → List ℕ
 build_path p name = label_path (label_in p name)
 
--- the file is the package's BUILD file: `BUILD.bazel`, or `BUILD` where there is no `BUILD.bazel`
+-- the file at the path is the package's BUILD file: `BUILD.bazel`, or `BUILD` where there is no `BUILD.bazel`
 abbrev pub IsBuildPath : List File → PackageParts → List ℕ → Type 0
 IsBuildPath files p path = (path ≡ build_path p (codes "BUILD.bazel")) ⊎ ((path ≡ build_path p (codes "BUILD")) × (file_at files (build_path p (codes "BUILD.bazel")) ≡ None))
 
 -- a package of a workspace
 pub record IsPackageOf (files : List File) (b : BuildFile) : Type 0 where
-  pub known : Contains files b.file
+  pub known : Contains (paths_of files) b.path
   pub valid : IsPackage b.id
-  pub build : IsBuildPath files b.id b.file.path
-  pub repository : split_repository b.file.path ≡ Some (b.id.repo, joined b.id.package (last_segment b.file.path))
+  pub build : IsBuildPath files b.id b.path
+  pub repository : split_repository b.path ≡ Some (b.id.repo, joined b.id.package (last_segment b.path))
 
 -- the package's directory is above a path of the repository, or the repository's root
 pub record IsOver (repo rest : List ℕ) (b : BuildFile) : Type 0 where

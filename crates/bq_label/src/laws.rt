@@ -8,7 +8,7 @@ ghost use Rattle.bq_base_limits.specs.declared.limits.Limits.{Limits};
 ghost use Rattle.bq_base_limits.specs.Limits.{AreBounded};
 ghost use Rattle.bq_label.specs.declared.workspace.File.{File};
 ghost use Rattle.bq_label.specs.declared.packages.BuildFile.{BuildFile};
-ghost use Rattle.bq_label.specs.Workspace.{workspace_within, IsWorkspace, IsWorkspaceOf};
+ghost use Rattle.bq_label.specs.Workspace.{paths_of, workspace_within, IsWorkspace, IsWorkspaceOf};
 ghost use Rattle.bq_label.specs.Packages.{packages_of, package_cmp, IsPackageOf, HasBuildFile, IsListed, split_repository, label_path, owner_of, OwnerIs, IsPathOf, label_file, FileIs};
 ghost use Rattle.bq_label.specs.Label.{PackageParts, LabelParts, label_in, IsLabel, IsPackage, ReadsAs, Spells, full_form};
 ghost use Rattle.bq_label.specs.Paths.{HasNoSlash};
@@ -53,6 +53,11 @@ pub fn a_package_has_a_build_file()
 /// A directory with a file `BUILD.bazel` or `BUILD`, in its repository, is one of the packages.
 pub fn a_build_file_makes_a_package()
     ensures { (files : List File) (p : PackageParts) → HasBuildFile files p → IsListed (packages_of files) p }
+{}
+
+/// The packages are decided by the paths of the files: what the files contain doesn't count.
+pub fn packages_by_paths()
+    ensures { (files others : List File) → paths_of files ≡ paths_of others → packages_of files ≡ packages_of others }
 {}
 
 /// Each package is there once, and below the next.

@@ -15,17 +15,17 @@ use crate::package_id::PackageId;
 use crate::path::is_path;
 use crate::repository::split_repository;
 use crate::split::{directory_of, last_segment};
-use crate::workspace::{File, Workspace, common_len};
+use crate::workspace::{Workspace, common_len};
 use bq_base::Bytes;
 use std::alloc::{AllocError, Global};
 use std::cmp::Ordering;
 use std::marker::Model;
 
-/// A package, and the BUILD file that makes its directory one.
+/// A package, and the path of the BUILD file that makes its directory one.
 #[derive(Debug, Drop)]
 pub struct BuildFile {
     pub id: PackageId,
-    pub file: File,
+    pub path: Bytes,
 }
 
 impl BuildFile {
@@ -35,22 +35,22 @@ impl BuildFile {
     {
         Ok(BuildFile {
             id: self.id.share()?,
-            file: self.file.share()?,
+            path: self.path.share()?,
         })
     }
 
     /// Returns the BUILD file's name in its directory: `BUILD.bazel` or `BUILD`.
     pub fn name(&self) -> &[u8]
-        ensures { result.now ≡ last_segment self.now.file.path }
+        ensures { result.now ≡ last_segment self.now.path }
     {
-        last_segment(self.file.path.as_slice())
+        last_segment(self.path.as_slice())
     }
 
     /// Returns the package's directory in the workspace, which is empty for the root of the main repository.
     pub fn directory(&self) -> &[u8]
-        ensures { result.now ≡ directory_of self.now.file.path }
+        ensures { result.now ≡ directory_of self.now.path }
     {
-        directory_of(self.file.path.as_slice())
+        directory_of(self.path.as_slice())
     }
 
     /// Returns the BUILD file's own label, as `//a:BUILD.bazel`; `None` if the file's path doesn't end in a name.
@@ -84,27 +84,27 @@ fn is_build_file(alloc: Global, workspace: &Workspace, path: &[u8]) -> Result<bo
     Ok(workspace.file(&preferred).is_none())
 }
 
-/// Returns the package whose BUILD file this is.
+/// Returns the package whose BUILD file is at this path.
 #[tactic(auto, unfolding(crate::specs::Packages::package_of_file))]
 fn package_of_file(
     alloc: Global,
     workspace: &Workspace,
-    file: &File,
+    path: &Bytes,
 ) -> Result<Option<BuildFile>, AllocError>
-    requires { is_path file.now.path ≡ true }
-    ensures { IfOk result (λ b. b ≡ package_of_file (paths_of workspace.now) file.now) }
+    requires { is_path path.now ≡ true }
+    ensures { IfOk result (λ b. b ≡ package_of_file (paths_of workspace.now) path.now) }
 {
-    if !is_build_file(alloc, workspace, file.path.as_slice())? {
+    if !is_build_file(alloc, workspace, path.as_slice())? {
         return Ok(None);
     }
-    let Some(found) = split_repository(file.path.as_slice()) else {
+    let Some(found) = split_repository(path.as_slice()) else {
         return Ok(None);
     };
     let repo = Bytes::from_slice(alloc, found.repo)?;
-    let path = Bytes::from_slice(alloc, directory_of(found.rest))?;
+    let directory = Bytes::from_slice(alloc, directory_of(found.rest))?;
     Ok(Some(BuildFile {
-        id: PackageId::from_parts(alloc, repo, path)?,
-        file: file.share()?,
+        id: PackageId::from_parts(alloc, repo, directory)?,
+        path: path.share()?,
     }))
 }
 
@@ -218,7 +218,7 @@ impl Packages {
         let files = workspace.files();
         let mut found = Vec::new(alloc);
         for file in files {
-            let Some(package) = package_of_file(alloc, workspace, file)? else {
+            let Some(package) = package_of_file(alloc, workspace, &file.path)? else {
                 continue;
             };
             found.push(package)?;

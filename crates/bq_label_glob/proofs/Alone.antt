@@ -2,7 +2,6 @@
 use Rattle.std.proofs.Common.{◌≡◌, ◌∙◌, ◌&&◌, ◌||◌, ℕ, Bool, true, false, not, List, [], ◌∷◌, Result, Ok, Err, IfOk, refl, sym, ap, inl, inr}
 use Rattle.std.proofs.lemmas.Bool.{cases_Bool}
 use Rattle.std.specs.List.{filter, list_any}
-use Rattle.bq_label.specs.declared.workspace.File.{File}
 use Rattle.bq_label.specs.declared.packages.BuildFile.{BuildFile}
 use Rattle.bq_label.specs.Label.{PackageParts}
 use Rattle.bq_label_glob_pattern.specs.Matching.{matches, is_nothing}
@@ -39,12 +38,12 @@ module _ {X : Type 0} (f g : X → Bool) where
 
 -- ---- patterns
 
-module _ (files : List File) (packages : List BuildFile) (p : PackageParts) (all : List (List ℕ)) where
+module _ (paths : List (List ℕ)) (packages : List BuildFile) (p : PackageParts) (all : List (List ℕ)) where
   abbrev gives_none : List ℕ → Bool
-  gives_none q = is_nothing (glob files packages p (q ∷ []) [])
+  gives_none q = is_nothing (glob paths packages p (q ∷ []) [])
 
   abbrev matches_none : List ℕ → Bool
-  matches_none q = not (list_any (matches q) (glob files packages p all []))
+  matches_none q = not (list_any (matches q) (glob paths packages p all []))
 
   -- some pattern of `all` matches each name that one of these matches
   abbrev AreOf : List (List ℕ) → Type 0
@@ -53,8 +52,8 @@ module _ (files : List File) (packages : List BuildFile) (p : PackageParts) (all
   one_idle : (q : List ℕ) → ((n : List ℕ) → matches q n ≡ true → list_any (λ r. matches r n) all ≡ true) → gives_none q ≡ matches_none q
   unfolding glob is_wanted
   one_idle q k =
-      ap is_nothing (same_filter (is_wanted (q ∷ []) []) (matches q) (λ n. wanted_alone (matches q n)) (names_in packages p files))
-      ∙ nothing_left (matches q) (is_wanted all []) (λ n m. rw (k n m) refl) (names_in packages p files)
+      ap is_nothing (same_filter (is_wanted (q ∷ []) []) (matches q) (λ n. wanted_alone (matches q n)) (names_in packages p paths))
+      ∙ nothing_left (matches q) (is_wanted all []) (λ n m. rw (k n m) refl) (names_in packages p paths)
 
   some_idle : (qs : List (List ℕ)) → AreOf qs → list_any gives_none qs ≡ list_any matches_none qs
   some_idle [] k = refl
@@ -62,6 +61,6 @@ module _ (files : List File) (packages : List BuildFile) (p : PackageParts) (all
       ap (λ (b : Bool). b || list_any gives_none qs) (one_idle q (λ n m. k n (ap (λ (b : Bool). b || list_any (λ r. matches r n) qs) m)))
       ∙ ap (λ (b : Bool). matches_none q || b) (some_idle qs (λ n m. k n (ap (λ (b : Bool). matches q n || b) m ∙ or_true (matches q n))))
 
-  pub idle_by : {E : Type 0} (r : Result Bool E) (names : List (List ℕ)) → names ≡ glob files packages p all [] → IfOk r (λ found. found ≡ list_any (λ q. not (list_any (matches q) names)) all) → IfOk r (λ found. found ≡ list_any gives_none all)
+  pub idle_by : {E : Type 0} (r : Result Bool E) (names : List (List ℕ)) → names ≡ glob paths packages p all [] → IfOk r (λ found. found ≡ list_any (λ q. not (list_any (matches q) names)) all) → IfOk r (λ found. found ≡ list_any gives_none all)
   idle_by (Ok found) names e h = h ∙ (ap (λ (ns : List (List ℕ)). list_any (λ q. not (list_any (matches q) ns)) all) e ∙ sym (some_idle all (λ n m. m)))
   idle_by (Err why) names e h = h

@@ -13,7 +13,7 @@ use Rattle.std.proofs.lemmas.Map.Keys.{sorted_head, sorted_tail}
 use Rattle.bq_label.specs.declared.workspace.File.{File}
 use Rattle.bq_label.specs.declared.packages.BuildFile.{BuildFile}
 use Rattle.bq_label.specs.Label.{PackageParts, label_in, package_at}
-use Rattle.bq_label.specs.Workspace.{path_cmp, IsWorkspace}
+use Rattle.bq_label.specs.Workspace.{path_cmp, paths_of, IsWorkspace}
 use Rattle.bq_label.specs.Packages.{label_path, owner_of, is_package_id, repository_root, joined, split_repository, OwnerIs, IsOwner}
 use Rattle.bq_label.proofs.Above.{same_bytes, equal_bytes}
 use Rattle.bq_label.proofs.Orders.{head_or_tail, at_head, in_tail}
@@ -116,55 +116,62 @@ words_wanted include exclude name m n = rw (is_matched include name m) (elim (ca
 
 -- ---- the files that are given
 
-record Source (packages : List BuildFile) (p : PackageParts) (include exclude : List (List ℕ)) (files : List File) (name : List ℕ) : Type 0 where
-  file : File
-  known : Contains files file
-  named : name_in packages p file.path ≡ Some name
+record Source (packages : List BuildFile) (p : PackageParts) (include exclude paths : List (List ℕ)) (name : List ℕ) : Type 0 where
+  path : List ℕ
+  known : Contains paths path
+  named : name_in packages p path ≡ Some name
   wants : is_wanted include exclude name ≡ true
 
 module _ (packages : List BuildFile) (p : PackageParts) (include exclude : List (List ℕ)) where
-  later_source : (f : File) (fs : List File) (name : List ℕ) → Source packages p include exclude fs name → Source packages p include exclude (f ∷ fs) name
-  later_source f fs name s = record { file = s.file; known = in_tail f fs s.file s.known; named = s.named; wants = s.wants }
+  later_source : (f : List ℕ) (fs : List (List ℕ)) (name : List ℕ) → Source packages p include exclude fs name → Source packages p include exclude (f ∷ fs) name
+  later_source f fs name s = record { path = s.path; known = in_tail f fs s.path s.known; named = s.named; wants = s.wants }
 
-  source_of : (files : List File) (name : List ℕ) → Contains (glob files packages p include exclude) name → Source packages p include exclude files name
+  source_of : (paths : List (List ℕ)) (name : List ℕ) → Contains (glob paths packages p include exclude) name → Source packages p include exclude paths name
   source_of [] name k = absurd (none_in name (subst (λ (v : List (List ℕ)). Contains v name) (none_given packages p include exclude) k))
-  source_of (f ∷ fs) name k = by_name (source_of fs name) (name_in packages p f.path) refl
+  source_of (f ∷ fs) name k = by_name (source_of fs name) (name_in packages p f) refl
     where
-      by_name : (Contains (glob fs packages p include exclude) name → Source packages p include exclude fs name) → (v : Option (List ℕ)) → name_in packages p f.path ≡ v → Source packages p include exclude (f ∷ fs) name
+      by_name : (Contains (glob fs packages p include exclude) name → Source packages p include exclude fs name) → (v : Option (List ℕ)) → name_in packages p f ≡ v → Source packages p include exclude (f ∷ fs) name
       by_name later None e = later_source f fs name (later (subst (λ (v : List (List ℕ)). Contains v name) (unnamed packages p include exclude f fs e) k))
       by_name later (Some n) e = elim (cases_Bool (is_wanted include exclude n)) [
         | inl y ↦ elim (head_or_tail n (glob fs packages p include exclude) name (subst (λ (v : List (List ℕ)). Contains v name) (wanted packages p include exclude f fs n e y) k)) [
-          | inl is ↦ record { file = f; known = at_head f fs; named = e ∙ ap (λ (t : List ℕ). Some t) is; wants = ap (is_wanted include exclude) (sym is) ∙ y }
+          | inl is ↦ record { path = f; known = at_head f fs; named = e ∙ ap (λ (t : List ℕ). Some t) is; wants = ap (is_wanted include exclude) (sym is) ∙ y }
           | inr there ↦ later_source f fs name (later there)
         ]
         | inr o ↦ later_source f fs name (later (subst (λ (v : List (List ℕ)). Contains v name) (unwanted packages p include exclude f fs n e o) k))
       ]
 
-  from_source : (files : List File) (name : List ℕ) (file : File) → Contains files file → name_in packages p file.path ≡ Some name → is_wanted include exclude name ≡ true → Contains (glob files packages p include exclude) name
-  from_source [] name file k n w = absurd (none_in file k)
-  from_source (f ∷ fs) name file k n w = elim (head_or_tail f fs file k) [
-    | inl is ↦ subst (λ (v : List (List ℕ)). Contains v name) (sym (wanted packages p include exclude f fs name (ap (λ (g : File). name_in packages p g.path) is ∙ n) w)) (at_head name (glob fs packages p include exclude))
-    | inr there ↦ kept f fs name (from_source fs name file there n w)
+  from_source : (paths : List (List ℕ)) (name path : List ℕ) → Contains paths path → name_in packages p path ≡ Some name → is_wanted include exclude name ≡ true → Contains (glob paths packages p include exclude) name
+  from_source [] name path k n w = absurd (none_in path k)
+  from_source (f ∷ fs) name path k n w = elim (head_or_tail f fs path k) [
+    | inl is ↦ subst (λ (v : List (List ℕ)). Contains v name) (sym (wanted packages p include exclude f fs name (ap (λ (t : List ℕ). name_in packages p t) is ∙ n) w)) (at_head name (glob fs packages p include exclude))
+    | inr there ↦ kept f fs name (from_source fs name path there n w)
   ]
     where
-      kept : (f : File) (fs : List File) (name : List ℕ) → Contains (glob fs packages p include exclude) name → Contains (glob (f ∷ fs) packages p include exclude) name
-      kept f fs name k = by_name (name_in packages p f.path) refl
+      kept : (f : List ℕ) (fs : List (List ℕ)) (name : List ℕ) → Contains (glob fs packages p include exclude) name → Contains (glob (f ∷ fs) packages p include exclude) name
+      kept f fs name k = by_name (name_in packages p f) refl
         where
-          by_name : (v : Option (List ℕ)) → name_in packages p f.path ≡ v → Contains (glob (f ∷ fs) packages p include exclude) name
+          by_name : (v : Option (List ℕ)) → name_in packages p f ≡ v → Contains (glob (f ∷ fs) packages p include exclude) name
           by_name None e = subst (λ (v : List (List ℕ)). Contains v name) (sym (unnamed packages p include exclude f fs e)) k
           by_name (Some n) e = elim (cases_Bool (is_wanted include exclude n)) [
             | inl y ↦ subst (λ (v : List (List ℕ)). Contains v name) (sym (wanted packages p include exclude f fs n e y)) (in_tail n (glob fs packages p include exclude) name k)
             | inr o ↦ subst (λ (v : List (List ℕ)). Contains v name) (sym (unwanted packages p include exclude f fs n e o)) k
           ]
 
-pub given_is : (files : List File) (packages : List BuildFile) (p : PackageParts) (include exclude : List (List ℕ)) (name : List ℕ) → Contains (glob files packages p include exclude) name ↔ IsGiven files packages p include exclude name
-given_is files packages p include exclude name = (
+pub given_is : (paths : List (List ℕ)) (packages : List BuildFile) (p : PackageParts) (include exclude : List (List ℕ)) (name : List ℕ) → Contains (glob paths packages p include exclude) name ↔ IsGiven paths packages p include exclude name
+given_is paths packages p include exclude name = (
   (λ k.
-      let s = source_of packages p include exclude files name k in
-      let w = name_words packages p s.file.path name s.named in
+      let s = source_of packages p include exclude paths name k in
+      let w = name_words packages p s.path name s.named in
       let i = wanted_words include exclude name s.wants in
-      record { file = s.file; known = s.known; path = w.0; owned = w.1; included = i.0; not_excluded = i.1 }),
-  (λ g. from_source packages p include exclude files name g.file g.known (words_name packages p g.file.path name g.path g.owned) (words_wanted include exclude name g.included g.not_excluded)),
+      record {
+        known = subst (λ (t : List ℕ). Contains paths t) w.0 s.known;
+        owned = subst (IsOwned packages p) w.0 w.1;
+        included = i.0;
+        not_excluded = i.1;
+      }),
+  (λ g.
+      let path : List ℕ = label_path (label_in p name) in
+      from_source packages p include exclude paths name path g.known (words_name packages p path name refl g.owned) (words_wanted include exclude name g.included g.not_excluded)),
 )
 
 -- ---- in order
@@ -180,15 +187,15 @@ module _ (packages : List BuildFile) (p : PackageParts) (include exclude : List 
       let second : g.path ≡ directory p ++ m = (name_words packages p g.path m h).0 ∙ directory_name p m in
       sym (same_front (directory p) n m) ∙ (ap (λ (t : List ℕ). slice_cmp nat_cmp t (directory p ++ m)) (sym first) ∙ (ap (λ (t : List ℕ). slice_cmp nat_cmp f.path t) (sym second) ∙ l))
 
-  all_less : (f : File) (n : List ℕ) → name_in packages p f.path ≡ Some n → (fs : List File) → AllByRecursion (λ (g : File). path_cmp f g ≡ Less) fs → AllByRecursion (λ (m : List ℕ). slice_cmp nat_cmp n m ≡ Less) (glob fs packages p include exclude)
+  all_less : (f : File) (n : List ℕ) → name_in packages p f.path ≡ Some n → (fs : List File) → AllByRecursion (λ (g : File). path_cmp f g ≡ Less) fs → AllByRecursion (λ (m : List ℕ). slice_cmp nat_cmp n m ≡ Less) (glob (paths_of fs) packages p include exclude)
   all_less f n e [] a = subst (AllByRecursion (λ (m : List ℕ). slice_cmp nat_cmp n m ≡ Less)) (sym (none_given packages p include exclude)) tt
   all_less f n e (g ∷ gs) a = by_name (all_less f n e gs a.1) (name_in packages p g.path) refl
     where
-      by_name : AllByRecursion (λ (m : List ℕ). slice_cmp nat_cmp n m ≡ Less) (glob gs packages p include exclude) → (v : Option (List ℕ)) → name_in packages p g.path ≡ v → AllByRecursion (λ (m : List ℕ). slice_cmp nat_cmp n m ≡ Less) (glob (g ∷ gs) packages p include exclude)
-      by_name later None h = subst (AllByRecursion (λ (m : List ℕ). slice_cmp nat_cmp n m ≡ Less)) (sym (unnamed packages p include exclude g gs h)) later
+      by_name : AllByRecursion (λ (m : List ℕ). slice_cmp nat_cmp n m ≡ Less) (glob (paths_of gs) packages p include exclude) → (v : Option (List ℕ)) → name_in packages p g.path ≡ v → AllByRecursion (λ (m : List ℕ). slice_cmp nat_cmp n m ≡ Less) (glob (g.path ∷ paths_of gs) packages p include exclude)
+      by_name later None h = subst (AllByRecursion (λ (m : List ℕ). slice_cmp nat_cmp n m ≡ Less)) (sym (unnamed packages p include exclude g.path (paths_of gs) h)) later
       by_name later (Some m) h = elim (cases_Bool (is_wanted include exclude m)) [
-        | inl y ↦ subst (AllByRecursion (λ (m : List ℕ). slice_cmp nat_cmp n m ≡ Less)) (sym (wanted packages p include exclude g gs m h y)) (name_less f g n m e h a.0, later)
-        | inr o ↦ subst (AllByRecursion (λ (m : List ℕ). slice_cmp nat_cmp n m ≡ Less)) (sym (unwanted packages p include exclude g gs m h o)) later
+        | inl y ↦ subst (AllByRecursion (λ (m : List ℕ). slice_cmp nat_cmp n m ≡ Less)) (sym (wanted packages p include exclude g.path (paths_of gs) m h y)) (name_less f g n m e h a.0, later)
+        | inr o ↦ subst (AllByRecursion (λ (m : List ℕ). slice_cmp nat_cmp n m ≡ Less)) (sym (unwanted packages p include exclude g.path (paths_of gs) m h o)) later
       ]
 
   nothing_sorted : IsStrictlySortedBy (slice_cmp nat_cmp) []
@@ -199,18 +206,18 @@ module _ (packages : List BuildFile) (p : PackageParts) (include exclude : List 
   unfolding IsStrictlySortedBy
   more_sorted n ns a s = (a, s)
 
-  ascending : (files : List File) → IsStrictlySortedBy path_cmp files → IsStrictlySortedBy (slice_cmp nat_cmp) (glob files packages p include exclude)
+  ascending : (files : List File) → IsStrictlySortedBy path_cmp files → IsStrictlySortedBy (slice_cmp nat_cmp) (glob (paths_of files) packages p include exclude)
   ascending [] s = subst (IsStrictlySortedBy (slice_cmp nat_cmp)) (sym (none_given packages p include exclude)) nothing_sorted
   ascending (f ∷ fs) s = by_name (ascending fs (sorted_tail path_cmp f fs s)) (name_in packages p f.path) refl
     where
-      by_name : IsStrictlySortedBy (slice_cmp nat_cmp) (glob fs packages p include exclude) → (v : Option (List ℕ)) → name_in packages p f.path ≡ v → IsStrictlySortedBy (slice_cmp nat_cmp) (glob (f ∷ fs) packages p include exclude)
-      by_name later None h = subst (IsStrictlySortedBy (slice_cmp nat_cmp)) (sym (unnamed packages p include exclude f fs h)) later
+      by_name : IsStrictlySortedBy (slice_cmp nat_cmp) (glob (paths_of fs) packages p include exclude) → (v : Option (List ℕ)) → name_in packages p f.path ≡ v → IsStrictlySortedBy (slice_cmp nat_cmp) (glob (f.path ∷ paths_of fs) packages p include exclude)
+      by_name later None h = subst (IsStrictlySortedBy (slice_cmp nat_cmp)) (sym (unnamed packages p include exclude f.path (paths_of fs) h)) later
       by_name later (Some n) h = elim (cases_Bool (is_wanted include exclude n)) [
-        | inl y ↦ subst (IsStrictlySortedBy (slice_cmp nat_cmp)) (sym (wanted packages p include exclude f fs n h y)) (more_sorted n (glob fs packages p include exclude) (all_less f n h fs (sorted_head path_cmp f fs s)) later)
-        | inr o ↦ subst (IsStrictlySortedBy (slice_cmp nat_cmp)) (sym (unwanted packages p include exclude f fs n h o)) later
+        | inl y ↦ subst (IsStrictlySortedBy (slice_cmp nat_cmp)) (sym (wanted packages p include exclude f.path (paths_of fs) n h y)) (more_sorted n (glob (paths_of fs) packages p include exclude) (all_less f n h fs (sorted_head path_cmp f fs s)) later)
+        | inr o ↦ subst (IsStrictlySortedBy (slice_cmp nat_cmp)) (sym (unwanted packages p include exclude f.path (paths_of fs) n h o)) later
       ]
 
-pub names_ascend : (files : List File) (packages : List BuildFile) (p : PackageParts) (include exclude : List (List ℕ)) → IsWorkspace files → IsStrictlySortedBy (slice_cmp nat_cmp) (glob files packages p include exclude)
+pub names_ascend : (files : List File) (packages : List BuildFile) (p : PackageParts) (include exclude : List (List ℕ)) → IsWorkspace files → IsStrictlySortedBy (slice_cmp nat_cmp) (glob (paths_of files) packages p include exclude)
 names_ascend files packages p include exclude w = ascending packages p include exclude files w.ascending
 
 -- ---- a path that is owned

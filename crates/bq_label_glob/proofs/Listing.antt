@@ -6,6 +6,7 @@ use Rattle.std.specs.List.{filter, cons_option, list_any}
 use Rattle.bq_label.specs.declared.workspace.File.{File}
 use Rattle.bq_label.specs.declared.packages.BuildFile.{BuildFile}
 use Rattle.bq_label.specs.Label.{PackageParts}
+use Rattle.bq_label.specs.Workspace.{paths_of}
 use Rattle.bq_label_glob_pattern.specs.Matching.{matches}
 use Rattle.bq_label_glob_pattern.specs.PatternSet.{is_match}
 use Rattle.bq_label_glob_pattern.specs.declared.pattern_set.PatternSet.{PatternSet}
@@ -28,7 +29,7 @@ module _ (packages : List BuildFile) (p : PackageParts) where
   owned path b o = rw (b, o) refl
 
   -- only files beneath the package's directory have names in it
-  pub beneath_alone : (files : List File) → names_in packages p (filter (λ f. is_beneath (directory p) f.path) files) ≡ names_in packages p files
+  pub beneath_alone : (files : List File) → names_in packages p (paths_of (filter (λ f. is_beneath (directory p) f.path) files)) ≡ names_in packages p (paths_of files)
   unfolding names_in
   beneath_alone [] = refl
   beneath_alone (f ∷ fs) = elim (cases_Bool (is_beneath (directory p) f.path)) [
@@ -37,72 +38,72 @@ module _ (packages : List BuildFile) (p : PackageParts) where
   ]
 
   module _ (include exclude : List (List ℕ)) where
-    pub all_beneath : (files beneath : List File) → beneath ≡ filter (λ f. is_beneath (directory p) f.path) files → glob beneath packages p include exclude ≡ glob files packages p include exclude
+    pub all_beneath : (files beneath : List File) → beneath ≡ filter (λ f. is_beneath (directory p) f.path) files → glob (paths_of beneath) packages p include exclude ≡ glob (paths_of files) packages p include exclude
     unfolding glob
-    all_beneath files beneath e = ap (λ (v : List File). filter (is_wanted include exclude) (names_in packages p v)) e ∙ ap (filter (is_wanted include exclude)) (beneath_alone files)
+    all_beneath files beneath e = ap (λ (v : List File). filter (is_wanted include exclude) (names_in packages p (paths_of v))) e ∙ ap (filter (is_wanted include exclude)) (beneath_alone files)
 
     pub none_given : glob [] packages p include exclude ≡ []
     unfolding glob names_in
     none_given = refl
 
-    pub unnamed : (f : File) (fs : List File) → name_in packages p f.path ≡ None → glob (f ∷ fs) packages p include exclude ≡ glob fs packages p include exclude
+    pub unnamed : (t : List ℕ) (ts : List (List ℕ)) → name_in packages p t ≡ None → glob (t ∷ ts) packages p include exclude ≡ glob ts packages p include exclude
     unfolding glob names_in
-    unnamed f fs e = rw e refl
+    unnamed t ts e = rw e refl
 
-    pub unwanted : (f : File) (fs : List File) (n : List ℕ) → name_in packages p f.path ≡ Some n → is_wanted include exclude n ≡ false → glob (f ∷ fs) packages p include exclude ≡ glob fs packages p include exclude
+    pub unwanted : (t : List ℕ) (ts : List (List ℕ)) (n : List ℕ) → name_in packages p t ≡ Some n → is_wanted include exclude n ≡ false → glob (t ∷ ts) packages p include exclude ≡ glob ts packages p include exclude
     unfolding glob names_in
-    unwanted f fs n e w = rw (e, w) refl
+    unwanted t ts n e w = rw (e, w) refl
 
-    pub wanted : (f : File) (fs : List File) (n : List ℕ) → name_in packages p f.path ≡ Some n → is_wanted include exclude n ≡ true → glob (f ∷ fs) packages p include exclude ≡ n ∷ glob fs packages p include exclude
+    pub wanted : (t : List ℕ) (ts : List (List ℕ)) (n : List ℕ) → name_in packages p t ≡ Some n → is_wanted include exclude n ≡ true → glob (t ∷ ts) packages p include exclude ≡ n ∷ glob ts packages p include exclude
     unfolding glob names_in
-    wanted f fs n e w = rw (e, w) refl
+    wanted t ts n e w = rw (e, w) refl
 
-    -- the package doesn't own the file
-    pub of_another : (f : File) (fs : List File) → is_owned packages p f.path ≡ false → glob (f ∷ fs) packages p include exclude ≡ glob fs packages p include exclude
-    of_another f fs o = elim (cases_Bool (is_beneath (directory p) f.path)) [
-      | inl b ↦ unnamed f fs (not_owned f.path b o)
-      | inr n ↦ unnamed f fs (not_beneath f.path n)
+    -- the package doesn't own the path
+    pub of_another : (t : List ℕ) (ts : List (List ℕ)) → is_owned packages p t ≡ false → glob (t ∷ ts) packages p include exclude ≡ glob ts packages p include exclude
+    of_another t ts o = elim (cases_Bool (is_beneath (directory p) t)) [
+      | inl b ↦ unnamed t ts (not_owned t b o)
+      | inr n ↦ unnamed t ts (not_beneath t n)
     ]
 
-    -- a file that this follows the package's directory in
-    module _ (d : List ℕ) (is : d ≡ directory p) (f : File) (fs : List File) where
-      pub elsewhere : is_beneath d f.path ≡ false → glob (f ∷ fs) packages p include exclude ≡ glob fs packages p include exclude
-      elsewhere n = unnamed f fs (not_beneath f.path (ap (λ (e : List ℕ). is_beneath e f.path) (sym is) ∙ n))
+    -- a path that this follows the package's directory in
+    module _ (d : List ℕ) (is : d ≡ directory p) (t : List ℕ) (ts : List (List ℕ)) where
+      pub elsewhere : is_beneath d t ≡ false → glob (t ∷ ts) packages p include exclude ≡ glob ts packages p include exclude
+      elsewhere n = unnamed t ts (not_beneath t (ap (λ (e : List ℕ). is_beneath e t) (sym is) ∙ n))
 
-      module _ (n : List ℕ) (beneath : is_beneath d f.path ≡ true) (after : n ≡ drop (length d) f.path) where
-        here : is_beneath (directory p) f.path ≡ true
-        here = ap (λ (e : List ℕ). is_beneath e f.path) (sym is) ∙ beneath
+      module _ (n : List ℕ) (beneath : is_beneath d t ≡ true) (after : n ≡ drop (length d) t) where
+        here : is_beneath (directory p) t ≡ true
+        here = ap (λ (e : List ℕ). is_beneath e t) (sym is) ∙ beneath
 
-        whole : n ≡ drop (length (directory p)) f.path
-        whole = after ∙ ap (λ (e : List ℕ). drop (length e) f.path) is
+        whole : n ≡ drop (length (directory p)) t
+        whole = after ∙ ap (λ (e : List ℕ). drop (length e) t) is
 
-        named : is_owned packages p f.path ≡ true → name_in packages p f.path ≡ Some n
-        named o = owned f.path here o ∙ ap (λ (m : List ℕ). Some m) (sym whole)
+        named : is_owned packages p t ≡ true → name_in packages p t ≡ Some n
+        named o = owned t here o ∙ ap (λ (m : List ℕ). Some m) (sym whole)
 
-        pub of_no_pattern : is_wanted include exclude n ≡ false → glob (f ∷ fs) packages p include exclude ≡ glob fs packages p include exclude
-        of_no_pattern w = elim (cases_Bool (is_owned packages p f.path)) [
-          | inl o ↦ unwanted f fs n (named o) w
-          | inr o ↦ unnamed f fs (not_owned f.path here o)
+        pub of_no_pattern : is_wanted include exclude n ≡ false → glob (t ∷ ts) packages p include exclude ≡ glob ts packages p include exclude
+        of_no_pattern w = elim (cases_Bool (is_owned packages p t)) [
+          | inl o ↦ unwanted t ts n (named o) w
+          | inr o ↦ unnamed t ts (not_owned t here o)
         ]
 
-        pub of_the_package : is_wanted include exclude n ≡ true → is_owned packages p f.path ≡ true → glob (f ∷ fs) packages p include exclude ≡ n ∷ glob fs packages p include exclude
-        of_the_package w o = wanted f fs n (named o) w
+        pub of_the_package : is_wanted include exclude n ≡ true → is_owned packages p t ≡ true → glob (t ∷ ts) packages p include exclude ≡ n ∷ glob ts packages p include exclude
+        of_the_package w o = wanted t ts n (named o) w
 
     -- the next file has no name in the package, or one that is not wanted
-    pub passes_over : (files : List File) (i : ℕ) (f : File) (given : List (List ℕ)) (total : List (List ℕ)) → i < length files → f ≡ get_or files i f → glob (f ∷ drop (i + 1) files) packages p include exclude ≡ glob (drop (i + 1) files) packages p include exclude
-        → given ++ glob (drop i files) packages p include exclude ≡ total → given ++ glob (drop (i + 1) files) packages p include exclude ≡ total
-    passes_over files i f given total l e same h = sym (ap (λ (v : List (List ℕ)). given ++ v) (ap (λ (v : List File). glob v packages p include exclude) (next_file files i f l e) ∙ same)) ∙ h
+    pub passes_over : (files : List File) (i : ℕ) (f : File) (given : List (List ℕ)) (total : List (List ℕ)) → i < length files → f ≡ get_or files i f → glob (f.path ∷ paths_of (drop (i + 1) files)) packages p include exclude ≡ glob (paths_of (drop (i + 1) files)) packages p include exclude
+        → given ++ glob (paths_of (drop i files)) packages p include exclude ≡ total → given ++ glob (paths_of (drop (i + 1) files)) packages p include exclude ≡ total
+    passes_over files i f given total l e same h = sym (ap (λ (v : List (List ℕ)). given ++ v) (ap (λ (v : List File). glob (paths_of v) packages p include exclude) (next_file files i f l e) ∙ same)) ∙ h
 
     -- the next file's name is given
-    pub gives : (files : List File) (i : ℕ) (f : File) (n : List ℕ) (given : List (List ℕ)) (total : List (List ℕ)) → i < length files → f ≡ get_or files i f → glob (f ∷ drop (i + 1) files) packages p include exclude ≡ n ∷ glob (drop (i + 1) files) packages p include exclude
-        → given ++ glob (drop i files) packages p include exclude ≡ total → (given ++ n ∷ []) ++ glob (drop (i + 1) files) packages p include exclude ≡ total
+    pub gives : (files : List File) (i : ℕ) (f : File) (n : List ℕ) (given : List (List ℕ)) (total : List (List ℕ)) → i < length files → f ≡ get_or files i f → glob (f.path ∷ paths_of (drop (i + 1) files)) packages p include exclude ≡ n ∷ glob (paths_of (drop (i + 1) files)) packages p include exclude
+        → given ++ glob (paths_of (drop i files)) packages p include exclude ≡ total → (given ++ n ∷ []) ++ glob (paths_of (drop (i + 1) files)) packages p include exclude ≡ total
     gives files i f n given total l e more h =
-        append_assoc given (n ∷ []) (glob (drop (i + 1) files) packages p include exclude)
-        ∙ (sym (ap (λ (v : List (List ℕ)). given ++ v) (ap (λ (v : List File). glob v packages p include exclude) (next_file files i f l e) ∙ more)) ∙ h)
+        append_assoc given (n ∷ []) (glob (paths_of (drop (i + 1) files)) packages p include exclude)
+        ∙ (sym (ap (λ (v : List (List ℕ)). given ++ v) (ap (λ (v : List File). glob (paths_of v) packages p include exclude) (next_file files i f l e) ∙ more)) ∙ h)
 
-    pub rest_is_none : (files : List File) (i : ℕ) (given total : List (List ℕ)) → length files ≤ i → given ++ glob (drop i files) packages p include exclude ≡ total → given ≡ total
+    pub rest_is_none : (files : List File) (i : ℕ) (given total : List (List ℕ)) → length files ≤ i → given ++ glob (paths_of (drop i files)) packages p include exclude ≡ total → given ≡ total
     rest_is_none files i given total l h =
-        sym (append-nil given) ∙ (ap (λ (v : List (List ℕ)). given ++ v) (sym (ap (λ (v : List File). glob v packages p include exclude) (drop_all i files l) ∙ none_given)) ∙ h)
+        sym (append-nil given) ∙ (ap (λ (v : List (List ℕ)). given ++ v) (sym (ap (λ (v : List File). glob (paths_of v) packages p include exclude) (drop_all i files l) ∙ none_given)) ∙ h)
 
 -- a name that a set of patterns matches and the excluded one doesn't is wanted
 pub wanted_is : (include exclude : List (List ℕ)) (i e : PatternSet) → ((n : List ℕ) → is_match i n ≡ list_any (λ p. matches p n) include) → ((n : List ℕ) → is_match e n ≡ list_any (λ p. matches p n) exclude) → (n : List ℕ) (r : Bool) → r ≡ (is_match i n && not (is_match e n)) → r ≡ is_wanted include exclude n

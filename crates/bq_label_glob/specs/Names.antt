@@ -43,17 +43,18 @@ unfoldable pub name_in : List BuildFile → PackageParts → List ℕ → Option
 name_in packages p path =
     if is_beneath (directory p) path && is_owned packages p path then Some (drop (length (directory p)) path) else None
 
--- the names of the package's files, in the order of the files
-unfoldable pub names_in : List BuildFile → PackageParts → List File → List (List ℕ)
-names_in packages p files = filter_map (λ f. name_in packages p f.path) files
+-- the names of the package's files, in the order of their paths
+unfoldable pub names_in : List BuildFile → PackageParts → List (List ℕ) → List (List ℕ)
+names_in packages p paths = filter_map (λ t. name_in packages p t) paths
 
 -- some pattern matches, and no excluded one
 unfoldable pub is_wanted : List (List ℕ) → List (List ℕ) → List ℕ → Bool
 is_wanted include exclude name = list_any (λ p. matches p name) include && not (list_any (λ p. matches p name) exclude)
 
--- the names that `glob` gives: the package's own files that a pattern of `include` matches and none of `exclude`, sorted
-unfoldable pub glob : List File → List BuildFile → PackageParts → List (List ℕ) → List (List ℕ) → List (List ℕ)
-glob files packages p include exclude = filter (is_wanted include exclude) (names_in packages p files)
+-- the names that `glob` gives, of the paths of all files: the package's own files that a pattern of `include` matches and none of
+-- `exclude`, sorted
+unfoldable pub glob : List (List ℕ) → List BuildFile → PackageParts → List (List ℕ) → List (List ℕ) → List (List ℕ)
+glob paths packages p include exclude = filter (is_wanted include exclude) (names_in packages p paths)
 
 -- ---- in words
 
@@ -70,11 +71,9 @@ pub record IsMatched (patterns : List (List ℕ)) (name : List ℕ) : Type 0 whe
   pub match : Matches pattern name
 
 -- the name is that of a file of the package that a pattern includes and none excludes
-pub record IsGiven (files : List File) (packages : List BuildFile) (p : PackageParts) (include exclude : List (List ℕ)) (name : List ℕ) : Type 0 where
-  pub file : File
-  pub known : Contains files file
-  pub path : file.path ≡ label_path (label_in p name)
-  pub owned : IsOwned packages p file.path
+pub record IsGiven (paths : List (List ℕ)) (packages : List BuildFile) (p : PackageParts) (include exclude : List (List ℕ)) (name : List ℕ) : Type 0 where
+  pub known : Contains paths (label_path (label_in p name))
+  pub owned : IsOwned packages p (label_path (label_in p name))
   pub included : IsMatched include name
   pub not_excluded : IsMatched exclude name → ⊥
 

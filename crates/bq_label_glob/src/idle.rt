@@ -2,6 +2,7 @@
 
 ghost use Rattle.std.specs.Prelude.{◌≡◌, [], ◌∷◌, IfOk};
 ghost use Rattle.std.specs.List.{list_any};
+ghost use Rattle.bq_label.specs.Workspace.{paths_of};
 ghost use Rattle.bq_label_glob.specs.Names.{glob};
 ghost use Rattle.bq_label_glob_pattern.specs.Matching.{is_nothing};
 
@@ -19,7 +20,7 @@ pub fn any_is_idle(
     id: &PackageId,
     patterns: &[Pattern],
 ) -> Result<bool, AllocError>
-    ensures { IfOk result (λ idle. idle ≡ list_any (λ p. is_nothing (glob workspace.now packages.now id.now (p ∷ []) [])) patterns.now) }
+    ensures { IfOk result (λ idle. idle ≡ list_any (λ p. is_nothing (glob (paths_of workspace.now) packages.now id.now (p ∷ []) [])) patterns.now) }
 {
     let names = glob(alloc, workspace, packages, id, patterns, &[])?;
     any_matches_none(alloc, patterns, &names)

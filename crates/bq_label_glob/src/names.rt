@@ -3,6 +3,7 @@
 ghost use Rattle.std.specs.Prelude.{◌≡◌, ◌≤◌, ◌&&◌, not, true, false, length, drop, Some, IfOk, MatchOption};
 ghost use Rattle.std.specs.List.{filter};
 ghost use Rattle.std.specs.List.Sorted.{IsPartitionPoint};
+ghost use Rattle.bq_label.specs.Workspace.{paths_of};
 ghost use Rattle.bq_label_glob.specs.Names.{directory, is_before, is_beneath, is_package, glob};
 ghost use Rattle.bq_label_glob_pattern.specs.PatternSet.{is_match};
 
@@ -97,7 +98,7 @@ pub fn glob(
     include: &[Pattern],
     exclude: &[Pattern],
 ) -> Result<Vec<Bytes>, AllocError>
-    ensures { IfOk result (λ names. names.items ≡ glob workspace.now packages.now id.now include.now exclude.now) }
+    ensures { IfOk result (λ names. names.items ≡ glob (paths_of workspace.now) packages.now id.now include.now exclude.now) }
 {
     let above = directory(alloc, id)?;
     let included = PatternSet::of(alloc, include)?;

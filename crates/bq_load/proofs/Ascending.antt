@@ -82,12 +82,12 @@ or_label l (Some m) = m
 
 named_id : (b : BuildFile) (l : LabelParts) → build_label b ≡ Some l → package_of l ≡ b.id
 unfolding build_label last_segment
-named_id b l e = elim (cases_Bool (is_path (last_segment b.file.path))) [
+named_id b l e = elim (cases_Bool (is_path (last_segment b.path))) [
   | inl h ↦
-      let one : Some (label_in b.id (last_segment b.file.path)) ≡ Some l = sym (ap (λ (z : Bool). if z then Some (label_in b.id (last_segment b.file.path)) else None) h) ∙ e in
+      let one : Some (label_in b.id (last_segment b.path)) ≡ Some l = sym (ap (λ (z : Bool). if z then Some (label_in b.id (last_segment b.path)) else None) h) ∙ e in
       sym (ap (λ (z : Option LabelParts). package_of (or_label l z)) one)
   | inr h ↦
-      let none : None ≡ Some l = sym (ap (λ (z : Bool). if z then Some (label_in b.id (last_segment b.file.path)) else None) h) ∙ e in
+      let none : None ≡ Some l = sym (ap (λ (z : Bool). if z then Some (label_in b.id (last_segment b.path)) else None) h) ∙ e in
       absurd (cc)
 ]
 

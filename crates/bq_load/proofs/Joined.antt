@@ -4,6 +4,7 @@ use Rattle.std.proofs.lemmas.List.{length-map}
 use Rattle.bq_label.specs.declared.workspace.File.{File}
 use Rattle.bq_label.specs.declared.packages.BuildFile.{BuildFile}
 use Rattle.bq_label.specs.Packages.{packages_of}
+use Rattle.bq_label.specs.Workspace.{paths_of}
 use Rattle.bq_resolve_scope.specs.Names.{Name}
 use Rattle.bq_package_schema.specs.Schema.{Rules}
 use Rattle.bq_base_limits.specs.declared.limits.Limits.{Limits}
@@ -16,8 +17,8 @@ use Rattle.bq_load.specs.Views.{OutcomeView}
 use Rattle.bq_load.specs.Results.{outcomes}
 use Rattle.bq_load.specs.Loaded.{IsLoaded, IsGathered, LoadsWithin}
 
-abbrev parts : List Module → List File → List BuildFile → Rules → List Name → ℕ → LoadingParts
-parts modules files packages rules names limit = record { modules = modules; files = files; packages = packages; rules = rules; names = names; limit = limit }
+abbrev parts : List Module → List (List ℕ) → List BuildFile → Rules → List Name → ℕ → LoadingParts
+parts modules paths packages rules names limit = record { modules = modules; paths = paths; packages = packages; rules = rules; names = names; limit = limit }
 
 pub as_wide : (g : GraphParts) → IsNumbered g → (modules : List Module) → modules ≡ g.modules → length g.edges ≡ length modules
 as_wide g n modules a = n.long ∙ (sym (ap length n.named) ∙ (length-map g.modules (λ (m : Module). m.label) ∙ sym (ap length a)))
@@ -28,8 +29,8 @@ outcomes_of_same x y p q os a b o = o ∙ (λ i. outcomes (a i) (b i))
 
 module _ (files : List File) (rules : Rules) (limit : ℕ) (g : GraphParts) (is : IsReadGraph (inputs_of files rules) g) where
   pub decided : (modules : List Module) (packages : List BuildFile) (names : List Name) → modules ≡ g.modules → packages ≡ g.packages → names ≡ rules.names
-      → parts modules files packages rules names limit ≡ loading_in files rules limit g
-  decided modules packages names a b c = let known : packages ≡ packages_of files = b ∙ is.packages in λ i. parts (a i) files (known i) rules (c i) limit
+      → parts modules (paths_of files) packages rules names limit ≡ loading_in files rules limit g
+  decided modules packages names a b c = let known : packages ≡ packages_of files = b ∙ is.packages in λ i. parts (a i) (paths_of files) (known i) rules (c i) limit
 
   -- what modules give with the packages of the load graph
   pub gathered_is : (bs : List BuildFile) (os : List OutcomeView) (l : Loaded) → bs ≡ g.packages → os ≡ outcomes (loading_in files rules limit g) g.edges → IsGathered bs os l → IsLoaded (loading_in files rules limit g) g.edges l

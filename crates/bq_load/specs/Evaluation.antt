@@ -35,7 +35,7 @@ use Rattle.bq_load.specs.Imports.{LoadedParts, imports}
 
 abbrev pub kept_by : LoadingParts → LabelParts → FileKind → HeldPackage
 kept_by x l kinds.Bzl = outside (package_of l) x.packages
-kept_by x l kinds.Build = declaring (record { place = record { own = package_of l; files = x.files; packages = x.packages; rules = x.rules }; «package» = no_targets l })
+kept_by x l kinds.Build = declaring (record { place = record { own = package_of l; paths = x.paths; packages = x.packages; rules = x.rules }; «package» = no_targets l })
 
 -- what the host of a file keeps at first: a BUILD file begins with a package without targets; a .bzl file declares none
 abbrev pub kept_first : LoadingParts → LabelParts → HeldPackage

@@ -8,6 +8,7 @@ use Rattle.std.specs.BTreeMap.{BTreeMap, get_by}
 use Rattle.std.specs.Borrow.{Bor}
 use Rattle.bq_resolve_scope.specs.Names.{Name}
 
+-- for each name of a list, the place of its first occurrence
 abbrev pub Places : Type 0
 Places = BTreeMap (Bor (List ℕ)) ℕ
 
@@ -15,7 +16,7 @@ Places = BTreeMap (Bor (List ℕ)) ℕ
 abbrev pub place_in : Places → Name → Option ℕ
 place_in m name = get_by (λ k. slice_cmp nat_cmp name k.now) m
 
--- it has the place of the first of each name, where the first of these is of that place
+-- the map gives each name the place of its first occurrence in the list, which begins at place `i`, and no other name a place
 abbrev pub HasPlaces : ℕ → List Name → Places → Type 0
 HasPlaces i ns m = (name : Name) → place_in m name ≡ position_from (bytes_eq name) i ns
 

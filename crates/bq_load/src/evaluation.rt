@@ -100,6 +100,7 @@ impl<'a> Loading<'a> {
             loaded: loaded.as_slice(),
             imports,
             files: self.resolved.as_slice(),
+            once: self.once,
         };
         // PROOF: the file is run as this module
         Ok(self.run(alloc, module.label, &resolved)?)

@@ -56,17 +56,17 @@ pub(crate) fn fault_lines(
     Ok(lines)
 }
 
-/// Appends `LABEL: TEXT` and a newline for each text. Long texts are shared, not copied.
+/// Appends `LABEL: TEXT` and a newline for each text. Long labels and texts are shared, not copied.
 fn push_prints(
     alloc: Global,
     text: &mut Rope,
-    form: &[u8],
+    form: &Bytes,
     prints: &[Bytes],
 ) -> Result<(), AllocError>
     ensures { OnOk result (text.new ≡ text.old ++ flat_map (print_line form.now) prints.now) }
 {
     for print in prints {
-        text.push_slice(form)?;
+        text.push_bytes(alloc, form)?;
         text.push_slice(b": ")?;
         text.push_bytes(alloc, print)?;
         text.push_slice(b"\n")?;
@@ -86,7 +86,7 @@ fn push_module(alloc: Global, text: &mut Rope, module: &ModuleOutcome) -> Result
         return Ok(());
     }
     let form = shown(alloc, &module.label)?;
-    push_prints(alloc, text, form.as_slice(), prints)
+    push_prints(alloc, text, &form, prints)
 }
 
 /// Returns the print lines of modules: in the order of their labels, and for each in the order of its calls.

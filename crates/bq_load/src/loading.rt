@@ -3,14 +3,15 @@
 ghost use Rattle.std.specs.Prelude.{◌≡◌, IfOk};
 ghost use Rattle.std.specs.Option.{option_copied};
 ghost use Rattle.bq_load_module.specs.Round.{lent_files};
-ghost use Rattle.bq_load.specs.ResolvedFiles.{front_file, resolved_files};
+ghost use Rattle.bq_load.specs.ResolvedFiles.{front_file, loaded_file, resolved_files};
 
 use bq_base::{Fault, FaultKind};
 use bq_label::{Packages, Workspace};
 use bq_load_discover::{LoadGraph, Module};
-use bq_load_front::Front;
+use bq_load_front::{Front, kind_of};
 use bq_package_host::BuiltIns;
 use bq_package_schema::Schema;
+use bq_parse_grammar::FileKind;
 use bq_resolve_scope::ResolvedFile;
 use bq_value_seed::Seed;
 use std::alloc::{AllocError, Global};
@@ -23,8 +24,10 @@ pub struct Loading<'a> {
     pub schema: &'a Schema,
     pub built_ins: BuiltIns,
     pub modules: &'a [Module],
-    /// The resolved file of each module that has no fault of its own, as evaluations borrow it.
+    /// The resolved file of each .bzl file that has no fault of its own, as evaluations borrow it.
     pub resolved: Vec<Option<&'a ResolvedFile>>,
+    /// Whether the statements of a file may be dropped once they have run.
+    pub once: bool,
     /// How many steps the evaluation of each module may take.
     pub limit: u64,
     /// What dicts hash their keys by.
@@ -59,6 +62,7 @@ impl<'a> Loading<'a> {
             built_ins: BuiltIns::new(schema.shared_names()?),
             modules,
             resolved: resolved_files(alloc, modules)?,
+            once: graph.is_evaluated_once(),
             limit,
             seed,
         })
@@ -75,7 +79,17 @@ fn front_file(front: &Result<Front, Fault<FaultKind>>) -> Option<&ResolvedFile>
     }
 }
 
-/// Returns the resolved files of modules.
+/// Returns the resolved file of a module that others may load, unless it has a fault of its own.
+fn loaded_file(module: &Module) -> Option<&ResolvedFile>
+    ensures { option_copied result ≡ loaded_file «module».now }
+{
+    match kind_of(&module.label) {
+        FileKind::Bzl => front_file(&module.front),
+        FileKind::Build => None,
+    }
+}
+
+/// Returns the resolved files of the .bzl files among modules, by the modules' numbers.
 fn resolved_files(
     alloc: Global,
     modules: &[Module],
@@ -84,7 +98,7 @@ fn resolved_files(
 {
     let mut resolved = Vec::with_capacity(alloc, modules.len())?;
     for each in modules {
-        resolved.push(front_file(&each.front))?;
+        resolved.push(loaded_file(each))?;
     }
     Ok(resolved)
 }

@@ -24,6 +24,10 @@ use Rattle.bq_load_by_name.specs.Results.{line_of_load}
 abbrev pub file_by : Result ParsedFront (Fault FaultKind) → Option ParsedFile
 file_by r = elim r [ Err why ↦ None | Ok front ↦ Some front.file ]
 
+-- a file of this kind that others may load
+abbrev pub file_by_kind : FileKind → Result ParsedFront (Fault FaultKind) → Option ParsedFile
+file_by_kind kind r = elim kind [ kinds.Bzl ↦ file_by r | kinds.Build ↦ None ]
+
 -- the names that a parsed file binds at its top level
 abbrev pub globals_by : Option (Option ParsedFile) → List Name
 globals_by o = elim o [ Some (Some file) ↦ global_names file.statements | _ ↦ [] ]
@@ -33,7 +37,7 @@ abbrev pub kept_by : ParsedParts → LabelParts → FileKind → HeldPackage
 kept_by x l kind = elim kind [
   | kinds.Bzl ↦ outside (package_of l) x.packages
   | kinds.Build ↦
-      declaring (record { place = record { own = package_of l; files = x.files; packages = x.packages; rules = x.rules }; «package» = no_targets l })
+      declaring (record { place = record { own = package_of l; paths = x.paths; packages = x.packages; rules = x.rules }; «package» = no_targets l })
 ]
 
 -- a module, by what its loads gave

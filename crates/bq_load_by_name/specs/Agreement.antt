@@ -28,7 +28,7 @@ AreReadAs ss ms = InOrder IsReadAs ss ms
 
 -- what is read of a load graph, with these modules in place of those that were read
 abbrev pub with_modules : LoadingParts → List ParsedModule → ParsedParts
-with_modules x modules = record { modules = modules; files = x.files; packages = x.packages; rules = x.rules; names = x.names; limit = x.limit }
+with_modules x modules = record { modules = modules; paths = x.paths; packages = x.packages; rules = x.rules; names = x.names; limit = x.limit }
 
 -- the modules of a load graph are read as what their files are
 abbrev pub ModulesAreRead : Type 0

@@ -28,7 +28,7 @@ abbrev pub kept_first : ParsedParts → LabelParts → HeldPackage
 kept_first x l = elim (kind_of l) [
   | kinds.Bzl ↦ outside (package_of l) x.packages
   | kinds.Build ↦
-      declaring (record { place = record { own = package_of l; files = x.files; packages = x.packages; rules = x.rules }; «package» = no_targets l })
+      declaring (record { place = record { own = package_of l; paths = x.paths; packages = x.packages; rules = x.rules }; «package» = no_targets l })
 ]
 
 -- the statements of a file run as the module of this number, with these modules loaded and a value for each clause of its loads

@@ -30,6 +30,7 @@ fn load_graph(
     limits: Limits,
     packages: Packages,
     modules: Vec<Module>,
+    once: bool,
 ) -> Result<LoadGraph, LoadErr>
     requires bounded { AreBounded limits }
     requires few { length modules.items ≤ limits.modules }
@@ -39,7 +40,7 @@ fn load_graph(
     let modules = sorted(modules);
     let labels = labels(alloc, &modules)?;
     let edges = edges(alloc, limits, &labels, &modules)?;
-    Ok(LoadGraph::of(labels, modules, edges, packages))
+    Ok(LoadGraph::of(labels, modules, edges, packages, once))
 }
 
 /// Makes the load graph of the modules that were found in a workspace, if they aren't too many.
@@ -50,6 +51,7 @@ fn load_graph_of(
     schema: &Schema,
     packages: Packages,
     found: Option<Vec<Module>>,
+    once: bool,
 ) -> Result<LoadGraph, LoadErr>
     requires bounded { AreBounded limits }
     requires packages { packages ≡ packages_of workspace.now }
@@ -60,7 +62,7 @@ fn load_graph_of(
     let _ = schema;
     match found {
         None => Err(LoadErr::TooManyModules),
-        Some(modules) => load_graph(alloc, limits, packages, modules),
+        Some(modules) => load_graph(alloc, limits, packages, modules, once),
     }
 }
 
@@ -104,19 +106,33 @@ impl<'a> Discovery<'a> {
 }
 
 /// Finds the load graph of a workspace with the rules of the schema, by the standard limits. It takes time linear in the
-/// files and loads of its modules, but for the order of the labels, which takes n log n.
+/// files and loads of its modules, but for the order of the labels, which takes n log n. It may be evaluated many times.
 pub fn discover(alloc: Global, workspace: &Workspace, schema: &Schema) -> Result<LoadGraph, LoadErr>
     ensures { Discovers (inputs_of workspace.now schema.now) result }
 {
-    discover_within(alloc, workspace, schema, Limits::standard())
+    discover_for(alloc, workspace, schema, Limits::standard(), false)
 }
 
-/// Finds the load graph of a workspace, as [`discover`] does, by these limits.
+/// Finds the load graph of a workspace, as [`discover`] does, by these limits, to be evaluated once.
 pub fn discover_within(
     alloc: Global,
     workspace: &Workspace,
     schema: &Schema,
     limits: Limits,
+) -> Result<LoadGraph, LoadErr>
+    requires { AreBounded limits }
+    ensures { DiscoversWithin limits (inputs_of workspace.now schema.now) result }
+{
+    discover_for(alloc, workspace, schema, limits, true)
+}
+
+/// Finds the load graph of a workspace, to be evaluated once or many times.
+fn discover_for(
+    alloc: Global,
+    workspace: &Workspace,
+    schema: &Schema,
+    limits: Limits,
+    once: bool,
 ) -> Result<LoadGraph, LoadErr>
     requires { AreBounded limits }
     ensures { DiscoversWithin limits (inputs_of workspace.now schema.now) result }
@@ -128,7 +144,7 @@ pub fn discover_within(
         packages: &packages,
     }
     .modules(alloc, limits)?;
-    load_graph_of(alloc, limits, workspace, schema, packages, found)
+    load_graph_of(alloc, limits, workspace, schema, packages, found, once)
 }
 
 /// Finds the load graph of a workspace, as [`discover_within`] does. Its files are read in at most `workers` threads.
@@ -151,5 +167,5 @@ pub fn discover_by_workers<R: Threads + Sync>(
         packages: &packages,
     }
     .modules_by(rt, alloc, limits, workers)?;
-    load_graph_of(alloc, limits, workspace, schema, packages, found)
+    load_graph_of(alloc, limits, workspace, schema, packages, found, true)
 }

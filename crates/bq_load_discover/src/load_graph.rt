@@ -17,6 +17,8 @@ pub struct LoadGraph {
     modules: Vec<Module>,
     edges: Graph,
     packages: Packages,
+    /// Whether what a file holds may be dropped once it is evaluated.
+    is_evaluated_once: bool,
 }
 
 impl Drop for LoadGraph {
@@ -27,6 +29,7 @@ impl Drop for LoadGraph {
             modules: _,
             edges: _,
             packages: _,
+            is_evaluated_once: _,
         } = self;
     }
 }
@@ -50,12 +53,13 @@ impl Model for LoadGraph {
 impl LoadGraph {
     ghost use Rattle.bq_load_discover.specs.LoadGraph.{GraphParts, IsNumbered};
 
-    /// Makes the load graph of these parts.
+    /// Makes the load graph of these parts, which is evaluated once or many times.
     pub(crate) fn of(
         labels: LabelSet,
         modules: Vec<Module>,
         edges: Graph,
         packages: Packages,
+        is_evaluated_once: bool,
     ) -> LoadGraph
         requires { IsNumbered (record { labels = labels; modules = modules.items; edges = edges; packages = packages }) }
         ensures { result ≡ record { labels = labels; modules = modules.items; edges = edges; packages = packages } }
@@ -65,7 +69,13 @@ impl LoadGraph {
             modules,
             edges,
             packages,
+            is_evaluated_once,
         }
+    }
+
+    /// Returns whether what a file holds may be dropped once it is evaluated.
+    pub fn is_evaluated_once(&self) -> bool {
+        self.is_evaluated_once
     }
 
     /// Returns the labels of the modules, each once, in the order of the bytes of their full forms. A module's number
@@ -115,6 +125,7 @@ impl LoadGraph {
             modules: _,
             edges: _,
             packages,
+            is_evaluated_once: _,
         } = self;
         (labels, packages)
     }
@@ -131,6 +142,7 @@ impl LoadGraph {
             mut modules,
             edges: _,
             packages,
+            is_evaluated_once: _,
         } = self;
         let each = |_: usize, module: &mut Module| module.forget();
         thread::for_each_mut(rt, modules.as_mut_slice(), threads, &each);

@@ -11,7 +11,7 @@ use Rattle.bq_board_plan.specs.Cycles.{is_cyclic, starts_path}
 use Rattle.bq_board_plan.specs.Depth.{max_load_depth, is_too_deep}
 use Rattle.bq_board_plan.specs.Topological.{IsTopologicalOrder, MarksCycles}
 use Rattle.bq_board_plan.proofs.Lemmas.{Has_snoc, Has-get_or, at_zero, zero_from, bool_cases}
-use Rattle.bq_load_outcome_spec.specs.Outcome.{first, values, evaluated, outcome}
+use Rattle.bq_load_outcome_spec.specs.Outcome.{first, load_values, evaluated, outcome}
 use Rattle.bq_load_outcome_spec.specs.declared.outcome.Outcome.{Outcome}
 use Rattle.bq_load_outcome_spec.specs.declared.outcome.Outcome.TheVariants.{Cyclic, TooDeep}
 use Rattle.bq_load_outcome_spec.proofs.Solution.{values_same, cyclic_is, deep_is, evaluated_is, outcome_is}
@@ -119,7 +119,7 @@ module _ {V F : Type 0} (out : ℕ → Outcome V F) where
 
 module _ {V F : Type 0} (means : ℕ → List V → Result V F) (p : Loads) where
   -- a module's outcome is what it evaluates to by what was found for its loads
-  pub found_outcome : (slots : List (Option (Outcome V F))) (m : ℕ) → Ready (outcome means p) p slots m → is_too_deep p m ≡ false → (r : Result (List V) ℕ) → r ≡ values (found_at slots) (row p m) → evaluated (means m) r ≡ outcome means p m
+  pub found_outcome : (slots : List (Option (Outcome V F))) (m : ℕ) → Ready (outcome means p) p slots m → is_too_deep p m ≡ false → (r : Result (List V) ℕ) → r ≡ load_values (found_at slots) (row p m) → evaluated (means m) r ≡ outcome means p m
   found_outcome slots m ready d r e =
       ap (evaluated (means m)) (e ∙ values_same (found_at slots) (outcome means p) (row p m) (λ l h. ap or_failed (ready.done l h)))
       ∙ sym (outcome_is means p m ∙ evaluated_is means p (outcome means p) m ready.acyclic d)

@@ -4,7 +4,7 @@ use Rattle.std.specs.declared.sync.Arc.{Arc}
 use Rattle.std.specs.declared.alloc.Global.{Global}
 use Rattle.std.proofs.lemmas.List.{map_push}
 use Rattle.bq_load_outcome_spec.specs.declared.outcome.Outcome.{Outcome}
-use Rattle.bq_load_outcome_spec.specs.Outcome.{values}
+use Rattle.bq_load_outcome_spec.specs.Outcome.{load_values}
 use Rattle.bq_load_order.specs.Shown.{seen_value, slot, value_in}
 use Rattle.bq_load_order.specs.Slots.{found_at, or_failed}
 use Rattle.bq_load_order.proofs.Values.{before, values_begin, values_next, values_stop, values_end}
@@ -15,7 +15,7 @@ module _ {M N V F : Type 0} (see : M → V) (see_fault : N → F) (found : List 
   meant a = see a.value
 
   abbrev all : List ℕ → Result (List V) ℕ
-  all = values (found_at (map (slot see see_fault) found))
+  all = load_values (found_at (map (slot see see_fault) found))
 
   -- these are the values of the first i loads
   abbrev pub Imported : ℕ → List (Arc M Global) → Type 0

@@ -1,7 +1,7 @@
 //! The values of what a module loads.
 ghost use Rattle.std.specs.Prelude.{◌≡◌, ℕ, ◌<◌, length, map, IfOk};
 ghost use Rattle.bq_board_plan.specs.Counts.{Has};
-ghost use Rattle.bq_load_outcome_spec.specs.Outcome.{values};
+ghost use Rattle.bq_load_outcome_spec.specs.Outcome.{load_values};
 ghost use Rattle.bq_load_order.specs.Shown.{seen, seen_value, slot, value_in};
 ghost use Rattle.bq_load_order.specs.Slots.{found_at, or_failed};
 
@@ -17,7 +17,7 @@ pub fn imported<E: Evaluate>(
     loads: &[u32],
 ) -> Result<Result<Vec<Arc<E::Value, Global>>, u32>, AllocError>
     requires { (l : ℕ) → Has loads.now l → l < length found.now }
-    ensures { IfOk result (λ r. seen E.see r ≡ values (found_at (map (slot E.see E.see_fault) found.now)) loads.now) }
+    ensures { IfOk result (λ r. seen E.see r ≡ load_values (found_at (map (slot E.see E.see_fault) found.now)) loads.now) }
 {
     let mut imports = Vec::new(alloc);
     for l in loads {

@@ -5,7 +5,7 @@ use Rattle.bq_board_plan.specs.Graph.{Loads, row}
 use Rattle.bq_board_plan.specs.Cycles.{starts_path, is_cyclic, TestsPaths, LoadsACyclic}
 use Rattle.bq_board_plan.specs.Depth.{max_load_depth, is_too_deep, LoadsADeep, DeepIsReached}
 use Rattle.bq_board_plan.proofs.Lemmas.{bool_cases, cons_has, at_split}
-use Rattle.bq_load_outcome_spec.specs.Outcome.{first, with_value, values, evaluated, outcome}
+use Rattle.bq_load_outcome_spec.specs.Outcome.{first, with_load_value, load_values, evaluated, outcome}
 use Rattle.bq_load_outcome_spec.specs.Laws.{IsFirst, CyclicOutcome, TooDeepOutcome, FailedLoadOutcome, LoadedOutcome, OutcomeByPlan}
 use Rattle.bq_load_outcome_spec.specs.declared.outcome.Outcome.{Outcome}
 use Rattle.bq_load_outcome_spec.specs.declared.outcome.Outcome.TheVariants.{Loaded, Faulty, Cyclic, TooDeep, LoadFailed}
@@ -30,7 +30,7 @@ first_is f (x ∷ xs) k h t = let P : ℕ → Type 0 = IsFirst (λ y. f y ≡ tr
 
 module _ {V F : Type 0} where
   -- an outcome is a value, or ends the list of values
-  look : (o : Outcome V F) → ((v : V) × (o ≡ Loaded v)) ⊎ ((¬ ((v : V) × (o ≡ Loaded v))) × ((x : ℕ) (r : Result (List V) ℕ) → with_value o x r ≡ Err x))
+  look : (o : Outcome V F) → ((v : V) × (o ≡ Loaded v)) ⊎ ((¬ ((v : V) × (o ≡ Loaded v))) × ((x : ℕ) (r : Result (List V) ℕ) → with_load_value o x r ≡ Err x))
   look (Loaded v) = inl (v, refl)
   look (Faulty e) = inr ((λ t. let q : Faulty e ≡ Loaded t.0 = t.1 in absurd (cc)), λ x r. refl)
   look (Cyclic l) = inr ((λ t. let q : Cyclic l ≡ Loaded t.0 = t.1 in absurd (cc)), λ x r. refl)
@@ -41,14 +41,14 @@ module _ {V F : Type 0} where
     abbrev HasOne : ℕ → Type 0
     HasOne y = (v : V) × (at y ≡ Loaded v)
 
-    first_failed : (xs : List ℕ) (k : ℕ) → Has xs k → ¬ HasOne k → (l : ℕ) × (values at xs ≡ Err l) × IsFirst (λ y. ¬ HasOne y) HasOne xs l
+    first_failed : (xs : List ℕ) (k : ℕ) → Has xs k → ¬ HasOne k → (l : ℕ) × (load_values at xs ≡ Err l) × IsFirst (λ y. ¬ HasOne y) HasOne xs l
     first_failed [] k h no-value = absurd (omega arith)
     first_failed (x ∷ xs) k h no-value = elim (look (at x)) [
       | inl one ↦
           let rest : Has xs k = elim (cons_has x xs k h) [ inl e ↦ absurd (no-value (subst HasOne e one)) | inr had ↦ had ] in
           let r = first_failed xs k rest no-value in (
             r.0,
-            (λ i. with_value (one.1 i) x (r.1 i)),
+            (λ i. with_load_value (one.1 i) x (r.1 i)),
             record {
               before = x ∷ r.2.before;
               after = r.2.after;
@@ -57,14 +57,14 @@ module _ {V F : Type 0} where
               earlier = λ y had. elim (cons_has x r.2.before y had) [ inl e ↦ subst HasOne e one | inr old ↦ r.2.earlier y old ];
             },
           )
-      | inr none-here ↦ (x, none-here.1 x (values at xs), record { before = []; after = xs; split = refl; here = none-here.0; earlier = λ y had. absurd (omega arith) })
+      | inr none-here ↦ (x, none-here.1 x (load_values at xs), record { before = []; after = xs; split = refl; here = none-here.0; earlier = λ y had. absurd (omega arith) })
     ]
 
-    all_values : (xs : List ℕ) (vs : List V) → map at xs ≡ map Loaded vs → values at xs ≡ Ok vs
+    all_values : (xs : List ℕ) (vs : List V) → map at xs ≡ map Loaded vs → load_values at xs ≡ Ok vs
     all_values [] [] e = refl
     all_values [] (v ∷ vs) e = absurd (cc)
     all_values (x ∷ xs) [] e = absurd (cc)
-    all_values (x ∷ xs) (v ∷ vs) e = let head : at x ≡ Loaded v = cc in let tail : map at xs ≡ map Loaded vs = cc in let r = all_values xs vs tail in λ i. with_value (head i) x (r i)
+    all_values (x ∷ xs) (v ∷ vs) e = let head : at x ≡ Loaded v = cc in let tail : map at xs ≡ map Loaded vs = cc in let r = all_values xs vs tail in λ i. with_load_value (head i) x (r i)
 
 module _ {V F : Type 0} (means : ℕ → List V → Result V F) (p : Loads) where
   pub cyclic_says : LoadsACyclic p → CyclicOutcome means p
@@ -108,4 +108,4 @@ module _ {V F : Type 0} (means : ℕ → List V → Result V F) (p : Loads) wher
   loaded_says m vs e d same = outcome_is means p m ∙ evaluated_is means p (outcome means p) m e d ∙ ap (evaluated (means m)) (all_values (outcome means p) (row p m) vs same)
 
   pub by_plan_says : (q : Loads) → OutcomeByPlan means p q
-  by_plan_says q cut m e d = outcome_is means p m ∙ evaluated_is means p (outcome means p) m e d ∙ ap (λ xs. evaluated (means m) (values (outcome means p) xs)) (sym ((cut.each m).rest e d))
+  by_plan_says q cut m e d = outcome_is means p m ∙ evaluated_is means p (outcome means p) m e d ∙ ap (λ xs. evaluated (means m) (load_values (outcome means p) xs)) (sym ((cut.each m).rest e d))

@@ -7,7 +7,7 @@ use Rattle.bq_board_plan.specs.Graph.{Loads, row, Known}
 use Rattle.bq_board_plan.specs.Depth.{max_load_depth, is_too_deep}
 use Rattle.bq_board_plan.specs.Cycles.{starts_path, is_cyclic, PathTo, Reaches, ReachesACycle}
 use Rattle.bq_board_plan.proofs.Lemmas.{bool_cases, head_has, tail_has, loads_acyclic}
-use Rattle.bq_load_outcome_spec.specs.Outcome.{first, values, evaluated, outcome}
+use Rattle.bq_load_outcome_spec.specs.Outcome.{first, load_values, evaluated, outcome}
 use Rattle.bq_load_outcome_spec.specs.Laws.{OutcomeOfReached}
 use Rattle.bq_load_outcome_spec.specs.declared.outcome.Outcome.TheVariants.{Cyclic, TooDeep}
 use Rattle.bq_load_outcome_spec.proofs.Solution.{values_same, cyclic_is, deep_is, evaluated_is, outcome_is}
@@ -86,12 +86,12 @@ module _ {V F : Type 0} (means others : ℕ → List V → Result V F) (p q : Lo
         | inl yes-it ↦ cyclic_alike x (load l x r h) yes-it
         | inr not-it ↦ acyclic_alike k x (load l x r h) not-it (loads_acyclic p k l x none-path h)
       ] in
-      let vs : values (outcome means p) (row p l) ≡ values (outcome others q) (row q l) = values_same (outcome means p) (outcome others q) (row p l) same ∙ ap (values (outcome others q)) (agree l r).0 in
+      let vs : load_values (outcome means p) (row p l) ≡ load_values (outcome others q) (row q l) = values_same (outcome means p) (outcome others q) (row p l) same ∙ ap (load_values (outcome others q)) (agree l r).0 in
       elim (bool_cases (is_too_deep p l)) [
         | inl yes-it ↦ deep_alike l r yes-it
         | inr not-it ↦
             outcome_is means p l ∙ evaluated_is means p (outcome means p) l e not-it ∙ ap (evaluated (means l)) vs
-            ∙ evaluated_same (means l) (others l) (values (outcome others q) (row q l)) (agree l r).1
+            ∙ evaluated_same (means l) (others l) (load_values (outcome others q) (row q l)) (agree l r).1
             ∙ sym (outcome_is others q l ∙ evaluated_is others q (outcome others q) l (sym (cyclic_same l r) ∙ e) (sym (deep_same l r) ∙ not-it))
       ]
 

@@ -5,7 +5,7 @@ use Rattle.bq_board_plan.specs.Graph.{Loads, row}
 use Rattle.bq_board_plan.specs.Cycles.{starts_path, is_cyclic}
 use Rattle.bq_board_plan.specs.Depth.{max_load_depth, is_too_deep}
 use Rattle.bq_board_plan.proofs.Lemmas.{bool_cases, head_has, tail_has, loads_acyclic, deep_both}
-use Rattle.bq_load_outcome_spec.specs.Outcome.{first, with_value, values, evaluated, by_loads, outcome_within, outcome, IsByLoads, HasOneSolution}
+use Rattle.bq_load_outcome_spec.specs.Outcome.{first, with_load_value, load_values, evaluated, by_loads, outcome_within, outcome, IsByLoads, HasOneSolution}
 use Rattle.bq_load_outcome_spec.specs.declared.outcome.Outcome.{Outcome}
 use Rattle.bq_load_outcome_spec.specs.declared.outcome.Outcome.TheVariants.{Cyclic, TooDeep}
 
@@ -18,9 +18,9 @@ cond_false true x y e = absurd (cc)
 cond_false false x y e = refl
 
 module _ {V F : Type 0} where
-  pub values_same : (at to : ℕ → Outcome V F) (xs : List ℕ) → ((l : ℕ) → Has xs l → at l ≡ to l) → values at xs ≡ values to xs
+  pub values_same : (at to : ℕ → Outcome V F) (xs : List ℕ) → ((l : ℕ) → Has xs l → at l ≡ to l) → load_values at xs ≡ load_values to xs
   values_same at to [] h = refl
-  values_same at to (x ∷ xs) h = let e = h x (head_has x xs) in let r = values_same at to xs (λ l k. h l (tail_has x xs l k)) in λ i. with_value (e i) x (r i)
+  values_same at to (x ∷ xs) h = let e = h x (head_has x xs) in let r = values_same at to xs (λ l k. h l (tail_has x xs l k)) in λ i. with_load_value (e i) x (r i)
 
 module _ {V F : Type 0} (means : ℕ → List V → Result V F) (p : Loads) where
   abbrev deep : ℕ → Outcome V F
@@ -32,17 +32,17 @@ module _ {V F : Type 0} (means : ℕ → List V → Result V F) (p : Loads) wher
 
   pub cyclic_is : (at : ℕ → Outcome V F) (m : ℕ) → is_cyclic p m ≡ true → by_loads means p at m ≡ Cyclic (first (is_cyclic p) (row p m))
   unfolding by_loads
-  cyclic_is at m e = cond_true (is_cyclic p m) (Cyclic (first (is_cyclic p) (row p m))) (by_values m (values at (row p m))) e
+  cyclic_is at m e = cond_true (is_cyclic p m) (Cyclic (first (is_cyclic p) (row p m))) (by_values m (load_values at (row p m))) e
 
-  acyclic_is : (at : ℕ → Outcome V F) (m : ℕ) → is_cyclic p m ≡ false → by_loads means p at m ≡ by_values m (values at (row p m))
+  acyclic_is : (at : ℕ → Outcome V F) (m : ℕ) → is_cyclic p m ≡ false → by_loads means p at m ≡ by_values m (load_values at (row p m))
   unfolding by_loads
-  acyclic_is at m e = cond_false (is_cyclic p m) (Cyclic (first (is_cyclic p) (row p m))) (by_values m (values at (row p m))) e
+  acyclic_is at m e = cond_false (is_cyclic p m) (Cyclic (first (is_cyclic p) (row p m))) (by_values m (load_values at (row p m))) e
 
   pub deep_is : (at : ℕ → Outcome V F) (m : ℕ) → is_too_deep p m ≡ true → by_loads means p at m ≡ TooDeep (first (starts_path p max_load_depth) (row p m))
-  deep_is at m e = acyclic_is at m (deep_both p m e).0 ∙ cond_true (is_too_deep p m) (deep m) (evaluated (means m) (values at (row p m))) e
+  deep_is at m e = acyclic_is at m (deep_both p m e).0 ∙ cond_true (is_too_deep p m) (deep m) (evaluated (means m) (load_values at (row p m))) e
 
-  pub evaluated_is : (at : ℕ → Outcome V F) (m : ℕ) → is_cyclic p m ≡ false → is_too_deep p m ≡ false → by_loads means p at m ≡ evaluated (means m) (values at (row p m))
-  evaluated_is at m e d = acyclic_is at m e ∙ cond_false (is_too_deep p m) (deep m) (evaluated (means m) (values at (row p m))) d
+  pub evaluated_is : (at : ℕ → Outcome V F) (m : ℕ) → is_cyclic p m ≡ false → is_too_deep p m ≡ false → by_loads means p at m ≡ evaluated (means m) (load_values at (row p m))
+  evaluated_is at m e d = acyclic_is at m e ∙ cond_false (is_too_deep p m) (deep m) (evaluated (means m) (load_values at (row p m))) d
 
   by_loads_same : (at to : ℕ → Outcome V F) (m : ℕ) → ((l : ℕ) → Has (row p m) l → at l ≡ to l) → by_loads means p at m ≡ by_loads means p to m
   unfolding by_loads

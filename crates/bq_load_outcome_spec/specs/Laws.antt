@@ -5,7 +5,7 @@ use Rattle.bq_board_plan.specs.Graph.{Loads, row, Known}
 use Rattle.bq_board_plan.specs.Cycles.{is_cyclic, HasPath, Reaches}
 use Rattle.bq_board_plan.specs.Depth.{max_load_depth, is_too_deep}
 use Rattle.bq_board_plan.specs.Cut.{IsCut}
-use Rattle.bq_load_outcome_spec.specs.Outcome.{outcome, own, evaluated, values}
+use Rattle.bq_load_outcome_spec.specs.Outcome.{outcome, own, evaluated, load_values}
 use Rattle.bq_load_outcome_spec.specs.declared.outcome.Outcome.TheVariants.{Loaded, Cyclic, TooDeep, LoadFailed}
 
 -- x is in the list with P, and all before it are with Q
@@ -32,7 +32,7 @@ module _ {V F : Type 0} (means : ℕ → List V → Result V F) (p : Loads) wher
 
   -- over the plan q, in which cyclic and too deep modules load nothing: what the loads of m in q give decides the outcome of m
   abbrev pub OutcomeByPlan : Loads → Type 0
-  OutcomeByPlan q = IsCut p q → (m : ℕ) → is_cyclic p m ≡ false → is_too_deep p m ≡ false → outcome means p m ≡ evaluated (means m) (values (outcome means p) (row q m))
+  OutcomeByPlan q = IsCut p q → (m : ℕ) → is_cyclic p m ≡ false → is_too_deep p m ≡ false → outcome means p m ≡ evaluated (means m) (load_values (outcome means p) (row q m))
 
   abbrev pub LoadedOutcome : Type 0
   LoadedOutcome = (m : ℕ) (vs : List V) → is_cyclic p m ≡ false → is_too_deep p m ≡ false → map (outcome means p) (row p m) ≡ map Loaded vs → outcome means p m ≡ own (means m vs)

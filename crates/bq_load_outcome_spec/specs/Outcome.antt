@@ -14,15 +14,15 @@ first f (x ∷ xs) = cond (f x) x (first f xs)
 
 module _ {V F : Type 0} where
   -- the values of loads, up to the first that didn't succeed
-  abbrev pub with_value : Outcome V F → ℕ → Result (List V) ℕ → Result (List V) ℕ
-  with_value (Loaded v) x (Ok vs) = Ok (v ∷ vs)
-  with_value (Loaded v) x (Err l) = Err l
-  with_value _ x r = Err x
+  abbrev pub with_load_value : Outcome V F → ℕ → Result (List V) ℕ → Result (List V) ℕ
+  with_load_value (Loaded v) x (Ok vs) = Ok (v ∷ vs)
+  with_load_value (Loaded v) x (Err l) = Err l
+  with_load_value _ x r = Err x
 
   -- the values of modules with these outcomes, or the first that has none
-  abbrev pub values : (ℕ → Outcome V F) → List ℕ → Result (List V) ℕ
-  values at [] = Ok []
-  values at (x ∷ xs) = with_value (at x) x (values at xs)
+  abbrev pub load_values : (ℕ → Outcome V F) → List ℕ → Result (List V) ℕ
+  load_values at [] = Ok []
+  load_values at (x ∷ xs) = with_load_value (at x) x (load_values at xs)
 
   -- a value, or an own fault
   abbrev pub own : Result V F → Outcome V F
@@ -37,7 +37,7 @@ module _ {V F : Type 0} where
   -- one level of the recursion: m by the outcomes of its loads
   unfoldable pub by_loads : (ℕ → List V → Result V F) → Loads → (ℕ → Outcome V F) → ℕ → Outcome V F
   by_loads means p at m = cond (is_cyclic p m) (Cyclic (first (is_cyclic p) (row p m)))
-      (cond (is_too_deep p m) (TooDeep (first (starts_path p max_load_depth) (row p m))) (evaluated (means m) (values at (row p m))))
+      (cond (is_too_deep p m) (TooDeep (first (starts_path p max_load_depth) (row p m))) (evaluated (means m) (load_values at (row p m))))
 
   -- a number of levels of it
   unfoldable pub outcome_within : (ℕ → List V → Result V F) → Loads → ℕ → ℕ → Outcome V F

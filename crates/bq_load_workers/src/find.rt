@@ -3,7 +3,7 @@ ghost use Rattle.std.specs.Prelude.{◌≡◌, ◌<◌, length, IfOk, OnOk};
 ghost use Rattle.bq_board.specs.Conditions.{Owes, Holds};
 ghost use Rattle.bq_board.specs.Graph.{row};
 ghost use Rattle.bq_board.specs.Seats.{IsSeatOf, view_of};
-ghost use Rattle.bq_load_outcome_spec.specs.Outcome.{outcome, values};
+ghost use Rattle.bq_load_outcome_spec.specs.Outcome.{outcome, load_values};
 ghost use Rattle.bq_load_order.specs.Shown.{seen, shown};
 
 use crate::import::Import;
@@ -56,7 +56,7 @@ impl<E: Evaluate> WorkerPool<E> {
         ensures seat { IsSeatOf self.now.board seat.new }
         ensures owes { OnOk result (Owes self.now.board.plan (view_of seat.new) m) }
         ensures finished { (view_of seat.new).finished ≡ (view_of seat.old).finished }
-        ensures values { IfOk result (λ r. seen E.see r ≡ values (outcome (E.means self.now.evaluator) self.now.graph) (row self.now.board.plan m)) }
+        ensures values { IfOk result (λ r. seen E.see r ≡ load_values (outcome (E.means self.now.evaluator) self.now.graph) (row self.now.board.plan m)) }
     {
         let mut imports = Vec::new(alloc);
         for e in self.board.plan().start(m)..self.board.plan().start(m + 1) {

@@ -53,7 +53,7 @@ request_of store vs =
 
 -- the names of the package's files that some pattern matches and no excluded one
 abbrev pub names_of : PlaceView → List (List ℕ) → List (List ℕ) → List (List ℕ)
-names_of p include exclude = glob p.files p.packages p.own include exclude
+names_of p include exclude = glob p.paths p.packages p.own include exclude
 
 -- the pattern matches no file of the package
 abbrev pub is_idle : PlaceView → List ℕ → Bool

@@ -4,8 +4,9 @@ ghost use Rattle.std.specs.Prelude.{◌≡◌};
 ghost use Rattle.bq_label.specs.Label.{package_of};
 
 use crate::place::Place;
-use bq_package_target::PackageState;
+use bq_package_target::{KeptValues, PackageState};
 use bq_package_typed_value::PackageScope;
+use std::cell::Cell;
 
 /// Carries out the calls of build functions and of rules, in a BUILD file or outside of one. Contracts see what it keeps by `held_by`.
 #[derive(Drop)]
@@ -13,6 +14,8 @@ pub struct BuildHost<'a> {
     /// The package of the file that is evaluated, among the others.
     pub(crate) scope: PackageScope<'a>,
     pub(crate) building: Option<Building<'a>>,
+    /// Long defaults of attributes. A default is read by a host that is shared, so they are in a cell.
+    pub(crate) defaults: Cell<KeptValues>,
 }
 
 /// A package whose BUILD file is evaluated.

@@ -4,6 +4,7 @@ ghost use Rattle.std.specs.Prelude.{◌≡◌, IfOk};
 ghost use Rattle.bq_base.specs.Gives.{Gives};
 ghost use Rattle.bq_value.specs.declared.error.EvalErr.TheVariants.{Bad};
 ghost use Rattle.bq_label.specs.Label.{package_of};
+ghost use Rattle.bq_label.specs.Workspace.{paths_of};
 ghost use Rattle.bq_builtin_machine.specs.State.{State};
 ghost use Rattle.bq_builtin_machine.specs.Action.{Does, HostDoes};
 ghost use Rattle.bq_package_host.specs.Host.{KeepsIfRefused};
@@ -20,13 +21,14 @@ use bq_builtin_machine::{Args, Machine, Signature, bind};
 use bq_label::{Label, PackageId, Packages, Workspace};
 use bq_package_host::Host;
 use bq_package_schema::Schema;
-use bq_package_target::{Declared, PackageState, Target};
+use bq_package_target::{Declared, KeptValues, PackageState, Target};
 use bq_package_typed_value::{PackageScope, Written, typed};
 use bq_resolve_predeclared::HostFunction;
 use bq_value::{EvalErr, Value};
 use bq_value_rule_class::{AttributeValue, RuleClass};
 use bq_value_seed::Seed;
 use std::alloc::{AllocError, Global};
+use std::cell::Cell;
 
 /// `()`
 const NO_PARAMETERS: Signature<'static> = Signature {
@@ -87,6 +89,7 @@ impl<'a> BuildHost<'a> {
         Ok(BuildHost {
             scope: PackageScope::new(alloc, own, packages)?,
             building: None,
+            defaults: Cell::new(KeptValues::new(alloc)),
         })
     }
 
@@ -100,7 +103,7 @@ impl<'a> BuildHost<'a> {
         build_file: Label,
     ) -> Result<BuildHost<'a>, AllocError>
         requires { package_of build_file ≡ own.now }
-        ensures { IfOk result (λ h. held_by h ≡ declaring (record { place = record { own = own.now; files = workspace.now; packages = packages.now; rules = schema.now }; «package» = no_targets build_file })) }
+        ensures { IfOk result (λ h. held_by h ≡ declaring (record { place = record { own = own.now; paths = paths_of workspace.now; packages = packages.now; rules = schema.now }; «package» = no_targets build_file })) }
     {
         let scope = PackageScope::new(alloc, own, packages)?;
         Ok(BuildHost {
@@ -113,6 +116,7 @@ impl<'a> BuildHost<'a> {
                 },
                 package: PackageState::new(alloc, build_file),
             }),
+            defaults: Cell::new(KeptValues::new(alloc)),
         })
     }
 
@@ -120,7 +124,7 @@ impl<'a> BuildHost<'a> {
     pub fn into_package(self) -> Option<PackageState>
         ensures { result ≡ package_in (held_by self.entry) }
     {
-        let BuildHost { scope: _, building } = self;
+        let BuildHost { building, .. } = self;
         match building {
             None => None,
             Some(Building { place: _, package }) => Some(package),
@@ -146,6 +150,20 @@ impl<'a> BuildHost<'a> {
             None => self.scope,
             Some(building) => building.place.scope,
         }
+    }
+
+    /// Returns a default or, if it is long, a share of an equal one that was read before.
+    fn kept_default(
+        &self,
+        alloc: Global,
+        value: AttributeValue,
+    ) -> Result<AttributeValue, AllocError>
+        ensures { IfOk result (λ v. v ≡ value) }
+    {
+        let mut kept = self.defaults.replace(KeptValues::new(alloc));
+        let value = kept.share_if_long(value);
+        self.defaults.set(kept);
+        value
     }
 
     /// Keeps the package that a call leaves. A refused call is F74.
@@ -306,7 +324,8 @@ impl<'a> Host for BuildHost<'a> {
 
     #[tactic(auto, unfolding(crate::specs::Calls::default_value))]
     fn read_default(&self, alloc: Global, written: Written) -> Result<AttributeValue, EvalErr> {
-        typed(alloc, self.scope(), written)
+        let value = typed(alloc, self.scope(), written)?;
+        Ok(self.kept_default(alloc, value)?)
     }
 
     #[tactic(auto, using(crate::proofs::Settling::keeps_same), unfolding(crate::specs::Calls::call_of))]

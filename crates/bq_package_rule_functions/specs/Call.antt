@@ -48,7 +48,7 @@ abbrev pub call_kind : {W : Type 0} → HostCalls W → Option (List ℕ) → Cl
 call_kind host None x args = on_machine (stop BadValue)
 call_kind host (Some kind) x args = host.call_rule kind x args
 
--- no rule can be called while no BUILD file is evaluated (F70)
+-- a call of a rule that is the cell `number` of module `home`, with these arguments; F70 while no BUILD file is evaluated
 unfoldable pub call_class : {W : Type 0} → HostCalls W → ℕ → ℕ → Class → Passed → Action (State × W) Datum
 call_class host home number x args = λ s. (if host.in_build s.1 then call_kind host (kind_of s.0.store home number) x args else on_machine (stop NotInPackage)) s
 

@@ -22,6 +22,7 @@ abbrev pub result_of : Declared → PackageTargets
 result_of (Accepted p) = p
 result_of (Refused p) = p
 
+-- the package after a call of it
 abbrev pub after : PackageTargets → Call → PackageTargets
 after p (rule_or_group t) = result_of (declared p t)
 after p (exports ls line) = result_of (exported p ls line)

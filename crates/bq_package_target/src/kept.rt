@@ -1,4 +1,4 @@
-//! Long values that stand once, however many targets have them.
+//! Long values that stand once, however many targets or defaults have them.
 
 ghost use Rattle.std.specs.Prelude.{◌≡◌, IfOk, OnOk};
 
@@ -17,10 +17,10 @@ const FEW: usize = 16;
 /// A text of more bytes is long.
 const SHORT: usize = 64;
 
-/// Long values of the attributes of targets, each under its hash. Of values whose hashes collide the first is kept, and the
-/// others stand as often as they are given.
+/// Long values of attributes, each under its hash. Of values whose hashes collide the first is kept, and the others stand as
+/// often as they are given.
 #[derive(Drop)]
-pub(crate) struct KeptValues {
+pub struct KeptValues {
     by_hash: BTreeMap<u64, AttributeValue>,
 }
 
@@ -63,7 +63,8 @@ fn hash(value: &AttributeValue) -> u64 {
 }
 
 impl KeptValues {
-    pub(crate) fn new(alloc: Global) -> KeptValues {
+    /// Makes the values of a module in which none is kept yet.
+    pub fn new(alloc: Global) -> KeptValues {
         KeptValues {
             by_hash: BTreeMap::new(alloc),
         }
@@ -83,6 +84,16 @@ impl KeptValues {
         }
         self.by_hash.insert(hash, value.share()?)?;
         value.share()
+    }
+
+    /// Returns the value or, if it is long, a share of an equal one that is kept.
+    pub fn share_if_long(&mut self, value: AttributeValue) -> Result<AttributeValue, AllocError>
+        ensures { IfOk result (λ v. v ≡ value) }
+    {
+        if !is_long(&value) {
+            return Ok(value);
+        }
+        self.share(&value)
     }
 
     /// Has long values of attributes be shares of equal ones that are kept.

@@ -11,7 +11,7 @@
 //! - `value`: attributes with their values, and the types of the attributes of a rule;
 //! - `target`: what a target is, and which targets it names;
 //! - `names`: the names that are taken;
-//! - `kept`: long values that stand once, however many targets have them;
+//! - `kept`: long values that stand once, however many targets or defaults have them;
 //! - `by_name`: the targets of a package in the order of their names;
 //! - `package`: a package and its targets;
 //! - `state`: the package of a BUILD file that is being evaluated;
@@ -36,6 +36,7 @@ mod target;
 mod value;
 
 pub use files::is_of;
+pub use kept::KeptValues;
 pub use laws::{
     calls_come_first, calls_keep_their_order, distinct_names_are_accepted,
     each_generated_file_is_made,

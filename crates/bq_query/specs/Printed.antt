@@ -8,10 +8,10 @@ use Rattle.bq_query.specs.declared.print.OutputForm.{OutputForm}
 use Rattle.bq_query.specs.declared.print.OutputForm.TheVariants as form
 
 -- the label in full, in one of the forms after the kind
-abbrev pub line_of : OutputForm → Target → List ℕ
-line_of form.Label t = text_of t ++ codes "\n"
-line_of form.LabelKind t = kind_text t.kind ++ (codes " " ++ (text_of t ++ codes "\n"))
+abbrev pub answer_line : OutputForm → Target → List ℕ
+answer_line form.Label t = text_of t ++ codes "\n"
+answer_line form.LabelKind t = kind_text t.kind ++ (codes " " ++ (text_of t ++ codes "\n"))
 
 -- the lines of an answer, of targets by their numbers
 abbrev pub printed : OutputForm → List Target → List ℕ → List ℕ
-printed f targets answer = flat_map (line_of f) (filter_map (slice_get targets) answer)
+printed f targets answer = flat_map (answer_line f) (filter_map (slice_get targets) answer)

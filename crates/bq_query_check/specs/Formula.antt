@@ -53,6 +53,7 @@ query_step (query.Two call x y) = two (of_two call) x y
 abbrev pub formula_of : SetExpr → Formula
 formula_of = fold-SetExpr Formula Step query_step step_step
 
+-- the operator and the operand of a further part of a chain
 abbrev pub step_of : ChainStep → Step
 step_of = fold-ChainStep Formula Step query_step step_step
 

@@ -15,19 +15,19 @@ pub record Row : Type 0 where
   pub parameters : List QueryArgumentKind
 
 -- a row by its parts
-abbrev pub row : QueryFunction → List QueryArgumentKind → Row
-row function parameters = record { function = function; parameters = parameters }
+abbrev pub function_row : QueryFunction → List QueryArgumentKind → Row
+function_row function parameters = record { function = function; parameters = parameters }
 
 -- the functions by their names, in order
 abbrev pub functions : List (List ℕ × Row)
 functions =
-    (codes "allpaths", row f.Allpaths (Query ∷ Query ∷ []))
-    ∷ (codes "attr", row f.Attr (Attribute ∷ Pattern ∷ Query ∷ []))
-    ∷ (codes "deps", row f.Deps (Query ∷ Number ∷ []))
-    ∷ (codes "filter", row f.Filter (Pattern ∷ Query ∷ []))
-    ∷ (codes "kind", row f.Kind (Pattern ∷ Query ∷ []))
-    ∷ (codes "labels", row f.Labels (Attribute ∷ Query ∷ []))
-    ∷ (codes "rdeps", row f.Rdeps (Query ∷ Query ∷ Number ∷ []))
+    (codes "allpaths", function_row f.Allpaths (Query ∷ Query ∷ []))
+    ∷ (codes "attr", function_row f.Attr (Attribute ∷ Pattern ∷ Query ∷ []))
+    ∷ (codes "deps", function_row f.Deps (Query ∷ Number ∷ []))
+    ∷ (codes "filter", function_row f.Filter (Pattern ∷ Query ∷ []))
+    ∷ (codes "kind", function_row f.Kind (Pattern ∷ Query ∷ []))
+    ∷ (codes "labels", function_row f.Labels (Attribute ∷ Query ∷ []))
+    ∷ (codes "rdeps", function_row f.Rdeps (Query ∷ Query ∷ Number ∷ []))
     ∷ []
 
 -- functions of Bazel that are left out

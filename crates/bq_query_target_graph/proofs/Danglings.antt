@@ -1,5 +1,5 @@
 -- The lines that are put are those of the labels that name no target.
-use Rattle.std.proofs.Common.{◌≡◌, ◌<◌, ◌+◌, ◌∙◌, ◌↔◌, ℕ, Bool, true, false, cond, nat_lt, List, [], ◌∷◌, ◌++◌, Option, Some, None, length, take, drop, get_or, position, if◌then◌else◌, refl, sym, ap, subst, inl, inr, arith, append-nil, if◌then◌else◌}
+use Rattle.std.proofs.Common.{◌≡◌, ◌<◌, ◌+◌, ◌∙◌, ◌↔◌, ℕ, Bool, true, false, cond, nat_lt, List, [], ◌∷◌, ◌++◌, Option, Some, None, length, take, drop, position, if◌then◌else◌, refl, sym, ap, subst, inl, inr, arith, append-nil, if◌then◌else◌}
 use Rattle.std.specs.List.{flat_map, find, position_or_len, Contains, All}
 use Rattle.std.specs.List.Sorted.{IsPermutation}
 use Rattle.std.specs.Option.{unwrap_or}
@@ -29,14 +29,14 @@ use Rattle.bq_package_target.specs.Target.{is_of, dependencies}
 use Rattle.bq_package_target.specs.Package.{PackageTargets, AreTargetsOf}
 use Rattle.bq_package_list.specs.Order.{id_of, PackagesAscend}
 use Rattle.bq_label_set.specs.Labels.{same_label, has_label}
-use Rattle.bq_query_target_graph.specs.Order.{all_targets, labels_of}
+use Rattle.bq_query_target_graph.specs.Order.{all_targets, target_labels}
 use Rattle.bq_query_target_graph.specs.BuildFiles.{build_files, file_of}
+use Rattle.bq_query_target_graph.specs.Edges.{looked_up}
 use Rattle.bq_query_target_graph.specs.Dangling.{dangling_line, dangling, dangling_of, all_dangling, dangling_lines, dangling_to, dangling_at, dangling_from, IsDangling}
 use Rattle.bq_query_target_graph.proofs.Cases.{dangling_in}
 use Rattle.bq_query_target_graph.proofs.Ascends.{own_package}
 use Rattle.bq_query_target_graph.proofs.Files.{of_package}
-use Rattle.bq_query_target_graph.proofs.Lists.{given_next}
-use Rattle.bq_query_target_graph.proofs.Depends.{in_flat, flat_in}
+use Rattle.bq_query_target_graph.proofs.Repeats.{in_flat, flat_in, is_looked_up}
 
 -- ---- whether a label is known
 
@@ -55,8 +55,8 @@ has_no_number ls l h =
     list_any_none (same_label l) ls (λ k d within. let before : k < position_or_len (same_label l) ls = grind (arith, nat_tests) in fails_before_first (same_label l) ls k d before)
 
 -- targets in another order have the same labels
-pub same_known : (xs ys : List Target) → IsPermutation xs ys → (l : LabelParts) → has_label (labels_of xs) l ≡ has_label (labels_of ys) l
-same_known xs ys m l = list_any-IsPermutation (same_label l) (labels_of xs) (labels_of ys) (IsPermutation-map (λ (t : Target). t.label) xs ys m)
+pub same_known : (xs ys : List Target) → IsPermutation xs ys → (l : LabelParts) → has_label (target_labels xs) l ≡ has_label (target_labels ys) l
+same_known xs ys m l = list_any-IsPermutation (same_label l) (target_labels xs) (target_labels ys) (IsPermutation-map (λ (t : Target). t.label) xs ys m)
 
 -- ---- lines that are put
 
@@ -98,19 +98,20 @@ module _ (known : LabelParts → Bool) (b l : LabelParts) (n : ℕ) (s : List Fa
   unfolding dangling
   unknown_label k = rw k refl
 
--- ---- one label after another
+-- ---- the line of one label, or none
 
-module _ (ls files : List LabelParts) (t : Target) (xs : List LabelParts) (i : ℕ) (x : LabelParts) (h : i < length xs) (e : x ≡ get_or xs i x) (s u : List FaultLine) (f : u ≡ s ++ dangling_to ls files t (take i xs)) where
-  abbrev lines_of : LabelParts → List FaultLine
-  lines_of = dangling (has_label ls) (file_of files t.label) t.line
+module _ (ls files : List LabelParts) (t : Target) (x : LabelParts) (u : List FaultLine) where
+  abbrev line_at : List FaultLine
+  line_at = dangling (has_label ls) (file_of files t.label) t.line x
 
   -- one that has a number adds no line
-  pub label_found : (n : ℕ) → position (same_label x) ls ≡ Some n → u ≡ s ++ dangling_to ls files t (take (i + 1) xs)
-  label_found n p = given_next lines_of xs i x s u u h e f (sym (known_label (has_label ls) (file_of files t.label) x t.line u (has_number ls x n p)))
+  pub label_found : (n : ℕ) → position (same_label x) ls ≡ Some n → u ≡ u ++ dangling_to ls files t (x ∷ [])
+  label_found n p =
+      sym (known_label (has_label ls) (file_of files t.label) x t.line u (has_number ls x n p)) ∙ ap (λ (z : List FaultLine). u ++ z) (sym (append-nil line_at))
 
-  pub label_missing : (v : List FaultLine) → position (same_label x) ls ≡ None → v ≡ u ++ dangling (λ _. false) (file_of files t.label) t.line x → v ≡ s ++ dangling_to ls files t (take (i + 1) xs)
+  pub label_missing : (v : List FaultLine) → position (same_label x) ls ≡ None → v ≡ u ++ dangling (λ _. false) (file_of files t.label) t.line x → v ≡ u ++ dangling_to ls files t (x ∷ [])
   label_missing v p g =
-      given_next lines_of xs i x s u v h e f (g ∙ ap (λ (z : List FaultLine). u ++ z) (unknown_label (has_label ls) (file_of files t.label) x t.line u (has_no_number ls x p)))
+      g ∙ ap (λ (z : List FaultLine). u ++ z) (unknown_label (has_label ls) (file_of files t.label) x t.line u (has_no_number ls x p) ∙ sym (append-nil line_at))
 
 -- ---- the lines of targets are those of the first of them and those of the rest
 
@@ -144,7 +145,7 @@ line_in known b l n x r =
 to_words : (ps : List PackageTargets) (x : FaultLine) → Contains (all_dangling ps) x → IsDangling ps x
 unfolding all_dangling dangling
 to_words ps x c =
-    let known : LabelParts → Bool = has_label (labels_of (all_targets ps)) in
+    let known : LabelParts → Bool = has_label (target_labels (all_targets ps)) in
     let p = in_flat (dangling_of known) ps x c in
     let t = in_flat (dangling_in known p.part.build_file) p.part.targets x p.inside in
     let l = in_flat (dangling known p.part.build_file t.part.line) (dependencies t.part) x t.inside in
@@ -154,7 +155,7 @@ to_words ps x c =
 from_words : (ps : List PackageTargets) (x : FaultLine) → IsDangling ps x → Contains (all_dangling ps) x
 unfolding all_dangling
 from_words ps x r =
-    let known : LabelParts → Bool = has_label (labels_of (all_targets ps)) in
+    let known : LabelParts → Bool = has_label (target_labels (all_targets ps)) in
     let b : LabelParts = r.owner.build_file in
     let here : Contains (dangling known b r.target.line r.label) x = line_in known b r.label r.target.line x (record { elsewhere = r.elsewhere; missing = r.missing; line = r.line }) in
     flat_in (dangling_of known) ps r.owner x r.known (flat_in (dangling_in known b) r.owner.targets r.target x r.declared (flat_in (dangling known b r.target.line) (dependencies r.target) r.label x r.named here))
@@ -198,15 +199,15 @@ module _ (ps : List PackageTargets) (o : PackagesAscend ps) (v : All (λ p. AreT
       file_is t.label p (own_package (id_of p) t.label inside) ps o c
 
   abbrev found : List FaultLine
-  found = dangling_from (labels_of ts) (build_files ps) ts
+  found = dangling_from (target_labels ts) (build_files ps) ts
 
   found_dangles : (x : FaultLine) → Contains found x → Contains (all_dangling ps) x
   unfolding dangling
   found_dangles x c =
-      let known : LabelParts → Bool = has_label (labels_of ts) in
-      let t = in_flat (dangling_at (labels_of ts) (build_files ps)) ts x c in
+      let known : LabelParts → Bool = has_label (target_labels ts) in
+      let t = in_flat (dangling_at (target_labels ts) (build_files ps)) ts x c in
       let b : LabelParts = file_of (build_files ps) t.part.label in
-      let l = in_flat (dangling known b t.part.line) (dependencies t.part) x t.inside in
+      let l = in_flat (dangling known b t.part.line) (looked_up t.part) x t.inside in
       let r = line_of known b l.part t.part.line x (is_of (package_of b) l.part) (known l.part) refl refl l.inside in
       let p = in_flat (λ (p : PackageTargets). p.targets) ps t.part (Contains-permutation ts (all_targets ps) t.part (IsPermutation-sym (all_targets ps) ts m) t.known) in
       let file : b ≡ p.part.build_file = file_at p.part p.known t.part p.inside in
@@ -216,7 +217,7 @@ module _ (ps : List PackageTargets) (o : PackagesAscend ps) (v : All (λ p. AreT
         target = t.part;
         declared = p.inside;
         label = l.part;
-        named = l.known;
+        named = (is_looked_up t.part l.part).1 l.known;
         elsewhere = ap (λ (z : LabelParts). is_of (package_of z) l.part) (sym file) ∙ r.elsewhere;
         missing = same_known (all_targets ps) ts m l.part ∙ r.missing;
         line = r.line ∙ ap (λ (z : LabelParts). dangling_line z t.part.line l.part) file;
@@ -224,7 +225,7 @@ module _ (ps : List PackageTargets) (o : PackagesAscend ps) (v : All (λ p. AreT
 
   dangles_found : (x : FaultLine) → Contains (all_dangling ps) x → Contains found x
   dangles_found x c =
-      let known : LabelParts → Bool = has_label (labels_of ts) in
+      let known : LabelParts → Bool = has_label (target_labels ts) in
       let r = to_words ps x c in
       let t : Target = r.target in
       let b : LabelParts = file_of (build_files ps) t.label in
@@ -235,7 +236,7 @@ module _ (ps : List PackageTargets) (o : PackagesAscend ps) (v : All (λ p. AreT
         missing = sym (same_known (all_targets ps) ts m r.label) ∙ r.missing;
         line = r.line ∙ ap (λ (z : LabelParts). dangling_line z t.line r.label) (sym file);
       }) in
-      flat_in (dangling_at (labels_of ts) (build_files ps)) ts t x there (flat_in (dangling known b t.line) (dependencies t) r.label x r.named here)
+      flat_in (dangling_at (target_labels ts) (build_files ps)) ts t x there (flat_in (dangling known b t.line) (looked_up t) r.label x ((is_looked_up t r.label).0 r.named) here)
 
   -- the lines that are found are those of the packages
   pub found_lines : sorted_lines found ≡ dangling_lines ps

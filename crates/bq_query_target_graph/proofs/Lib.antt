@@ -1,5 +1,6 @@
 pub mod Lists
 pub mod Ascends
+pub mod Repeats
 pub mod EdgeWalks
 pub mod Depends
 pub mod Places

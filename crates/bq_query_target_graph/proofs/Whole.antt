@@ -13,7 +13,7 @@ use Rattle.bq_package_target.specs.Package.{PackageTargets}
 use Rattle.bq_package_list.specs.Order.{id_of}
 use Rattle.bq_query_target_graph.specs.declared.graph.Nodes.{Nodes}
 use Rattle.bq_query_target_graph.specs.Nodes.{AreNodesOf}
-use Rattle.bq_query_target_graph.specs.Order.{target_cmp, target_cmp_total, all_targets, targets_of, labels_of}
+use Rattle.bq_query_target_graph.specs.Order.{target_cmp, target_cmp_total, all_targets, targets_of, target_labels}
 use Rattle.bq_query_target_graph.specs.Graph.{IsGraph}
 use Rattle.bq_query_target_graph.specs.Dangling.{dangling_from, dangling_lines}
 use Rattle.bq_query_target_graph.specs.Edges.{IsGraphOf, edges_from}
@@ -23,7 +23,7 @@ use Rattle.bq_query_target_graph.proofs.Depends.{edges_are, are_between}
 use Rattle.bq_query_target_graph.proofs.Files.{ids_are}
 
 -- the graph of these parts
-module _ (ts : List Target) (s : IsStrictlySortedBy target_cmp ts) (g : List (List ℕ)) (h : HasPairsOf (length ts) (edges_from (labels_of ts) 0 ts) g) where
+module _ (ts : List Target) (s : IsStrictlySortedBy target_cmp ts) (g : List (List ℕ)) (h : HasPairsOf (length ts) (edges_from (target_labels ts) 0 ts) g) where
   pub linked_graph : (ids : List PackageParts) → IsStrictlySortedBy id_cmp ids → IsGraph (record { targets = ts; packages = ids; edges = g })
   linked_graph ids o = record {
     ascending = s;
@@ -41,17 +41,17 @@ module _ (ts : List Target) (s : IsStrictlySortedBy target_cmp ts) (g : List (Li
         (λ p. edges.0 (pairs.0 p), λ d. pairs.1 (edges.1 d));
   }
 
-pub edges_between : (ts : List Target) → IsStrictlySortedBy target_cmp ts → (es : List Edge) → es ≡ edges_from (labels_of ts) 0 ts → AreBetween (length ts) es
+pub edges_between : (ts : List Target) → IsStrictlySortedBy target_cmp ts → (es : List Edge) → es ≡ edges_from (target_labels ts) 0 ts → AreBetween (length ts) es
 edges_between ts s es n = subst (λ (z : List Edge). AreBetween (length ts) z) (sym n) (are_between ts (distinct_from_order ts s))
 
 -- the graph of packages with these targets and BUILD files
 module _ (ps : List PackageTargets) (r : Nodes) (a : AreNodesOf ps r) where
-  pub linked_is : (ids : List PackageParts) → ids ≡ map package_of r.files → (g : List (List ℕ)) → HasPairsOf (length r.targets.items) (edges_from (labels_of r.targets.items) 0 r.targets.items) g
+  pub linked_is : (ids : List PackageParts) → ids ≡ map package_of r.files → (g : List (List ℕ)) → HasPairsOf (length r.targets.items) (edges_from (target_labels r.targets.items) 0 r.targets.items) g
       → IsGraphOf ps (record { targets = r.targets.items; packages = ids; edges = g })
   linked_is ids k g h = whole_is r.targets.items a.ascending g h ps ids a.targets (k ∙ (ap (map package_of) a.files ∙ ids_are ps))
 
   moved : IsPermutation (all_targets ps) r.targets.items
   moved = subst (λ (z : List Target). IsPermutation (all_targets ps) z) (sym a.targets) (in_order_moves target_cmp target_cmp_total (all_targets ps))
 
-  pub linked_lines : (lines : List FaultLine) → lines ≡ sorted_lines (dangling_from (labels_of r.targets.items) r.files r.targets.items) → lines ≡ dangling_lines ps
-  linked_lines lines l = l ∙ (ap (λ (z : List LabelParts). sorted_lines (dangling_from (labels_of r.targets.items) z r.targets.items)) a.files ∙ found_lines ps a.packages a.own r.targets.items moved)
+  pub linked_lines : (lines : List FaultLine) → lines ≡ sorted_lines (dangling_from (target_labels r.targets.items) r.files r.targets.items) → lines ≡ dangling_lines ps
+  linked_lines lines l = l ∙ (ap (λ (z : List LabelParts). sorted_lines (dangling_from (target_labels r.targets.items) z r.targets.items)) a.files ∙ found_lines ps a.packages a.own r.targets.items moved)

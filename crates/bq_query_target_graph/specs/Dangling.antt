@@ -9,8 +9,9 @@ use Rattle.bq_package_target.specs.declared.target.Target.{Target}
 use Rattle.bq_package_target.specs.Target.{is_of, dependencies}
 use Rattle.bq_package_target.specs.Package.{PackageTargets}
 use Rattle.bq_label_set.specs.Labels.{has_label}
-use Rattle.bq_query_target_graph.specs.Order.{all_targets, labels_of}
+use Rattle.bq_query_target_graph.specs.Order.{all_targets, target_labels}
 use Rattle.bq_query_target_graph.specs.BuildFiles.{file_of}
+use Rattle.bq_query_target_graph.specs.Edges.{looked_up}
 
 -- the fault's line: the BUILD file, the line of the call that declares the target, and the label
 abbrev pub dangling_line : LabelParts → ℕ → LabelParts → FaultLine
@@ -26,7 +27,7 @@ dangling_of known p = flat_map (λ t. flat_map (dangling known p.build_file t.li
 
 -- the lines of all packages
 unfoldable pub all_dangling : List PackageTargets → List FaultLine
-all_dangling ps = flat_map (dangling_of (has_label (labels_of (all_targets ps)))) ps
+all_dangling ps = flat_map (dangling_of (has_label (target_labels (all_targets ps)))) ps
 
 -- the lines in their order, each once
 abbrev pub dangling_lines : List PackageTargets → List FaultLine
@@ -41,7 +42,7 @@ pub record IsDangling (ps : List PackageTargets) (x : FaultLine) : Type 0 where
   pub label : LabelParts
   pub named : Contains (dependencies target) label
   pub elsewhere : is_of (package_of owner.build_file) label ≡ false
-  pub missing : has_label (labels_of (all_targets ps)) label ≡ false
+  pub missing : has_label (target_labels (all_targets ps)) label ≡ false
   pub line : x ≡ dangling_line owner.build_file target.line label
 
 -- ---- the lines as they are found: target by target, by the labels of all targets and the BUILD files of all packages
@@ -52,7 +53,7 @@ dangling_to ls files t named = flat_map (dangling (has_label ls) (file_of files 
 
 -- the lines of a target
 abbrev pub dangling_at : List LabelParts → List LabelParts → Target → List FaultLine
-dangling_at ls files t = dangling_to ls files t (dependencies t)
+dangling_at ls files t = dangling_to ls files t (looked_up t)
 
 -- the lines of targets
 abbrev pub dangling_from : List LabelParts → List LabelParts → List Target → List FaultLine

@@ -1,12 +1,14 @@
 -- Which targets depend on which, by their numbers.
-use Rattle.std.specs.Prelude.{◌≡◌, ℕ, ◌+◌, ◌↔◌, List, [], ◌∷◌, ◌++◌, Option, Some, None, map, position, slice_get}
+use Rattle.std.specs.Prelude.{◌≡◌, ℕ, ◌+◌, ◌↔◌, List, [], ◌∷◌, ◌++◌, Bool, false, Option, Some, None, map, position, slice_get, if◌then◌else◌}
 use Rattle.std.specs.List.{flat_map, Contains}
 use Rattle.bq_label.specs.Label.{LabelParts}
 use Rattle.bq_query_graph.specs.declared.edge.Edge.{Edge}
 use Rattle.bq_query_graph.specs.Paths.{Pair}
 use Rattle.bq_package_target.specs.declared.target.Target.{Target}
+use Rattle.bq_package_target.specs.declared.target.TargetKind.TheVariants as k
 use Rattle.bq_package_target.specs.Target.{dependencies}
 use Rattle.bq_package_target.specs.Package.{PackageTargets}
+use Rattle.bq_value_rule_class.specs.Value.{labels_of}
 use Rattle.bq_label_set.specs.Labels.{same_label}
 use Rattle.bq_package_list.specs.Order.{id_of}
 use Rattle.bq_query_target_graph.specs.Order.{targets_of}
@@ -26,6 +28,22 @@ pub record IsGraphOf (ps : List PackageTargets) (g : GraphParts) : Type 0 where
   pub packages : g.packages ≡ map id_of ps
   pub pairs : (a b : ℕ) → Pair g.edges a b ↔ DependsOn g.targets a b
 
+-- ---- the labels of a target as they are looked up
+
+-- the label is the same as the one before it, if there is one
+abbrev pub repeats : Option LabelParts → LabelParts → Bool
+repeats None l = false
+repeats (Some before) l = same_label before l
+
+-- labels, of which one that is named many times in a row is there once; `before` is the label before the first, if there is one
+unfoldable pub unrepeated : Option LabelParts → List LabelParts → List LabelParts
+unrepeated before [] = []
+unrepeated before (l ∷ ls) = if repeats before l then unrepeated before ls else l ∷ unrepeated (Some l) ls
+
+-- what a target depends on, with each attribute's labels in a row once
+unfoldable pub looked_up : Target → List LabelParts
+looked_up t = elim t.kind [ k.Generated rule ↦ rule ∷ [] | _ ↦ flat_map (λ a. unrepeated None (labels_of a.value)) t.attributes ]
+
 -- ---- the list of edges
 
 abbrev pub edge_by : ℕ → Option ℕ → List Edge
@@ -39,4 +57,4 @@ edges_to ls a named = flat_map (λ l. edge_by a (position (same_label l) ls)) na
 -- the edges from targets, the first of which has the number `a`
 unfoldable pub edges_from : List LabelParts → ℕ → List Target → List Edge
 edges_from ls a [] = []
-edges_from ls a (t ∷ ts) = edges_to ls a (dependencies t) ++ edges_from ls (a + 1) ts
+edges_from ls a (t ∷ ts) = edges_to ls a (looked_up t) ++ edges_from ls (a + 1) ts

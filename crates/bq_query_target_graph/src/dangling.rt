@@ -20,16 +20,38 @@ fn shown(alloc: Global, label: &Label) -> Result<Bytes, AllocError>
     Bytes::from_vec(alloc, print_label(alloc, label)?)
 }
 
-/// Returns the line of the fault.
+/// Returns the text, or another owner of the other one where they are the same.
+fn share_of(text: Bytes, other: &Bytes) -> Result<Bytes, AllocError>
+    ensures { IfOk result (λ b. b ≡ text) }
+{
+    if other.as_slice() == text.as_slice() {
+        return other.share();
+    }
+    Ok(text)
+}
+
+/// Returns the full form of a BUILD file's label. The lines of a package come one after another, and share it.
+fn shown_file(alloc: Global, build_file: &Label, lines: &[FaultLine]) -> Result<Bytes, AllocError>
+    ensures { IfOk result (λ text. text ≡ full_form build_file.now) }
+{
+    let text = shown(alloc, build_file)?;
+    match lines.last() {
+        Some(last) => share_of(text, &last.label),
+        None => Ok(text),
+    }
+}
+
+/// Returns the line of the fault, which comes after these lines.
 fn dangling_line(
     alloc: Global,
     build_file: &Label,
     line: u32,
     label: &Label,
+    lines: &[FaultLine],
 ) -> Result<FaultLine, AllocError>
     ensures { IfOk result (λ x. x ≡ dangling_line build_file.now line label.now) }
 {
-    let file = shown(alloc, build_file)?;
+    let file = shown_file(alloc, build_file, lines)?;
     Ok(FaultLine {
         label: file,
         line,
@@ -51,7 +73,7 @@ pub(crate) fn add_dangling(
     if is_of(build_file.package_id(), label) {
         return Ok(());
     }
-    let found = dangling_line(alloc, build_file, line, label)?;
+    let found = dangling_line(alloc, build_file, line, label, lines.as_slice())?;
     lines.push(found)?;
     Ok(())
 }

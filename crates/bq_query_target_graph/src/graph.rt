@@ -10,7 +10,7 @@ ghost use Rattle.bq_query_graph.specs.Edges.{HasPairsOf};
 ghost use Rattle.bq_query_target_graph.specs.Dangling.{dangling_from, dangling_lines};
 ghost use Rattle.bq_query_target_graph.specs.Edges.{edges_from, IsGraphOf};
 ghost use Rattle.bq_query_target_graph.specs.Nodes.{AreNodesOf};
-ghost use Rattle.bq_query_target_graph.specs.Order.{labels_of, target_cmp};
+ghost use Rattle.bq_query_target_graph.specs.Order.{target_labels, target_cmp};
 
 use crate::build_files::BuildFiles;
 use crate::edges::{Found, edges, edges_by};
@@ -123,12 +123,12 @@ fn link(
     found: Result<Found, AllocError>,
 ) -> Result<Linked, AllocError>
     requires ascending { IsStrictlySortedBy target_cmp targets.now }
-    requires edges { IfOk found (λ f. f.edges.items ≡ edges_from (labels_of targets.now) 0 targets.now) }
-    requires lines { IfOk found (λ f. f.dangling ≡ sorted_lines (dangling_from (labels_of targets.now) files.now targets.now)) }
+    requires edges { IfOk found (λ f. f.edges.items ≡ edges_from (target_labels targets.now) 0 targets.now) }
+    requires lines { IfOk found (λ f. f.dangling ≡ sorted_lines (dangling_from (target_labels targets.now) files.now targets.now)) }
     ensures packages { IfOk result (λ l. l.packages ≡ map package_of files.now) }
     ensures ascending { IfOk result (λ l. IsStrictlySortedBy id_cmp l.packages) }
-    ensures graph { IfOk result (λ l. HasPairsOf (length targets.now) (edges_from (labels_of targets.now) 0 targets.now) l.graph) }
-    ensures dangling { IfOk result (λ l. l.dangling ≡ sorted_lines (dangling_from (labels_of targets.now) files.now targets.now)) }
+    ensures graph { IfOk result (λ l. HasPairsOf (length targets.now) (edges_from (target_labels targets.now) 0 targets.now) l.graph) }
+    ensures dangling { IfOk result (λ l. l.dangling ≡ sorted_lines (dangling_from (target_labels targets.now) files.now targets.now)) }
 {
     let found = found?;
     Ok(Linked {
@@ -145,8 +145,8 @@ fn graph_by(
     found: Result<Found, AllocError>,
 ) -> Result<(TargetGraph, FaultLines), AllocError>
     requires ascending { IsStrictlySortedBy target_cmp nodes.targets.items }
-    requires edges { IfOk found (λ f. f.edges.items ≡ edges_from (labels_of nodes.targets.items) 0 nodes.targets.items) }
-    requires lines { IfOk found (λ f. f.dangling ≡ sorted_lines (dangling_from (labels_of nodes.targets.items) nodes.files nodes.targets.items)) }
+    requires edges { IfOk found (λ f. f.edges.items ≡ edges_from (target_labels nodes.targets.items) 0 nodes.targets.items) }
+    requires lines { IfOk found (λ f. f.dangling ≡ sorted_lines (dangling_from (target_labels nodes.targets.items) nodes.files nodes.targets.items)) }
     ensures graph { (ps : List PackageTargets) → AreNodesOf ps nodes → IfOk result (λ made. IsGraphOf ps made.0) }
     ensures lines { (ps : List PackageTargets) → AreNodesOf ps nodes → IfOk result (λ made. made.1 ≡ dangling_lines ps) }
 {

@@ -4,7 +4,7 @@ ghost use Rattle.std.specs.Prelude.{◌≡◌, Some, position};
 ghost use Rattle.std.specs.Bool.{OnTrue};
 ghost use Rattle.std.specs.List.Sorted.{IsStrictlySortedBy};
 ghost use Rattle.bq_label_set.specs.Labels.{same_label};
-ghost use Rattle.bq_query_target_graph.specs.Order.{target_cmp, labels_of};
+ghost use Rattle.bq_query_target_graph.specs.Order.{target_cmp, target_labels};
 
 use bq_label::Label;
 use bq_package_target::{Target, is_of};
@@ -31,11 +31,11 @@ impl<'a> Model for Numbers<'a> {
     ghost use Rattle.std.specs.Prelude.{List};
     ghost use Rattle.std.specs.List.Sorted.{IsStrictlySortedBy};
     ghost use Rattle.bq_label.specs.Label.{LabelParts};
-    ghost use Rattle.bq_query_target_graph.specs.Order.{target_cmp, labels_of};
+    ghost use Rattle.bq_query_target_graph.specs.Order.{target_cmp, target_labels};
 
     ghost Value = { List LabelParts };
 
-    ghost view = { λ n. labels_of n.targets.now };
+    ghost view = { λ n. target_labels n.targets.now };
 
     ghost invariant = { λ n. IsStrictlySortedBy target_cmp n.targets.now };
 }
@@ -44,7 +44,7 @@ impl<'a> Model for Numbers<'a> {
 #[tactic(auto, unfolding(bq_label_set::specs::Labels::same_label))]
 fn has_at(targets: &[Target], number: usize, label: &Label) -> bool
     requires { IsStrictlySortedBy target_cmp targets.now }
-    ensures { OnTrue result (position (same_label label.now) (labels_of targets.now) ≡ Some number) }
+    ensures { OnTrue result (position (same_label label.now) (target_labels targets.now) ≡ Some number) }
 {
     match at(targets, number) {
         Some(target) => {
@@ -61,7 +61,7 @@ impl<'a> Numbers<'a> {
     /// Makes the numbers of the labels of these targets.
     pub fn of(targets: &'a [Target]) -> Numbers<'a>
         requires { IsStrictlySortedBy target_cmp targets.now }
-        ensures { result ≡ labels_of targets.now }
+        ensures { result ≡ target_labels targets.now }
     {
         Numbers {
             targets,

@@ -8,6 +8,7 @@ ghost use Rattle.bq_parse.specs.Answers.{itself};
 
 use crate::outside::top_levels;
 use bq_base::{NameFault, SourceErr};
+use bq_base_takeable::Takeable;
 use bq_parse::ParsedFile;
 use bq_resolve_expression::Walk;
 use bq_resolve_scope::{FileNames, LoadStmt, ResolvedFile, Universe};
@@ -39,7 +40,7 @@ pub fn resolve(
     };
     let (functions, loads) = walk.into_parts();
     Ok(ResolvedFile {
-        statements,
+        statements: Takeable::of(statements),
         functions,
         globals,
         loads,

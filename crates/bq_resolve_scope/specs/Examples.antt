@@ -109,6 +109,7 @@ of_lines ls globals = Ok (record { statements = ls; functions = []; globals = gl
 abbrev pub known : List ℕ → Referent → Identifier
 known name x = record { name = name; referent = x }
 
+-- the use of such a name, as an expression
 abbrev pub used : List ℕ → Referent → Expr
 used name x = e.Name (known name x)
 

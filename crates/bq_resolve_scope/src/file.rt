@@ -2,6 +2,7 @@
 
 use crate::loads::LoadStmt;
 use bq_base::Bytes;
+use bq_base_takeable::Takeable;
 use bq_parse_grammar::{Expr, Identifier, SmallStmt, Stmt};
 use bq_tree_items::{Boxed, Items as Trees};
 use sqlite_items::Items;
@@ -88,7 +89,8 @@ impl Drop for FileLine {
 
 /// A resolved file.
 pub struct ResolvedFile {
-    pub statements: Items<FileLine>,
+    /// They run once, and whoever runs them takes them out, so that their memory is free while other files are evaluated. Functions stay.
+    pub statements: Takeable<Items<FileLine>>,
     /// In the order of their `def`s.
     pub functions: Items<Function>,
     /// The names that the file itself binds, in order of first binding.

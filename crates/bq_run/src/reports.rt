@@ -28,7 +28,7 @@ pub fn refused_report(alloc: Global, why: NoAnswer) -> Report
 {
     Report {
         faults: Rope::new(alloc),
-        answer: Vec::new(alloc),
+        answer: Rope::new(alloc),
         end: Err(why),
     }
 }

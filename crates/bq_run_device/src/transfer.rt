@@ -29,7 +29,7 @@ impl From<AllocError> for ReadFault {
 }
 
 /// How many bytes a read asks for.
-const CHUNK: usize = 4096;
+const CHUNK: usize = 65_536;
 
 /// Reads all that the reader has left, at most `limit` bytes of it. The first failed read ends it: none is tried again.
 pub fn read_all<R: ByteSource>(

@@ -275,8 +275,8 @@ argument. As in Bazel, these belong in .bzl files.
     $ bq //...
     //:BUILD:1: F13 NotInBuild
 
-Use a comprehension, as `[filegroup(name = n) for n in ["a", "b"]]`, or move the
-code into a macro in a .bzl file.
+Use a comprehension such as `[filegroup(name = n) for n in ["a", "b"]]`, or move
+the code into a macro in a .bzl file.
 "#
         }
         FaultKind::UnknownName => {
@@ -441,8 +441,8 @@ Take the underscore off the name in the file that binds it.
 "#
         }
         FaultKind::CycleReached => {
-            r#"Loads lead from this file into a cycle: a file that loads itself, directly or by
-way of others. The detail is the load that leads there.
+            r#"Loads lead from this file into a cycle: a file that loads itself, directly or
+through others. The detail is the load that leads there.
 
     === a.bzl
     load(":b.bzl", "b")
@@ -474,7 +474,7 @@ that loads neither.
     //:BUILD:1: F36 LoadFailed //:f.bzl
     //:f.bzl:1: F42 DivZero
 
-Mend the fault of the loaded file; this one then goes away by itself.
+Correct the loaded file; this fault then goes away by itself.
 "#
         }
         FaultKind::CrossesPackage => {
@@ -584,7 +584,7 @@ either.
 "#
         }
         FaultKind::DoubleKey => {
-            r#"A dict that is written out has the same key twice.
+            r#"A dict `{..}` has the same key twice.
 
     === BUILD
     x = {"a": 1, "a": 2}
@@ -678,8 +678,8 @@ Let functions return values instead of calling on.
         }
         FaultKind::Args => {
             r#"The arguments of a call don't fit its parameters: one is missing, given twice or
-too many, or has a name that the function lacks. Rules take named arguments
-alone.
+too many, or has a name that the function lacks. Rules take only named
+arguments.
 
     === BUILD
     filegroup("x")
@@ -716,12 +716,12 @@ So would a text that `print`, `str` or `fail` makes.
     $ bq //...
     //:BUILD:1: F54 TooLong
 
-Make it in parts, or keep what is long in a range, which takes no room.
+Make it in parts, or use a range, which takes no memory for its elements.
 "#
         }
         FaultKind::TooDeep => {
             r#"A value that is printed, compared or made a key has values in it that are nested
-more than 64 deep. A list that holds itself is one.
+more than 64 deep, such as a list that holds itself.
 
     === BUILD
     x = []
@@ -809,7 +809,7 @@ without one.
     $ bq //...
     //:BUILD:1: F60 Select
 
-The package stays without targets. To ask about it, write one branch of the
+The package has no targets. To ask about it, write one branch of the
 `select` in a copy of the file that is laid over the tree (`bzlq bundle TREE
 OVERLAY`).
 "#
@@ -930,7 +930,7 @@ and begin with no slash.
 "#
         }
         FaultKind::BadLabel => {
-            r#"A text that should be a label reads as none (docs/BUILD_RULES.md, "Labels").
+            r#"A text that should be a label is not one (docs/BUILD_RULES.md, "Labels").
 
     === BUILD
     filegroup(name = "x", srcs = ["a:b"])
@@ -974,7 +974,7 @@ are string, int, bool, string_list, label, label_list, output and output_list.
     $ bq //...
     bq: E6 Schema 2
 
-Mend the line: words are parted by single spaces, no name comes twice, and the
+Correct the line: single spaces part its words, no name comes twice, and the
 six attributes that all rules have (name, visibility, tags, features, testonly,
 deprecation) are not declared.
 "#

@@ -57,8 +57,8 @@ then the file's bytes (docs/FORMATS.md). Bytes before the first such line are
 refused, and so are a path that is not valid, comes twice or is a directory of
 another, more than 65,536 files, and more than 1,073,741,824 bytes. With `--dir`
 it says that the directory has more files than that, or more bytes in those that
-are read, or more than 1,048,576 directories; one that links lead to counts once
-for each path to it. A `.bazelignore` has at most 1,048,576 bytes. With `--large`
+are read, or more than 1,048,576 directories, each counted once for each path of
+links to it. A `.bazelignore` has at most 1,048,576 bytes. With `--large`
 the limits are 16,777,216 files and directories, and 68,719,476,736 bytes.
 
     $ echo 'filegroup(name = "x")' | bq //...

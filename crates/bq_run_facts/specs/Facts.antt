@@ -1,9 +1,8 @@
 -- What a run writes that is asked for facts (`--facts`), and how it ends. Its faults and its ending are those of the run that is asked for the
 -- answer instead.
-use Rattle.std.specs.Prelude.{◌≡◌, ℕ, ◌++◌, List, [], Option, Some, None, Ok, Err, length}
-use Rattle.std.specs.List.{range_with_len}
+use Rattle.std.specs.Prelude.{◌≡◌, ◌<◌, ℕ, ◌++◌, List, [], Option, Some, None, Ok, Err, length}
+use Rattle.std.specs.List.{All, range_with_len}
 use Rattle.bq_label.specs.declared.packages.BuildFile.{BuildFile}
-use Rattle.bq_base_limits.specs.declared.limits.Limits.{Limits}
 use Rattle.bq_label.specs.declared.workspace.File.{File}
 use Rattle.bq_label.specs.Packages.{packages_of}
 use Rattle.bq_package_schema.specs.Schema.{Rules}
@@ -28,6 +27,10 @@ use Rattle.bq_run_write.specs.declared.ending.Status.{Status}
 use Rattle.bq_run.specs.declared.options.Options.{Options}
 use Rattle.bq_run_write.specs.Deeds.{Run, run_report}
 use Rattle.bq_run.specs.WorkspaceRun.{Fits, loaded_in, refused}
+use Rattle.bq_facts.specs.declared.header.Origin.{Origin}
+use Rattle.bq_facts.specs.Header.{header_line}
+use Rattle.bq_run_facts.specs.declared.replies.Further.{Further}
+use Rattle.bq_run_facts.specs.declared.reports.Before.{Before}
 use Rattle.bq_run_facts.specs.Lines.{target_lines, module_lines, fault_objects}
 
 -- ---- which targets
@@ -51,47 +54,88 @@ AreMeant w (Some query) numbers = IsAnswer w (formula_of query.set) numbers
 
 -- ---- the text
 
--- the lines of the targets that are meant, and then these; nothing where a word of the query names what is not there
-abbrev pub TellsBy : Fault → List BuildFile → GraphParts → Option CheckedQuery → List ℕ → Status → ReplyView → Type 0
-TellsBy None packages w asked further status reply =
-    (numbers : List ℕ) × AreMeant w asked numbers × (reply ≡ record { text = target_lines packages w numbers ++ further; end = Ok status })
-TellsBy (Some why) packages w asked further status reply = reply ≡ record { text = []; end = Err (Query why) }
+-- the lines after those of targets, and how many of them are of modules and of faults
+pub record FurtherView : Type 0 where
+  pub text : List ℕ
+  pub modules : ℕ
+  pub faults : ℕ
 
-abbrev pub Tells : List BuildFile → GraphParts → Option CheckedQuery → List ℕ → Status → ReplyView → Type 0
-Tells packages w asked further status reply = TellsBy (fault_by w asked) packages w asked further status reply
+abbrev pub further_view : Further → FurtherView
+further_view f = record { text = f.text.items; modules = f.modules; faults = f.faults }
 
--- the lines of targets, these of modules, and those of these faults
-abbrev pub TellsAll : List BuildFile → List ℕ → GraphParts → Option CheckedQuery → List FaultLine → ReportView → Type 0
-TellsAll packages modules w asked faults r = Tells packages w asked (modules ++ fault_objects faults) (status_by faults) (record { text = r.answer; end = r.end })
+-- the first line, the lines of these targets, and these further ones
+abbrev pub facts_text : Origin → List BuildFile → GraphParts → List ℕ → FurtherView → List ℕ
+facts_text origin packages w numbers further =
+    header_line origin (record { targets = length numbers; modules = further.modules; faults = further.faults })
+    ++ (target_lines packages w numbers ++ further.text)
+
+-- the facts of the targets that are meant; nothing where a word of the query names what is not there
+abbrev pub TellsBy : Fault → Origin → List BuildFile → GraphParts → Option CheckedQuery → FurtherView → Status → ReplyView → Type 0
+TellsBy None origin packages w asked further status reply =
+    (numbers : List ℕ) × AreMeant w asked numbers × All (λ at. at < length w.targets) numbers
+    × (reply ≡ record { text = facts_text origin packages w numbers further; end = Ok status })
+TellsBy (Some why) origin packages w asked further status reply = reply ≡ record { text = []; end = Err (Query why) }
+
+abbrev pub Tells : Origin → List BuildFile → GraphParts → Option CheckedQuery → FurtherView → Status → ReplyView → Type 0
+Tells origin packages w asked further status reply = TellsBy (fault_by w asked) origin packages w asked further status reply
+
+-- these lines of so many modules, and those of these faults
+abbrev pub further_lines : List ℕ → ℕ → List FaultLine → FurtherView
+further_lines modules count faults = record { text = modules ++ fault_objects faults; modules = count; faults = length faults }
+
+-- what is read of a workspace before its modules are evaluated: its packages, the lines of its modules and how many there are; and by which
+-- program
+pub record BeforeView : Type 0 where
+  pub origin : Origin
+  pub packages : List BuildFile
+  pub modules : List ℕ
+  pub count : ℕ
+
+abbrev pub before_view : Before → BeforeView
+before_view b = record { origin = b.origin; packages = b.packages; modules = b.modules.items; count = b.count }
+
+abbrev pub TellsAll : BeforeView → GraphParts → Option CheckedQuery → List FaultLine → ReportView → Type 0
+TellsAll b w asked faults r =
+    Tells b.origin b.packages w asked (further_lines b.modules b.count faults) (status_by faults) (record { text = r.answer; end = r.end })
 
 -- The report over the graph of the targets of a workspace that is loaded.
-pub record TellsFacts (packages : List BuildFile) (modules : List ℕ) (i : Inside) (asked : Option CheckedQuery) (r : ReportView) : Type 0 where
+pub record TellsFacts (b : BeforeView) (i : Inside) (asked : Option CheckedQuery) (r : ReportView) : Type 0 where
   pub graph : GraphParts
   pub made : IsGraphOf i.packages graph
   pub faults : r.faults ≡ fault_text i
-  pub reply : TellsAll packages modules graph asked (all_faults i) r
+  pub reply : TellsAll b graph asked (all_faults i) r
 
--- The same, of files with this schema and this load graph, where each module may take `limit` steps.
-abbrev pub TellsGraph : List File → Rules → ℕ → LoadParts → Option CheckedQuery → ReportView → Type 0
-TellsGraph files rules limit g asked r = TellsFacts (packages_of files) (module_lines g.modules) (loaded_in files rules (parsed_of (inputs_of files rules)) limit g.labels g.edges) asked r
+-- what is read of these files with this load graph
+abbrev pub before_of : Origin → List File → LoadParts → BeforeView
+before_of origin files g = record { origin = origin; packages = packages_of files; modules = module_lines g.modules; count = length g.modules }
+
+-- The same, of files with this schema and this load graph.
+abbrev pub TellsGraph : Origin → List File → Rules → LoadParts → Option CheckedQuery → ReportView → Type 0
+TellsGraph origin files rules g asked r =
+    TellsFacts (before_of origin files g) (loaded_in files rules (parsed_of (inputs_of files rules)) origin.limits.steps g.labels g.edges) asked r
 
 -- ---- the run
 
--- the report of a run over these files whose query is read, by these limits
-pub data IsFactsBy (limits : Limits) (files : List File) (asked : Option CheckedQuery) (r : ReportView) : Type 0 where
+-- the report of a run over these files whose query is read, by a program of this version and by these limits
+pub data IsFactsBy (origin : Origin) (files : List File) (asked : Option CheckedQuery) (r : ReportView) : Type 0 where
   -- E6
-  wrong_schema : (line : ℕ) → schema_in files ≡ Err line → r ≡ refused (Schema line) → IsFactsBy limits files asked r
+  wrong_schema : (line : ℕ) → schema_in files ≡ Err line → r ≡ refused (Schema line) → IsFactsBy origin files asked r
   -- E7
-  too_many : (rules : Rules) → schema_in files ≡ Ok rules → AreTooMany limits (packages_of files) (parsed_of (inputs_of files rules)) → r ≡ refused TooManyModules → IsFactsBy limits files asked r
-  loaded : (rules : Rules) (g : LoadParts) → schema_in files ≡ Ok rules → IsReadGraph (inputs_of files rules) g → Fits limits g.edges
-      → TellsGraph files rules limits.steps g asked r → IsFactsBy limits files asked r
+  too_many : (rules : Rules) → schema_in files ≡ Ok rules → AreTooMany origin.limits (packages_of files) (parsed_of (inputs_of files rules)) → r ≡ refused TooManyModules
+      → IsFactsBy origin files asked r
+  loaded : (rules : Rules) (g : LoadParts) → schema_in files ≡ Ok rules → IsReadGraph (inputs_of files rules) g → Fits origin.limits g.edges
+      → TellsGraph origin files rules g asked r → IsFactsBy origin files asked r
 
 -- the report of a run with the query of this text, if there is one
-pub data IsFactsOn (limits : Limits) (files : List File) (text : Option (List ℕ)) (r : ReportView) : Type 0 where
+pub data IsFactsOn (origin : Origin) (files : List File) (text : Option (List ℕ)) (r : ReportView) : Type 0 where
   -- Q1 to Q4, Q7, Q8
-  wrong_query : (query : List ℕ) (why : QueryErr) → text ≡ Some query → IsWrong query why → r ≡ refused (Query why) → IsFactsOn limits files text r
-  read : (asked : Option CheckedQuery) → IsAsked text asked → IsFactsBy limits files asked r → IsFactsOn limits files text r
+  wrong_query : (query : List ℕ) (why : QueryErr) → text ≡ Some query → IsWrong query why → r ≡ refused (Query why) → IsFactsOn origin files text r
+  read : (asked : Option CheckedQuery) → IsAsked text asked → IsFactsBy origin files asked r → IsFactsOn origin files text r
+
+-- the version of the program, and the limits of the run
+abbrev pub origin_of : List ℕ → Options → Origin
+origin_of version options = record { version = version; limits = options.limits }
 
 -- what is written, and how the run ends
-abbrev pub IsFactsOver : Options → List File → Option (List ℕ) → Run → Type 0
-IsFactsOver options files text what = (r : ReportView) × IsFactsOn options.limits files text r × (what ≡ run_report r)
+abbrev pub IsFactsOver : List ℕ → Options → List File → Option (List ℕ) → Run → Type 0
+IsFactsOver version options files text what = (r : ReportView) × IsFactsOn (origin_of version options) files text r × (what ≡ run_report r)

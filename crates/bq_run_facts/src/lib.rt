@@ -1,5 +1,5 @@
-//! A workspace and a query, or none, come in; the facts behind the answer go out: a line of JSON for each target that the query stands for, for
-//! each module and for each fault.
+//! A workspace and a query, or none, come in; the facts behind the answer go out: a first line, and then a line of JSON for each target that the
+//! query stands for, for each module and for each fault.
 //!
 //! [`run_facts`] promises that the text is the definition's (`specs/Facts.antt`), and that the faults and the ending are those of a run with the
 //! query.
@@ -8,6 +8,7 @@
 //!
 //! - `lines`: the lines of targets, modules and faults;
 //! - `selection`: which targets are meant;
+//! - `rope`: a text as a rope;
 //! - `replies`: the whole text;
 //! - `reports`: the report on a workspace;
 //! - `runs`: the run;
@@ -18,8 +19,9 @@ mod laws;
 mod lines;
 mod replies;
 mod reports;
+mod rope;
 mod runs;
 mod selection;
 
-pub use laws::{direct_is_deps, facts_end_as_answers};
+pub use laws::{deps_are_names_of_targets, direct_is_deps, facts_end_as_answers, parts_join};
 pub use runs::run_facts;

@@ -1,55 +1,78 @@
 //! The text of the facts.
 
-ghost use Rattle.std.specs.Prelude.{◌≡◌, ◌++◌, ◌<◌, length, IfOk};
+ghost use Rattle.std.specs.Prelude.{◌≡◌, ◌<◌, length, IfOk};
 ghost use Rattle.std.specs.List.{All};
 ghost use Rattle.std.specs.Option.{option_copied};
 ghost use Rattle.bq_run_report.specs.Report.{reply_view};
-ghost use Rattle.bq_run_facts.specs.Facts.{Tells};
-ghost use Rattle.bq_run_facts.specs.Lines.{target_lines};
+ghost use Rattle.bq_run_facts.specs.Facts.{Tells, facts_text, further_view};
 
 use crate::lines::push_targets;
+use crate::rope::rope_of;
 use crate::selection::meant;
+use bq_base_rope::Rope;
+use bq_facts::{Counts, Origin, push_header};
 use bq_label::Packages;
 use bq_query_check::CheckedQuery;
 use bq_query_target_graph::TargetGraph;
 use bq_run_report::{Reply, Status, refusal_of};
 use std::alloc::{AllocError, Global};
 
-/// Returns the lines of the targets of these numbers, and then these lines.
+/// The lines after those of targets, and how many there are.
+#[derive(Drop)]
+pub(crate) struct Further {
+    pub text: Vec<u8>,
+    /// How many of them are of modules.
+    pub modules: usize,
+    /// How many are of faults.
+    pub faults: usize,
+}
+
+/// Returns the first line, the lines of the targets of these numbers, and then these lines.
 fn facts_text(
     alloc: Global,
+    origin: &Origin,
     packages: &Packages,
     graph: &TargetGraph,
     numbers: &[usize],
-    further: &[u8],
+    further: &Further,
 ) -> Result<Vec<u8>, AllocError>
     requires { All (λ at. at < length graph.now.targets) numbers.now }
-    ensures { IfOk result (λ text. text.items ≡ target_lines packages.now graph.now numbers.now ++ further.now) }
+    ensures { IfOk result (λ text. text.items ≡ facts_text origin.now packages.now graph.now numbers.now (further_view further.now)) }
 {
     let mut text = Vec::new(alloc);
+    let counts = Counts {
+        targets: numbers.len(),
+        modules: further.modules,
+        faults: further.faults,
+    };
+    push_header(&mut text, origin, counts)?;
     push_targets(alloc, &mut text, packages, graph, numbers)?;
-    text.extend_from_slice(further)?;
+    text.extend_from_slice(&further.text)?;
     Ok(text)
 }
 
-/// Returns the lines of the targets that are meant, and then these lines; with them the run ends with `status`.
+/// Returns the facts of the targets that are meant, which end with these lines; with them the run ends with `status`.
 pub(crate) fn facts_over(
     alloc: Global,
+    origin: &Origin,
     packages: &Packages,
     graph: &TargetGraph,
     asked: Option<&CheckedQuery>,
-    further: &[u8],
+    further: &Further,
     status: Status,
 ) -> Result<Reply, AllocError>
-    ensures { IfOk result (λ r. Tells packages.now graph.now (option_copied asked.entry) further.now status (reply_view r)) }
+    ensures { IfOk result (λ r. Tells origin.now packages.now graph.now (option_copied asked.entry) (further_view further.now) status (reply_view r)) }
 {
     match meant(alloc, graph, asked) {
         Ok(numbers) => Ok(Reply {
-            text: facts_text(alloc, packages, graph, &numbers, further)?,
+            text: rope_of(
+                alloc,
+                facts_text(alloc, origin, packages, graph, &numbers, further)?,
+            )?,
             end: Ok(status),
         }),
         Err(why) => Ok(Reply {
-            text: Vec::new(alloc),
+            text: Rope::new(alloc),
             end: Err(refusal_of(why)?),
         }),
     }

@@ -1,6 +1,6 @@
 //! The report on a workspace.
 
-ghost use Rattle.std.specs.Prelude.{◌≡◌, ◌++◌, ℕ, Ok, IfOk};
+ghost use Rattle.std.specs.Prelude.{◌≡◌, ◌++◌, ℕ, length, Ok, IfOk};
 ghost use Rattle.std.specs.List.{flat_map};
 ghost use Rattle.std.specs.Option.{option_copied};
 ghost use Rattle.bq_load_discover.specs.LoadGraph.{IsReadGraph, inputs_of};
@@ -13,19 +13,21 @@ ghost use Rattle.bq_run_report.specs.Report.{inside};
 ghost use Rattle.bq_run.specs.Run.{IsInRange};
 ghost use Rattle.bq_run.specs.WorkspaceRun.{refused};
 ghost use Rattle.bq_run_write.specs.declared.ending.NoAnswer.TheVariants.{Schema as BadSchema, TooManyModules};
-ghost use Rattle.bq_run_facts.specs.Facts.{IsFactsBy, IsFactsOn, TellsAll, TellsFacts, TellsGraph};
+ghost use Rattle.bq_run_facts.specs.Facts.{IsFactsBy, IsFactsOn, TellsAll, TellsFacts, TellsGraph, before_view, origin_of};
 ghost use Rattle.bq_run_facts.specs.Lines.{module_lines};
 
 use crate::lines::{push_faults, push_modules};
-use crate::replies::facts_over;
+use crate::replies::{Further, facts_over};
+use bq_base::Bytes;
 use bq_base_fault_line::FaultLines;
 use bq_base_rope::Rope;
+use bq_facts::Origin;
 use bq_label::{Packages, Workspace};
 use bq_load_discover::{LoadErr, LoadGraph, Module, discover_by_workers, schema_of};
 use bq_package_schema::Schema;
 use bq_query_check::{CheckedQuery, parse_query};
 use bq_query_target_graph::{TargetGraph, build_graph_by};
-use bq_run::{Loaded, WorkspaceRun, load_graph, refused_report};
+use bq_run::{Loaded, Options, WorkspaceRun, load_graph, refused_report};
 use bq_run_report::{NoAnswer, Report, drop_aside, refusal_of, status_by};
 use std::alloc::{AllocError, Global};
 use std::random::RandomSource;
@@ -34,26 +36,44 @@ use std::thread::Threads;
 
 /// What is read of a load graph before its modules are evaluated.
 #[derive(Drop)]
-struct Before {
+pub(crate) struct Before {
+    origin: Origin,
+    packages: Packages,
     /// The lines of its modules.
     modules: Vec<u8>,
-    packages: Packages,
+    /// How many modules there are.
+    count: usize,
+}
+
+/// Returns what the first line says of the program.
+fn origin_of(alloc: Global, version: &[u8], options: &Options) -> Result<Origin, AllocError>
+    ensures { IfOk result (λ o. o ≡ origin_of version.now options.now) }
+{
+    Ok(Origin {
+        version: Bytes::from_slice(alloc, version)?,
+        limits: options.limits,
+    })
 }
 
 fn read_before(
     alloc: Global,
-    workspace: &Workspace,
+    version: &[u8],
+    over: &WorkspaceRun<'_>,
     modules: &[Module],
 ) -> Result<Before, AllocError>
+    ensures origin { IfOk result (λ b. b.origin ≡ origin_of version.now over.now.options.now) }
+    ensures packages { IfOk result (λ b. b.packages ≡ packages_of over.now.workspace.now) }
     ensures modules { IfOk result (λ b. b.modules.items ≡ module_lines modules.now) }
-    ensures packages { IfOk result (λ b. b.packages ≡ packages_of workspace.now) }
+    ensures count { IfOk result (λ b. b.count ≡ length modules.now) }
 {
     let mut lines = Vec::new(alloc);
     push_modules(alloc, &mut lines, modules)?;
-    let packages = Packages::of(alloc, workspace)?;
+    let packages = Packages::of(alloc, over.workspace)?;
     Ok(Before {
-        modules: lines,
+        origin: origin_of(alloc, version, over.options)?,
         packages,
+        modules: lines,
+        count: modules.len(),
     })
 }
 
@@ -76,11 +96,13 @@ fn report_over(
     asked: Option<&CheckedQuery>,
 ) -> Result<Report, AllocError>
     ensures faults { IfOk result (λ r. r.faults ≡ told.prints ++ flat_map line_text (put_lines told.faults told.dangling)) }
-    ensures reply { IfOk result (λ r. TellsAll before.packages before.modules.items graph.now (option_copied asked.entry) (put_lines told.faults told.dangling) (report_view r)) }
+    ensures reply { IfOk result (λ r. TellsAll (before_view before) graph.now (option_copied asked.entry) (put_lines told.faults told.dangling) (report_view r)) }
 {
     let Before {
-        modules: mut further,
+        origin,
         packages,
+        modules: mut lines,
+        count,
     } = before;
     let Told {
         prints: mut text,
@@ -89,9 +111,14 @@ fn report_over(
     } = told;
     faults.add_all(dangling)?;
     let status = status_by(&faults);
-    push_faults(alloc, &mut further, &faults)?;
+    push_faults(alloc, &mut lines, &faults)?;
+    let further = Further {
+        text: lines,
+        modules: count,
+        faults: faults.lines().len(),
+    };
     faults.append_to(alloc, &mut text)?;
-    let reply = facts_over(alloc, &packages, graph, asked, &further, status)?;
+    let reply = facts_over(alloc, &origin, &packages, graph, asked, &further, status)?;
     Ok(Report {
         faults: text,
         answer: reply.text,
@@ -108,7 +135,7 @@ fn report_loaded<R: Threads + Sync>(
     asked: Option<&CheckedQuery>,
     threads: usize,
 ) -> Result<Report, AllocError>
-    ensures { IfOk result (λ r. TellsFacts before.packages before.modules.items (inside loaded) (option_copied asked.entry) (report_view r)) }
+    ensures { IfOk result (λ r. TellsFacts (before_view before) (inside loaded) (option_copied asked.entry) (report_view r)) }
 {
     let Loaded {
         modules,
@@ -132,6 +159,7 @@ fn report_loaded<R: Threads + Sync>(
 fn report_graph<T: Threads + Wait + RandomSource + Sync>(
     rt: &T,
     alloc: Global,
+    version: &[u8],
     over: &WorkspaceRun<'_>,
     schema: &Schema,
     graph: LoadGraph,
@@ -139,9 +167,9 @@ fn report_graph<T: Threads + Wait + RandomSource + Sync>(
 ) -> Result<Report, AllocError>
     requires in_range { IsInRange over.now.options.now }
     requires graph { IsReadGraph (inputs_of over.now.workspace.now schema.now) graph }
-    ensures { IfOk result (λ r. TellsGraph over.now.workspace.now schema.now over.now.options.now.limits.steps graph (option_copied asked.entry) (report_view r)) }
+    ensures { IfOk result (λ r. TellsGraph (origin_of version.now over.now.options.now) over.now.workspace.now schema.now graph (option_copied asked.entry) (report_view r)) }
 {
-    let Ok(before) = read_before(alloc, over.workspace, graph.modules()) else {
+    let Ok(before) = read_before(alloc, version, over, graph.modules()) else {
         drop(graph); // PROOF: one call lets the graph go
         return Err(AllocError);
     };
@@ -165,13 +193,14 @@ fn without_graph(alloc: Global, why: LoadErr) -> Result<Report, AllocError>
 fn report_schema<T: Threads + Wait + RandomSource + Sync>(
     rt: &T,
     alloc: Global,
+    version: &[u8],
     over: &WorkspaceRun<'_>,
     schema: &Schema,
     asked: Option<&CheckedQuery>,
 ) -> Result<Report, AllocError>
     requires in_range { IsInRange over.now.options.now }
     requires schema { schema_in over.now.workspace.now ≡ Ok schema.now }
-    ensures { IfOk result (λ r. IsFactsBy over.now.options.now.limits over.now.workspace.now (option_copied asked.entry) (report_view r)) }
+    ensures { IfOk result (λ r. IsFactsBy (origin_of version.now over.now.options.now) over.now.workspace.now (option_copied asked.entry) (report_view r)) }
 {
     match discover_by_workers(
         rt,
@@ -181,7 +210,7 @@ fn report_schema<T: Threads + Wait + RandomSource + Sync>(
         over.options.limits,
         over.options.jobs as usize,
     ) {
-        Ok(graph) => report_graph(rt, alloc, over, schema, graph, asked),
+        Ok(graph) => report_graph(rt, alloc, version, over, schema, graph, asked),
         Err(why) => without_graph(alloc, why), // PROOF: nothing is left to let go of
     }
 }
@@ -200,15 +229,16 @@ fn without_schema(alloc: Global, why: LoadErr) -> Result<Report, AllocError>
 fn report_asked<T: Threads + Wait + RandomSource + Sync>(
     rt: &T,
     alloc: Global,
+    version: &[u8],
     over: &WorkspaceRun<'_>,
     asked: Option<&CheckedQuery>,
 ) -> Result<Report, AllocError>
     requires in_range { IsInRange over.now.options.now }
-    ensures { IfOk result (λ r. IsFactsBy over.now.options.now.limits over.now.workspace.now (option_copied asked.entry) (report_view r)) }
+    ensures { IfOk result (λ r. IsFactsBy (origin_of version.now over.now.options.now) over.now.workspace.now (option_copied asked.entry) (report_view r)) }
 {
     match schema_of(alloc, over.workspace) {
         Ok(schema) => {
-            let report = report_schema(rt, alloc, over, &schema, asked);
+            let report = report_schema(rt, alloc, version, over, &schema, asked);
             drop(schema); // PROOF: one call lets the schema go
             report
         }
@@ -221,18 +251,19 @@ fn report_asked<T: Threads + Wait + RandomSource + Sync>(
 pub(crate) fn report_facts<T: Threads + Wait + RandomSource + Sync>(
     rt: &T,
     alloc: Global,
+    version: &[u8],
     over: &WorkspaceRun<'_>,
     query: Option<&[u8]>,
 ) -> Result<Report, AllocError>
     requires in_range { IsInRange over.now.options.now }
-    ensures { IfOk result (λ r. IsFactsOn over.now.options.now.limits over.now.workspace.now (option_copied query.entry) (report_view r)) }
+    ensures { IfOk result (λ r. IsFactsOn (origin_of version.now over.now.options.now) over.now.workspace.now (option_copied query.entry) (report_view r)) }
 {
     let Some(query) = query else {
-        return report_asked(rt, alloc, over, None);
+        return report_asked(rt, alloc, version, over, None);
     };
     match parse_query(alloc, query) {
         Ok(query) => {
-            let report = report_asked(rt, alloc, over, Some(&query));
+            let report = report_asked(rt, alloc, version, over, Some(&query));
             drop(query); // PROOF: one call lets the query go
             report
         }

@@ -65,9 +65,9 @@ pub fn bundles_have_a_gibibyte_at_most()
     ensures { (text : List ℕ) (files : List File) → GibibyteAtMost text files }
 {}
 
-/// What a run that is asked for facts writes is a line for each object: first those of targets, then those of modules, then those of faults, by
-/// their first keys, `target`, `module` and `fault`. By `values_read_back` and `one_reading` of bq_facts_json a reader finds these objects in that
-/// order, and no others.
+/// What a run that is asked for facts writes, if it writes any, is a line for each object: first one with the version of the program, its limits
+/// and how many of each kind follow; then those of targets, then those of modules, then those of faults, by their first keys, `target`, `module`
+/// and `fault`. By `values_read_back` and `one_reading` of bq_facts_json a reader finds these objects in that order, and no others.
 pub fn targets_come_before_modules_and_faults()
     ensures { TargetsComeFirst }
 {}

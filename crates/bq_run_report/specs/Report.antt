@@ -64,7 +64,7 @@ pub record ReplyView : Type 0 where
   pub end : Result Status NoAnswer
 
 abbrev pub reply_view : Reply → ReplyView
-reply_view r = record { text = r.text.items; end = r.end }
+reply_view r = record { text = r.text; end = r.end }
 
 -- the reply to a query over a graph: the lines of its answer, or the fault of a word that names what is not there
 abbrev pub Replies : GraphParts → Formula → OutputForm → Status → ReplyView → Type 0

@@ -4,6 +4,7 @@ ghost use Rattle.std.specs.Prelude.{IfOk};
 ghost use Rattle.bq_query_check.specs.Formula.{formula_of};
 ghost use Rattle.bq_run_report.specs.Report.{Replies, reply_view};
 
+use bq_base_rope::Rope;
 use bq_query::{OutputForm, answer, print_answer};
 use bq_query_check::CheckedQuery;
 use bq_query_target_graph::TargetGraph;
@@ -20,7 +21,7 @@ pub struct Question<'a> {
 /// The answer's text, and how the run ends.
 #[derive(Drop)]
 pub struct Reply {
-    pub text: Vec<u8>,
+    pub text: Rope,
     pub end: Result<Status, NoAnswer>,
 }
 
@@ -39,7 +40,7 @@ pub fn reply_to(
             end: Ok(status),
         }),
         Err(why) => Ok(Reply {
-            text: Vec::new(alloc),
+            text: Rope::new(alloc),
             end: Err(refusal_of(why)?),
         }),
     }

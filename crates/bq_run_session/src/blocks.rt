@@ -3,6 +3,7 @@
 
 ghost use Rattle.std.specs.Prelude.{◌≡◌, ◌⊎◌, ◌+◌, ◌-◌, ◌^◌, ◌<◌, take, IfOk, IsErr, IsErrOf, OnOk};
 ghost use Rattle.std.specs.Io.KnownBytes.{Appends, Keeps};
+ghost use Rattle.std.specs.List.{concat};
 ghost use Rattle.bq_run_device.specs.Device.{Begins};
 ghost use Rattle.bq_run_write.specs.Status.{status_code};
 ghost use Rattle.bq_run_report.specs.Report.{reply_view};
@@ -10,7 +11,9 @@ ghost use Rattle.bq_run_session.specs.Block.{block, body, header, line_count, ru
 ghost use Rattle.bq_run_session.specs.Queries.{max_query_bytes};
 
 use crate::queries::MAX_QUERY_BYTES;
-use bq_run::{ByteSink, RunErr, status_of, write_all};
+use bq_base::Bytes;
+use bq_base_rope::Rope;
+use bq_run::{ByteSink, RunErr, status_of, write_all, write_rope};
 use bq_run_report::{NoAnswer, Reply, Status};
 use std::alloc::{AllocError, Global};
 
@@ -24,6 +27,30 @@ fn line_count(text: &[u8]) -> usize
         }
     }
     count
+}
+
+/// Returns so many and the newlines of these strings.
+fn with_lines_of(before: usize, pieces: &[Bytes]) -> Result<usize, AllocError>
+    ensures { IfOk result (λ count. count ≡ before + line_count (concat pieces.now)) }
+{
+    let mut count = before;
+    for piece in pieces {
+        let more = line_count(piece.as_slice());
+        match count.checked_add(more) {
+            Some(sum) => count = sum,
+            None => return Err(AllocError),
+        }
+    }
+    Ok(count)
+}
+
+/// Returns how many newlines a text has. In strings that are shared there could be more of them than can be counted, and then it fails as if
+/// memory were refused.
+fn text_line_count(text: &Rope) -> Result<usize, AllocError>
+    ensures { IfOk result (λ count. count ≡ line_count text.now) }
+{
+    let parts = text.parts();
+    with_lines_of(line_count(parts.rest), parts.pieces)
 }
 
 /// Returns what the header line has of a query: all, unless it is too long.
@@ -62,18 +89,19 @@ fn run_end(end: Result<Status, NoAnswer>) -> Result<Status, RunErr>
 #[derive(Drop)]
 struct BlockTexts {
     header: Vec<u8>,
-    body: Vec<u8>,
+    body: Rope,
 }
 
 fn block_of(alloc: Global, query: &[u8], reply: Reply) -> Result<BlockTexts, AllocError>
     ensures header { IfOk result (λ b. b.header.items ≡ header (status_code (run_end reply.end)) (line_count (body (reply_view reply))) query.now) }
-    ensures body { IfOk result (λ b. b.body.items ≡ body (reply_view reply)) }
+    ensures body { IfOk result (λ b. b.body ≡ body (reply_view reply)) }
 {
     let Reply { text, end } = reply;
     let (code, line) = status_of(alloc, &run_end(end))?;
     let mut body = text;
-    body.extend_from_slice(&line)?;
-    let header = header(alloc, code, line_count(&body), query)?;
+    body.push_slice(&line)?;
+    let count = text_line_count(&body)?;
+    let header = header(alloc, code, count, query)?;
     Ok(BlockTexts { header, body })
 }
 
@@ -94,6 +122,6 @@ pub(crate) fn write_block<W: ByteSink>(
 {
     let block = block_of(alloc, query, reply)?;
     write_all(writer, &block.header)?;
-    write_all(writer, &block.body)?;
+    write_rope(writer, &block.body)?;
     Ok(())
 }

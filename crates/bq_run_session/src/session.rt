@@ -8,6 +8,7 @@ ghost use Rattle.bq_run_session.specs.Queries.{max_query_bytes};
 ghost use Rattle.bq_run_session.specs.Session.{IsAnswerIn, Opens};
 
 use crate::queries::MAX_QUERY_BYTES;
+use bq_base_rope::Rope;
 use bq_label::Workspace;
 use bq_load_discover::{LoadErr, schema_of};
 use bq_package_schema::Schema;
@@ -67,7 +68,7 @@ fn refused(alloc: Global, why: NoAnswer) -> Reply
     ensures { reply_view result ≡ record { text = []; end = Err why } }
 {
     Reply {
-        text: Vec::new(alloc),
+        text: Rope::new(alloc),
         end: Err(why),
     }
 }

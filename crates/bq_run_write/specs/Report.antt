@@ -12,4 +12,4 @@ pub record ReportView : Type 0 where
 
 -- a `Report`, without where its texts lie in memory
 abbrev pub report_view : Report → ReportView
-report_view r = record { faults = r.faults; answer = r.answer.items; end = r.end }
+report_view r = record { faults = r.faults; answer = r.answer; end = r.end }

@@ -9,6 +9,6 @@ pub struct Report {
     /// The lines for the faults writer.
     pub faults: Rope,
     /// The lines for the writer.
-    pub answer: Vec<u8>,
+    pub answer: Rope,
     pub end: Result<Status, NoAnswer>,
 }

@@ -9,7 +9,7 @@ ghost use Rattle.bq_run_write.specs.Deeds.{Does, IsSilent, WritesBeginnings, Wri
 use crate::ending::{NoAnswer, Status};
 use crate::error::RunErr;
 use crate::report::Report;
-use bq_run_device::{ByteSink, WriteFault, write_all, write_rope};
+use bq_run_device::{ByteSink, WriteFault, write_rope};
 
 /// Writes the texts of a report, the faults first. A refusal has no answer, and if the workspace wasn't loaded no
 /// faults.
@@ -28,7 +28,7 @@ fn write_texts<W: ByteSink, F: ByteSink>(
     match &report.end {
         Ok(_) => {
             write_rope(faults_writer, &report.faults)?;
-            write_all(writer, &report.answer)
+            write_rope(writer, &report.answer)
         }
         Err(refusal) => {
             if refusal.is_unanswered() {

@@ -134,6 +134,7 @@ fn file_is_right(
         loaded: &[],
         imports: &[],
         files: &[],
+        once: true,
     };
     let evaluated = eval_module(
         setting.alloc,

@@ -44,7 +44,7 @@ fn endless_input_meets_its_limit(rt: HostRuntime) {
     }
 }
 
-const LIMITS: &[usize] = &[0, 1, 4095, 4096, 1_000_000];
+const LIMITS: &[usize] = &[0, 1, 65_535, 65_536, 1_000_000];
 
 /// A bundle of so many bytes would take as much memory, so the number alone is tried.
 #[test]

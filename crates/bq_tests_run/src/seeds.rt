@@ -72,7 +72,7 @@ fn runs_draw_a_seed(rt: HostRuntime) -> Result<(), AllocError> {
 fn sessions_and_facts_draw_a_seed(rt: HostRuntime) -> Result<(), AllocError> {
     for property in [
         Property::Session(b"//a:BUILD\n", 0, 5, b"=== "),
-        Property::Facts(5, b"{\"ta"),
+        Property::Facts(5, b"{\"fa"),
     ] {
         let source = make_source(&rt);
         let found = has(&source, rt.alloc(), BUNDLE, property)?;

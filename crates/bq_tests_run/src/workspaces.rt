@@ -72,7 +72,7 @@ fn are_facts<R: Threads + Wait + RandomSource + Sync>(
         workspace,
         options: &asked,
     };
-    let ended = run_facts(rt, alloc, &over, None, &mut writer, &mut faults);
+    let ended = run_facts(rt, alloc, b"1.6.0", &over, None, &mut writer, &mut faults);
     let is_written = faults.device.held.is_empty() && writer.device.held.as_slice() == wanted;
     Ok(status_code(&ended) == 5 && writer.failures() == 1 && is_written)
 }
@@ -213,7 +213,7 @@ const SESSIONS: &[(&[u8], u64, u64, &[u8])] = &[
 
 #[test]
 fn write_facts(rt: HostRuntime) -> Result<(), AllocError> {
-    let property = Property::Facts(5, b"{\"ta");
+    let property = Property::Facts(5, b"{\"fa");
     assert!(rt; has(&rt, rt.alloc(), b"=== a/BUILD\n", property)?);
     Ok(())
 }

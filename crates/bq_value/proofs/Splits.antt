@@ -32,15 +32,18 @@ from_less n k (m ∷ ms) le h = (omega (arith, le, h.0), from_less n k ms le h.1
 
 -- ---- what is looked up
 
+-- modules from a number on have none below it
 above : (home middle : ℕ) (ms : Modules) → home < middle → From middle ms → module_at home ms ≡ None
 above home middle [] less h = refl
 above home middle (m ∷ ms) less h =
     ap (λ b. cond b (Some m.1) (module_at home ms)) (ne_eqb home m.0 (λ e. omega (arith, e, less, h.0))) ∙ above home middle ms less h.1
 
+-- a module below the number at which a list is split is looked up in the left part alone
 pub at_left : (home middle : ℕ) (ls rs : Modules) → home < middle → From middle rs → module_at home (ls ++ rs) ≡ module_at home ls
 at_left home middle [] rs less h = above home middle rs less h
 at_left home middle (m ∷ ls) rs less h = ap (λ o. cond (home == m.0) (Some m.1) o) (at_left home middle ls rs less h)
 
+-- any other is looked up in the right part alone
 pub at_right : (home middle : ℕ) (ls rs : Modules) → middle ≤ home → Below middle ls → module_at home (ls ++ rs) ≡ module_at home rs
 at_right home middle [] rs le h = refl
 at_right home middle (m ∷ ls) rs le h =

@@ -24,7 +24,7 @@ pub fn truth(store: &Store, value: &Value) -> bool
         Node::Function(_) => true,
         Node::BuiltIn(_) => true,
         Node::SchemaRule(_, _) => true,
-        Node::RuleFunction(_) => true,
+        Node::Rule | Node::Attr(_) => true,
         Node::Attribute(_) => true,
     }
 }

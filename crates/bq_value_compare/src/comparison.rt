@@ -58,7 +58,7 @@ fn values_ordered(
         Node::NoneValue => Err(EvalFault::WrongType),
         Node::Range(_) | Node::Function(_) | Node::BuiltIn(_) => Err(EvalFault::WrongType),
         Node::SchemaRule(_, _) => Err(EvalFault::WrongType),
-        Node::RuleFunction(_) | Node::Attribute(_) => Err(EvalFault::WrongType),
+        Node::Rule | Node::Attr(_) | Node::Attribute(_) => Err(EvalFault::WrongType),
     }
 }
 

@@ -6,6 +6,7 @@ ghost use Rattle.bq_value_compare.specs.Equality.{equal_at, range_equal, functio
 
 use crate::MAX_LEVELS;
 use bq_base::EvalFault;
+use bq_resolve_predeclared::RuleFunction;
 use bq_value::{Body, Cell, Content, Dict, FunctionValue, Node, Range, Store, Value};
 
 /// Returns whether two values are equal, and how many of the steps are left.
@@ -46,7 +47,8 @@ pub(crate) fn values_equal(
         Node::Function(f) => Ok((function_equal(f, b), steps)),
         Node::BuiltIn(x) => Ok((b.is_built_in(*x), steps)),
         Node::SchemaRule(place, name) => Ok((b.is_schema_rule(*place, name.as_slice()), steps)),
-        Node::RuleFunction(x) => Ok((b.is_rule_function(*x), steps)),
+        Node::Rule => Ok((b.is_rule_function(RuleFunction::Rule), steps)),
+        Node::Attr(kind) => Ok((b.is_rule_function(RuleFunction::Attr(*kind)), steps)),
         Node::Attribute(x) => Ok((b.is_attribute(x), steps)),
     }
 }

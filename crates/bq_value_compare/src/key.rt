@@ -41,7 +41,8 @@ fn walk(levels: u32, steps: u64, value: &Value) -> Result<u64, EvalFault>
         | Node::Function(_)
         | Node::BuiltIn(_)
         | Node::SchemaRule(_, _)
-        | Node::RuleFunction(_)
+        | Node::Rule
+        | Node::Attr(_)
         | Node::Attribute(_) => Err(EvalFault::Unhashable),
     }
 }

@@ -18,5 +18,6 @@ deep_le-weight (node.Cell c) = omega arith
 deep_le-weight (node.Function f) = omega (arith, most_le-weights f.value.defaults.items)
 deep_le-weight (node.BuiltIn f) = omega arith
 deep_le-weight (node.SchemaRule place name) = omega arith
-deep_le-weight (node.RuleFunction f) = omega arith
+deep_le-weight node.Rule = omega arith
+deep_le-weight (node.Attr kind) = omega arith
 deep_le-weight (node.Attribute a) = omega arith

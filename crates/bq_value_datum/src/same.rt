@@ -76,7 +76,8 @@ impl Value {
         ensures { result ≡ same (rule_function function) self.now }
     {
         match &self.node {
-            Node::RuleFunction(other) => is_same_rule_function(function, *other),
+            Node::Rule => is_same_rule_function(function, RuleFunction::Rule),
+            Node::Attr(kind) => is_same_rule_function(function, RuleFunction::Attr(*kind)),
             _ => false,
         }
     }
@@ -194,7 +195,8 @@ pub(crate) fn is_same(a: &Value, b: &Value) -> bool
         Node::Function(f) => is_same_function(f, b),
         Node::BuiltIn(x) => b.is_built_in(*x),
         Node::SchemaRule(place, name) => b.is_schema_rule(*place, name.as_slice()),
-        Node::RuleFunction(x) => b.is_rule_function(*x),
+        Node::Rule => b.is_rule_function(RuleFunction::Rule),
+        Node::Attr(kind) => b.is_rule_function(RuleFunction::Attr(*kind)),
         Node::Attribute(x) => b.is_attribute(x),
     }
 }

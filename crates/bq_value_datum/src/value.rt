@@ -5,6 +5,7 @@ ghost use Rattle.bq_value_datum.specs.Datum.{Datum, none, boolean, int, string, 
 
 use crate::range::Range;
 use bq_base::Bytes;
+use bq_package_attribute_type::AttributeType;
 use bq_resolve_predeclared::{Predeclared, RuleFunction};
 use bq_value_rule_class::Attribute;
 use std::alloc::{AllocError, Global};
@@ -35,8 +36,11 @@ pub enum Node {
     BuiltIn(Predeclared),
     /// A rule of the schema: its place there, and its name.
     SchemaRule(u32, Bytes),
-    /// A function that declares rules, or their attributes.
-    RuleFunction(RuleFunction),
+    /// The function `rule`.
+    Rule,
+    /// The function `attr.NAME` of this type. (It and `rule` are two kinds, since one that holds a `RuleFunction` has two bytes, and
+    /// each move of a value copies both.)
+    Attr(AttributeType),
     /// What such a function says of an attribute.
     Attribute(Arc<Attribute>),
 }
@@ -92,7 +96,8 @@ impl Drop for Value {
             | Node::Range(_)
             | Node::Cell(_)
             | Node::BuiltIn(_)
-            | Node::RuleFunction(_) => {}
+            | Node::Rule
+            | Node::Attr(_) => {}
             Node::Text(text) => drop_text(text),
             Node::SchemaRule(_, name) => drop_text(name),
             Node::Attribute(attribute) => drop_attribute(attribute),
@@ -178,7 +183,8 @@ impl Value {
             | Node::Text(_)
             | Node::BuiltIn(_)
             | Node::SchemaRule(_, _)
-            | Node::RuleFunction(_)
+            | Node::Rule
+            | Node::Attr(_)
             | Node::Attribute(_) => None,
             Node::Tuple(shared) => Arc::into_inner(shared),
             Node::Function(shared) => match Arc::into_inner(shared) {
@@ -269,9 +275,11 @@ impl Value {
     pub fn rule_function(function: RuleFunction) -> Value
         ensures { result ≡ rule_function function }
     {
-        Value {
-            node: Node::RuleFunction(function),
-        }
+        let node = match function {
+            RuleFunction::Rule => Node::Rule,
+            RuleFunction::Attr(kind) => Node::Attr(kind),
+        };
+        Value { node }
     }
 
     pub fn attribute(alloc: Global, parts: Attribute) -> Result<Value, AllocError>
@@ -302,7 +310,8 @@ impl Value {
             Node::Range(range) => Node::Range(*range),
             Node::Cell(cell) => Node::Cell(*cell),
             Node::BuiltIn(function) => Node::BuiltIn(*function),
-            Node::RuleFunction(function) => Node::RuleFunction(*function),
+            Node::Rule => Node::Rule,
+            Node::Attr(kind) => Node::Attr(*kind),
             Node::Text(text) => return share_text(text),
             Node::Tuple(items) => return share_tuple(items),
             Node::Function(function) => return share_function(function),

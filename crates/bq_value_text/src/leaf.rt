@@ -9,7 +9,7 @@ ghost use Rattle.bq_value_text.specs.Leaf.{leaf_written, range_written, named_wr
 
 use crate::page::Page;
 use crate::quoted::write_quoted;
-use bq_resolve_predeclared::Predeclared;
+use bq_resolve_predeclared::{Predeclared, RuleFunction};
 use bq_value::{Node, Range, Value};
 use itoa::Buffer;
 use std::alloc::AllocError;
@@ -31,8 +31,13 @@ pub(crate) fn write_leaf(value: &Value, page: &mut Page) -> Result<(), AllocErro
             write_named(b"<built-in function ", own_name(*function), page)
         }
         Node::SchemaRule(_, name) => { write_named(b"<built-in function ", name.as_slice(), page) }
-        Node::RuleFunction(function) => {
-            write_named(b"<built-in function ", function.name(), page)
+        Node::Rule => write_named(b"<built-in function ", RuleFunction::Rule.name(), page),
+        Node::Attr(kind) => {
+            write_named(
+                b"<built-in function ",
+                RuleFunction::Attr(*kind).name(),
+                page,
+            )
         }
         Node::Attribute(attribute) => write_named(b"<attr.", attribute.kind.name(), page),
         Node::Tuple(_) | Node::Cell(_) => Ok(()),

@@ -80,7 +80,7 @@ fn string_in(value: &Value) -> Option<&Bytes>
         Node::Text(bytes) => Some(bytes),
         Node::NoneValue | Node::Bool(_) | Node::Int(_) | Node::Tuple(_) | Node::Range(_) => None,
         Node::Cell(_) | Node::Function(_) | Node::BuiltIn(_) | Node::SchemaRule(_, _) => None,
-        Node::RuleFunction(_) | Node::Attribute(_) => None,
+        Node::Rule | Node::Attr(_) | Node::Attribute(_) => None,
     }
 }
 

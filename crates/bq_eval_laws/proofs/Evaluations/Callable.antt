@@ -51,11 +51,15 @@ some_if false x o = refl
 
 -- ---- modules by their numbers
 
-has : ℕ → Modules → Bool
+pub has : ℕ → Modules → Bool
 has n ms = is_some (module_at n ms)
 
 module _ (n : ℕ) where
-  has_first : (m : ℕ × FrozenCells) (ms : Modules) → has n (m ∷ ms) ≡ ((n == m.0) || has n ms)
+  pub has_none : has n [] ≡ false
+  unfolding has
+  has_none = refl
+
+  pub has_first : (m : ℕ × FrozenCells) (ms : Modules) → has n (m ∷ ms) ≡ ((n == m.0) || has n ms)
   unfolding has
   has_first m ms = some_if (n == m.0) m.1 (module_at n ms)
 
@@ -93,12 +97,12 @@ module _ (n : ℕ) where
   some_globals None = refl
   some_globals (Some c) = refl
 
-  has_globals : (f : FrozenView) → is_some (globals_at f n) ≡ has n (brought f)
+  pub has_globals : (f : FrozenView) → is_some (globals_at f n) ≡ has n (brought f)
   unfolding has globals_at
   has_globals f =
       some_if (n == f.own) f.cells.globals (globals_of (module_at n f.reached)) ∙ ap (λ (z : Bool). (n == f.own) || z) (some_globals (module_at n f.reached)) ∙ sym (has_first (f.own, f.cells) f.reached)
 
-  some_else : {A : Type 0} (x y : Option A) → is_some (or_else x y) ≡ (is_some x || is_some y)
+  pub some_else : {A : Type 0} (x y : Option A) → is_some (or_else x y) ≡ (is_some x || is_some y)
   some_else None y = refl
   some_else (Some x) y = refl
 
@@ -109,7 +113,7 @@ module _ (n : ℕ) where
       has_loaded (loading s f) fs ∙ ap (λ (z : Bool). z || is_some (globals_among n fs)) (has_all s.loaded (brought f)) ∙ or_group (has n s.loaded) (has n (brought f)) (is_some (globals_among n fs))
       ∙ ap (λ (z : Bool). has n s.loaded || z) (ap (λ (z : Bool). z || is_some (globals_among n fs)) (sym (has_globals f)) ∙ sym (some_else (globals_at f n) (globals_among n fs)))
 
-  has_at_first : (number : ℕ) (loaded : List FrozenView) → has n (first_store number loaded).loaded ≡ is_some (globals_among n loaded)
+  pub has_at_first : (number : ℕ) (loaded : List FrozenView) → has n (first_store number loaded).loaded ≡ is_some (globals_among n loaded)
   unfolding has
   has_at_first number loaded = has_loaded (record { own = number; cells = []; loaded = [] }) loaded
 
@@ -117,7 +121,7 @@ module _ (n : ℕ) where
   none_in f c = omega arith
 
   -- what one of these modules reaches is reached by them
-  among : (f : FrozenView) → IsSome (globals_at f n) → (others : List FrozenView) → Contains others f → IsSome (globals_among n others)
+  pub among : (f : FrozenView) → IsSome (globals_at f n) → (others : List FrozenView) → Contains others f → IsSome (globals_among n others)
   unfolding globals_among
   among f h [] c = absurd (none_in f c)
   among f h (g ∷ others) c = elim (Contains-append_cases (g ∷ []) others f c) [

@@ -1,6 +1,7 @@
 -- The trees of resolved files may cross threads.
 use denote.Param.Send.{IsSend, IsSync, sendable}
 use Rattle.std.proofs.Crossing.{crosses}
+use Rattle.bq_base_takeable.proofs.takeable.Takeable.TheSendSync as Takeable
 use Rattle.bq_package_attribute_type.specs.contracts.attribute_type.AttributeType as AttributeType
 use Rattle.bq_resolve_predeclared.specs.contracts.rule_function.RuleFunction as RuleFunction
 use Rattle.bq_resolve_predeclared.specs.contracts.predeclared.Predeclared as Predeclared
@@ -146,7 +147,7 @@ pub load_stmt_sync : IsSync (LoadStmt.the_field).row
 load_stmt_sync = search (crosses, sendable) depth 60 fits 20000
 
 pub resolved_send : IsSend (ResolvedFile.the_field).row
-resolved_send = let line = line_send in let function = function_send in let load_stmt = load_stmt_send in search (crosses, sendable) depth 60 fits 20000
+resolved_send = let line = line_send in let function = function_send in let load_stmt = load_stmt_send in search (Takeable.the_send, crosses, sendable) depth 60 fits 20000
 
 pub resolved_sync : IsSync (ResolvedFile.the_field).row
-resolved_sync = let line = line_sync in let function = function_sync in let load_stmt = load_stmt_sync in search (crosses, sendable) depth 60 fits 20000
+resolved_sync = let sent = line_send in let line = line_sync in let function = function_sync in let load_stmt = load_stmt_sync in search (Takeable.the_sync, crosses, sendable) depth 60 fits 20000

@@ -121,7 +121,7 @@ module _ (inputs : InputParts) (g : GraphParts) (is : IsReadGraph inputs g) (x :
       let before = along n k file.label file.at by.loaded by.are path.2 in
       let there = module_at inputs x g.labels read k file.label file.at in
       let none = has_none x k by.loaded has.value by.gives (module_of inputs file.label) there file.bzl in
-      of_module x k home by.loaded has.value before none (module_of inputs file.label) there (file_at inputs x g.labels read k file.label file.at) by.gives m (map frozen_of modules) (is_among has.value modules has.among)
+      of_module x k home by.loaded has.value before none (module_of inputs file.label) there (file_at inputs x g.labels read k file.label file.at file.bzl) by.gives m (map frozen_of modules) (is_among has.value modules has.among)
 
 pub callable_along_loads : FunctionsOfLoadsAreCallable
 callable_along_loads files rules limit g is m home l modules at loaded reaches =

@@ -6,7 +6,7 @@ use Rattle.bq_board.specs.Cycles.{is_cyclic, starts_path}
 use Rattle.bq_board.specs.Depth.{max_load_depth, is_too_deep}
 use Rattle.bq_board.specs.Graph.{Loads, row}
 use Rattle.bq_board.proofs.Lemmas.{cons_has}
-use Rattle.bq_load_outcome_spec.specs.Outcome.{first, with_value, values, own, evaluated, by_loads, outcome}
+use Rattle.bq_load_outcome_spec.specs.Outcome.{first, with_load_value, load_values, own, evaluated, by_loads, outcome}
 use Rattle.bq_load_outcome_spec.specs.declared.outcome.Outcome.{Outcome}
 use Rattle.bq_load_outcome_spec.specs.declared.outcome.Outcome.TheVariants as o
 use Rattle.bq_load_outcome_spec.proofs.Solution.{outcome_is}
@@ -36,7 +36,7 @@ module _ {V F : Type 0} where
     abbrev AllHave : List ℕ → List V → Type 0
     AllHave xs vs = (k : ℕ) → Has xs k → HasValue vs k
 
-    one_more : (x : ℕ) (xs : List ℕ) (vs : List V) (one : Outcome V F) → at x ≡ one → (r : Result (List V) ℕ) → ((ws : List V) → r ≡ Ok ws → AllHave xs ws) → with_value one x r ≡ Ok vs → AllHave (x ∷ xs) vs
+    one_more : (x : ℕ) (xs : List ℕ) (vs : List V) (one : Outcome V F) → at x ≡ one → (r : Result (List V) ℕ) → ((ws : List V) → r ≡ Ok ws → AllHave xs ws) → with_load_value one x r ≡ Ok vs → AllHave (x ∷ xs) vs
     one_more x xs vs (o.Loaded v) is (Ok ws) rest e k h =
         let whole : v ∷ ws ≡ vs = same_values (v ∷ ws) vs e in
         elim (cons_has x xs k h) [
@@ -49,30 +49,30 @@ module _ {V F : Type 0} where
     one_more x xs vs (o.TooDeep l) is r rest e k h = absurd (cc)
     one_more x xs vs (o.LoadFailed l) is r rest e k h = absurd (cc)
 
-    pub all_have : (xs : List ℕ) (vs : List V) → values at xs ≡ Ok vs → AllHave xs vs
+    pub all_have : (xs : List ℕ) (vs : List V) → load_values at xs ≡ Ok vs → AllHave xs vs
     all_have [] vs e k h = absurd (omega (arith, h))
-    all_have (x ∷ xs) vs e k h = one_more x xs vs (at x) refl (values at xs) (all_have xs) e k h
+    all_have (x ∷ xs) vs e k h = one_more x xs vs (at x) refl (load_values at xs) (all_have xs) e k h
 
 -- ---- a value
 
 module _ {V F : Type 0} (means : ℕ → List V → Result V F) (p : Loads) (k : ℕ) (v : V) where
   pub record IsEvaluated : Type 0 where
     pub loaded : List V
-    pub are : values (outcome means p) (row p k) ≡ Ok loaded
+    pub are : load_values (outcome means p) (row p k) ≡ Ok loaded
     pub gives : means k loaded ≡ Ok v
 
-  by_result : (vs : List V) → values (outcome means p) (row p k) ≡ Ok vs → (r : Result V F) → means k vs ≡ r → own r ≡ o.Loaded v → IsEvaluated
+  by_result : (vs : List V) → load_values (outcome means p) (row p k) ≡ Ok vs → (r : Result V F) → means k vs ≡ r → own r ≡ o.Loaded v → IsEvaluated
   by_result vs are (Ok w) e is = record { loaded = vs; are = are; gives = e ∙ ap (λ (z : V). Ok z) (same_value w v is) }
   by_result vs are (Err why) e is = absurd (cc)
 
-  by_values : (r : Result (List V) ℕ) → values (outcome means p) (row p k) ≡ r → evaluated (means k) r ≡ o.Loaded v → IsEvaluated
+  by_values : (r : Result (List V) ℕ) → load_values (outcome means p) (row p k) ≡ r → evaluated (means k) r ≡ o.Loaded v → IsEvaluated
   by_values (Ok vs) e is = by_result vs e (means k vs) refl is
   by_values (Err l) e is = absurd (cc)
 
-  by_cases : (cyclic deep : Bool) (c d : ℕ) → cond cyclic (o.Cyclic c) (cond deep (o.TooDeep d) (evaluated (means k) (values (outcome means p) (row p k)))) ≡ o.Loaded v → IsEvaluated
+  by_cases : (cyclic deep : Bool) (c d : ℕ) → cond cyclic (o.Cyclic c) (cond deep (o.TooDeep d) (evaluated (means k) (load_values (outcome means p) (row p k)))) ≡ o.Loaded v → IsEvaluated
   by_cases true deep c d is = absurd (cc)
   by_cases false true c d is = absurd (cc)
-  by_cases false false c d is = by_values (values (outcome means p) (row p k)) refl is
+  by_cases false false c d is = by_values (load_values (outcome means p) (row p k)) refl is
 
   pub evaluated_by : outcome means p k ≡ o.Loaded v → IsEvaluated
   unfolding by_loads

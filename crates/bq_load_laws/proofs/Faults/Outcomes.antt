@@ -30,7 +30,7 @@ use Rattle.bq_load_front.specs.Reading.{parsed_of}
 use Rattle.bq_load_front.proofs.Fronts.{are_fronts}
 use Rattle.bq_load_front.specs.Inputs.{InputParts}
 use Rattle.bq_load_front.specs.declared.front.Front.{Front}
-use Rattle.bq_load_outcome_spec.specs.Outcome.{first, values, own, evaluated, by_loads, outcome}
+use Rattle.bq_load_outcome_spec.specs.Outcome.{first, load_values, own, evaluated, by_loads, outcome}
 use Rattle.bq_load_outcome_spec.specs.declared.outcome.Outcome.{Outcome}
 use Rattle.bq_load_outcome_spec.specs.declared.outcome.Outcome.TheVariants as o
 use Rattle.bq_label.specs.Packages.{label_file}
@@ -224,7 +224,7 @@ module _ (inputs : InputParts) (x : LoadingParts) where
       unfolding by_loads
       with_file =
           subst Holds (sym (outcome_is (means x) p m))
-          (by_cases (is_cyclic p m) (is_too_deep p m) (first (is_cyclic p) (row p m)) (first (starts_path p max_load_depth) (row p m)) (values (outcome (means x) p) (row p m)) (on_cycle (means x) p known m)
+          (by_cases (is_cyclic p m) (is_too_deep p m) (first (is_cyclic p) (row p m)) (first (starts_path p max_load_depth) (row p m)) (load_values (outcome (means x) p) (row p m)) (on_cycle (means x) p known m)
           (too_far (means x) p known m) (values_have (outcome (means x) p) (row p m)))
 
     -- one that has none loads nothing, so its outcome is its own
@@ -240,7 +240,7 @@ module _ (inputs : InputParts) (x : LoadingParts) where
       without_file : Holds (outcome (means x) p m)
       without_file =
           subst Holds (sym (outcome_is (means x) p m ∙ evaluated_is (means x) p (outcome (means x) p) m (no_path (length p)) not_deep
-          ∙ ap (λ (z : List ℕ). evaluated (means x m) (values (outcome (means x) p) z)) empty))
+          ∙ ap (λ (z : List ℕ). evaluated (means x m) (load_values (outcome (means x) p) z)) empty))
           (by_result (means x m []) (means_comes []))
 
     by_what_is_read : (r : Result Front (Fault FaultKind)) → front_of inputs l ≡ r → IsFront inputs l r → Holds (outcome (means x) p m)

@@ -18,7 +18,7 @@ use Rattle.bq_board.specs.Depth.{max_load_depth, is_too_deep}
 use Rattle.bq_board.specs.Graph.{Loads, row, Known}
 use Rattle.bq_board.proofs.Going.{loads_a_cyclic}
 use Rattle.bq_board.proofs.Lemmas.{bool_cases, head_has, tail_has, cons_has, any_some, deep_both}
-use Rattle.bq_load_outcome_spec.specs.Outcome.{first, with_value, values, own, evaluated, by_loads, outcome}
+use Rattle.bq_load_outcome_spec.specs.Outcome.{first, with_load_value, load_values, own, evaluated, by_loads, outcome}
 use Rattle.bq_load_outcome_spec.specs.declared.outcome.Outcome.{Outcome}
 use Rattle.bq_load_outcome_spec.specs.declared.outcome.Outcome.TheVariants as o
 use Rattle.bq_load_outcome_spec.proofs.Solution.{cond_true, cond_false, outcome_is}
@@ -60,7 +60,7 @@ first_has test (x ∷ xs) k h e = elim (bool_cases (test x)) [
 ]
 
 module _ {V F : Type 0} where
-  with_value_has : (x l : ℕ) (xs : List ℕ) (one : Outcome V F) (r : Result (List V) ℕ) → ((k : ℕ) → r ≡ Err k → Has xs k) → with_value one x r ≡ Err l → Has (x ∷ xs) l
+  with_value_has : (x l : ℕ) (xs : List ℕ) (one : Outcome V F) (r : Result (List V) ℕ) → ((k : ℕ) → r ≡ Err k → Has xs k) → with_load_value one x r ≡ Err l → Has (x ∷ xs) l
   with_value_has x l xs (o.Loaded v) (Ok vs) rest e = absurd (cc)
   with_value_has x l xs (o.Loaded v) (Err k) rest e = tail_has x xs l (rest l e)
   with_value_has x l xs (o.Faulty why) r rest e = let same : x ≡ l = cc in subst (Has (x ∷ xs)) same (head_has x xs)
@@ -68,9 +68,9 @@ module _ {V F : Type 0} where
   with_value_has x l xs (o.TooDeep k) r rest e = let same : x ≡ l = cc in subst (Has (x ∷ xs)) same (head_has x xs)
   with_value_has x l xs (o.LoadFailed k) r rest e = let same : x ≡ l = cc in subst (Has (x ∷ xs)) same (head_has x xs)
 
-  pub values_have : (at : ℕ → Outcome V F) (xs : List ℕ) (l : ℕ) → values at xs ≡ Err l → Has xs l
+  pub values_have : (at : ℕ → Outcome V F) (xs : List ℕ) (l : ℕ) → load_values at xs ≡ Err l → Has xs l
   values_have at [] l e = absurd (cc)
-  values_have at (x ∷ xs) l e = with_value_has x l xs (at x) (values at xs) (values_have at xs) e
+  values_have at (x ∷ xs) l e = with_value_has x l xs (at x) (load_values at xs) (values_have at xs) e
 
   module _ (means : ℕ → List V → Result V F) (p : Loads) (known : Known p) (m : ℕ) where
     abbrev pub NamesOne : Outcome V F → Type 0
@@ -105,7 +105,7 @@ module _ {V F : Type 0} where
     unfolding by_loads
     names_one =
         subst NamesOne (sym (outcome_is means p m))
-        (by_cases (is_cyclic p m) (is_too_deep p m) (first (is_cyclic p) (row p m)) (first (starts_path p max_load_depth) (row p m)) (values (outcome means p) (row p m)) on_cycle too_far
+        (by_cases (is_cyclic p m) (is_too_deep p m) (first (is_cyclic p) (row p m)) (first (starts_path p max_load_depth) (row p m)) (load_values (outcome means p) (row p m)) on_cycle too_far
         (values_have (outcome means p) (row p m)))
 
 -- ---- a file has a label for each of its loads

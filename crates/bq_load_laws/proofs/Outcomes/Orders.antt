@@ -10,7 +10,7 @@ use Rattle.bq_base.proofs.Choices.{by_bool}
 use Rattle.bq_board.specs.Graph.{Loads, row}
 use Rattle.bq_board.specs.Cycles.{is_cyclic}
 use Rattle.bq_board.specs.Depth.{is_too_deep}
-use Rattle.bq_load_outcome_spec.specs.Outcome.{values, own, evaluated, by_loads, outcome}
+use Rattle.bq_load_outcome_spec.specs.Outcome.{load_values, own, evaluated, by_loads, outcome}
 use Rattle.bq_load_outcome_spec.specs.declared.outcome.Outcome.{Outcome}
 use Rattle.bq_load_outcome_spec.proofs.Solution.{solved}
 use Rattle.bq_resolve_scope.specs.Names.{Name}
@@ -61,13 +61,13 @@ module _ (x : LoadingParts) (p : Loads) (m : ℕ) (front : Result Front (Fault F
   by_values (Err l) = ap Some (of_kind load.LoadFailed l)
 
   by_graph : (at : ℕ → Outcome ModuleView FailedView)
-      → failure (result_of x front (by_loads (means x) p at m)) ≡ first_fault (when (is_cyclic p m) CycleReached ∷ when (is_too_deep p m) LoadDepth ∷ load_failed (values at (row p m)) ∷ own_failure x m (values at (row p m)) ∷ [])
+      → failure (result_of x front (by_loads (means x) p at m)) ≡ first_fault (when (is_cyclic p m) CycleReached ∷ when (is_too_deep p m) LoadDepth ∷ load_failed (load_values at (row p m)) ∷ own_failure x m (load_values at (row p m)) ∷ [])
   unfolding by_loads
   by_graph at = elim (by_bool (is_cyclic p m)) [
     | inl t ↦ rw t (ap Some (of_kind load.CycleReached _))
     | inr t ↦ elim (by_bool (is_too_deep p m)) [
       | inl u ↦ rw (t, u) (ap Some (of_kind load.LoadDepth _))
-      | inr u ↦ rw (t, u) (by_values (values at (row p m)))
+      | inr u ↦ rw (t, u) (by_values (load_values at (row p m)))
     ]
   ]
 

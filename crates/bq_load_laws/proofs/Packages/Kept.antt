@@ -18,7 +18,7 @@ use Rattle.bq_load_front.specs.Inputs.{InputParts}
 use Rattle.bq_load_discover.specs.LoadGraph.{GraphParts, IsReadGraph, inputs_of}
 use Rattle.bq_load_discover.specs.Module.{module_of}
 use Rattle.bq_load_discover.specs.Modules.{edges_from}
-use Rattle.bq_load_outcome_spec.specs.Outcome.{first, values, own, evaluated, by_loads, outcome, IsByLoads}
+use Rattle.bq_load_outcome_spec.specs.Outcome.{first, load_values, own, evaluated, by_loads, outcome, IsByLoads}
 use Rattle.bq_load_outcome_spec.specs.declared.outcome.Outcome.{Outcome}
 use Rattle.bq_load_outcome_spec.specs.declared.outcome.Outcome.TheVariants as o
 use Rattle.bq_load_outcome_spec.proofs.Solution.{values_same, outcome_is, solved}
@@ -80,7 +80,7 @@ module _ (files : List File) (rules : Rules) (limit : ℕ) (g : GraphParts) (is 
     same_outcome k (o.TooDeep l) none = refl
     same_outcome k (o.LoadFailed l) none = refl
 
-    same_values : (m : ℕ) → values kept_at (row g.edges m) ≡ values at (row g.edges m)
+    same_values : (m : ℕ) → load_values kept_at (row g.edges m) ≡ load_values at (row g.edges m)
     same_values m = values_same kept_at at (row g.edges m) (λ k h. same_outcome k (at k) (no_package m k h))
 
     module _ (m : ℕ) where
@@ -105,7 +105,7 @@ module _ (files : List File) (rules : Rules) (limit : ℕ) (g : GraphParts) (is 
         let deep = is_too_deep g.edges m in
         let c = first (is_cyclic g.edges) (row g.edges m) in
         let d = first (starts_path g.edges max_load_depth) (row g.edges m) in
-        ap (outcome_with (kept m)) (outcome_is (means x) g.edges m) ∙ by_cases m cyclic deep c d (values at (row g.edges m))
+        ap (outcome_with (kept m)) (outcome_is (means x) g.edges m) ∙ by_cases m cyclic deep c d (load_values at (row g.edges m))
         ∙ ap (λ (r : Result (List ModuleView) ℕ). cond cyclic (o.Cyclic c) (cond deep (o.TooDeep d) (evaluated (keeping kept (means x) m) r))) (sym (same_values m))
 
     stays : (m : ℕ) → outcome (keeping kept (means x)) g.edges m ≡ kept_at m

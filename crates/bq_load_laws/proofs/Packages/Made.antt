@@ -41,7 +41,7 @@ IsMade k l ss v = IsOwnOf k l v.package × Declares ss v.package
 
 -- the package that a BUILD file begins with
 abbrev begun : LoadingParts → LabelParts → Declaring
-begun x l = record { place = record { own = package_of l; files = x.files; packages = x.packages; rules = x.rules }; «package» = no_targets l }
+begun x l = record { place = record { own = package_of l; paths = x.paths; packages = x.packages; rules = x.rules }; «package» = no_targets l }
 
 without_package : (l : LabelParts) (ss : List FileLine) (p : Option PackageTargets) → p ≡ None → IsOwnOf kinds.Bzl l (option_map finished p) × Declares ss (option_map finished p)
 without_package l ss None e = (refl, tt)

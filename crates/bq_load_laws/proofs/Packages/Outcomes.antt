@@ -4,7 +4,7 @@ use Rattle.std.specs.Prelude.{IfOk}
 use Rattle.bq_board.specs.Graph.{Loads, row}
 use Rattle.bq_board.specs.Cycles.{is_cyclic, starts_path}
 use Rattle.bq_board.specs.Depth.{max_load_depth, is_too_deep}
-use Rattle.bq_load_outcome_spec.specs.Outcome.{first, values, own, evaluated, by_loads, outcome}
+use Rattle.bq_load_outcome_spec.specs.Outcome.{first, load_values, own, evaluated, by_loads, outcome}
 use Rattle.bq_load_outcome_spec.specs.declared.outcome.Outcome.{Outcome}
 use Rattle.bq_load_outcome_spec.specs.declared.outcome.Outcome.TheVariants as o
 use Rattle.bq_load_outcome_spec.proofs.Solution.{outcome_is}
@@ -41,7 +41,7 @@ module _ (x : LoadingParts) (p : Loads) (m : ℕ) (s : Module) (e : slice_get x.
   unfolding by_loads
   has_its_own =
       subst Holds (sym (outcome_is (means x) p m))
-      (by_cases (is_cyclic p m) (is_too_deep p m) (first (is_cyclic p) (row p m)) (first (starts_path p max_load_depth) (row p m)) (values (outcome (means x) p) (row p m)))
+      (by_cases (is_cyclic p m) (is_too_deep p m) (first (is_cyclic p) (row p m)) (first (starts_path p max_load_depth) (row p m)) (load_values (outcome (means x) p) (row p m)))
 
 pub all_have_theirs : OutcomesHaveTheirPackages
 all_have_theirs x p m s e = has_its_own x p m s e

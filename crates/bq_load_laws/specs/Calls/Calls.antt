@@ -7,7 +7,7 @@ use Rattle.bq_board.specs.Cycles.{Reaches}
 use Rattle.bq_board.specs.Graph.{Loads, row}
 use Rattle.bq_eval_laws.specs.Evaluations.Callable.{IsCallable}
 use Rattle.bq_load_discover.specs.LoadGraph.{GraphParts, IsReadGraph, inputs_of}
-use Rattle.bq_load_outcome_spec.specs.Outcome.{outcome, values}
+use Rattle.bq_load_outcome_spec.specs.Outcome.{outcome, load_values}
 use Rattle.bq_load.specs.Evaluation.{means}
 use Rattle.bq_load.specs.ResolvedFiles.{resolved_files}
 use Rattle.bq_load.specs.Loading.{LoadingParts, loading_in}
@@ -15,7 +15,7 @@ use Rattle.bq_load.specs.Views.{ModuleView}
 
 -- each module that this one loads has a value, and these are the values
 abbrev pub AreLoaded : LoadingParts → Loads → ℕ → List ModuleView → Type 0
-AreLoaded x p m modules = values (outcome (means x) p) (row p m) ≡ Ok modules
+AreLoaded x p m modules = load_values (outcome (means x) p) (row p m) ≡ Ok modules
 
 -- A module of a load graph that is evaluated can call the functions of each module that loads lead to from it.
 abbrev pub FunctionsOfLoadsAreCallable : Type 0

@@ -9,7 +9,7 @@ use Rattle.bq_resolve_scope.specs.declared.file.ResolvedFile.{ResolvedFile}
 use Rattle.bq_board.specs.Graph.{Loads, row}
 use Rattle.bq_board.specs.Cycles.{is_cyclic}
 use Rattle.bq_board.specs.Depth.{is_too_deep}
-use Rattle.bq_load_outcome_spec.specs.Outcome.{outcome, values}
+use Rattle.bq_load_outcome_spec.specs.Outcome.{outcome, load_values}
 use Rattle.bq_load.specs.Evaluation.{means}
 use Rattle.bq_load.specs.Imports.{is_private, global_by}
 use Rattle.bq_load.specs.Loading.{LoadingParts}
@@ -40,6 +40,6 @@ abbrev pub loading : LoadingParts → Loads → ℕ → List (Option FaultKind)
 loading x p m =
     when (is_cyclic p m) CycleReached
     ∷ when (is_too_deep p m) LoadDepth
-    ∷ load_failed (values (outcome (means x) p) (row p m))
-    ∷ own_failure x m (values (outcome (means x) p) (row p m))
+    ∷ load_failed (load_values (outcome (means x) p) (row p m))
+    ∷ own_failure x m (load_values (outcome (means x) p) (row p m))
     ∷ []

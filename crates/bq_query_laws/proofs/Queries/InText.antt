@@ -181,7 +181,7 @@ ended WriteWords.no_more = WriteWords.other WriteWords.no_more
 ended (WriteWords.other h) = WriteWords.other (ended h)
 ended (WriteWords.word w h) = WriteWords.word w (ended h)
 
--- fewer words
+-- what writes some words writes none of them too: each token may be one that is passed over
 skipped : {ts rest : List Lexeme} {ws : Words} → WriteWords ts rest ws → WriteWords ts rest []
 skipped WriteWords.no_more = WriteWords.no_more
 skipped (WriteWords.other h) = WriteWords.other (skipped h)

@@ -63,9 +63,16 @@ call-returns-in-SchemaRule g t c =
     let x = c.args.context.now in
     rw (calls_step x.left h.means (units_at x.program.now (globals_of x.own)) c.args.value.now c.args.args (h.seen c.args.runtime.now)) (grind (arith, common_steps))
 
-pub call-returns-in-RuleFunction : goal.call-returns-in-RuleFunction
+pub call-returns-in-Rule : goal.call-returns-in-Rule
 unfolding inside apply
-call-returns-in-RuleFunction g t c =
+call-returns-in-Rule g t c =
+    let h = g.R.Runtime in
+    let x = c.args.context.now in
+    rw (calls_step x.left h.means (units_at x.program.now (globals_of x.own)) c.args.value.now c.args.args (h.seen c.args.runtime.now)) (grind (arith, common_steps))
+
+pub call-returns-in-Attr : goal.call-returns-in-Attr
+unfolding inside apply
+call-returns-in-Attr g t c =
     let h = g.R.Runtime in
     let x = c.args.context.now in
     rw (calls_step x.left h.means (units_at x.program.now (globals_of x.own)) c.args.value.now c.args.args (h.seen c.args.runtime.now)) (grind (arith, common_steps))

@@ -1,7 +1,7 @@
 use Rattle.std.proofs.Common.{map, sym, ap, subst, ◌∙◌}
 use Rattle.bq_board_plan.specs.Counts.{Has}
 use Rattle.bq_board_plan.proofs.Lemmas.{loads_not_cyclic}
-use Rattle.bq_load_outcome_spec.specs.Outcome.{values}
+use Rattle.bq_load_outcome_spec.specs.Outcome.{load_values}
 use Rattle.bq_load_order.specs.Shown.{seen, slot}
 use Rattle.bq_load_order.specs.Slots.{found_at}
 use Rattle.bq_load_order.proofs.Filled.{deep_outcome, found_outcome}
@@ -25,4 +25,4 @@ returns g c =
     let found = map (slot g.E.Evaluate.see g.E.Evaluate.see_fault) c.args.found.now in
     c.in_ok-outcome_by.ensures
     ∙ found_outcome (g.E.Evaluate.means c.args.evaluator.now) c.args.ordered.now.graph.now found c.args.m c.requires.ready (sym c.is_too_deep.ensures ∙ c.if-is_too_deep.false)
-    (seen g.E.Evaluate.see c.in_ok-imports.imports) (c.in_ok-imports.ensures ∙ ap (values (found_at found)) c.row-loads.ensures.row)
+    (seen g.E.Evaluate.see c.in_ok-imports.imports) (c.in_ok-imports.ensures ∙ ap (load_values (found_at found)) c.row-loads.ensures.row)

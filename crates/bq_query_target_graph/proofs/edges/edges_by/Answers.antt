@@ -4,7 +4,7 @@ use Rattle.std.proofs.Crossing.{crosses}
 use Rattle.std.specs.Fork.{slice_chunk}
 use Rattle.std.specs.declared.alloc.AllocError.{AllocError}
 use Rattle.bq_package_target.specs.declared.target.Target.{Target}
-use Rattle.bq_query_target_graph.specs.Order.{labels_of}
+use Rattle.bq_query_target_graph.specs.Order.{target_labels}
 use Rattle.bq_query_target_graph.specs.Parts.{IsFoundIn}
 use Rattle.bq_query_target_graph.specs.declared.edges.Part.{Part}
 use Rattle.bq_package_target.proofs.Crossing.Targets.{target_sync}
@@ -20,7 +20,7 @@ map_chunks-requires-send-X g c κs = let p = part_send in search (crosses, senda
 
 pub returns : goal.returns
 returns g c =
-    let ls = labels_of c.args.targets.now in
+    let ls = target_labels c.args.targets.now in
     let files = c.args.files.now in
     let ts = c.args.targets.now in
     let rs = c.in_ok-parts.parts.items in

@@ -25,9 +25,11 @@ the_former g = list g
 abbrev pub the_weighed : {g : Former {0}} → Weighed g → Weighed (the_former g)
 the_weighed w = w_list w
 
+-- the list of no items
 pub the_empty : List ⊥
 the_empty = []
 
+-- the items of a value: all that its list has
 abbrev pub the_items : (X : Type 0) → List X → List X
 the_items X d = d
 

@@ -19,19 +19,19 @@ package_of_file-requires c =
 pub loop-file-preserved-in_default : goal.loop-file-preserved-in_default
 loop-file-preserved-in_default c =
     none_more (paths_of c.args.workspace.now) c.files-files.result.now c.loop-file.file-index c.file-item.result c.loop-file.found.items c.loop-file-test.true c.loop-file.invariant
-    (sym c.in_default.is ∙ (c.in_ok-package.ensures ∙ ap (package_of_file (paths_of c.args.workspace.now)) c.file-item.is))
+    (sym c.in_default.is ∙ (c.in_ok-package.ensures ∙ ap (λ (f : File). package_of_file (paths_of c.args.workspace.now) f.path) c.file-item.is))
 
 pub loop-file-preserved : goal.loop-file-preserved
 loop-file-preserved c =
     c.in_ok-push.ensures.items
     ∙ one_more (paths_of c.args.workspace.now) c.files-files.result.now c.loop-file.file-index c.file-item.result c.loop-file.found.items c.loop-file-test.true c.loop-file.invariant _
-    (sym c.in-Some.is ∙ (c.in_ok-package.ensures ∙ ap (package_of_file (paths_of c.args.workspace.now)) c.file-item.is))
+    (sym c.in-Some.is ∙ (c.in_ok-package.ensures ∙ ap (λ (f : File). package_of_file (paths_of c.args.workspace.now) f.path) c.file-item.is))
 
 pub invariant_of-result : goal.invariant_of-result
 invariant_of-result c =
     let valid : IsWorkspace c.args.workspace.now = c.files-files.ensures.valid in
-    let built : c.loop-file.found.items ≡ build_files (paths_of c.args.workspace.now) c.args.workspace.now = first_of (search rules, grind (arith, common_steps)) in
-    let moved : IsPermutation (build_files (paths_of c.args.workspace.now) c.args.workspace.now) c.sort_unstable_by.new.self.items =
+    let built : c.loop-file.found.items ≡ build_files (paths_of c.args.workspace.now) (paths_of c.args.workspace.now) = first_of (search rules, grind (arith, common_steps)) in
+    let moved : IsPermutation (build_files (paths_of c.args.workspace.now) (paths_of c.args.workspace.now)) c.sort_unstable_by.new.self.items =
     subst (λ (bs : List BuildFile). IsPermutation bs c.sort_unstable_by.new.self.items) built c.sort_unstable_by.ensures.permutation in
     let below : BuildFile → BuildFile → Bool = λ a b. is_lt (package_cmp a b) in
     packages_ascend c.args.workspace.now c.sort_unstable_by.new.self.items valid moved
@@ -40,8 +40,8 @@ invariant_of-result c =
 pub returns : goal.returns
 returns c =
     let valid : IsWorkspace c.args.workspace.now = c.files-files.ensures.valid in
-    let built : c.loop-file.found.items ≡ build_files (paths_of c.args.workspace.now) c.args.workspace.now = first_of (search rules, grind (arith, common_steps)) in
-    let moved : IsPermutation (build_files (paths_of c.args.workspace.now) c.args.workspace.now) c.sort_unstable_by.new.self.items =
+    let built : c.loop-file.found.items ≡ build_files (paths_of c.args.workspace.now) (paths_of c.args.workspace.now) = first_of (search rules, grind (arith, common_steps)) in
+    let moved : IsPermutation (build_files (paths_of c.args.workspace.now) (paths_of c.args.workspace.now)) c.sort_unstable_by.new.self.items =
     subst (λ (bs : List BuildFile). IsPermutation bs c.sort_unstable_by.new.self.items) built c.sort_unstable_by.ensures.permutation in
     let below : BuildFile → BuildFile → Bool = λ a b. is_lt (package_cmp a b) in
     packages_are c.args.workspace.now c.sort_unstable_by.new.self.items valid moved

@@ -22,7 +22,7 @@ returns-in-Ok-clause-found c =
     ∙ ap (λ (ps : List BuildFile). package_named ps c.args.id.now) c.all-packages.ensures.value) in
     let against : BuildFile → Ordering = λ b. id_cmp b.id (package_at repo path) in
     let found : (d : BuildFile) → id_cmp ((get_or all c.in-Ok.at d).id) (package_at repo path) ≡ Equal = c.in-Ok.ensures.position against (always_returns_same _ _ _ (λ a r q k. search rules)) in
-    let d : BuildFile = record { id = package_at [] []; file = record { path = []; content = [] } } in
+    let d : BuildFile = record { id = package_at [] []; path = [] } in
     ap (λ (ps : List BuildFile). slice_get ps c.in-Ok.at) (sym c.all-packages.ensures.value)
     ∙ (slice_get-get_or all c.in-Ok.at d c.in-Ok.ensures.bound ∙ (sym (package_here all repo path strict c.in-Ok.at d c.in-Ok.ensures.bound (found d)) ∙ name))
 

@@ -7,7 +7,7 @@ use Rattle.std.proofs.lemmas.Fn.{always_returns_same}
 use Rattle.bq_label.specs.Label.{full_form}
 use Rattle.bq_label_set.specs.Labels.{same_label}
 use Rattle.bq_package_target.specs.declared.target.Target.{Target}
-use Rattle.bq_query_target_graph.specs.Order.{labels_of}
+use Rattle.bq_query_target_graph.specs.Order.{target_labels}
 use Rattle.bq_query_target_graph.proofs.Places.{found_place, no_place}
 use Rattle.bq_query_target_graph.proofs.numbers.Numbers.number.Goals as goal
 
@@ -19,8 +19,8 @@ returns-in-Ok-binary_search_by c =
     let against : Target → Ordering = λ t. slice_cmp nat_cmp (full_form t.label) (full_form l) in
     let found : (d : Target) → slice_cmp nat_cmp (full_form (get_or ts place d).label) (full_form l) ≡ Equal = c.in-Ok-binary_search_by.ensures.position against (always_returns_same _ _ _ (λ a r q k. search rules)) in
     let t : Target = c.index-self-place.result in
-    let there : position (same_label l) (labels_of ts) ≡ Some place = found_place ts c.self.invariant place t l c.in-Ok-binary_search_by.ensures.bound c.name-other.ensures.valid c.name-name.ensures.valid (found t) in
-    let seen : labels_of ts ≡ c.args.self.now = c.self.view_is in
+    let there : position (same_label l) (target_labels ts) ≡ Some place = found_place ts c.self.invariant place t l c.in-Ok-binary_search_by.ensures.bound c.name-other.ensures.valid c.name-name.ensures.valid (found t) in
+    let seen : target_labels ts ≡ c.args.self.now = c.self.view_is in
     sym there ∙ ap (position (same_label l)) seen
 
 pub returns-in-Err-binary_search_by : goal.returns-in-Err-binary_search_by
@@ -28,6 +28,6 @@ returns-in-Err-binary_search_by c =
     let ts = c.self.inside.targets.now in
     let l = c.args.label.now in
     let against : Target → Ordering = λ t. slice_cmp nat_cmp (full_form t.label) (full_form l) in
-    let nowhere : position (same_label l) (labels_of ts) ≡ None = no_place ts c.self.invariant l _ (c.in-Err-binary_search_by.ensures.position against (always_returns_same _ _ _ (λ a r q k. search rules))) in
-    let seen : labels_of ts ≡ c.args.self.now = c.self.view_is in
+    let nowhere : position (same_label l) (target_labels ts) ≡ None = no_place ts c.self.invariant l _ (c.in-Err-binary_search_by.ensures.position against (always_returns_same _ _ _ (λ a r q k. search rules))) in
+    let seen : target_labels ts ≡ c.args.self.now = c.self.view_is in
     sym nowhere ∙ ap (position (same_label l)) seen

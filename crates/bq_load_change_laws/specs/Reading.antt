@@ -1,0 +1,25 @@
+-- What a file reads as, and what that depends on.
+use Rattle.std.specs.Prelude.{◌≡◌, ℕ, List, Option, is_some}
+use Rattle.std.specs.Option.{option_map}
+use Rattle.bq_label.specs.declared.workspace.File.{File}
+use Rattle.bq_label.specs.Label.{LabelParts}
+use Rattle.bq_label.specs.Packages.{label_file}
+use Rattle.bq_label.specs.Workspace.{paths_of}
+use Rattle.bq_load_front.specs.Inputs.{InputParts}
+use Rattle.bq_load_front.specs.Front.{front_of}
+
+-- the text of the file that a label names
+abbrev pub text_of : List File → LabelParts → Option (List ℕ)
+text_of files l = option_map (λ f. f.content) (label_file files l)
+
+-- the same labels name files
+abbrev pub AreThereAlike : List File → List File → Type 0
+AreThereAlike files others = (l : LabelParts) → is_some (label_file files l) ≡ is_some (label_file others l)
+
+abbrev pub FilesAreThereByPaths : Type 0
+FilesAreThereByPaths = (files others : List File) → paths_of files ≡ paths_of others → AreThereAlike files others
+
+abbrev pub FrontsAreByText : Type 0
+FrontsAreByText =
+    (inputs others : InputParts) → inputs.rules ≡ others.rules → inputs.packages ≡ others.packages → AreThereAlike inputs.files others.files
+    → (l : LabelParts) → text_of inputs.files l ≡ text_of others.files l → front_of inputs l ≡ front_of others l
