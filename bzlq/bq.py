@@ -7,7 +7,8 @@
             print(label)
 
 A workspace is a directory or the file of a bundle. Its process is `bq --queries -`, which ends with the block, with `close`, or after a
-ProcessError. Several threads may ask; they are answered in turn. `workspace.facts()`, or `facts(PLACE)` without such a process, has the
+ProcessError. Several threads may ask; they are answered in turn. `put(PATH, BYTES)` and `remove(PATH)` say what becomes of files, and
+`reload()` loads the workspace with these edits, and returns its fault lines. `workspace.facts()`, or `facts(PLACE)` without such a process, has the
 targets with their attributes and direct dependencies, the modules with their loads, and the faults. With `overlay=True` the directory is that
 of a workspace with other repositories, which is read as bzlq reads it; bzlq has to be beside this file then, or on the PATH. Else this file
 needs Python 3.10 or later, and no other file: copy it to where you want it. docs/TOOLS.md says more.
@@ -23,8 +24,9 @@ import subprocess
 import sys
 import threading
 import time
-from collections.abc import Iterable, Mapping, Sequence
+from collections.abc import Callable, Iterable, Mapping, Sequence
 from dataclasses import dataclass, field
+from typing import TypeVar
 
 HERE = os.path.dirname(os.path.realpath(__file__))
 # where the program is: built in the repository, unpacked there from dist/, beside the tools in a tarball, or installed with them
@@ -36,6 +38,8 @@ ERROR = re.compile(r"bq: (?P<number>[QE]\d) (?P<name>\w+) ?(?P<detail>.*)")
 HEADER = re.compile(rb"=== (?P<status>[023]) (?P<count>\d{1,18}) (?P<query>.*)", re.DOTALL)
 # a header has no more of a query
 MAX_QUERY_BYTES = 1 << 20
+# and a file that is put has no more
+MAX_FILE_BYTES = 1 << 30
 # what bzlq says of a bundle that it has made
 LARGE = "bq reads a bundle of this size with --large"
 # a query that is answered once the workspace is loaded
@@ -46,6 +50,9 @@ FORMATS = (1, 2)
 SHARE = 1 << 18
 # how long a process may take to end by itself, in seconds
 PATIENCE = 2.0
+
+
+Answer = TypeVar("Answer")
 
 
 class BqError(Exception):
@@ -69,6 +76,14 @@ class NumberedError(BqError):
 
 class QueryError(NumberedError):
     """A query was refused. Others can be asked after it."""
+
+
+class BadPath(BqError, ValueError):
+    """A text that is no path in a workspace, or a file that is too large for one; nothing was put or removed."""
+
+
+class RunRefused(NumberedError):
+    """A reload was refused, as E4 Bundle or E6 Schema 3. The workspace is as it was before, and may be reloaded after more edits."""
 
 
 class ProcessError(BqError):
@@ -127,6 +142,14 @@ def bytes_of(query: str) -> bytes:
         return query.encode("utf-8", "surrogateescape")
     except UnicodeEncodeError as error:
         raise BadQuery(f"a query is written as UTF-8, which has no bytes for {query[error.start]!r}") from None
+
+
+def path_bytes(path: str) -> bytes:
+    """A path as bq reads it. The same paths are valid as in a bundle."""
+    is_valid = all(" " <= c <= "~" and c not in ":\\" for c in path) and not any(it in ("", ".", "..") for it in path.split("/"))
+    if not is_valid:
+        raise BadPath(f"{path!r} is not a path in a workspace")
+    return path.encode("ascii")
 
 
 def ended_by(program: str, status: int, errors: list[str], word: str) -> ProcessError:
@@ -265,7 +288,7 @@ class Workspace:
             large = large or is_large
         self._lock, self._rest = threading.Lock(), b""
         self._gone: ProcessError | None = None
-        self._place, self._options = os.fspath(place), options_of(jobs, max_steps, large)
+        self._place, self._options, self._is_edited = os.fspath(place), options_of(jobs, max_steps, large), False
         self._start([f"--output={output}", *self._options])
         status, _ = self._answer(NOTHING, Deadline(load_timeout, "loaded the workspace"))
         lines = self._errors.lines()
@@ -281,20 +304,46 @@ class Workspace:
         """The labels that a query stands for, in order; with output="label_kind" the lines with kinds and labels. Bytes that are no UTF-8
         stand for themselves by surrogateescape, both ways."""
         text, deadline = bytes_of(query), Deadline(self.timeout if timeout is None else timeout, f"answered {query[:200]}")
-        left = deadline.left()
-        if not self._lock.acquire(timeout=-1 if left is None else min(left, threading.TIMEOUT_MAX)):
-            raise deadline.error()
-        try:
-            if self._gone:
-                raise self._gone.with_traceback(None)
-            _, lines = self._answer(text, deadline)
-        finally:
-            self._lock.release()
+        _, lines = self._in_turn(lambda: self._answer(text, deadline), deadline)
         return [text_of(line) for line in lines]
 
     def facts(self, query: str = "", timeout: float | None = None) -> "Facts":
-        """The facts behind a query, or behind all of the workspace, as it is now: they come from a run of their own."""
-        return run_facts(self.program, self._place, query, self._options, self.timeout if timeout is None else timeout)
+        """The facts behind a query, or behind all of the workspace, as it is now: they come from a run of their own. Once something was put or
+        removed they are those of the workspace as it was loaded last."""
+        seconds = self.timeout if timeout is None else timeout
+        if not self._is_edited:
+            return run_facts(self.program, self._place, query, self._options, seconds)
+        line, deadline = b"=== facts" + (b" " + bytes_of(query) if query else b""), Deadline(seconds, f"told the facts of {query[:200]}")
+        _, lines = self._in_turn(lambda: self._answer(line, deadline), deadline)
+        return Facts.of_lines(lines)
+
+    def put(self, path: str, content: bytes, timeout: float | None = None) -> None:
+        """Says what file is at a path of the workspace from the next reload on."""
+        if len(content) > MAX_FILE_BYTES:
+            raise BadPath(f"{path} has {len(content)} bytes, and a workspace has at most {MAX_FILE_BYTES}")
+        self._edit(b"=== put %d %s\n%s\n" % (len(content), path_bytes(path), content), timeout)
+
+    def remove(self, path: str, timeout: float | None = None) -> None:
+        """Says that there is no file at a path of the workspace from the next reload on."""
+        self._edit(b"=== remove %s\n" % path_bytes(path), timeout)
+
+    def reload(self, timeout: float | None = None) -> list[str]:
+        """Loads the workspace with all that was put and removed. Returns its fault lines, which are `faults` from now on, as are the lines
+        that files print `printed`. Where it is refused (E4, E6, E7) a RunRefused is raised, and all stays as it was."""
+        deadline = Deadline(self.timeout if timeout is None else timeout, "loaded the workspace again")
+
+        def ask() -> list[str]:
+            try:
+                status, lines = self._answer(b"=== reload", deadline)
+            except QueryError as error:
+                if error.number.startswith("E"):
+                    raise RunRefused(*error.args) from None
+                raise self._too_old() from None
+            texts = [text_of(line) for line in lines]
+            self.printed, self.faults = divided(texts) if status == b"3" else (texts, [])
+            return self.faults
+
+        return self._in_turn(ask, deadline)
 
     def approximations(self, query: str, timeout: float | None = None) -> list[str]:
         """The targets of an answer of which something was made up or left out, where the workspace is read with an overlay."""
@@ -311,6 +360,41 @@ class Workspace:
             self._end(why, PATIENCE)
         finally:
             self._lock.release()
+
+    def _in_turn(self, ask: Callable[[], Answer], deadline: Deadline) -> Answer:
+        """Asks once no other thread does."""
+        left = deadline.left()
+        if not self._lock.acquire(timeout=-1 if left is None else min(left, threading.TIMEOUT_MAX)):
+            raise deadline.error()
+        try:
+            if self._gone:
+                raise self._gone.with_traceback(None)
+            return ask()
+        finally:
+            self._lock.release()
+
+    def _edit(self, text: bytes, timeout: float | None) -> None:
+        """Says what becomes of a file, which has no answer."""
+        deadline = Deadline(self.timeout if timeout is None else timeout, "read a file")
+        self._in_turn(lambda: self._say(text, deadline), deadline)
+        self._is_edited = True
+
+    def _say(self, text: bytes, deadline: Deadline) -> None:
+        """Writes what is asked. If that is broken off, the process is of no use any more: it is ended."""
+        try:
+            self._write(text, deadline)
+        except ProcessError as error:
+            self._end(error)
+            raise
+        except BaseException:
+            self._end(ProcessError("the process was ended, since a query was interrupted"))
+            raise
+
+    def _too_old(self) -> ProcessError:
+        """What a process is that takes a reload for a query: it has taken all that was put for queries too, so it is ended."""
+        error = ProcessError(f"{self.program} is too old: it has no edits")
+        self._end(error)
+        return error
 
     def _start(self, options: list[str]) -> None:
         where, folder = where_of(self._place)

@@ -134,6 +134,32 @@ def odd_programs(bench):
     bench.compare("bq.py, a program that is none", outcome(lambda: Workspace(ROOT, program=program)), f"ProcessError: {program}: Exec format error")
 
 
+def edits(bench):
+    """Files that are put and removed, reloads, and the facts after them."""
+    bench.lay_out("e", {"a/BUILD": 'filegroup(name = "x", srcs = ["s"])\n', "b/BUILD": "none()\n"})
+    with Workspace(f"{bench.room}/e", program=bench.program) as workspace:
+        before = workspace.facts()
+        bench.compare("bq.py, facts before an edit", [it.label for it in before.faults], ["//b:BUILD"])
+        workspace.put("c/BUILD", b'filegroup(name = "y", srcs = ["//a:x"])\n1 // 0')
+        workspace.remove("b/BUILD")
+        bench.compare("bq.py, before a reload", (workspace.query("//...:all"), workspace.faults), (["//a:x"], ["//b:BUILD:1: F20 UnknownName none"]))
+        bench.compare("bq.py, a reload", (workspace.reload(), workspace.faults), (["//c:BUILD:2: F42 DivZero"],) * 2)
+        bench.compare("bq.py, after it", workspace.query("rdeps(//..., //a:x)"), ["//a:x", "//c:y"])
+        bench.compare("bq.py, its facts", [it.file for it in workspace.facts("//c:y").targets], ["c/BUILD"])
+        workspace.put("a", b"")
+        bench.compare("bq.py, a reload that is refused", outcome(workspace.reload), "RunRefused: E4 Bundle")
+        bench.compare("bq.py, after that", (workspace.query("rdeps(//..., //a:x)"), workspace.faults), (["//a:x", "//c:y"], ["//c:BUILD:2: F42 DivZero"]))
+        workspace.remove("a")
+        workspace.put("c/BUILD", b'print("loaded")\n')
+        bench.compare("bq.py, another reload", (workspace.reload(), workspace.printed), ([], ["//c:BUILD: loaded"]))
+        for path in ("", "/a", "a/", "../a", "a:b", "a\nb", "é"):
+            bench.compare(f"bq.py, {path!r} is put", outcome(lambda it=path: workspace.put(it, b"")).partition(":")[0], "BadPath")
+        bench.compare("bq.py, after bad paths", workspace.query("//a:x"), ["//a:x"])
+    bench.compare("bq.py, a closed workspace that is edited", outcome(lambda: workspace.put("a", b"")), "ProcessError: the workspace is closed")
+    with Workspace(ROOT, program=script(bench, LOADED + 'read -r q; printf "=== 2 1 %s\\nbq: Q1 Syntax\\n" "$q"; cat')) as old:
+        bench.compare("bq.py, a program without edits", outcome(old.reload).partition(" is ")[2], "too old: it has no edits")
+
+
 def ends(bench):
     """Threads, interruptions, and the end of a workspace."""
     with Workspace(f"{ROOT}/examples/macros", program=bench.program) as workspace:
@@ -192,6 +218,6 @@ def open_files():
 def check(bench):
     """Tries all of it; afterwards no file, thread or process is left."""
     before = open_files()
-    for part in (answers, faults, odd_programs, ends):
+    for part in (answers, faults, edits, odd_programs, ends):
         part(bench)
     bench.compare("bq.py, what is left open", open_files(), before)

@@ -15,7 +15,7 @@ use bq_run::{
 };
 use bq_run_directory::{DirectoryErr, read_directory};
 use bq_run_facts::run_facts;
-use bq_run_session::{SessionStatus, run_queries, session_code};
+use bq_run_session::{SessionOptions, SessionRun, SessionStatus, run_queries, session_code};
 use std::alloc::Global;
 use std::fs::File;
 use std::io;
@@ -149,11 +149,12 @@ fn answer_queries<T: Threads + Wait + RandomSource + Sync, Q: ByteSource>(
     let workspace = read_workspace(rt, alloc, words.place, words.options.limits)?;
     let mut writer = Metered::new(rt.stdout());
     let mut faults = Metered::new(rt.stderr());
-    let over = WorkspaceRun {
-        workspace: &workspace,
+    let by = SessionOptions {
+        version: VERSION.as_bytes(),
         options: &words.options,
     };
-    run_queries(threads, alloc, &over, queries, &mut writer, &mut faults)
+    let over = SessionRun { workspace, by };
+    run_queries(threads, alloc, over, queries, &mut writer, &mut faults)
 }
 
 /// Returns a reader that reads ahead.

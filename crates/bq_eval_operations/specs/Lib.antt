@@ -1,3 +1,4 @@
+pub mod Comparing
 pub mod Making
 pub mod Passing
 pub mod Unpacking

@@ -5,15 +5,15 @@ ghost use Rattle.bq_builtin_machine.specs.State.{State};
 ghost use Rattle.bq_eval_operations.specs.Runtime.{primitives};
 
 use crate::making::{with_element, with_new_pair, with_pair};
-use crate::passing;
 use crate::unpacking::parts_of;
+use crate::{augmenting, comparing, passing};
 use bq_base::Bytes;
 use bq_builtin_machine::{Args, ElementWalk, Elements, Machine};
 use bq_eval_rules::Runtime;
 use bq_package_host::{BuiltIns, Host};
 use bq_parse_grammar::{Comparison, Operator, UnaryOperator};
 use bq_resolve_predeclared::{Predeclared, RuleFunction};
-use bq_value::{Cell, Content, EvalErr, Value};
+use bq_value::{Cell, Content, EvalErr, Node, Value};
 use bq_value_seed::Seed;
 use std::alloc::{AllocError, Global};
 use std::marker::{Brand, PhantomData};
@@ -80,14 +80,20 @@ impl<'a, H: Host, K: RuleNames> Runtime for Evaluation<'a, H, K> {
         self.machine.store().seed()
     }
 
+    #[inline(always)]
     #[tactic(auto, using(crate::proofs::Lifting::lifted), unfolding(crate::specs::Runtime::primitives))]
     fn step(&mut self, count: u64) -> Result<(), EvalErr> {
         self.machine.step(count)
     }
 
+    #[inline(always)]
     #[tactic(auto, unfolding(crate::specs::Runtime::primitives))]
     fn truth(&self, value: &Value) -> bool {
-        bq_value_compare::truth(self.machine.store(), value)
+        match &value.node {
+            Node::Bool(b) => *b,
+            Node::Int(n) => *n != 0,
+            _ => bq_value_compare::truth(self.machine.store(), value),
+        }
     }
 
     #[tactic(auto, unfolding(crate::specs::Runtime::primitives))]
@@ -100,6 +106,7 @@ impl<'a, H: Host, K: RuleNames> Runtime for Evaluation<'a, H, K> {
         bq_builtin_operators::unary(&self.machine, operator, value)
     }
 
+    #[inline(always)]
     #[tactic(auto, using(crate::proofs::Lifting::lifted), unfolding(crate::specs::Runtime::primitives))]
     fn binary(
         &mut self,
@@ -110,6 +117,7 @@ impl<'a, H: Host, K: RuleNames> Runtime for Evaluation<'a, H, K> {
         bq_builtin_operators::binary(self.alloc, &mut self.machine, operator, left, right)
     }
 
+    #[inline(always)]
     #[tactic(auto, using(crate::proofs::Lifting::lifted), unfolding(crate::specs::Runtime::primitives))]
     fn compare(
         &mut self,
@@ -117,9 +125,10 @@ impl<'a, H: Host, K: RuleNames> Runtime for Evaluation<'a, H, K> {
         left: &Value,
         right: &Value,
     ) -> Result<Value, EvalErr> {
-        bq_builtin_operators::compare(&mut self.machine, operator, left, right)
+        comparing::compare(&mut self.machine, operator, left, right)
     }
 
+    #[inline(always)]
     #[tactic(auto, using(crate::proofs::Lifting::lifted), unfolding(crate::specs::Runtime::primitives))]
     fn augment(
         &mut self,
@@ -127,7 +136,7 @@ impl<'a, H: Host, K: RuleNames> Runtime for Evaluation<'a, H, K> {
         left: &Value,
         right: &Value,
     ) -> Result<Value, EvalErr> {
-        bq_builtin_augment::augment(self.alloc, &mut self.machine, operator, left, right)
+        augmenting::augment(self.alloc, &mut self.machine, operator, left, right)
     }
 
     #[tactic(auto, using(crate::proofs::Lifting::lifted), unfolding(crate::specs::Runtime::primitives))]

@@ -6,12 +6,16 @@
 //!
 //! In reading order:
 //!
+//! - `comparing`: comparisons;
+//! - `augmenting`: augmented assignments;
 //! - `making`: lists and dicts that are being made;
 //! - `passing`: the arguments of a call, one after another;
 //! - `unpacking`: the elements for a number of targets;
 //! - `evaluation`: the operations.
 #![tactic(auto)]
 
+mod augmenting;
+mod comparing;
 mod evaluation;
 mod making;
 mod passing;

@@ -1,5 +1,5 @@
 -- Assignments, one part after another.
-use Rattle.std.proofs.Common.{◌≡◌, ◌∙◌, List, [], sym, ap}
+use Rattle.std.proofs.Common.{◌≡◌, ◌∙◌, List, [], ◌∷◌, ◌++◌, Some, sym, ap}
 use Rattle.bq_parse_grammar.specs.declared.tree.Argument.TheOpen.{TargetExpr-F}
 use Rattle.bq_parse_grammar.specs.declared.tree.Expr.{Expr}
 use Rattle.bq_parse_grammar.specs.declared.tree.Identifier.{Identifier}
@@ -25,6 +25,17 @@ module _ {S : Type 0} (m : Primitives S) (eval : Eval S Frame) where
 
   pub variable_assigned : (t : TargetExpr) (n : Identifier) (v : Datum) (env : Frame) (s : S) → t ≡ target.Name n → assign m by_slots eval t v env s ≡ done (fill env (slot_of n.referent) v) s
   variable_assigned t n v env s is = assign_by t (TargetExpr-F.TargetExpr::Name n) v env s (ap out-TargetExpr is ∙ target.outs-Name n)
+
+  -- `x[i] = v`: a single target needs no list of places
+  pub item_assigned : (t : TargetExpr) (x i : Expr) (v : Datum) (env : Frame) (s : S) → t ≡ target.Index x i
+      → assign m by_slots eval t v env s ≡ following (eval x env s) (λ u r. following (eval i env r) (λ w q. following (m.set_index u w v q) (λ _. pure env)))
+  unfolding place bind_place
+  item_assigned t x i v env s is =
+      let last : Places → Action S Frame = λ ps r. following (bind_place m v env ps r) (λ b. pure b.0) in
+      assign_by t (TargetExpr-F.TargetExpr::Index x i) v env s (ap out-TargetExpr is ∙ target.outs-Index x i)
+      ∙ (following_twice (eval x env s) (λ u r. following (eval i env r) (λ w. pure ([] ++ (u, w) ∷ []))) last
+      ∙ (λ k. following (eval x env s) (λ u r. (following_twice (eval i env r) (λ w. pure ([] ++ (u, w) ∷ [])) last
+      ∙ (λ j. following (eval i env r) (λ w q. following_twice {B = Frame × Places} (m.set_index u w v q) (λ _. pure (env, [])) (λ b. pure b.0) j))) k)))
 
   -- `t op= x`, by the form of t
   module _ (t : TargetExpr) (op : Operator) (x : Expr) (env : Frame) (s : S) where
@@ -67,6 +78,12 @@ module _ {S : Type 0} (m : Primitives S) (eval : Eval S Frame) where
       → augment_name m by_slots eval n op x env s ≡ following (following (eval x env s) (m.augment op old)) (λ new. pure (fill env (slot_of n.referent) new))
   unfolding augment_name
   name_augmented n op x env old s is = rw is (sym (following_twice (eval x env s) (m.augment op old) (λ new. pure (fill env (slot_of n.referent) new))))
+
+  -- a name whose value is in its slot
+  pub filled_augmented : (t : TargetExpr) (n : Identifier) (op : Operator) (x : Expr) (env : Frame) (old : Datum) (s : S) → t ≡ target.Name n → env (slot_of n.referent) ≡ Some old
+      → augment m by_slots eval t op x env s ≡ following (following (eval x env s) (m.augment op old)) (λ new. pure (fill env (slot_of n.referent) new))
+  unfolding bound
+  filled_augmented t n op x env old s is full = variable_augmented t op x env s n is ∙ name_augmented n op x env old s (ap (λ o. bound m o s) full)
 
   -- an operand and an index whose values are known
   pub index_augmented : (y i : Expr) (op : Operator) (x : Expr) (env : Frame) (u w : Datum) (s one two : S) → eval y env s ≡ done u one → eval i env one ≡ done w two

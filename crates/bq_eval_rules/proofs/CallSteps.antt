@@ -1,5 +1,5 @@
 -- One call, where a number of functions may still become active.
-use Rattle.std.proofs.Common.{◌≡◌, ◌∙◌, ℕ, zero, suc, ◌<◌, ◌≤◌, ◌-◌, List, length, get_or, slice_get, Option, Some, None, Result, Ok, Err, refl, ap, subst, arith}
+use Rattle.std.proofs.Common.{◌≡◌, ◌∙◌, ℕ, zero, suc, ◌<◌, ◌≤◌, ◌-◌, List, length, get_or, slice_get, Option, Some, None, Result, Ok, Err, refl, sym, ap, arith}
 use Rattle.std.proofs.lemmas.Option.{slice_get_past, slice_get_read}
 use Rattle.bq_base.specs.declared.fault.EvalFault.{EvalFault}
 use Rattle.bq_base.specs.declared.fault.EvalFault.TheVariants.{CallDepth, WrongType}
@@ -9,13 +9,13 @@ use Rattle.bq_value.specs.declared.error.EvalErr.TheVariants.{Bad, Memory}
 use Rattle.bq_value.specs.Datum.{Datum}
 use Rattle.bq_resolve_scope.specs.declared.file.Function.{Function}
 use Rattle.bq_parse_grammar.specs.declared.tree.Stmt.{Stmt}
-use Rattle.bq_builtin_machine.specs.Action.{done, stopped, following, pure}
+use Rattle.bq_builtin_machine.specs.Action.{Run, stopped, following, pure}
 use Rattle.bq_builtin_machine.specs.Args.{Passed}
 use Rattle.bq_builtin_machine.specs.State.{stop_at}
 use Rattle.bq_eval_meaning_spec.specs.Frame.{Frame, Surroundings}
 use Rattle.bq_eval_meaning_spec.specs.Primitives.{Primitives, given_by}
 use Rattle.bq_eval_language_spec.specs.Expressions.{eval_in}
-use Rattle.bq_eval_language_spec.specs.Statements.{Flow, block, run_in}
+use Rattle.bq_eval_language_spec.specs.Statements.{block, run_in}
 use Rattle.bq_eval_language_spec.specs.Slots.{by_slots}
 use Rattle.bq_eval_language_spec.specs.Trees.{Calls}
 use Rattle.bq_eval_language_spec.specs.Calls.{TreeUnit, Units, answered, apply, body_of, call_at, call_function, calls, inner_calls, known, run_body}
@@ -37,17 +37,16 @@ unfolding inner_calls run_body
 no_body zero m units u d env s none why is = ap (λ k. stopped (stop_at k (m.machine s))) (ap kind_in is)
 no_body (suc left) m units u d env s none why is = absurd (omega (arith, none))
 
--- a body that ran
-pub ran_body : {S : Type 0} (left : ℕ) (m : Primitives S) (units : Units Surroundings) (u : TreeUnit Surroundings) (d : Function) (env : Frame) (s : S) (f : Flow) (last : Frame) (after : S) (xs : List Stmt) → 0 < left → xs ≡ d.body
-    → block m by_slots (eval_in m by_slots (calls (left - 1) m by_slots units) u.round) (run_in m by_slots (eval_in m by_slots (calls (left - 1) m by_slots units) u.round)) xs env s ≡ done (f, last) after
-    → run_body m by_slots (inner_calls left m by_slots units) u d env s ≡ done (answered f) after
+-- a body that may run
+pub body_runs : {S : Type 0} (left : ℕ) (m : Primitives S) (units : Units Surroundings) (u : TreeUnit Surroundings) (d : Function) (env : Frame) (s : S) (xs : List Stmt) → 0 < left → xs ≡ d.body
+    → run_body m by_slots (inner_calls left m by_slots units) u d env s
+    ≡ following (block m by_slots (eval_in m by_slots (calls (left - 1) m by_slots units) u.round) (run_in m by_slots (eval_in m by_slots (calls (left - 1) m by_slots units) u.round)) xs env s) (λ r. pure (answered r.0))
 unfolding inner_calls run_body body_of
-ran_body zero m units u d env s f last after xs some all h = absurd (omega (arith, some))
-ran_body (suc left) m units u d env s f last after xs some all h =
+body_runs zero m units u d env s xs some all = absurd (omega (arith, some))
+body_runs {S = S} (suc left) m units u d env s xs some all =
     let e : suc left - 1 ≡ left = omega arith in
-    let P : ℕ → Type 0 = λ k. block m by_slots (eval_in m by_slots (calls k m by_slots units) u.round) (run_in m by_slots (eval_in m by_slots (calls k m by_slots units) u.round)) xs env s ≡ done (f, last) after in
-    let Q : List Stmt → Type 0 = λ ys. block m by_slots (eval_in m by_slots (calls left m by_slots units) u.round) (run_in m by_slots (eval_in m by_slots (calls left m by_slots units) u.round)) ys env s ≡ done (f, last) after in
-    ap (λ r. following r (λ r. pure (answered r.0))) (subst Q all (subst P e h))
+    let run : ℕ → List Stmt → Run S Datum = λ k ys. following (block m by_slots (eval_in m by_slots (calls k m by_slots units) u.round) (run_in m by_slots (eval_in m by_slots (calls k m by_slots units) u.round)) ys env s) (λ r. pure (answered r.0)) in
+    ap (run left) (sym all) ∙ ap (λ k. run k xs) (sym e)
 
 pub inner_left : {S : Type 0} (left : ℕ) (m : Primitives S) (units : Units Surroundings) → 0 < left → inner_calls left m by_slots units ≡ Some (calls (left - 1) m by_slots units)
 unfolding inner_calls

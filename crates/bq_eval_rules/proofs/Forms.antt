@@ -28,7 +28,7 @@ use Rattle.bq_builtin_machine.specs.Args.{Passed}
 use Rattle.bq_eval_meaning_spec.specs.Frame.{Frame, Surroundings}
 use Rattle.bq_eval_meaning_spec.specs.Primitives.{Primitives}
 use Rattle.bq_eval_language_spec.specs.Comprehensions.{comprehension, element, pair_element}
-use Rattle.bq_eval_language_spec.specs.Expressions.{argument, argument_by, binary, call_member, call_of, compare, conditional, dict_display, expr, expr_by, index, list_display, literal, method, primary, primary_by as primary_form, slice, suffix, suffix_by, tuple_display, unary, use_of}
+use Rattle.bq_eval_language_spec.specs.Expressions.{argument, argument_by, binary, call_member, call_of, compare, conditional, dict_display, expr, expr_by, index, list_display, literal, method, operation, operations, primary, primary_by as primary_form, slice, suffix, suffix_by, tuple_display, unary, use_of}
 use Rattle.bq_eval_language_spec.specs.Slots.{by_slots, called, called_by, member_at, member_named}
 use Rattle.bq_eval_language_spec.specs.Trees.{ArgumentLayer, Calls, Eval}
 
@@ -87,6 +87,16 @@ module _ {S : Type 0} (m : Primitives S) (eval : Eval S Frame) (call : Calls S) 
 
   pub conditional_by : (cs : List Choice) (y : Expr) → x ≡ e.Conditional cs y → expr m by_slots eval call round x env s ≡ conditional m eval cs y env s
   conditional_by cs y is = by_layer (Expr-F.Conditional cs y) (ap out-Expr is ∙ e.outs-Conditional cs y)
+
+-- ---- the operations of a chain
+
+pub first_operation : {S : Type 0} (m : Primitives S) (eval : Eval S Frame) (env : Frame) (v : Datum) (s : S) (os : List Operation) (o : Operation) → 1 ≤ length os → o ≡ get_or os 0 o
+    → operations m eval os env v s ≡ (operation m eval o env v >>= λ u. operations m eval (take (length os - 1) (drop 1 os)) env u) s
+unfolding operations
+first_operation m eval env v s [] o some is = absurd (omega (arith, some))
+first_operation m eval env v s (y ∷ ys) o some is =
+    let all : take (length (y ∷ ys) - 1) ys ≡ ys = take_all (length (y ∷ ys) - 1) ys (omega arith) in
+    ap (λ z. (operation m eval z env v >>= λ u. operations m eval ys env u) s) (sym is) ∙ ap (λ zs. (operation m eval o env v >>= λ u. operations m eval zs env u) s) (sym all)
 
 -- ---- arguments and suffixes
 

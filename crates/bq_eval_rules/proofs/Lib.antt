@@ -4,6 +4,10 @@ pub mod Forms
 pub mod Layers
 pub mod Reversed
 pub mod Following
+-- what goes on from an answer
+pub mod Answering
+-- what comes after a statement
+pub mod Flowing
 pub mod Deciding
 pub mod Assigning
 -- statements, by their layer

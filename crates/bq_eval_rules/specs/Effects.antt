@@ -4,16 +4,18 @@
 use Rattle.std.specs.Prelude.{Result}
 use Rattle.bq_value.specs.declared.error.EvalErr.{EvalErr}
 use Rattle.bq_value.specs.Contents.{Contents}
-use Rattle.bq_builtin_machine.specs.Action.{Action}
+use Rattle.bq_value.specs.Datum.{Datum}
+use Rattle.bq_builtin_machine.specs.Action.{Action, ◌>>=◌, pure}
 use Rattle.bq_eval_language_spec.specs.Comprehensions.{Turn}
 use Rattle.bq_eval_meaning_spec.specs.Frame.{Frame}
 use Rattle.bq_eval_meaning_spec.specs.Primitives.{Primitives}
-use Rattle.bq_eval_language_spec.specs.Statements.{Exec}
+use Rattle.bq_eval_language_spec.specs.Statements.{Exec, Flow, next}
 use Rattle.bq_eval_language_spec.specs.Targets.{Places}
 use Rattle.bq_eval_frame.specs.Slots.{Slots, slots_of}
-use Rattle.bq_eval_rules.specs.declared.flow.Flow as flows
-use Rattle.bq_eval_rules.specs.Acts.{Acts}
-use Rattle.bq_eval_rules.specs.Flows.{flow_of}
+use Rattle.bq_eval_rules.specs.declared.flow.Ending.{Ending}
+use Rattle.bq_eval_rules.specs.Acts.{Acts, ActsOn}
+use Rattle.bq_eval_rules.specs.Answers.{AnswerPlace}
+use Rattle.bq_eval_rules.specs.Flows.{ending_of}
 
 module _ {R S : Type 0} (m : Primitives S) (seen : R → S) where
   -- the call returns what the action gives
@@ -29,10 +31,32 @@ module _ {R S : Type 0} (m : Primitives S) (seen : R → S) where
   Rebinds action frame old result changed new =
       Acts m (λ _. slots_of changed) result (seen new) (action (slots_of frame) (seen old))
 
-  -- the call runs statements: it returns what comes after them, and leaves their frame
-  abbrev pub Executes : Exec S Frame → Slots → R → Result flows.Flow EvalErr → Slots → R → Type 0
-  Executes exec frame old result changed new =
-      Acts m (λ f. (flow_of f, slots_of changed)) result (seen new) (exec (slots_of frame) (seen old))
+  -- the call runs statements: this is what comes after them, and it leaves their frame
+  abbrev pub Executes : Exec S Frame → Slots → R → Result Flow EvalErr → Slots → R → Type 0
+  Executes exec frame old flow changed new =
+      Acts m (λ f. (f, slots_of changed)) flow (seen new) (exec (slots_of frame) (seen old))
+
+  -- the call makes of the frame what the action makes of it, and the next statement comes after it
+  abbrev pub Changes : (Frame → Action S Frame) → Slots → R → Result Flow EvalErr → Slots → R → Type 0
+  Changes action frame old flow changed new = Executes (λ env. action env >>= λ made. pure (next, made)) frame old flow changed new
+
+  -- the call runs statements of a file
+  abbrev pub ExecutesLines : Exec S Frame → Slots → R → Result Ending EvalErr → Slots → R → Type 0
+  ExecutesLines exec frame old result changed new =
+      Acts m (λ f. (ending_of f, slots_of changed)) result (seen new) (exec (slots_of frame) (seen old))
+
+  -- these of a call that goes on from an answer: where that has no value, there is none, and the call does nothing
+
+  abbrev pub ReturnsOn : {A : Type 0} → AnswerPlace → (Datum → Action S A) → R → Result A EvalErr → R → Type 0
+  ReturnsOn given action old result new = ActsOn m (λ x. x) given (λ v. action v (seen old)) (seen old) result (seen new)
+
+  abbrev pub ExecutesOn : AnswerPlace → (Datum → Exec S Frame) → Slots → R → Result Flow EvalErr → Slots → R → Type 0
+  ExecutesOn given exec frame old flow changed new =
+      ActsOn m (λ f. (f, slots_of changed)) given (λ v. exec v (slots_of frame) (seen old)) (seen old) flow (seen new)
+
+  abbrev pub ChangesOn : AnswerPlace → (Datum → Frame → Action S Frame) → Slots → R → Result Flow EvalErr → Slots → R → Type 0
+  ChangesOn given action frame old flow changed new =
+      ExecutesOn given (λ v env. action v env >>= λ made. pure (next, made)) frame old flow changed new
 
   -- the call binds parts of a target: it changes the frame, and takes from the places that are left
   abbrev pub BindsParts : {A : Type 0} → (Frame → Places → Action S (Frame × Places)) → Slots → Places → R

@@ -1,9 +1,8 @@
 -- What an evaluator has: what the expressions inside, calls and names mean, and a function value that evaluates the
 -- expressions inside.
-use Rattle.std.specs.Prelude.{ℕ, Result}
+use Rattle.std.specs.Prelude.{ℕ, ℤ, Option}
 use denote.Ref.{Bor, MutBor}
 use Rattle.bq_parse_grammar.specs.declared.tree.Expr.{Expr}
-use Rattle.bq_value.specs.declared.error.EvalErr.{EvalErr}
 use Rattle.bq_value.specs.Datum.{Datum}
 use Rattle.bq_builtin_machine.specs.Action.{Action}
 use Rattle.bq_eval_meaning_spec.specs.Frame.{Frame, Surroundings}
@@ -12,6 +11,7 @@ use Rattle.bq_eval_language_spec.specs.Trees.{Eval, Calls}
 use Rattle.bq_eval_frame.specs.Slots.{Slots, slots_of}
 use Rattle.bq_eval_rules.specs.declared.context.Context.{Context}
 use Rattle.bq_eval_rules.specs.declared.evaluator.Evaluator.{Evaluator}
+use Rattle.bq_eval_rules.specs.Answers.{AnswerPlace}
 use Rattle.bq_eval_rules.specs.Nests.{Nests, nested}
 use Rattle.bq_eval_rules.specs.Round.{inside, round_of}
 
@@ -38,6 +38,6 @@ module _ {R C F : Type 0} where
 
   -- its function value evaluates expressions inside
   abbrev pub EvaluatesInside : {S : Type 0} → Primitives S → (R → S) → Evaluator R C F
-      → (F → Bor Context → ℕ → C → Bor Slots → MutBor R → Bor Expr → Type 0)
-      → (F → Bor Context → ℕ → C → Bor Slots → MutBor R → Bor Expr → Result Datum EvalErr → MutBor R → Type 0) → Type 0
+      → (F → Bor Context → ℕ → C → Bor Slots → MutBor R → Bor Expr → MutBor AnswerPlace → Type 0)
+      → (F → Bor Context → ℕ → C → Bor Slots → MutBor R → Bor Expr → MutBor AnswerPlace → Option ℤ → MutBor R → MutBor AnswerPlace → Type 0) → Type 0
   EvaluatesInside m seen e pre post = Nests m seen e.context.now.left e.depth e.call (pre e.eval) (post e.eval)

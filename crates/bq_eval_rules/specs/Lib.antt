@@ -1,8 +1,11 @@
+pub mod Answers
 pub mod Acts
 pub mod Round
 pub mod Operands
+pub mod Conditions
 pub mod Nests
 pub mod Evaluators
+pub mod Expressions
 pub mod OpenLoops
 pub mod ComprehensionClauses
 pub mod Flows

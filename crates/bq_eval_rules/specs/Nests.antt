@@ -1,5 +1,5 @@
 -- Function values that call, and function values that evaluate what is inside.
-use Rattle.std.specs.Prelude.{ℕ, ◌≤◌, Result}
+use Rattle.std.specs.Prelude.{ℕ, ◌≤◌, ℤ, Option, Result}
 use denote.Ref.{Bor, MutBor}
 use Rattle.bq_parse_grammar.specs.declared.tree.Expr.{Expr}
 use Rattle.bq_value.specs.declared.error.EvalErr.{EvalErr}
@@ -13,6 +13,7 @@ use Rattle.bq_eval_language_spec.specs.Slots.{by_slots}
 use Rattle.bq_eval_frame.specs.Slots.{Slots, slots_of}
 use Rattle.bq_eval_rules.specs.declared.context.Context.{Context}
 use Rattle.bq_eval_rules.specs.Acts.{Acts}
+use Rattle.bq_eval_rules.specs.Answers.{AnswerPlace, answer_of}
 use Rattle.bq_eval_rules.specs.Round.{round_of, inside}
 
 -- what an expression inside means, to a depth
@@ -22,11 +23,11 @@ nested m depth c = expr_to depth m by_slots (inside m c) (round_of c)
 -- `seen` is what contracts see of the runtime. It may be called where at most `bound` functions may still become active, for expressions that are
 -- at most `depth` layers deep.
 pub record Nests {R S C : Type 0} (m : Primitives S) (seen : R → S) (bound depth : ℕ) (call : C)
-    (pre : Bor Context → ℕ → C → Bor Slots → MutBor R → Bor Expr → Type 0)
-    (post : Bor Context → ℕ → C → Bor Slots → MutBor R → Bor Expr → Result Datum EvalErr → MutBor R → Type 0) : Type 0 where
-  pub callable : (c : Bor Context) (d : ℕ) (f : Bor Slots) (r : MutBor R) (x : Bor Expr) → c.now.left ≤ bound → d ≤ depth → pre c d call f r x
-  pub says : (c : Bor Context) (d : ℕ) (f : Bor Slots) (old new : MutBor R) (x : Bor Expr) (result : Result Datum EvalErr) → d ≤ depth → post c d call f old x result new
-      → Acts m (λ v. v) result (seen new.now) (nested m d c.now x.now (slots_of f.now) (seen old.now))
+    (pre : Bor Context → ℕ → C → Bor Slots → MutBor R → Bor Expr → MutBor AnswerPlace → Type 0)
+    (post : Bor Context → ℕ → C → Bor Slots → MutBor R → Bor Expr → MutBor AnswerPlace → Option ℤ → MutBor R → MutBor AnswerPlace → Type 0) : Type 0 where
+  pub callable : (c : Bor Context) (d : ℕ) (f : Bor Slots) (r : MutBor R) (x : Bor Expr) (out : MutBor AnswerPlace) → c.now.left ≤ bound → d ≤ depth → pre c d call f r x out
+  pub says : (c : Bor Context) (d : ℕ) (f : Bor Slots) (old new : MutBor R) (x : Bor Expr) (lent out : MutBor AnswerPlace) (result : Option ℤ) → d ≤ depth → post c d call f old x lent result new out
+      → Acts m (λ v. v) (answer_of result out.now) (seen new.now) (nested m d c.now x.now (slots_of f.now) (seen old.now))
 
 -- A function value that calls. It may be called where at most `bound` functions may still become active.
 pub record Answers {R S : Type 0} (m : Primitives S) (seen : R → S) (bound : ℕ)

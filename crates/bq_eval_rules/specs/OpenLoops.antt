@@ -1,10 +1,11 @@
 -- The open loops of a comprehension: what they still do, by the definition (`Comprehensions` of
 -- `bq_eval_language_spec`), and how many turns and ends of loops that takes. `body` is what is before the clauses.
-use Rattle.std.specs.Prelude.{ℕ, suc, ◌+◌, List, [], ◌∷◌, Option, Some, None, map, reverse, if◌then◌else◌}
+use Rattle.std.specs.Prelude.{ℕ, suc, ◌+◌, List, [], ◌∷◌, Option, Some, None, Result, Ok, Err, map, reverse, if◌then◌else◌}
 use Rattle.bq_parse_grammar.specs.declared.tree.Argument.TheOpen.{Clause-F}
 use Rattle.bq_parse_grammar.specs.declared.tree.Clause.{Clause, out-Clause}
 use Rattle.bq_parse_grammar.specs.declared.tree.TargetExpr.{TargetExpr}
 use Rattle.bq_resolve_scope.specs.Names.{ClauseLayer}
+use Rattle.bq_value.specs.declared.error.EvalErr.{EvalErr}
 use Rattle.bq_value.specs.Contents.{Contents}
 use Rattle.bq_value.specs.Datum.{Datum}
 use Rattle.bq_builtin_machine.specs.Action.{Action, Run, done, stopped, following, ◌>>=◌, pure}
@@ -16,6 +17,9 @@ use Rattle.bq_eval_language_spec.specs.Targets.{bind_variables}
 use Rattle.bq_eval_language_spec.specs.Trees.{Eval}
 use Rattle.bq_eval_rules.specs.declared.open_loop.ForClause.{ForClause}
 use Rattle.bq_eval_rules.specs.declared.open_loop.OpenLoop.{OpenLoop}
+use Rattle.bq_eval_rules.specs.declared.open_loop.Reached.{Reached}
+use Rattle.bq_eval_rules.specs.declared.open_loop.Reached.TheVariants as reaches
+use Rattle.bq_eval_rules.specs.Answers.{AnswerPlace, reason_of}
 
 -- a `for` clause whose walk has begun: the clauses after it, what is walked, and the elements that are still to come
 pub record Loop : Type 0 where
@@ -31,6 +35,12 @@ loop_of l = record { target = l.target.now; after = l.after.now; walked = l.walk
 -- the code has the innermost loop last
 unfoldable pub loops_of : List OpenLoop → List Loop
 loops_of ls = reverse (map loop_of ls)
+
+-- the loop that the clauses of a turn reached, if there is one: its clause lies in a place. Where they stopped, the place for answers says why
+abbrev pub loop_reached : Reached → Option ForClause → AnswerPlace → Result (Option ForClause) EvalErr
+loop_reached reaches.End next place = Ok None
+loop_reached reaches.Loop next place = Ok next
+loop_reached reaches.Stopped next place = Err (reason_of place)
 
 -- what comes after a run that isn't stopped
 abbrev pub counted : {S A : Type 0} → Run S A → (A → S → ℕ) → ℕ

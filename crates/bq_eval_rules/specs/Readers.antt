@@ -4,7 +4,7 @@ use Rattle.bq_parse_grammar.specs.declared.tree.Operator.{Operator}
 use Rattle.bq_parse_grammar.specs.declared.tree.Expr.{Expr}
 use Rattle.bq_parse_grammar.specs.declared.tree.TargetExpr.{TargetExpr}
 use Rattle.bq_value.specs.Datum.{Datum}
-use Rattle.bq_builtin_machine.specs.Action.{Action, ◌>>=◌}
+use Rattle.bq_builtin_machine.specs.Action.{Action, ◌>>=◌, pure}
 use Rattle.bq_eval_meaning_spec.specs.Frame.{Frame}
 use Rattle.bq_eval_meaning_spec.specs.Primitives.{Primitives}
 use Rattle.bq_eval_language_spec.specs.Targets.{Places, places_each, places_of, places_to}
@@ -32,3 +32,7 @@ module _ {S R C : Type 0} (m : Primitives S) (reader : Reader R C) where
   -- `v[w] op= x`, where `v` and `w` are values
   abbrev pub augment_at : Datum → Datum → Operator → Expr → Frame → Action S (Unit {0})
   augment_at v w op x env = m.index v w >>= λ old. augmented op x env old >>= m.set_index v w
+
+  -- `x[i] = v`, where `v` is a value
+  abbrev pub assign_at : Expr → Expr → Datum → Frame → Action S Frame
+  assign_at x i v env = evals_of x env >>= λ u. evals_of i env >>= λ w. m.set_index u w v >>= λ _. pure env

@@ -1,23 +1,29 @@
 -- What a runner has: the meaning of the statements inside, and a function value that runs them.
-use Rattle.std.specs.Prelude.{ℕ, List, Result}
+use Rattle.std.specs.Prelude.{◌≡◌, ℕ, List, Result, Ok, Err}
 use denote.Ref.{Bor, MutBor}
 use Rattle.bq_parse_grammar.specs.declared.tree.Stmt.{Stmt}
 use Rattle.bq_parse_grammar.specs.declared.tree.TargetExpr.{TargetExpr}
-use Rattle.bq_value.specs.Datum.{Datum}
 use Rattle.bq_value.specs.declared.error.EvalErr.{EvalErr}
+use Rattle.bq_value.specs.Datum.{Datum}
 use Rattle.bq_builtin_machine.specs.Action.{done, ◌>>=◌}
 use Rattle.bq_eval_meaning_spec.specs.Frame.{Frame, Surroundings}
 use Rattle.bq_eval_meaning_spec.specs.Primitives.{Primitives}
 use Rattle.bq_eval_language_spec.specs.Environment.{Scoping}
 use Rattle.bq_eval_language_spec.specs.Slots.{by_slots}
-use Rattle.bq_eval_language_spec.specs.Statements.{Exec, run_to, turns}
+use Rattle.bq_eval_language_spec.specs.Statements.{Exec, Flow, run_to, turns}
 use Rattle.bq_eval_language_spec.specs.Trees.{Eval}
 use Rattle.bq_eval_frame.specs.Slots.{Slots}
 use Rattle.bq_eval_rules.specs.declared.context.Context.{Context}
 use Rattle.bq_eval_rules.specs.declared.flow.Flow as flows
 use Rattle.bq_eval_rules.specs.declared.statements.Runner.{Runner}
+use Rattle.bq_eval_rules.specs.Answers.{AnswerPlace}
 use Rattle.bq_eval_rules.specs.Readers.{evals_of}
 use Rattle.bq_eval_rules.specs.Runs.{Runs}
+
+-- the state after the end of a walk over this value, unless the loop stopped
+abbrev pub WalkEnds : {S : Type 0} → Primitives S → Result Flow EvalErr → Datum → S → S → Type 0
+WalkEnds m (Ok f) v old new = new ≡ m.end_walk v old
+WalkEnds m (Err e) v old new = new ≡ old
 
 module _ {R C G : Type 0} where
   -- what a statement inside means
@@ -35,7 +41,7 @@ module _ {R C G : Type 0} where
 
   -- its function value runs statements inside
   abbrev pub RunsInside : {S : Type 0} → Primitives S → (R → S) → Runner R C G
-      → (G → Bor Context → ℕ → C → MutBor Slots → MutBor R → Bor Stmt → Type 0)
-      → (G → Bor Context → ℕ → C → MutBor Slots → MutBor R → Bor Stmt → Result flows.Flow EvalErr → MutBor Slots → MutBor R → Type 0)
+      → (G → Bor Context → ℕ → C → MutBor Slots → MutBor R → Bor Stmt → MutBor AnswerPlace → Type 0)
+      → (G → Bor Context → ℕ → C → MutBor Slots → MutBor R → Bor Stmt → MutBor AnswerPlace → flows.Flow → MutBor Slots → MutBor R → MutBor AnswerPlace → Type 0)
       → Type 0
   RunsInside m seen r pre post = Runs m seen r.reader.context.now.left r.depth r.reader.call (pre r.run) (post r.run)

@@ -10,10 +10,11 @@ ghost use Rattle.bq_eval_rules.specs.Round.{inside};
 ghost use Rattle.bq_eval_rules.specs.Effects.{Returns};
 ghost use Rattle.bq_eval_rules.specs.ContextCalls.{body_here, call_here, call_place};
 
+use crate::answer::new_place;
 use crate::context::Context;
 use crate::direct::{are_direct, direct_values};
 use crate::filling::{Filling, fill_parameters};
-use crate::flow::answered;
+use crate::flow::result_of;
 use crate::parameters::{bind_args, has_star_star, keywords_of};
 use crate::runtime::Runtime;
 use crate::statements::run_block;
@@ -100,8 +101,16 @@ pub fn run_body<R: Runtime>(
         globals: unit.globals,
         loaded: unit.loaded,
     };
-    let flow = run_block(&inner, call::<R>, frame, runtime, function.body.as_slice())?;
-    Ok(answered(flow))
+    let mut out = new_place();
+    let flow = run_block(
+        &inner,
+        call::<R>,
+        frame,
+        runtime,
+        function.body.as_slice(),
+        &mut out,
+    );
+    result_of(flow, out)
 }
 
 /// Calls a function of the program.

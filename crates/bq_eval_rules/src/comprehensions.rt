@@ -5,15 +5,16 @@ ghost use Rattle.bq_builtin_machine.specs.Action.{pure, ◌>>=◌ as and_then};
 ghost use Rattle.bq_eval_language_spec.specs.Comprehensions as meaning;
 ghost use Rattle.bq_eval_language_spec.specs.Slots.{opened};
 ghost use Rattle.bq_eval_frame.specs.Slots.{slots_of};
-ghost use Rattle.bq_eval_rules.specs.Acts.{Acts};
-ghost use Rattle.bq_eval_rules.specs.OpenLoops.{loop_of, opening};
+ghost use Rattle.bq_eval_rules.specs.Acts.{Acts, ActsOn};
+ghost use Rattle.bq_eval_rules.specs.OpenLoops.{loop_of, loop_reached, opening};
 ghost use Rattle.bq_eval_rules.specs.Effects.{Returns, Produces, Collects};
 ghost use Rattle.bq_eval_rules.specs.Evaluators.{EvaluatesInside, evals_in, frame_of};
 ghost use Rattle.bq_eval_rules.specs.ComprehensionClauses.{element_in, clauses_in, all_clauses_in, comprehension_in, list_comprehension_in, dict_comprehension_in, turns_left, ClausesReach, ClausesCount, TurnReaches, TurnCounts};
 
+use crate::answer::{AnswerPlace, new_place, reason_of, settled, taken};
 use crate::context::Context;
 use crate::evaluator::Evaluator;
-use crate::open_loop::{ForClause, OpenLoop};
+use crate::open_loop::{ForClause, OpenLoop, Reached, loop_reached};
 use crate::runtime::Runtime;
 use crate::targets::begin_turn;
 use bq_eval_frame::Frame;
@@ -31,68 +32,124 @@ pub enum ElementExpr<'a> {
     Pair(&'a Pair),
 }
 
+/// What a turn of a comprehension does: it runs the clauses, and adds the element.
+#[derive(Clone, Copy)]
+struct ClauseBody<'c, 'e> {
+    clauses: &'c [Clause],
+    element: ElementExpr<'e>,
+}
+
+/// Adds the value that lies there to a list.
+#[inline(never)]
+fn add_there<R: Runtime>(
+    runtime: &mut R,
+    content: &mut Content,
+    out: &mut AnswerPlace,
+) -> Result<(), EvalErr>
+    ensures { ActsOn R.means (λ _. content.new) out.old (λ v. R.means.add content.old v (R.seen runtime.old)) (R.seen runtime.old) result (R.seen runtime.new) }
+{
+    match taken(out) {
+        None => Err(reason_of(&*out)),
+        Some(value) => runtime.add(content, value),
+    }
+}
+
 impl<
     'a,
     R: Runtime,
     C: Copy,
-    F: Copy + Fn(&Context<'_>, usize, C, &Frame<'_>, &mut R, &Expr) -> Result<Value, EvalErr>,
+    F: Copy
+        + Fn(&Context<'_>, usize, C, &Frame<'_>, &mut R, &Expr, &mut AnswerPlace) -> Option<i64>,
 > Evaluator<'a, R, C, F> {
+    /// Evaluates what is before the clauses of a comprehension, and adds it to a list.
+    #[inline(always)]
+    #[tactic(auto, unfolding(bq_eval_language_spec::specs::Comprehensions::element))]
+    fn add_item(
+        &self,
+        runtime: &mut R,
+        content: &mut Content,
+        item: &Expr,
+        out: &mut AnswerPlace,
+    ) -> Result<(), EvalErr>
+        requires { EvaluatesInside R.means R.seen self.now F.pre F.post }
+        ensures { Collects R.means R.seen (meaning.element R.means (evals_in R.means self.now) item.now) (frame_of self.now) content.old runtime.old result (frame_of self.now) content.new runtime.new }
+    {
+        match self.evaluate(runtime, item, out) {
+            Some(n) => runtime.add(content, Value::int(n)),
+            None => add_there(runtime, content, out),
+        }
+    }
+
+    /// Evaluates a pair that is before the clauses of a comprehension, and sets the value of its key.
+    #[inline(never)]
+    #[tactic(auto, unfolding(bq_eval_language_spec::specs::Comprehensions::pair_element))]
+    fn put_pair(&self, runtime: &mut R, content: &mut Content, pair: &Pair) -> Result<(), EvalErr>
+        requires { EvaluatesInside R.means R.seen self.now F.pre F.post }
+        ensures { Collects R.means R.seen (meaning.pair_element R.means (evals_in R.means self.now) pair.now) (frame_of self.now) content.old runtime.old result (frame_of self.now) content.new runtime.new }
+    {
+        let key = self.value(runtime, &pair.key)?;
+        let value = self.value(runtime, &pair.value)?;
+        runtime.put_pair(content, &key, value)
+    }
+
     /// Evaluates what is before the clauses of a comprehension, and adds it. A pair sets the value of a key that is there.
-    #[tactic(auto, unfolding(bq_eval_language_spec::specs::Comprehensions::element, bq_eval_language_spec::specs::Comprehensions::pair_element))]
+    #[inline(always)]
     fn body(
         &self,
         runtime: &mut R,
         content: &mut Content,
         element: ElementExpr<'_>,
+        out: &mut AnswerPlace,
     ) -> Result<(), EvalErr>
         requires { EvaluatesInside R.means R.seen self.now F.pre F.post }
         ensures { Collects R.means R.seen (element_in R.means self.now element.entry) (frame_of self.now) content.old runtime.old result (frame_of self.now) content.new runtime.new }
     {
         match element {
-            ElementExpr::Item(code) => {
-                let value = self.value(runtime, code)?;
-                runtime.add(content, value)
-            }
-            ElementExpr::Pair(pair) => {
-                let key = self.value(runtime, &pair.key)?;
-                let value = self.value(runtime, &pair.value)?;
-                runtime.put_pair(content, &key, value)
-            }
+            ElementExpr::Item(item) => self.add_item(runtime, content, item, out),
+            ElementExpr::Pair(pair) => self.put_pair(runtime, content, pair),
         }
     }
 
-    /// Runs the clauses up to the first loop, which it returns. If there is none, evaluates what is before the clauses.
+    /// Runs the clauses up to the first loop, which it leaves in `next`; without one, evaluates what is before them.
+    #[inline(never)]
     fn inward<'c>(
         &self,
         runtime: &mut R,
         content: &mut Content,
-        clauses: &'c [Clause],
-        element: ElementExpr<'_>,
-    ) -> Result<Option<ForClause<'c>>, EvalErr>
+        inner: ClauseBody<'c, '_>,
+        next: &mut Option<ForClause<'c>>,
+        out: &mut AnswerPlace,
+    ) -> Reached
         requires { EvaluatesInside R.means R.seen self.now F.pre F.post }
-        ensures leaves { ClausesReach R.means R.seen self.now element.entry clauses.now (frame_of self.now) content.old runtime.old result content.new runtime.new }
-        ensures counts { ClausesCount R.means R.seen self.now element.entry clauses.now (frame_of self.now) content.old runtime.old result content.new runtime.new }
+        ensures leaves { ClausesReach R.means R.seen self.now inner.entry.element inner.entry.clauses.now (frame_of self.now) content.old runtime.old (loop_reached result next.new out.new) content.new runtime.new }
+        ensures counts { ClausesCount R.means R.seen self.now inner.entry.element inner.entry.clauses.now (frame_of self.now) content.old runtime.old (loop_reached result next.new out.new) content.new runtime.new }
     {
-        let mut rest = clauses;
+        let mut rest = inner.clauses;
         while let [clause, after @ ..] = rest {
             match clause {
                 Clause::For(target, iterable) => {
-                    return Ok(Some(ForClause {
+                    *next = Some(ForClause {
                         target,
                         iterable,
                         after,
-                    }));
+                    });
+                    return Reached::Loop;
                 }
-                Clause::If(condition) => {
-                    if !self.holds(runtime, condition)? {
-                        return Ok(None);
-                    }
-                }
+                Clause::If(condition) => match self.holds(runtime, condition, out) {
+                    None => return Reached::Stopped,
+                    Some(false) => return Reached::End,
+                    Some(true) => {}
+                },
             }
             rest = after;
         }
-        self.body(runtime, content, element)?;
-        Ok(None)
+        match self.body(runtime, content, inner.element, out) {
+            Ok(()) => Reached::End,
+            Err(why) => {
+                *out = Err(why);
+                Reached::Stopped
+            }
+        }
     }
 }
 
@@ -107,9 +164,11 @@ impl<
     'a,
     R: Runtime,
     C: Copy,
-    F: Copy + Fn(&Context<'_>, usize, C, &Frame<'_>, &mut R, &Expr) -> Result<Value, EvalErr>,
+    F: Copy
+        + Fn(&Context<'_>, usize, C, &Frame<'_>, &mut R, &Expr, &mut AnswerPlace) -> Option<i64>,
 > Comprehension<'a, R, C, F> {
     /// Runs clauses in a frame, up to the first loop, which it returns.
+    #[inline(always)]
     fn inward<'c>(
         &self,
         frame: &Frame<'_>,
@@ -121,15 +180,22 @@ impl<
         ensures leaves { ClausesReach R.means R.seen self.now.rules.now self.now.element clauses.now (slots_of frame.now) content.old runtime.old result content.new runtime.new }
         ensures counts { ClausesCount R.means R.seen self.now.rules.now self.now.element clauses.now (slots_of frame.now) content.old runtime.old result content.new runtime.new }
     {
-        Evaluator {
+        let rules = Evaluator {
             context: self.rules.context,
             frame,
             depth: self.rules.depth,
             call: self.rules.call,
             eval: self.rules.eval,
             of: PhantomData,
-        }
-        .inward(runtime, content, clauses, self.element)
+        };
+        let inner = ClauseBody {
+            clauses,
+            element: self.element,
+        };
+        let mut next = None;
+        let mut out = new_place();
+        let reached = rules.inward(runtime, content, inner, &mut next, &mut out);
+        loop_reached(reached, next, &out)
     }
 
     /// Begins the walk of a loop, in a frame.
@@ -144,14 +210,17 @@ impl<
         ensures { Acts R.means loop_of result (R.seen runtime.new) (opening R.means (evals_in R.means self.now.rules.now) clause.entry (slots_of frame.now) (R.seen runtime.old)) }
     {
         let rules = self.rules;
-        let walked = (rules.eval)(
+        let mut out = new_place();
+        let given = (rules.eval)(
             rules.context,
             rules.depth,
             rules.call,
             frame,
             runtime,
             clause.iterable,
-        )?;
+            &mut out,
+        );
+        let walked = settled(given, out)?;
         let elements = runtime.begin_walk(rules.context.alloc, &walked)?;
         Ok(OpenLoop {
             target: clause.target,
@@ -162,6 +231,7 @@ impl<
     }
 
     /// Begins a turn of a loop, and runs it up to the first loop inside it.
+    #[inline(always)]
     #[tactic(auto, unfolding(bq_eval_language_spec::specs::Comprehensions::turn, crate::specs::OpenLoops::turn_count))]
     fn turn<'c>(
         &self,
@@ -270,7 +340,8 @@ impl<
     'a,
     R: Runtime,
     C: Copy,
-    F: Copy + Fn(&Context<'_>, usize, C, &Frame<'_>, &mut R, &Expr) -> Result<Value, EvalErr>,
+    F: Copy
+        + Fn(&Context<'_>, usize, C, &Frame<'_>, &mut R, &Expr, &mut AnswerPlace) -> Option<i64>,
 > Evaluator<'a, R, C, F> {
     /// Makes the frame of a comprehension: outside functions it has one of its own.
     #[tactic(auto, using(bq_eval_frame::proofs::Slots::none_filled))]

@@ -6,6 +6,7 @@ ghost use Rattle.bq_eval_rules.specs.Acts.{Acts};
 ghost use Rattle.bq_eval_rules.specs.Effects.{Returns, Produces};
 ghost use Rattle.bq_eval_rules.specs.Evaluators.{EvaluatesInside, evals_in, frame_of};
 
+use crate::answer::AnswerPlace;
 use crate::context::Context;
 use crate::evaluator::Evaluator;
 use crate::runtime::Runtime;
@@ -17,7 +18,8 @@ impl<
     'a,
     R: Runtime,
     C: Copy,
-    F: Copy + Fn(&Context<'_>, usize, C, &Frame<'_>, &mut R, &Expr) -> Result<Value, EvalErr>,
+    F: Copy
+        + Fn(&Context<'_>, usize, C, &Frame<'_>, &mut R, &Expr, &mut AnswerPlace) -> Option<i64>,
 > Evaluator<'a, R, C, F> {
     /// Evaluates expressions, one after another.
     #[tactic(auto, unfolding(bq_eval_language_spec::specs::Expressions::values))]

@@ -3,23 +3,25 @@
 ghost use Rattle.std.specs.Prelude.{◌≡◌, []};
 ghost use Rattle.bq_eval_language_spec.specs.Expressions as expressions;
 ghost use Rattle.bq_eval_language_spec.specs.Module as meaning;
+ghost use Rattle.bq_eval_language_spec.specs.Statements as statements;
 ghost use Rattle.bq_eval_language_spec.specs.Slots.{by_slots};
 ghost use Rattle.bq_eval_frame.specs.Slots.{slots_of};
 ghost use Rattle.bq_eval_rules.specs.Acts.{Acts};
 ghost use Rattle.bq_eval_rules.specs.Nests.{AnswersCalls};
 ghost use Rattle.bq_eval_rules.specs.Round.{evals, own_of};
-ghost use Rattle.bq_eval_rules.specs.Effects.{Executes};
+ghost use Rattle.bq_eval_rules.specs.Effects.{ExecutesLines};
 ghost use Rattle.bq_eval_rules.specs.Readers.{evals_of};
 
+use crate::answer::new_place;
 use crate::calls::call;
 use crate::context::Context;
-use crate::flow::Flow;
+use crate::flow::{Ending, ending_of};
 use crate::reader::Reader;
 use crate::runtime::Runtime;
 use crate::targets::slot_of;
 use bq_builtin_machine::Args;
 use bq_eval_frame::Frame;
-use bq_parse_grammar::Expr;
+use bq_parse_grammar::{Expr, SmallStmt};
 use bq_resolve_scope::{Def, FileLine, Outside};
 use bq_value::{EvalErr, FunctionValue, Value};
 use std::marker::PhantomData;
@@ -49,9 +51,9 @@ impl<
 
     /// Carries out a `def`.
     #[tactic(auto, unfolding(bq_eval_language_spec::specs::Module::def_stmt))]
-    fn def_stmt(&self, frame: &mut Frame<'_>, runtime: &mut R, def: &Def) -> Result<Flow, EvalErr>
+    fn def_stmt(&self, frame: &mut Frame<'_>, runtime: &mut R, def: &Def) -> Result<Ending, EvalErr>
         requires { AnswersCalls R.means R.seen self.now.context.now self.now.call C.pre C.post }
-        ensures { Executes R.means R.seen (meaning.def_stmt R.means by_slots (own_of self.now.context.now.program.now) (evals_of R.means self.now) def.now) frame.old runtime.old result frame.new runtime.new }
+        ensures { ExecutesLines R.means R.seen (meaning.def_stmt R.means by_slots (own_of self.now.context.now.program.now) (evals_of R.means self.now) def.now) frame.old runtime.old result frame.new runtime.new }
     {
         runtime.step(1)?;
         let defaults = self.values(frame, runtime, def.defaults.as_slice())?;
@@ -68,7 +70,23 @@ impl<
         };
         let value = Value::function(self.context.alloc, function)?;
         frame.fill(slot_of(&def.name), value)?;
-        Ok(Flow::Next)
+        Ok(Ending::Next)
+    }
+
+    /// Carries out the statements of one line.
+    #[tactic(auto, using(crate::proofs::Flowing::lines_end))]
+    fn whole_line(
+        &self,
+        frame: &mut Frame<'_>,
+        runtime: &mut R,
+        stmts: &[SmallStmt],
+    ) -> Result<Ending, EvalErr>
+        requires { AnswersCalls R.means R.seen self.now.context.now self.now.call C.pre C.post }
+        ensures { ExecutesLines R.means R.seen (statements.line R.means by_slots (evals_of R.means self.now) stmts.now) frame.old runtime.old result frame.new runtime.new }
+    {
+        let mut out = new_place();
+        let flow = self.line(frame, runtime, stmts, &mut out);
+        ending_of(flow, out)
     }
 
     /// Carries out a top-level statement, whose line a fault names.
@@ -78,13 +96,13 @@ impl<
         frame: &mut Frame<'_>,
         runtime: &mut R,
         stmt: &FileLine,
-    ) -> Result<Flow, EvalErr>
+    ) -> Result<Ending, EvalErr>
         requires { AnswersCalls R.means R.seen self.now.context.now self.now.call C.pre C.post }
-        ensures { Executes R.means R.seen (meaning.top_level R.means by_slots (own_of self.now.context.now.program.now) (evals_of R.means self.now) stmt.now) frame.old runtime.old result frame.new runtime.new }
+        ensures { ExecutesLines R.means R.seen (meaning.top_level R.means by_slots (own_of self.now.context.now.program.now) (evals_of R.means self.now) stmt.now) frame.old runtime.old result frame.new runtime.new }
     {
         runtime.at_line(stmt.line);
         match &stmt.statement {
-            Outside::Simple(stmts) => self.line(frame, runtime, stmts.as_slice()),
+            Outside::Simple(stmts) => self.whole_line(frame, runtime, stmts.as_slice()),
             Outside::Def(def) => self.def_stmt(frame, runtime, def.get()),
         }
     }
@@ -96,19 +114,19 @@ impl<
         frame: &mut Frame<'_>,
         runtime: &mut R,
         stmts: &[FileLine],
-    ) -> Result<Flow, EvalErr>
+    ) -> Result<Ending, EvalErr>
         requires { AnswersCalls R.means R.seen self.now.context.now self.now.call C.pre C.post }
-        ensures { Executes R.means R.seen (meaning.top_levels R.means by_slots (own_of self.now.context.now.program.now) (evals_of R.means self.now) stmts.now) frame.old runtime.old result frame.new runtime.new }
+        ensures { ExecutesLines R.means R.seen (meaning.top_levels R.means by_slots (own_of self.now.context.now.program.now) (evals_of R.means self.now) stmts.now) frame.old runtime.old result frame.new runtime.new }
     {
         for stmt in stmts {
             match self.top_level(frame, runtime, stmt)? {
-                Flow::Next => {}
-                Flow::Leave => return Ok(Flow::Leave),
-                Flow::Again => return Ok(Flow::Again),
-                Flow::Answer(value) => return Ok(Flow::Answer(value)),
+                Ending::Next => {}
+                Ending::Leave => return Ok(Ending::Leave),
+                Ending::Again => return Ok(Ending::Again),
+                Ending::Answer(value) => return Ok(Ending::Answer(value)),
             }
         }
-        Ok(Flow::Next)
+        Ok(Ending::Next)
     }
 }
 
@@ -118,8 +136,8 @@ pub fn run_file<R: Runtime>(
     frame: &mut Frame<'_>,
     runtime: &mut R,
     stmts: &[FileLine],
-) -> Result<Flow, EvalErr>
-    ensures { Executes R.means R.seen (meaning.top_levels R.means by_slots (own_of context.now.program.now) (evals R.means context.now) stmts.now) frame.old runtime.old result frame.new runtime.new }
+) -> Result<Ending, EvalErr>
+    ensures { ExecutesLines R.means R.seen (meaning.top_levels R.means by_slots (own_of context.now.program.now) (evals R.means context.now) stmts.now) frame.old runtime.old result frame.new runtime.new }
 {
     let reader = Reader {
         context,

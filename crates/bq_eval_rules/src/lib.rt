@@ -11,20 +11,29 @@
 //! of statements, has a context alone. An operand that is only read is lent by the frame (`operand`). Operators, lists,
 //! walks and built-in functions are a `Runtime`, of which a rule knows no more than its meaning.
 //!
+//! Answers are split (`answer`): an expression returns an integer itself, and leaves any other value in a place that its
+//! caller lends, or why there is none. A statement says only what comes after it; what the function returns lies in the
+//! same place. `specs/Answers.antt` and `specs/Flows.antt` join the halves, so that contracts speak of whole answers.
+//! Rules that integers seldom come to return whole values, and are joined to the others by `settled` and `placed`.
+//!
 //! In reading order:
 //!
 //! - `runtime`: what the rules ask for; `stuck`: what a tree means that no file resolves to;
+//! - `answer`: answers in two halves;
 //! - `context`, `names`, `operand`: the values of names, which stand in frames (bq_eval_frame), and the environment of an
 //!   expression;
-//! - `evaluator`, `displays`, `operators`, `suffixes`, `comprehensions`, `expressions`: the rules of expressions;
+//! - `evaluator`, `conditions`, `displays`, `operators`, `suffixes`, `comprehensions`, `expressions`: the rules of
+//!   expressions;
 //! - `places`, `targets`, `reader`: the targets of assignments;
 //! - `flow`, `small`, `statements`: the rules of statements;
 //! - `parameters`, `filling`, `direct`, `units`, `calls`: calls;
 //! - `file`: the top-level statements of a file.
 #![tactic(auto)]
 
+mod answer;
 mod calls;
 mod comprehensions;
+mod conditions;
 mod context;
 mod direct;
 mod displays;
@@ -48,11 +57,12 @@ mod suffixes;
 mod targets;
 mod units;
 
+pub use answer::AnswerPlace;
 pub use calls::call;
 pub use context::{Context, Globals, Program};
 pub use evaluator::Evaluator;
 pub use file::run_file;
-pub use flow::Flow;
+pub use flow::{Ending, Flow};
 pub use operand::Operand;
 pub use runtime::Runtime;
 pub use statements::run_block;

@@ -1,10 +1,14 @@
 //! The loops of comprehensions, before they begin and while they are open.
 
+ghost use Rattle.std.specs.Prelude.{◌≡◌};
+ghost use Rattle.bq_eval_rules.specs.OpenLoops.{loop_reached};
+
+use crate::answer::{AnswerPlace, reason_of};
 use bq_builtin_machine::ElementWalk;
 use bq_parse_grammar::{Clause, Expr, TargetExpr};
-use bq_value::Value;
+use bq_value::{EvalErr, Value};
 
-/// A `for` clause that is reached, whose walk has yet to begin. Much smaller than an open loop, so that a turn returns little.
+/// A `for` clause that is reached, whose walk has yet to begin. Much smaller than an open loop.
 #[derive(Clone, Copy)]
 pub struct ForClause<'a> {
     pub target: &'a TargetExpr,
@@ -22,4 +26,31 @@ pub struct OpenLoop<'a> {
     pub walked: Value,
     /// The elements that are still to come.
     pub elements: ElementWalk,
+}
+
+/// How far the clauses of a turn ran.
+#[derive(Clone, Copy)]
+pub enum Reached {
+    /// To the end: the element was added, or a condition doesn't hold.
+    End,
+    /// To a loop. Its clause lies in a place that the caller lends.
+    Loop,
+    /// To where there is no value. Why lies in the place for answers.
+    Stopped,
+}
+
+/// Returns the loop that the clauses reached, if there is one.
+#[inline(always)]
+pub fn loop_reached<'c>(
+    reached: Reached,
+    next: Option<ForClause<'c>>,
+    out: &AnswerPlace,
+) -> Result<Option<ForClause<'c>>, EvalErr>
+    ensures { result ≡ loop_reached reached next.entry out.now }
+{
+    match reached {
+        Reached::End => Ok(None),
+        Reached::Loop => Ok(next),
+        Reached::Stopped => Err(reason_of(out)),
+    }
 }

@@ -1,19 +1,21 @@
 //! Values that are only read.
 
 ghost use Rattle.std.specs.Prelude.{◌≡◌, IfOk};
-ghost use Rattle.bq_value.specs.Datum.{int};
+ghost use Rattle.bq_value.specs.Datum.{int, string};
 ghost use Rattle.bq_eval_language_spec.specs.Expressions as meaning;
 ghost use Rattle.bq_eval_language_spec.specs.Slots.{by_slots};
 ghost use Rattle.bq_eval_frame.specs.Slots.{slots_of};
 ghost use Rattle.bq_eval_rules.specs.Acts.{Acts};
+ghost use Rattle.bq_eval_rules.specs.Answers.{answer_of};
 ghost use Rattle.bq_eval_rules.specs.Effects.{Returns};
 ghost use Rattle.bq_eval_rules.specs.Round.{round_of};
 ghost use Rattle.bq_eval_rules.specs.Operands.{read_of};
 
+use crate::answer::{AnswerPlace, failed};
 use crate::context::Context;
 use crate::runtime::Runtime;
 use crate::stuck::stuck;
-use bq_base::EvalFault;
+use bq_base::{Bytes, EvalFault};
 use bq_eval_frame::Frame;
 use bq_parse_grammar::{Identifier, Referent};
 use bq_value::{EvalErr, Value};
@@ -82,6 +84,36 @@ pub fn literal<R: Runtime>(runtime: &mut R, value: Value) -> Result<Value, EvalE
 {
     runtime.step(1)?;
     Ok(value)
+}
+
+/// Evaluates a string literal. No byte of it is copied.
+#[inline(never)]
+pub fn string_leaf<R: Runtime>(runtime: &mut R, text: &Bytes) -> Result<Value, EvalErr>
+    ensures { Returns R.means R.seen (meaning.literal R.means (string text.now)) runtime.old result runtime.new }
+{
+    literal(runtime, Value::string(text.share()?))
+}
+
+/// Evaluates a name whose value is lent.
+#[tactic(auto, unfolding(bq_eval_language_spec::specs::Expressions::literal))]
+#[inline(never)]
+pub fn shared_leaf<R: Runtime>(runtime: &mut R, value: &Value) -> Result<Value, EvalErr>
+    ensures { Returns R.means R.seen (meaning.literal R.means value.now) runtime.old result runtime.new }
+{
+    runtime.step(1)?;
+    Ok(value.share()?)
+}
+
+/// Evaluates an integer literal, or a name whose value is an integer.
+#[tactic(auto, unfolding(bq_eval_language_spec::specs::Expressions::literal))]
+#[inline(always)]
+pub fn int_answer<R: Runtime>(runtime: &mut R, n: i64, out: &mut AnswerPlace) -> Option<i64>
+    ensures { Returns R.means R.seen (meaning.literal R.means (int n)) runtime.old (answer_of result out.new) runtime.new }
+{
+    match runtime.step(1) {
+        Err(why) => failed(out, why),
+        Ok(()) => Some(n),
+    }
 }
 
 /// Evaluates an integer literal, as an operand.

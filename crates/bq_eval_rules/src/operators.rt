@@ -4,9 +4,12 @@ ghost use Rattle.std.specs.Prelude.{◌≡◌, reverse};
 ghost use Rattle.bq_value.specs.Datum.{int};
 ghost use Rattle.bq_builtin_machine.specs.Action.{◌>>=◌ as and_then};
 ghost use Rattle.bq_eval_language_spec.specs.Expressions as meaning;
-ghost use Rattle.bq_eval_rules.specs.Effects.{Returns};
+ghost use Rattle.bq_eval_rules.specs.Answers.{answer_of, or_reason};
+ghost use Rattle.bq_eval_rules.specs.Conditions.{chooses};
+ghost use Rattle.bq_eval_rules.specs.Effects.{Returns, ReturnsOn};
 ghost use Rattle.bq_eval_rules.specs.Evaluators.{EvaluatesInside, evals_in, frame_of, value_inside};
 
+use crate::answer::{AnswerPlace, failed, failed_there, placed, taken, unboxed, undecided};
 use crate::context::Context;
 use crate::evaluator::Evaluator;
 use crate::names::local_use;
@@ -48,11 +51,49 @@ fn apply_int<R: Runtime>(
     runtime.binary(operator, left, &right)
 }
 
+/// Applies `x op y` to two integers.
+#[inline(always)]
+fn apply_ints<R: Runtime>(
+    runtime: &mut R,
+    operator: Operator,
+    x: i64,
+    y: i64,
+    out: &mut AnswerPlace,
+) -> Option<i64>
+    ensures { Returns R.means R.seen (R.means.binary operator (int x) (int y)) runtime.old (answer_of result out.new) runtime.new }
+{
+    let left = Value::int(x);
+    let right = Value::int(y);
+    let outcome = runtime.binary(operator, &left, &right);
+    unboxed(out, outcome)
+}
+
+/// Applies `x op value` to an integer and the value that lies there.
+#[inline(never)]
+fn apply_there<R: Runtime>(
+    runtime: &mut R,
+    operator: Operator,
+    x: i64,
+    out: &mut AnswerPlace,
+) -> Option<i64>
+    ensures { ReturnsOn R.means R.seen out.old (R.means.binary operator (int x)) runtime.old (answer_of result out.new) runtime.new }
+{
+    match taken(out) {
+        None => failed_there(out),
+        Some(right) => {
+            let left = Value::int(x);
+            let outcome = runtime.binary(operator, &left, &right);
+            placed(out, outcome)
+        }
+    }
+}
+
 impl<
     'a,
     R: Runtime,
     C: Copy,
-    F: Copy + Fn(&Context<'_>, usize, C, &Frame<'_>, &mut R, &Expr) -> Result<Value, EvalErr>,
+    F: Copy
+        + Fn(&Context<'_>, usize, C, &Frame<'_>, &mut R, &Expr, &mut AnswerPlace) -> Option<i64>,
 > Evaluator<'a, R, C, F> {
     /// Evaluates operators before an operand.
     #[inline(never)]
@@ -183,42 +224,190 @@ impl<
         }
     }
 
-    /// Evaluates the first operand, which is only read, and the operations on it.
+    // ---- chains whose first operand is an integer, and its operations, as long as they give integers
+
+    /// Applies `x op operand`, for all operators but `and` and `or`.
+    #[inline(always)]
+    fn int_apply(
+        &self,
+        runtime: &mut R,
+        operator: Operator,
+        x: i64,
+        operand: &Expr,
+        out: &mut AnswerPlace,
+    ) -> Option<i64>
+        requires { EvaluatesInside R.means R.seen self.now F.pre F.post }
+        ensures { Returns R.means R.seen (and_then (value_inside R.means self.now operand.now) (R.means.binary operator (int x))) runtime.old (answer_of result out.new) runtime.new }
+    {
+        match self.evaluate(runtime, operand, out) {
+            Some(y) => apply_ints(runtime, operator, x, y, out),
+            None => apply_there(runtime, operator, x, out),
+        }
+    }
+
+    /// Applies `and` or `or`, or any other operation.
+    #[inline(never)]
+    fn int_decides(
+        &self,
+        runtime: &mut R,
+        operation: &Operation,
+        x: i64,
+        out: &mut AnswerPlace,
+    ) -> Option<i64>
+        requires { EvaluatesInside R.means R.seen self.now F.pre F.post }
+        ensures { Returns R.means R.seen (meaning.operation R.means (evals_in R.means self.now) operation.now (frame_of self.now) (int x)) runtime.old (answer_of result out.new) runtime.new }
+    {
+        let left = Value::int(x);
+        let outcome = self.operation(runtime, operation, &left);
+        placed(out, outcome)
+    }
+
+    /// Applies one operation to an integer.
+    #[inline(always)]
+    #[tactic(auto, unfolding(bq_eval_language_spec::specs::Expressions::operation))]
+    fn int_operation(
+        &self,
+        runtime: &mut R,
+        operation: &Operation,
+        x: i64,
+        out: &mut AnswerPlace,
+    ) -> Option<i64>
+        requires { EvaluatesInside R.means R.seen self.now F.pre F.post }
+        ensures { Returns R.means R.seen (meaning.operation R.means (evals_in R.means self.now) operation.now (frame_of self.now) (int x)) runtime.old (answer_of result out.new) runtime.new }
+    {
+        match operation.operator {
+            Operator::And => self.int_decides(runtime, operation, x, out),
+            Operator::Or => self.int_decides(runtime, operation, x, out),
+            operator => self.int_apply(runtime, operator, x, &operation.operand, out),
+        }
+    }
+
+    /// Applies operations to the value that lies there.
+    #[inline(never)]
+    fn operations_there(
+        &self,
+        runtime: &mut R,
+        operations: &[Operation],
+        out: &mut AnswerPlace,
+    ) -> Option<i64>
+        requires { EvaluatesInside R.means R.seen self.now F.pre F.post }
+        ensures { ReturnsOn R.means R.seen out.old (meaning.operations R.means (evals_in R.means self.now) operations.now (frame_of self.now)) runtime.old (answer_of result out.new) runtime.new }
+    {
+        match taken(out) {
+            None => failed_there(out),
+            Some(first) => {
+                let outcome = self.operations(runtime, operations, first);
+                unboxed(out, outcome)
+            }
+        }
+    }
+
+    /// Applies any number of operations to an integer: the rest of them to what lies there, once that is none.
+    #[inline(never)]
+    #[tactic(auto, unfolding(bq_eval_language_spec::specs::Expressions::operations))]
+    fn int_operations(
+        &self,
+        runtime: &mut R,
+        operations: &[Operation],
+        first: i64,
+        out: &mut AnswerPlace,
+    ) -> Option<i64>
+        requires { EvaluatesInside R.means R.seen self.now F.pre F.post }
+        ensures { Returns R.means R.seen (meaning.operations R.means (evals_in R.means self.now) operations.now (frame_of self.now) (int first)) runtime.old (answer_of result out.new) runtime.new }
+    {
+        let mut value = first;
+        let mut left = operations;
+        while let [operation, rest @ ..] = left {
+            match self.int_operation(runtime, operation, value, out) {
+                None => return self.operations_there(runtime, rest, out),
+                Some(n) => value = n,
+            }
+            left = rest;
+        }
+        Some(value)
+    }
+
+    /// Applies the operations of a chain to an integer. Most often it is one.
+    #[inline(always)]
+    #[tactic(auto, unfolding(bq_eval_language_spec::specs::Expressions::operations))]
+    fn int_chain(
+        &self,
+        runtime: &mut R,
+        operations: &[Operation],
+        first: i64,
+        out: &mut AnswerPlace,
+    ) -> Option<i64>
+        requires { EvaluatesInside R.means R.seen self.now F.pre F.post }
+        ensures { Returns R.means R.seen (meaning.operations R.means (evals_in R.means self.now) operations.now (frame_of self.now) (int first)) runtime.old (answer_of result out.new) runtime.new }
+    {
+        match operations {
+            [operation] => self.int_operation(runtime, operation, first, out),
+            _ => self.int_operations(runtime, operations, first, out),
+        }
+    }
+
+    // ---- chains
+
+    /// Applies the operations of a chain to a value that is lent. Its use takes a step.
+    #[inline(never)]
+    #[tactic(auto, unfolding(bq_eval_language_spec::specs::Expressions::literal))]
+    fn lent_chain(
+        &self,
+        runtime: &mut R,
+        operations: &[Operation],
+        first: &Value,
+        out: &mut AnswerPlace,
+    ) -> Option<i64>
+        requires { EvaluatesInside R.means R.seen self.now F.pre F.post }
+        ensures { Returns R.means R.seen (and_then (meaning.literal R.means first.now) (meaning.operations R.means (evals_in R.means self.now) operations.now (frame_of self.now))) runtime.old (answer_of result out.new) runtime.new }
+    {
+        match runtime.step(1) {
+            Err(why) => failed(out, why),
+            Ok(()) => {
+                let outcome = self.chain(runtime, operations, first);
+                unboxed(out, outcome)
+            }
+        }
+    }
+
+    /// Evaluates the first operand and the operations on it.
     #[inline(always)]
     fn chain_of(
         &self,
         runtime: &mut R,
         code: &Expr,
         operations: &[Operation],
-    ) -> Result<Value, EvalErr>
+        out: &mut AnswerPlace,
+    ) -> Option<i64>
         requires { EvaluatesInside R.means R.seen self.now F.pre F.post }
-        ensures { Returns R.means R.seen (and_then (value_inside R.means self.now code.now) (meaning.operations R.means (evals_in R.means self.now) operations.now (frame_of self.now))) runtime.old result runtime.new }
+        ensures { Returns R.means R.seen (and_then (value_inside R.means self.now code.now) (meaning.operations R.means (evals_in R.means self.now) operations.now (frame_of self.now))) runtime.old (answer_of result out.new) runtime.new }
     {
-        if self.depth > 0 {
-            if let Expr::Name(name) = code {
-                if let Referent::Local(slot) = name.referent {
-                    let first = local_use(self.frame, runtime, slot)?;
-                    return self.chain(runtime, operations, first);
-                }
-            }
+        if let Some(first) = self.lent_leaf(&*runtime, code) {
+            return self.lent_chain(runtime, operations, first, out);
         }
-        let first = self.value(runtime, code)?;
-        self.chain(runtime, operations, &first)
+        match self.evaluate(runtime, code, out) {
+            Some(x) => self.int_chain(runtime, operations, x, out),
+            None => self.operations_there(runtime, operations, out),
+        }
     }
 
     /// Evaluates a chain of operators.
+    #[inline(always)]
     #[tactic(auto, unfolding(bq_eval_language_spec::specs::Expressions::binary))]
     pub fn binary(
         &self,
         runtime: &mut R,
         code: &Expr,
         operations: &[Operation],
-    ) -> Result<Value, EvalErr>
+        out: &mut AnswerPlace,
+    ) -> Option<i64>
         requires { EvaluatesInside R.means R.seen self.now F.pre F.post }
-        ensures { Returns R.means R.seen (meaning.binary R.means (evals_in R.means self.now) code.now operations.now (frame_of self.now)) runtime.old result runtime.new }
+        ensures { Returns R.means R.seen (meaning.binary R.means (evals_in R.means self.now) code.now operations.now (frame_of self.now)) runtime.old (answer_of result out.new) runtime.new }
     {
-        runtime.step(operations.len() as u64)?;
-        self.chain_of(runtime, code, operations)
+        match runtime.step(operations.len() as u64) {
+            Err(why) => failed(out, why),
+            Ok(()) => self.chain_of(runtime, code, operations, out),
+        }
     }
 
     #[tactic(auto, unfolding(bq_eval_language_spec::specs::Expressions::compare))]
@@ -238,21 +427,19 @@ impl<
         runtime.compare(operator, left.get(), right.get())
     }
 
-    /// Returns the value of a choice, if its condition holds.
-    #[tactic(auto, unfolding(bq_eval_language_spec::specs::Expressions::choice))]
-    fn choice(&self, runtime: &mut R, choice: &Choice) -> Result<Option<Value>, EvalErr>
+    /// Takes the step of a choice, and evaluates its condition.
+    #[inline(always)]
+    fn chooses(&self, runtime: &mut R, choice: &Choice, out: &mut AnswerPlace) -> Option<bool>
         requires { EvaluatesInside R.means R.seen self.now F.pre F.post }
-        ensures { Returns R.means R.seen (meaning.choice R.means (evals_in R.means self.now) choice.now (frame_of self.now)) runtime.old result runtime.new }
+        ensures { Returns R.means R.seen (chooses R.means (evals_in R.means self.now) choice.now (frame_of self.now)) runtime.old (or_reason result out.new) runtime.new }
     {
-        runtime.step(1)?;
-        if self.holds(runtime, &choice.condition)? {
-            let value = self.value(runtime, &choice.value)?;
-            return Ok(Some(value));
+        match runtime.step(1) {
+            Err(why) => undecided(out, why),
+            Ok(()) => self.holds(runtime, &choice.condition, out),
         }
-        Ok(None)
     }
 
-    /// Evaluates `x if y else ..`.
+    /// Evaluates `x if y else ..`: the value of the first choice whose condition holds.
     #[inline(never)]
     #[tactic(auto, unfolding(bq_eval_language_spec::specs::Expressions::conditional))]
     pub fn conditional(
@@ -260,15 +447,18 @@ impl<
         runtime: &mut R,
         choices: &[Choice],
         otherwise: &Expr,
-    ) -> Result<Value, EvalErr>
+        out: &mut AnswerPlace,
+    ) -> Option<i64>
         requires { EvaluatesInside R.means R.seen self.now F.pre F.post }
-        ensures { Returns R.means R.seen (meaning.conditional R.means (evals_in R.means self.now) choices.now otherwise.now (frame_of self.now)) runtime.old result runtime.new }
+        ensures { Returns R.means R.seen (meaning.conditional R.means (evals_in R.means self.now) choices.now otherwise.now (frame_of self.now)) runtime.old (answer_of result out.new) runtime.new }
     {
         for choice in choices {
-            if let Some(value) = self.choice(runtime, choice)? {
-                return Ok(value);
+            match self.chooses(runtime, choice, out) {
+                None => return failed_there(out),
+                Some(true) => return self.evaluate(runtime, &choice.value, out),
+                Some(false) => {}
             }
         }
-        self.value(runtime, otherwise)
+        self.evaluate(runtime, otherwise, out)
     }
 }

@@ -1,18 +1,31 @@
 //! The expressions of statements, and assignments.
 
 ghost use Rattle.std.specs.Prelude.{◌≡◌};
-ghost use Rattle.bq_builtin_machine.specs.Action.{done, ◌>>=◌ as and_then};
+ghost use Rattle.bq_value.specs.Datum.{int};
+ghost use Rattle.bq_builtin_machine.specs.Action.{pure, ◌>>=◌ as and_then};
 ghost use Rattle.bq_eval_language_spec.specs.Targets as meaning;
 ghost use Rattle.bq_eval_language_spec.specs.Slots.{by_slots};
+ghost use Rattle.bq_eval_meaning_spec.specs.Frame.{fill};
 ghost use Rattle.bq_eval_frame.specs.Slots.{slots_of};
+ghost use Rattle.bq_eval_rules.specs.Answers.{answer_of, or_reason};
+ghost use Rattle.bq_eval_rules.specs.Conditions.{decision};
+ghost use Rattle.bq_eval_rules.specs.Flows.{flow_of};
+ghost use Rattle.bq_eval_rules.specs.Acts.{Acts};
 ghost use Rattle.bq_eval_rules.specs.Nests.{AnswersCalls};
-ghost use Rattle.bq_eval_rules.specs.Round.{outside_functions};
-ghost use Rattle.bq_eval_rules.specs.Effects.{Returns, Produces, Rebinds};
-ghost use Rattle.bq_eval_rules.specs.Readers.{evals_of, places_in_each, places_in_target, augmented, augment_at};
+ghost use Rattle.bq_eval_rules.specs.Operands.{read_of};
+ghost use Rattle.bq_eval_rules.specs.Round.{in_function, outside_functions};
+ghost use Rattle.bq_eval_rules.specs.Effects.{Returns, ReturnsOn, Produces, Rebinds, Changes, ChangesOn};
+ghost use Rattle.bq_eval_rules.specs.Readers.{evals_of, places_in_each, places_in_target, augmented, augment_at, assign_at};
 
+use crate::answer::{
+    AnswerPlace, failed_there, new_place, placed, settled, taken, unboxed, undecided,
+};
 use crate::context::{Context, Globals};
+use crate::evaluator::Evaluator;
 use crate::expressions::expr_to;
-use crate::names::bound;
+use crate::flow::{Flow, ended, ended_there};
+use crate::names::{bound, int_in};
+use crate::operand::Operand;
 use crate::places::IndexedOperands;
 use crate::runtime::Runtime;
 use crate::stuck::stuck;
@@ -25,9 +38,98 @@ use std::marker::PhantomData;
 
 /// `op= x`, which an augmented assignment does to a value.
 #[derive(Clone, Copy)]
-struct Augmentation<'c> {
+pub struct Augmentation<'c> {
+    pub operator: Operator,
+    pub code: &'c Expr,
+}
+
+/// Returns the new value of `x op= y` for two integers.
+#[inline(always)]
+fn augment_ints<R: Runtime>(
+    runtime: &mut R,
     operator: Operator,
-    code: &'c Expr,
+    x: i64,
+    y: i64,
+    out: &mut AnswerPlace,
+) -> Option<i64>
+    ensures { Returns R.means R.seen (R.means.augment operator (int x) (int y)) runtime.old (answer_of result out.new) runtime.new }
+{
+    let old = Value::int(x);
+    let value = Value::int(y);
+    let outcome = runtime.augment(operator, &old, &value);
+    unboxed(out, outcome)
+}
+
+/// Returns the new value of `x op= value` for an integer and the value that lies there.
+#[inline(never)]
+fn augment_there<R: Runtime>(
+    runtime: &mut R,
+    operator: Operator,
+    x: i64,
+    out: &mut AnswerPlace,
+) -> Option<i64>
+    ensures { ReturnsOn R.means R.seen out.old (R.means.augment operator (int x)) runtime.old (answer_of result out.new) runtime.new }
+{
+    match taken(out) {
+        None => failed_there(out),
+        Some(value) => {
+            let old = Value::int(x);
+            let outcome = runtime.augment(operator, &old, &value);
+            placed(out, outcome)
+        }
+    }
+}
+
+/// Puts a value into a slot, and goes on.
+#[inline(always)]
+fn fill_slot<R: Runtime>(
+    runtime: &R,
+    frame: &mut Frame<'_>,
+    slot: usize,
+    value: Value,
+    out: &mut AnswerPlace,
+) -> Flow
+    ensures { Changes R.means R.seen (λ env. pure (fill env slot value)) frame.old runtime.now (flow_of result out.new) frame.new runtime.now }
+{
+    // for the proof: reads the state that the contract speaks of.
+    let _ = runtime;
+    match frame.fill(slot, value) {
+        Err(_) => ended(out, EvalErr::Memory),
+        Ok(()) => Flow::Next,
+    }
+}
+
+/// Puts the value that lies there into a slot, and goes on.
+#[inline(never)]
+fn fill_slot_there<R: Runtime>(
+    runtime: &R,
+    frame: &mut Frame<'_>,
+    slot: usize,
+    out: &mut AnswerPlace,
+) -> Flow
+    ensures { ChangesOn R.means R.seen out.old (λ v env. pure (fill env slot v)) frame.old runtime.now (flow_of result out.new) frame.new runtime.now }
+{
+    match taken(out) {
+        None => ended_there(out),
+        Some(value) => fill_slot(runtime, frame, slot, value, out),
+    }
+}
+
+/// Puts an answer into a slot, and goes on.
+#[inline(always)]
+fn fill_answer<R: Runtime>(
+    runtime: &R,
+    frame: &mut Frame<'_>,
+    slot: usize,
+    given: Option<i64>,
+    out: &mut AnswerPlace,
+) -> Flow
+    ensures { ChangesOn R.means R.seen (answer_of given out.old) (λ v env. pure (fill env slot v)) frame.old runtime.now (flow_of result out.new) frame.new runtime.now }
+{
+    match given {
+        Some(n) => fill_slot(runtime, frame, slot, Value::int(n), out),
+        None => fill_slot_there(runtime, frame, slot, out),
+    }
 }
 
 /// Evaluates the expressions of statements.
@@ -43,24 +145,43 @@ impl<
     R: Runtime,
     C: Copy + Fn(&Context<'_>, &mut R, &Value, Args) -> Result<Value, EvalErr>,
 > Reader<'a, R, C> {
-    /// Evaluates an expression. At top level, the frame has the globals.
-    #[tactic(auto, unfolding(crate::specs::Round::evals, crate::specs::Round::in_function, bq_resolve_scope::specs::Names::max_layers))]
-    pub fn value(&self, frame: &Frame<'_>, runtime: &mut R, code: &Expr) -> Result<Value, EvalErr>
+    /// Evaluates an expression in a function.
+    #[inline(always)]
+    #[tactic(auto, unfolding(crate::specs::Round::in_function, bq_resolve_scope::specs::Names::max_layers))]
+    fn in_function(
+        &self,
+        frame: &Frame<'_>,
+        runtime: &mut R,
+        code: &Expr,
+        out: &mut AnswerPlace,
+    ) -> Option<i64>
         requires { AnswersCalls R.means R.seen self.now.context.now self.now.call C.pre C.post }
-        ensures { Returns R.means R.seen (evals_of R.means self.now code.now (slots_of frame.now)) runtime.old result runtime.new }
+        ensures { Returns R.means R.seen (in_function R.means self.now.context.now code.now (slots_of frame.now)) runtime.old (answer_of result out.new) runtime.new }
     {
-        if self.context.outside {
-            return self.outside(frame, runtime, code);
+        // PROOF: lends both again.
+        Evaluator {
+            context: &*self.context,
+            frame: &*frame,
+            depth: MAX_LAYERS,
+            call: self.call,
+            eval: expr_to::<R, C>,
+            of: PhantomData,
         }
-        expr_to(self.context, MAX_LAYERS, self.call, frame, runtime, code)
+        .evaluate(runtime, code, out)
     }
 
     /// Evaluates an expression outside functions.
     #[inline(never)]
     #[tactic(auto, using(bq_eval_frame::proofs::Slots::none_filled), unfolding(crate::specs::Round::outside_functions, crate::specs::Round::inside, crate::specs::Round::round_of, crate::specs::Round::globals_of, bq_resolve_scope::specs::Names::max_layers))]
-    fn outside(&self, frame: &Frame<'_>, runtime: &mut R, code: &Expr) -> Result<Value, EvalErr>
+    fn outside(
+        &self,
+        frame: &Frame<'_>,
+        runtime: &mut R,
+        code: &Expr,
+        out: &mut AnswerPlace,
+    ) -> Option<i64>
         requires { AnswersCalls R.means R.seen self.now.context.now self.now.call C.pre C.post }
-        ensures { Returns R.means R.seen (outside_functions R.means self.now.context.now code.now (slots_of frame.now)) runtime.old result runtime.new }
+        ensures { Returns R.means R.seen (outside_functions R.means self.now.context.now code.now (slots_of frame.now)) runtime.old (answer_of result out.new) runtime.new }
     {
         let inner = Context {
             alloc: self.context.alloc,
@@ -72,22 +193,109 @@ impl<
             loaded: self.context.program.loaded,
         };
         let empty = Frame::new(self.context.alloc);
-        expr_to(&inner, MAX_LAYERS, self.call, &empty, runtime, code)
+        expr_to(&inner, MAX_LAYERS, self.call, &empty, runtime, code, out)
+    }
+
+    /// Evaluates an expression. At top level, the frame has the globals.
+    #[inline(always)]
+    #[tactic(auto, unfolding(crate::specs::Round::evals))]
+    pub fn evaluate(
+        &self,
+        frame: &Frame<'_>,
+        runtime: &mut R,
+        code: &Expr,
+        out: &mut AnswerPlace,
+    ) -> Option<i64>
+        requires { AnswersCalls R.means R.seen self.now.context.now self.now.call C.pre C.post }
+        ensures { Returns R.means R.seen (evals_of R.means self.now code.now (slots_of frame.now)) runtime.old (answer_of result out.new) runtime.new }
+    {
+        if self.context.outside {
+            return self.outside(frame, runtime, code, out);
+        }
+        self.in_function(frame, runtime, code, out)
+    }
+
+    /// Evaluates an expression, and returns its value whole.
+    pub fn value(&self, frame: &Frame<'_>, runtime: &mut R, code: &Expr) -> Result<Value, EvalErr>
+        requires { AnswersCalls R.means R.seen self.now.context.now self.now.call C.pre C.post }
+        ensures { Returns R.means R.seen (evals_of R.means self.now code.now (slots_of frame.now)) runtime.old result runtime.new }
+    {
+        let mut out = new_place();
+        let given = self.evaluate(frame, runtime, code, &mut out);
+        settled(given, out)
+    }
+
+    /// Evaluates an expression whose value is only read. In a function, its frame lends the value of a name.
+    #[inline(always)]
+    #[tactic(auto, unfolding(crate::specs::Round::evals, crate::specs::Round::in_function, bq_resolve_scope::specs::Names::max_layers))]
+    fn operand<'f>(
+        &'f self,
+        frame: &'f Frame<'_>,
+        runtime: &mut R,
+        code: &Expr,
+    ) -> Result<Operand<'f>, EvalErr>
+        requires { AnswersCalls R.means R.seen self.now.context.now self.now.call C.pre C.post }
+        ensures { Acts R.means read_of result (R.seen runtime.new) (evals_of R.means self.now code.now (slots_of frame.now) (R.seen runtime.old)) }
+    {
+        if self.context.outside {
+            return Ok(Operand::Own(self.value(frame, runtime, code)?));
+        }
+        // PROOF: lends both again.
+        Evaluator {
+            context: &*self.context,
+            frame: &*frame,
+            depth: MAX_LAYERS,
+            call: self.call,
+            eval: expr_to::<R, C>,
+            of: PhantomData,
+        }
+        .operand(runtime, code)
+    }
+
+    /// Evaluates a condition outside functions.
+    #[inline(never)]
+    fn holds_outside(
+        &self,
+        frame: &Frame<'_>,
+        runtime: &mut R,
+        condition: &Expr,
+        out: &mut AnswerPlace,
+    ) -> Option<bool>
+        requires { AnswersCalls R.means R.seen self.now.context.now self.now.call C.pre C.post }
+        ensures { Returns R.means R.seen (decision R.means (evals_of R.means self.now condition.now (slots_of frame.now))) runtime.old (or_reason result out.new) runtime.new }
+    {
+        match self.value(frame, runtime, condition) {
+            Err(why) => undecided(out, why),
+            Ok(condition) => Some(runtime.truth(&condition)),
+        }
     }
 
     /// Evaluates a condition.
     #[inline(always)]
+    #[tactic(auto, unfolding(crate::specs::Round::evals, crate::specs::Round::in_function, bq_resolve_scope::specs::Names::max_layers))]
     pub fn holds(
         &self,
         frame: &Frame<'_>,
         runtime: &mut R,
         condition: &Expr,
-    ) -> Result<bool, EvalErr>
+        out: &mut AnswerPlace,
+    ) -> Option<bool>
         requires { AnswersCalls R.means R.seen self.now.context.now self.now.call C.pre C.post }
-        ensures { Returns R.means R.seen (and_then (evals_of R.means self.now condition.now (slots_of frame.now)) (λ v s. done (R.means.truth v s) s)) runtime.old result runtime.new }
+        ensures { Returns R.means R.seen (decision R.means (evals_of R.means self.now condition.now (slots_of frame.now))) runtime.old (or_reason result out.new) runtime.new }
     {
-        let condition = self.value(frame, runtime, condition)?;
-        Ok(runtime.truth(&condition))
+        if self.context.outside {
+            return self.holds_outside(frame, runtime, condition, out);
+        }
+        // PROOF: lends both again.
+        Evaluator {
+            context: &*self.context,
+            frame: &*frame,
+            depth: MAX_LAYERS,
+            call: self.call,
+            eval: expr_to::<R, C>,
+            of: PhantomData,
+        }
+        .holds(runtime, condition, out)
     }
 
     // ---- the places of a target
@@ -179,7 +387,7 @@ impl<
 
     // ---- assignments
 
-    /// Carries out `target = value`. A name has no operands, and is bound at once.
+    /// Carries out `target = value`. A name has no operands, and is bound at once; a single index needs no list of places.
     #[inline(always)]
     pub fn assign(
         &self,
@@ -193,8 +401,30 @@ impl<
     {
         match target {
             TargetExpr::Name(name) => Ok(frame.fill(slot_of(name), value)?),
+            TargetExpr::Index(operand, index) => {
+                self.assign_at(&*frame, runtime, operand.get(), index.get(), value)
+            }
             _ => self.assign_parts(frame, runtime, target, value),
         }
+    }
+
+    /// Carries out `x[i] = value`, where `x` and `i` are only read.
+    #[inline(never)]
+    fn assign_at(
+        &self,
+        frame: &Frame<'_>,
+        runtime: &mut R,
+        operand: &Expr,
+        index: &Expr,
+        value: Value,
+    ) -> Result<(), EvalErr>
+        requires { AnswersCalls R.means R.seen self.now.context.now self.now.call C.pre C.post }
+        ensures { Rebinds R.means R.seen (assign_at R.means self.now operand.now index.now value) frame.now runtime.old result frame.now runtime.new }
+    {
+        let operand = self.operand(frame, runtime, operand)?;
+        let index = self.operand(frame, runtime, index)?;
+        runtime.set_index(operand.get(), index.get(), value)?;
+        Ok(())
     }
 
     /// Carries out `target = value` for any target: its operands and indices are evaluated first.
@@ -215,6 +445,45 @@ impl<
         let mut places = IndexedOperands::of(self.context.alloc, places);
         bind_to(runtime, frame, &mut places, MAX_LAYERS, target, value)
     }
+
+    /// Carries out `target = value`, and goes on.
+    #[inline(always)]
+    pub fn assign_value(
+        &self,
+        frame: &mut Frame<'_>,
+        runtime: &mut R,
+        target: &TargetExpr,
+        value: Value,
+        out: &mut AnswerPlace,
+    ) -> Flow
+        requires { AnswersCalls R.means R.seen self.now.context.now self.now.call C.pre C.post }
+        ensures { Changes R.means R.seen (meaning.assign R.means by_slots (evals_of R.means self.now) target.now value) frame.old runtime.old (flow_of result out.new) frame.new runtime.new }
+    {
+        match self.assign(frame, runtime, target, value) {
+            Err(why) => ended(out, why),
+            Ok(()) => Flow::Next,
+        }
+    }
+
+    /// Carries out `target = value` with the value that lies there, and goes on.
+    #[inline(never)]
+    pub fn assign_there(
+        &self,
+        frame: &mut Frame<'_>,
+        runtime: &mut R,
+        target: &TargetExpr,
+        out: &mut AnswerPlace,
+    ) -> Flow
+        requires { AnswersCalls R.means R.seen self.now.context.now self.now.call C.pre C.post }
+        ensures { ChangesOn R.means R.seen out.old (meaning.assign R.means by_slots (evals_of R.means self.now) target.now) frame.old runtime.old (flow_of result out.new) frame.new runtime.new }
+    {
+        match taken(out) {
+            None => ended_there(out),
+            Some(value) => self.assign_value(frame, runtime, target, value, out),
+        }
+    }
+
+    // ---- augmented assignments
 
     /// Returns the new value for `op= x` and an old one.
     #[inline(always)]
@@ -287,8 +556,8 @@ impl<
         self.augment_at(frame, runtime, &operand, &index, op)
     }
 
-    /// Carries out `target op= x`.
-    pub fn augment(
+    /// Carries out `target op= x`, for any target and any values.
+    fn augment_any(
         &self,
         frame: &mut Frame<'_>,
         runtime: &mut R,
@@ -308,5 +577,68 @@ impl<
             TargetExpr::Tuple(_) => Err(stuck()),
             TargetExpr::List(_) => Err(stuck()),
         }
+    }
+
+    /// Carries out `target op= x` for any target and any values, and goes on.
+    #[inline(never)]
+    fn go_on_augmented(
+        &self,
+        frame: &mut Frame<'_>,
+        runtime: &mut R,
+        target: &TargetExpr,
+        op: Augmentation<'_>,
+        out: &mut AnswerPlace,
+    ) -> Flow
+        requires { AnswersCalls R.means R.seen self.now.context.now self.now.call C.pre C.post }
+        ensures { Changes R.means R.seen (meaning.augment R.means by_slots (evals_of R.means self.now) target.now op.entry.operator op.entry.code.now) frame.old runtime.old (flow_of result out.new) frame.new runtime.new }
+    {
+        match self.augment_any(frame, runtime, target, op.operator, op.code) {
+            Err(why) => ended(out, why),
+            Ok(()) => Flow::Next,
+        }
+    }
+
+    // ---- `name op= x`, where the name's value is an integer
+
+    /// Evaluates the new value.
+    #[inline(always)]
+    fn int_augmented(
+        &self,
+        frame: &Frame<'_>,
+        runtime: &mut R,
+        old: i64,
+        op: Augmentation<'_>,
+        out: &mut AnswerPlace,
+    ) -> Option<i64>
+        requires { AnswersCalls R.means R.seen self.now.context.now self.now.call C.pre C.post }
+        ensures { Returns R.means R.seen (augmented R.means self.now op.entry.operator op.entry.code.now (slots_of frame.now) (int old)) runtime.old (answer_of result out.new) runtime.new }
+    {
+        match self.evaluate(frame, runtime, op.code, out) {
+            Some(y) => augment_ints(runtime, op.operator, old, y, out),
+            None => augment_there(runtime, op.operator, old, out),
+        }
+    }
+
+    /// Carries out `target op= x`, and goes on.
+    #[inline(always)]
+    pub fn augment(
+        &self,
+        frame: &mut Frame<'_>,
+        runtime: &mut R,
+        target: &TargetExpr,
+        op: Augmentation<'_>,
+        out: &mut AnswerPlace,
+    ) -> Flow
+        requires { AnswersCalls R.means R.seen self.now.context.now self.now.call C.pre C.post }
+        ensures { Changes R.means R.seen (meaning.augment R.means by_slots (evals_of R.means self.now) target.now op.entry.operator op.entry.code.now) frame.old runtime.old (flow_of result out.new) frame.new runtime.new }
+    {
+        if let TargetExpr::Name(name) = target {
+            let slot = slot_of(name);
+            if let Some(old) = int_in(&*frame, slot) {
+                let new = self.int_augmented(&*frame, runtime, old, op, out);
+                return fill_answer(&*runtime, frame, slot, new, out);
+            }
+        }
+        self.go_on_augmented(frame, runtime, target, op, out)
     }
 }

@@ -1,15 +1,18 @@
 //! Small statements.
 
 ghost use Rattle.std.specs.Prelude.{◌≡◌};
+ghost use Rattle.bq_builtin_machine.specs.Action.{pure};
 ghost use Rattle.bq_eval_language_spec.specs.Statements as meaning;
 ghost use Rattle.bq_eval_language_spec.specs.Slots.{by_slots};
 ghost use Rattle.bq_eval_rules.specs.Nests.{AnswersCalls};
-ghost use Rattle.bq_eval_rules.specs.Effects.{Executes};
+ghost use Rattle.bq_eval_rules.specs.Effects.{Executes, ExecutesOn};
+ghost use Rattle.bq_eval_rules.specs.Flows.{flow_of};
 ghost use Rattle.bq_eval_rules.specs.Readers.{evals_of};
 
+use crate::answer::{AnswerPlace, taken};
 use crate::context::Context;
-use crate::flow::Flow;
-use crate::reader::Reader;
+use crate::flow::{Flow, ended, ended_there, returned};
+use crate::reader::{Augmentation, Reader};
 use crate::runtime::Runtime;
 use bq_builtin_machine::Args;
 use bq_eval_frame::Frame;
@@ -33,12 +36,46 @@ fn steps_of(stmt: &SmallStmt) -> u64
     }
 }
 
+/// Lets go of the value that lies there, and goes on.
+#[inline(never)]
+fn next_there<R: Runtime>(runtime: &R, frame: &Frame<'_>, out: &mut AnswerPlace) -> Flow
+    ensures { ExecutesOn R.means R.seen out.old (λ _ env. pure (meaning.next, env)) frame.now runtime.now (flow_of result out.new) frame.now runtime.now }
+{
+    // for the proof: reads the state and the frame that the contract speaks of.
+    let _ = runtime;
+    let _ = frame;
+    match taken(out) {
+        None => ended_there(out),
+        Some(_) => Flow::Next,
+    }
+}
+
 impl<
     'a,
     R: Runtime,
     C: Copy + Fn(&Context<'_>, &mut R, &Value, Args) -> Result<Value, EvalErr>,
 > Reader<'a, R, C> {
+    /// Carries out an expression as a statement.
+    #[inline(always)]
+    #[tactic(auto, unfolding(bq_eval_language_spec::specs::Statements::expr_stmt))]
+    fn expr_stmt(
+        &self,
+        frame: &Frame<'_>,
+        runtime: &mut R,
+        code: &Expr,
+        out: &mut AnswerPlace,
+    ) -> Flow
+        requires { AnswersCalls R.means R.seen self.now.context.now self.now.call C.pre C.post }
+        ensures { Executes R.means R.seen (meaning.expr_stmt R.means by_slots (evals_of R.means self.now) code.now) frame.now runtime.old (flow_of result out.new) frame.now runtime.new }
+    {
+        match self.evaluate(frame, runtime, code, out) {
+            Some(_) => Flow::Next,
+            None => next_there(&*runtime, frame, out),
+        }
+    }
+
     /// Carries out `target = x`: the right side first.
+    #[inline(always)]
     #[tactic(auto, unfolding(bq_eval_language_spec::specs::Statements::assign_stmt))]
     fn assign_stmt(
         &self,
@@ -46,86 +83,96 @@ impl<
         runtime: &mut R,
         target: &TargetExpr,
         code: &Expr,
-    ) -> Result<Flow, EvalErr>
+        out: &mut AnswerPlace,
+    ) -> Flow
         requires { AnswersCalls R.means R.seen self.now.context.now self.now.call C.pre C.post }
-        ensures { Executes R.means R.seen (meaning.assign_stmt R.means by_slots (evals_of R.means self.now) target.now code.now) frame.old runtime.old result frame.new runtime.new }
+        ensures { Executes R.means R.seen (meaning.assign_stmt R.means by_slots (evals_of R.means self.now) target.now code.now) frame.old runtime.old (flow_of result out.new) frame.new runtime.new }
     {
-        let value = self.value(frame, runtime, code)?;
-        self.assign(frame, runtime, target, value)?;
-        Ok(Flow::Next)
+        match self.evaluate(&*frame, runtime, code, out) {
+            Some(n) => self.assign_value(frame, runtime, target, Value::int(n), out),
+            None => self.assign_there(frame, runtime, target, out),
+        }
     }
 
     /// Carries out `return x`.
+    #[inline(always)]
     #[tactic(auto, unfolding(bq_eval_language_spec::specs::Statements::return_stmt))]
     fn return_stmt(
         &self,
         frame: &Frame<'_>,
         runtime: &mut R,
         code: &Option<Expr>,
-    ) -> Result<Flow, EvalErr>
+        out: &mut AnswerPlace,
+    ) -> Flow
         requires { AnswersCalls R.means R.seen self.now.context.now self.now.call C.pre C.post }
-        ensures { Executes R.means R.seen (meaning.return_stmt R.means by_slots (evals_of R.means self.now) code.now) frame.now runtime.old result frame.now runtime.new }
+        ensures { Executes R.means R.seen (meaning.return_stmt R.means by_slots (evals_of R.means self.now) code.now) frame.now runtime.old (flow_of result out.new) frame.now runtime.new }
     {
         match code {
-            None => Ok(Flow::Answer(Value::none())),
-            Some(code) => {
-                let value = self.value(frame, runtime, code)?;
-                Ok(Flow::Answer(value))
-            }
+            None => returned(out, Value::none()),
+            Some(code) => match self.evaluate(frame, runtime, code, out) {
+                Some(n) => returned(out, Value::int(n)),
+                None => Flow::Ended,
+            },
         }
     }
 
     /// Carries out a small statement: all but a load take a step.
-    #[tactic(auto, unfolding(bq_eval_language_spec::specs::Statements::small_stmt, bq_eval_language_spec::specs::Statements::expr_stmt))]
+    #[inline(always)]
+    #[tactic(auto, unfolding(bq_eval_language_spec::specs::Statements::small_stmt))]
     fn small_stmt(
         &self,
         frame: &mut Frame<'_>,
         runtime: &mut R,
         stmt: &SmallStmt,
-    ) -> Result<Flow, EvalErr>
+        out: &mut AnswerPlace,
+    ) -> Flow
         requires { AnswersCalls R.means R.seen self.now.context.now self.now.call C.pre C.post }
-        ensures { Executes R.means R.seen (meaning.small_stmt R.means by_slots (evals_of R.means self.now) stmt.now) frame.old runtime.old result frame.new runtime.new }
+        ensures { Executes R.means R.seen (meaning.small_stmt R.means by_slots (evals_of R.means self.now) stmt.now) frame.old runtime.old (flow_of result out.new) frame.new runtime.new }
     {
-        runtime.step(steps_of(stmt))?;
+        if let Err(why) = runtime.step(steps_of(stmt)) {
+            return ended(out, why);
+        }
         match &stmt.kind {
-            SmallKind::Expr(code) => {
-                let _value = self.value(frame, runtime, code)?;
-                Ok(Flow::Next)
-            }
+            SmallKind::Expr(code) => self.expr_stmt(&*frame, runtime, code, out),
             SmallKind::Assign(target, code) => {
-                self.assign_stmt(frame, runtime, target.get(), code)
+                self.assign_stmt(frame, runtime, target.get(), code, out)
             }
             SmallKind::Augment(target, operator, code) => {
-                self.augment(frame, runtime, target.get(), *operator, code)?;
-                Ok(Flow::Next)
+                let op = Augmentation {
+                    operator: *operator,
+                    code,
+                };
+                self.augment(frame, runtime, target.get(), op, out)
             }
-            SmallKind::Return(code) => self.return_stmt(frame, runtime, code),
-            SmallKind::Break => Ok(Flow::Leave),
-            SmallKind::Continue => Ok(Flow::Again),
-            SmallKind::Pass => Ok(Flow::Next),
-            SmallKind::Load(_) => Ok(Flow::Next),
+            SmallKind::Return(code) => self.return_stmt(&*frame, runtime, code, out),
+            SmallKind::Break => Flow::Leave,
+            SmallKind::Continue => Flow::Again,
+            SmallKind::Pass => Flow::Next,
+            SmallKind::Load(_) => Flow::Next,
         }
     }
 
     /// Carries out the statements of one line.
+    #[inline(never)]
     #[tactic(auto, unfolding(bq_eval_language_spec::specs::Statements::line))]
     pub fn line(
         &self,
         frame: &mut Frame<'_>,
         runtime: &mut R,
         stmts: &[SmallStmt],
-    ) -> Result<Flow, EvalErr>
+        out: &mut AnswerPlace,
+    ) -> Flow
         requires { AnswersCalls R.means R.seen self.now.context.now self.now.call C.pre C.post }
-        ensures { Executes R.means R.seen (meaning.line R.means by_slots (evals_of R.means self.now) stmts.now) frame.old runtime.old result frame.new runtime.new }
+        ensures { Executes R.means R.seen (meaning.line R.means by_slots (evals_of R.means self.now) stmts.now) frame.old runtime.old (flow_of result out.new) frame.new runtime.new }
     {
         for stmt in stmts {
-            match self.small_stmt(frame, runtime, stmt)? {
+            match self.small_stmt(frame, runtime, stmt, out) {
                 Flow::Next => {}
-                Flow::Leave => return Ok(Flow::Leave),
-                Flow::Again => return Ok(Flow::Again),
-                Flow::Answer(value) => return Ok(Flow::Answer(value)),
+                Flow::Leave => return Flow::Leave,
+                Flow::Again => return Flow::Again,
+                Flow::Ended => return Flow::Ended,
             }
         }
-        Ok(Flow::Next)
+        Flow::Next
     }
 }

@@ -1,15 +1,18 @@
 //! Statements of functions. Each rule takes what runs the statements inside, so that it is proved by itself.
 
 ghost use Rattle.std.specs.Prelude.{◌≡◌};
+ghost use Rattle.bq_builtin_machine.specs.Action.{◌>>=◌ as and_then};
 ghost use Rattle.bq_eval_language_spec.specs.Statements as meaning;
 ghost use Rattle.bq_eval_language_spec.specs.Slots.{by_slots};
 ghost use Rattle.bq_eval_rules.specs.Nests.{AnswersCalls};
 ghost use Rattle.bq_eval_rules.specs.Round.{evals, execs};
 ghost use Rattle.bq_eval_rules.specs.Effects.{Executes};
-ghost use Rattle.bq_eval_rules.specs.Runners.{RunsInside, rule_in, walk};
+ghost use Rattle.bq_eval_rules.specs.Flows.{flow_of};
+ghost use Rattle.bq_eval_rules.specs.Runners.{RunsInside, WalkEnds, rule_in, walk};
 
+use crate::answer::AnswerPlace;
 use crate::context::Context;
-use crate::flow::Flow;
+use crate::flow::{Flow, ended, ended_there};
 use crate::reader::Reader;
 use crate::runtime::Runtime;
 use crate::stuck::stuck;
@@ -28,7 +31,15 @@ pub struct Runner<'a, R, C, G> {
     pub run: G,
 }
 
+/// What each turn of a `for` does: it binds the target, and runs the statements.
+#[derive(Clone, Copy)]
+struct ForBody<'c> {
+    target: &'c TargetExpr,
+    stmts: &'c [Stmt],
+}
+
 /// Runs a statement that is at most `depth` layers deep.
+#[inline(always)]
 #[tactic(auto, unfolding(bq_eval_language_spec::specs::Statements::run_to))]
 fn run_to<R: Runtime, C: Copy + Fn(&Context<'_>, &mut R, &Value, Args) -> Result<Value, EvalErr>>(
     context: &Context<'_>,
@@ -37,12 +48,13 @@ fn run_to<R: Runtime, C: Copy + Fn(&Context<'_>, &mut R, &Value, Args) -> Result
     frame: &mut Frame<'_>,
     runtime: &mut R,
     stmt: &Stmt,
-) -> Result<Flow, EvalErr>
+    out: &mut AnswerPlace,
+) -> Flow
     requires { AnswersCalls R.means R.seen context.now call C.pre C.post }
-    ensures { Executes R.means R.seen (meaning.run_to depth R.means by_slots (evals R.means context.now) stmt.now) frame.old runtime.old result frame.new runtime.new }
+    ensures { Executes R.means R.seen (meaning.run_to depth R.means by_slots (evals R.means context.now) stmt.now) frame.old runtime.old (flow_of result out.new) frame.new runtime.new }
 {
     if depth == 0 {
-        return Err(stuck());
+        return ended(out, stuck());
     }
     // PROOF: lends the context again.
     Runner {
@@ -54,7 +66,7 @@ fn run_to<R: Runtime, C: Copy + Fn(&Context<'_>, &mut R, &Value, Args) -> Result
         },
         run: run_to::<R, C>,
     }
-    .stmt(frame, runtime, stmt)
+    .stmt(frame, runtime, stmt, out)
 }
 
 /// Runs the statements of a function.
@@ -68,9 +80,10 @@ pub fn run_block<
     frame: &mut Frame<'_>,
     runtime: &mut R,
     stmts: &[Stmt],
-) -> Result<Flow, EvalErr>
+    out: &mut AnswerPlace,
+) -> Flow
     requires { AnswersCalls R.means R.seen context.now call C.pre C.post }
-    ensures { Executes R.means R.seen (meaning.block R.means by_slots (evals R.means context.now) (execs R.means context.now) stmts.now) frame.old runtime.old result frame.new runtime.new }
+    ensures { Executes R.means R.seen (meaning.block R.means by_slots (evals R.means context.now) (execs R.means context.now) stmts.now) frame.old runtime.old (flow_of result out.new) frame.new runtime.new }
 {
     Runner {
         depth: MAX_LAYERS,
@@ -81,34 +94,59 @@ pub fn run_block<
         },
         run: run_to::<R, C>,
     }
-    .block(frame, runtime, stmts)
+    .block(frame, runtime, stmts, out)
+}
+
+/// Ends the walk over an iterable, unless the loop has stopped, for which its flow and the place say why.
+#[inline(always)]
+fn end_walk<R: Runtime>(runtime: &mut R, iterable: &Value, flow: Flow, out: &AnswerPlace)
+    ensures { WalkEnds R.means (flow_of flow out.now) iterable.now (R.seen runtime.old) (R.seen runtime.new) }
+{
+    match flow {
+        Flow::Next => runtime.end_walk(iterable),
+        Flow::Leave => runtime.end_walk(iterable),
+        Flow::Again => runtime.end_walk(iterable),
+        Flow::Ended => {
+            if let Ok(_) = out {
+                runtime.end_walk(iterable);
+            }
+        }
+    }
 }
 
 impl<
     'a,
     R: Runtime,
     C: Copy + Fn(&Context<'_>, &mut R, &Value, Args) -> Result<Value, EvalErr>,
-    G: Fn(&Context<'_>, usize, C, &mut Frame<'_>, &mut R, &Stmt) -> Result<Flow, EvalErr>,
+    G: Fn(&Context<'_>, usize, C, &mut Frame<'_>, &mut R, &Stmt, &mut AnswerPlace) -> Flow,
 > Runner<'a, R, C, G> {
     /// Runs statements in order.
+    #[inline(never)]
     #[tactic(auto, unfolding(bq_eval_language_spec::specs::Statements::block))]
-    fn block(&self, frame: &mut Frame<'_>, runtime: &mut R, stmts: &[Stmt]) -> Result<Flow, EvalErr>
+    fn block(
+        &self,
+        frame: &mut Frame<'_>,
+        runtime: &mut R,
+        stmts: &[Stmt],
+        out: &mut AnswerPlace,
+    ) -> Flow
         requires { RunsInside R.means R.seen self.now G.pre G.post }
-        ensures { Executes R.means R.seen (rule_in R.means self.now meaning.block stmts.now) frame.old runtime.old result frame.new runtime.new }
+        ensures { Executes R.means R.seen (rule_in R.means self.now meaning.block stmts.now) frame.old runtime.old (flow_of result out.new) frame.new runtime.new }
     {
         for stmt in stmts {
             let Reader { context, call, .. } = self.reader;
-            match (self.run)(context, self.depth, call, frame, runtime, stmt)? {
+            match (self.run)(context, self.depth, call, frame, runtime, stmt, out) {
                 Flow::Next => {}
-                Flow::Leave => return Ok(Flow::Leave),
-                Flow::Again => return Ok(Flow::Again),
-                Flow::Answer(value) => return Ok(Flow::Answer(value)),
+                Flow::Leave => return Flow::Leave,
+                Flow::Again => return Flow::Again,
+                Flow::Ended => return Flow::Ended,
             }
         }
-        Ok(Flow::Next)
+        Flow::Next
     }
 
     /// Runs the block of the first branch whose condition holds.
+    #[inline(always)]
     #[tactic(auto, unfolding(bq_eval_language_spec::specs::Statements::branches))]
     fn branches(
         &self,
@@ -116,74 +154,97 @@ impl<
         runtime: &mut R,
         branches: &[Branch],
         otherwise: &[Stmt],
-    ) -> Result<Flow, EvalErr>
+        out: &mut AnswerPlace,
+    ) -> Flow
         requires runs { RunsInside R.means R.seen self.now G.pre G.post }
         requires answers { AnswersCalls R.means R.seen self.now.reader.context.now self.now.reader.call C.pre C.post }
-        ensures { Executes R.means R.seen (rule_in R.means self.now meaning.branches branches.now otherwise.now) frame.old runtime.old result frame.new runtime.new }
+        ensures { Executes R.means R.seen (rule_in R.means self.now meaning.branches branches.now otherwise.now) frame.old runtime.old (flow_of result out.new) frame.new runtime.new }
     {
         for branch in branches {
-            if self.reader.holds(frame, runtime, &branch.condition)? {
-                return self.block(frame, runtime, branch.block.as_slice());
+            match self.reader.holds(&*frame, runtime, &branch.condition, out) {
+                None => return ended_there(out),
+                Some(true) => return self.block(frame, runtime, branch.block.as_slice(), out),
+                Some(false) => {}
             }
         }
-        self.block(frame, runtime, otherwise)
+        self.block(frame, runtime, otherwise, out)
     }
 
+    #[inline(always)]
     #[tactic(auto, unfolding(bq_eval_language_spec::specs::Statements::turn))]
     fn turn(
         &self,
         frame: &mut Frame<'_>,
         runtime: &mut R,
-        target: &TargetExpr,
-        body: &[Stmt],
+        each: ForBody<'_>,
         value: Value,
-    ) -> Result<Flow, EvalErr>
+        out: &mut AnswerPlace,
+    ) -> Flow
         requires { RunsInside R.means R.seen self.now G.pre G.post }
-        ensures { Executes R.means R.seen (rule_in R.means self.now meaning.turn target.now body.now value) frame.old runtime.old result frame.new runtime.new }
+        ensures { Executes R.means R.seen (rule_in R.means self.now meaning.turn each.entry.target.now each.entry.stmts.now value) frame.old runtime.old (flow_of result out.new) frame.new runtime.new }
     {
-        begin_turn(self.reader.context.alloc, runtime, frame, target, value)?;
-        self.block(frame, runtime, body)
+        match begin_turn(
+            self.reader.context.alloc,
+            runtime,
+            frame,
+            each.target,
+            value,
+        ) {
+            Err(why) => ended(out, why),
+            Ok(()) => self.block(frame, runtime, each.stmts, out),
+        }
     }
 
+    #[inline(never)]
     #[tactic(auto, unfolding(bq_eval_language_spec::specs::Statements::turns))]
     fn turns(
         &self,
         frame: &mut Frame<'_>,
         runtime: &mut R,
-        target: &TargetExpr,
-        body: &[Stmt],
+        each: ForBody<'_>,
         elements: &mut ElementWalk,
-    ) -> Result<Flow, EvalErr>
+        out: &mut AnswerPlace,
+    ) -> Flow
         requires { RunsInside R.means R.seen self.now G.pre G.post }
-        ensures { Executes R.means R.seen (rule_in R.means self.now meaning.turns target.now body.now elements.old) frame.old runtime.old result frame.new runtime.new }
+        ensures { Executes R.means R.seen (rule_in R.means self.now meaning.turns each.entry.target.now each.entry.stmts.now elements.old) frame.old runtime.old (flow_of result out.new) frame.new runtime.new }
     {
-        while let Some(value) = elements.next()? {
-            match self.turn(frame, runtime, target, body, value)? {
+        loop {
+            let value = match elements.next() {
+                Err(_) => return ended(out, EvalErr::Memory),
+                Ok(None) => return Flow::Next,
+                Ok(Some(value)) => value,
+            };
+            match self.turn(frame, runtime, each, value, out) {
                 Flow::Next => {}
                 Flow::Again => {}
-                Flow::Leave => return Ok(Flow::Next),
-                Flow::Answer(value) => return Ok(Flow::Answer(value)),
+                Flow::Leave => return Flow::Next,
+                Flow::Ended => return Flow::Ended,
             }
         }
-        Ok(Flow::Next)
     }
 
     /// Goes over the elements of an iterable.
+    #[inline(always)]
     fn walk(
         &self,
         frame: &mut Frame<'_>,
         runtime: &mut R,
-        target: &TargetExpr,
         iterable: &Value,
-        body: &[Stmt],
-    ) -> Result<Flow, EvalErr>
+        each: ForBody<'_>,
+        out: &mut AnswerPlace,
+    ) -> Flow
         requires { RunsInside R.means R.seen self.now G.pre G.post }
-        ensures { Executes R.means R.seen (walk R.means self.now target.now iterable.now body.now) frame.old runtime.old result frame.new runtime.new }
+        ensures { Executes R.means R.seen (walk R.means self.now each.entry.target.now iterable.now each.entry.stmts.now) frame.old runtime.old (flow_of result out.new) frame.new runtime.new }
     {
-        let mut elements = runtime.begin_walk(self.reader.context.alloc, iterable)?;
-        let flow = self.turns(frame, runtime, target, body, &mut elements)?;
-        runtime.end_walk(iterable);
-        Ok(flow)
+        match runtime.begin_walk(self.reader.context.alloc, iterable) {
+            Err(why) => ended(out, why),
+            Ok(elements) => {
+                let mut elements = elements;
+                let flow = self.turns(frame, runtime, each, &mut elements, out);
+                end_walk(runtime, iterable, flow, &*out);
+                flow
+            }
+        }
     }
 
     /// Carries out `for target in iterable`.
@@ -193,35 +254,92 @@ impl<
         &self,
         frame: &mut Frame<'_>,
         runtime: &mut R,
-        target: &TargetExpr,
         iterable: &Expr,
-        body: &[Stmt],
-    ) -> Result<Flow, EvalErr>
+        each: ForBody<'_>,
+        out: &mut AnswerPlace,
+    ) -> Flow
         requires runs { RunsInside R.means R.seen self.now G.pre G.post }
         requires answers { AnswersCalls R.means R.seen self.now.reader.context.now self.now.reader.call C.pre C.post }
-        ensures { Executes R.means R.seen (rule_in R.means self.now meaning.for_loop target.now iterable.now body.now) frame.old runtime.old result frame.new runtime.new }
+        ensures { Executes R.means R.seen (rule_in R.means self.now meaning.for_loop each.entry.target.now iterable.now each.entry.stmts.now) frame.old runtime.old (flow_of result out.new) frame.new runtime.new }
     {
-        let iterable = self.reader.value(frame, runtime, iterable)?;
-        self.walk(frame, runtime, target, &iterable, body)
+        match self.reader.value(&*frame, runtime, iterable) {
+            Err(why) => ended(out, why),
+            Ok(iterable) => self.walk(frame, runtime, &iterable, each, out),
+        }
+    }
+
+    /// Carries out an `if`: a step, and then the block of the first branch whose condition holds.
+    #[inline(always)]
+    fn if_stmt(
+        &self,
+        frame: &mut Frame<'_>,
+        runtime: &mut R,
+        branches: &[Branch],
+        otherwise: &[Stmt],
+        out: &mut AnswerPlace,
+    ) -> Flow
+        requires runs { RunsInside R.means R.seen self.now G.pre G.post }
+        requires answers { AnswersCalls R.means R.seen self.now.reader.context.now self.now.reader.call C.pre C.post }
+        ensures { Executes R.means R.seen (λ env. and_then (R.means.step 1) (λ _. rule_in R.means self.now meaning.branches branches.now otherwise.now env)) frame.old runtime.old (flow_of result out.new) frame.new runtime.new }
+    {
+        match runtime.step(1) {
+            Err(why) => ended(out, why),
+            Ok(()) => self.branches(frame, runtime, branches, otherwise, out),
+        }
+    }
+
+    /// Carries out a `for`: a step, and then the loop.
+    #[inline(always)]
+    fn for_stmt(
+        &self,
+        frame: &mut Frame<'_>,
+        runtime: &mut R,
+        iterable: &Expr,
+        each: ForBody<'_>,
+        out: &mut AnswerPlace,
+    ) -> Flow
+        requires runs { RunsInside R.means R.seen self.now G.pre G.post }
+        requires answers { AnswersCalls R.means R.seen self.now.reader.context.now self.now.reader.call C.pre C.post }
+        ensures { Executes R.means R.seen (λ env. and_then (R.means.step 1) (λ _. rule_in R.means self.now meaning.for_loop each.entry.target.now iterable.now each.entry.stmts.now env)) frame.old runtime.old (flow_of result out.new) frame.new runtime.new }
+    {
+        match runtime.step(1) {
+            Err(why) => ended(out, why),
+            Ok(()) => self.for_loop(frame, runtime, iterable, each, out),
+        }
     }
 
     /// Carries out a statement.
-    fn stmt(&self, frame: &mut Frame<'_>, runtime: &mut R, stmt: &Stmt) -> Result<Flow, EvalErr>
+    #[inline(always)]
+    fn stmt(
+        &self,
+        frame: &mut Frame<'_>,
+        runtime: &mut R,
+        stmt: &Stmt,
+        out: &mut AnswerPlace,
+    ) -> Flow
         requires runs { RunsInside R.means R.seen self.now G.pre G.post }
         requires answers { AnswersCalls R.means R.seen self.now.reader.context.now self.now.reader.call C.pre C.post }
-        ensures { Executes R.means R.seen (rule_in R.means self.now meaning.stmt stmt.now) frame.old runtime.old result frame.new runtime.new }
+        ensures { Executes R.means R.seen (rule_in R.means self.now meaning.stmt stmt.now) frame.old runtime.old (flow_of result out.new) frame.new runtime.new }
     {
         match stmt {
-            Stmt::Simple(stmts) => self.reader.line(frame, runtime, stmts.as_slice()),
+            Stmt::Simple(stmts) => self.reader.line(frame, runtime, stmts.as_slice(), out),
             Stmt::If(branches, otherwise) => {
-                runtime.step(1)?;
-                self.branches(frame, runtime, branches.as_slice(), otherwise.as_slice())
+                self.if_stmt(
+                    frame,
+                    runtime,
+                    branches.as_slice(),
+                    otherwise.as_slice(),
+                    out,
+                )
             }
             Stmt::For(target, iterable, body) => {
-                runtime.step(1)?;
-                self.for_loop(frame, runtime, target, iterable, body.as_slice())
+                let each = ForBody {
+                    target,
+                    stmts: body.as_slice(),
+                };
+                self.for_stmt(frame, runtime, iterable, each, out)
             }
-            Stmt::Def(_, _, _) => Err(stuck()),
+            Stmt::Def(_, _, _) => ended(out, stuck()),
         }
     }
 }

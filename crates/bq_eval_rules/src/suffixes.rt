@@ -1,12 +1,15 @@
 //! Suffixes of operands: indices, slices and calls.
 
 ghost use Rattle.std.specs.Prelude.{◌≡◌, Some};
+ghost use Rattle.bq_builtin_machine.specs.Action.{◌>>=◌ as and_then};
 ghost use Rattle.bq_eval_language_spec.specs.Expressions as meaning;
 ghost use Rattle.bq_eval_language_spec.specs.Slots.{by_slots};
+ghost use Rattle.bq_eval_rules.specs.Answers.{answer_of};
 ghost use Rattle.bq_eval_rules.specs.Nests.{AnswersCalls};
 ghost use Rattle.bq_eval_rules.specs.Effects.{Returns, Produces};
-ghost use Rattle.bq_eval_rules.specs.Evaluators.{EvaluatesInside, evals_in, calls_in, round_in, frame_of};
+ghost use Rattle.bq_eval_rules.specs.Evaluators.{EvaluatesInside, evals_in, calls_in, round_in, frame_of, value_inside};
 
+use crate::answer::{AnswerPlace, failed, new_place, placed, settled, unboxed};
 use crate::context::Context;
 use crate::evaluator::Evaluator;
 use crate::runtime::Runtime;
@@ -23,16 +26,29 @@ impl<
     'a,
     R: Runtime,
     C: Copy,
-    F: Copy + Fn(&Context<'_>, usize, C, &Frame<'_>, &mut R, &Expr) -> Result<Value, EvalErr>,
+    F: Copy
+        + Fn(&Context<'_>, usize, C, &Frame<'_>, &mut R, &Expr, &mut AnswerPlace) -> Option<i64>,
 > Evaluator<'a, R, C, F> {
-    /// Applies `value[index]`.
+    /// Applies `value[index]`. The index is only read.
+    #[inline(never)]
     #[tactic(auto, unfolding(bq_eval_language_spec::specs::Expressions::index))]
-    pub fn index(&self, runtime: &mut R, index: &Expr, value: &Value) -> Result<Value, EvalErr>
+    fn index(
+        &self,
+        runtime: &mut R,
+        index: &Expr,
+        value: &Value,
+        out: &mut AnswerPlace,
+    ) -> Option<i64>
         requires { EvaluatesInside R.means R.seen self.now F.pre F.post }
-        ensures { Returns R.means R.seen (meaning.index R.means (evals_in R.means self.now) index.now (frame_of self.now) value.now) runtime.old result runtime.new }
+        ensures { Returns R.means R.seen (meaning.index R.means (evals_in R.means self.now) index.now (frame_of self.now) value.now) runtime.old (answer_of result out.new) runtime.new }
     {
-        let index = self.operand(runtime, index)?;
-        runtime.index(value, index.get())
+        match self.operand(runtime, index) {
+            Err(why) => failed(out, why),
+            Ok(index) => {
+                let outcome = runtime.index(value, index.get());
+                unboxed(out, outcome)
+            }
+        }
     }
 
     /// Evaluates a part of a slice.
@@ -50,7 +66,7 @@ impl<
     /// Applies `value[start:stop:step]`.
     #[inline(never)]
     #[tactic(auto, unfolding(bq_eval_language_spec::specs::Expressions::slice))]
-    pub fn slice(
+    fn slice(
         &self,
         runtime: &mut R,
         start: &Option<Boxed<Expr>>,
@@ -119,13 +135,19 @@ impl<
         name: &Bytes,
         arguments: &[Argument],
         value: &Value,
-    ) -> Result<Value, EvalErr>
+        out: &mut AnswerPlace,
+    ) -> Option<i64>
         requires { EvaluatesInside R.means R.seen self.now F.pre F.post }
-        ensures { Returns R.means R.seen (meaning.method R.means (evals_in R.means self.now) name.now arguments.now (frame_of self.now) value.now) runtime.old result runtime.new }
+        ensures { Returns R.means R.seen (meaning.method R.means (evals_in R.means self.now) name.now arguments.now (frame_of self.now) value.now) runtime.old (answer_of result out.new) runtime.new }
     {
         let mut args = Args::new(self.context.alloc);
-        self.arguments(runtime, &mut args, arguments)?;
-        runtime.call_method(self.context.alloc, name, value, args)
+        match self.arguments(runtime, &mut args, arguments) {
+            Err(why) => failed(out, why),
+            Ok(()) => {
+                let outcome = runtime.call_method(self.context.alloc, name, value, args);
+                unboxed(out, outcome)
+            }
+        }
     }
 }
 
@@ -133,7 +155,8 @@ impl<
     'a,
     R: Runtime,
     C: Copy + Fn(&Context<'_>, &mut R, &Value, Args) -> Result<Value, EvalErr>,
-    F: Copy + Fn(&Context<'_>, usize, C, &Frame<'_>, &mut R, &Expr) -> Result<Value, EvalErr>,
+    F: Copy
+        + Fn(&Context<'_>, usize, C, &Frame<'_>, &mut R, &Expr, &mut AnswerPlace) -> Option<i64>,
 > Evaluator<'a, R, C, F> {
     /// Applies `value(..)`.
     #[inline(never)]
@@ -143,32 +166,65 @@ impl<
         runtime: &mut R,
         arguments: &[Argument],
         value: &Value,
-    ) -> Result<Value, EvalErr>
+        out: &mut AnswerPlace,
+    ) -> Option<i64>
         requires nests { EvaluatesInside R.means R.seen self.now F.pre F.post }
         requires answers { AnswersCalls R.means R.seen self.now.context.now self.now.call C.pre C.post }
-        ensures { Returns R.means R.seen (meaning.call_of R.means (evals_in R.means self.now) (calls_in R.means self.now) arguments.now (frame_of self.now) value.now) runtime.old result runtime.new }
+        ensures { Returns R.means R.seen (meaning.call_of R.means (evals_in R.means self.now) (calls_in R.means self.now) arguments.now (frame_of self.now) value.now) runtime.old (answer_of result out.new) runtime.new }
     {
         let mut args = Args::new(self.context.alloc);
-        self.arguments(runtime, &mut args, arguments)?;
-        (self.call)(self.context, runtime, value, args)
+        match self.arguments(runtime, &mut args, arguments) {
+            Err(why) => failed(out, why),
+            Ok(()) => {
+                let outcome = (self.call)(self.context, runtime, value, args);
+                unboxed(out, outcome)
+            }
+        }
     }
 
     /// Applies a suffix to a value.
+    #[inline(always)]
     #[tactic(auto, unfolding(bq_eval_language_spec::specs::Expressions::suffix))]
-    fn suffix(&self, runtime: &mut R, suffix: &Suffix, value: &Value) -> Result<Value, EvalErr>
+    fn suffix(
+        &self,
+        runtime: &mut R,
+        suffix: &Suffix,
+        value: &Value,
+        out: &mut AnswerPlace,
+    ) -> Option<i64>
+        requires nests { EvaluatesInside R.means R.seen self.now F.pre F.post }
+        requires answers { AnswersCalls R.means R.seen self.now.context.now self.now.call C.pre C.post }
+        ensures { Returns R.means R.seen (meaning.suffix R.means (evals_in R.means self.now) (calls_in R.means self.now) suffix.now (frame_of self.now) value.now) runtime.old (answer_of result out.new) runtime.new }
+    {
+        match suffix {
+            Suffix::Call(arguments) => self.call_of(runtime, arguments.as_slice(), value, out),
+            Suffix::Method(name, arguments) => {
+                self.method(runtime, &name.name, arguments.as_slice(), value, out)
+            }
+            Suffix::Attribute(_) => failed(out, stuck()),
+            Suffix::Index(index) => self.index(runtime, index.get(), value, out),
+            Suffix::Slice(start, stop, step) => {
+                let outcome = self.slice(runtime, start, stop, step, value);
+                placed(out, outcome)
+            }
+        }
+    }
+
+    /// Applies a suffix to a value, and returns the result whole.
+    #[inline(never)]
+    fn suffix_value(
+        &self,
+        runtime: &mut R,
+        suffix: &Suffix,
+        value: &Value,
+    ) -> Result<Value, EvalErr>
         requires nests { EvaluatesInside R.means R.seen self.now F.pre F.post }
         requires answers { AnswersCalls R.means R.seen self.now.context.now self.now.call C.pre C.post }
         ensures { Returns R.means R.seen (meaning.suffix R.means (evals_in R.means self.now) (calls_in R.means self.now) suffix.now (frame_of self.now) value.now) runtime.old result runtime.new }
     {
-        match suffix {
-            Suffix::Call(arguments) => self.call_of(runtime, arguments.as_slice(), value),
-            Suffix::Method(name, arguments) => {
-                self.method(runtime, &name.name, arguments.as_slice(), value)
-            }
-            Suffix::Attribute(_) => Err(stuck()),
-            Suffix::Index(index) => self.index(runtime, index.get(), value),
-            Suffix::Slice(start, stop, step) => { self.slice(runtime, start, stop, step, value) }
-        }
+        let mut out = new_place();
+        let given = self.suffix(runtime, suffix, value, &mut out);
+        settled(given, out)
     }
 
     #[tactic(auto, unfolding(bq_eval_language_spec::specs::Expressions::suffixes))]
@@ -179,7 +235,7 @@ impl<
     {
         let mut value = first;
         for suffix in suffixes {
-            value = self.suffix(runtime, suffix, &value)?;
+            value = self.suffix_value(runtime, suffix, &value)?;
         }
         Ok(value)
     }
@@ -200,24 +256,71 @@ impl<
         match suffixes {
             [] => Ok(operand.share()?),
             [suffix, rest @ ..] => {
-                let value = self.suffix(runtime, suffix, operand)?;
+                let value = self.suffix_value(runtime, suffix, operand)?;
                 self.suffixes(runtime, rest, value)
             }
         }
     }
 
-    /// Evaluates an operand, which is only read, and its suffixes. Most often it is one.
-    #[tactic(auto, unfolding(bq_eval_language_spec::specs::Expressions::operand, bq_eval_language_spec::specs::Expressions::suffixes))]
-    fn suffixed(&self, runtime: &mut R, code: &Expr, suffixes: &[Suffix]) -> Result<Value, EvalErr>
+    /// Applies suffixes to an operand. Most often it is one.
+    #[inline(always)]
+    #[tactic(auto, unfolding(bq_eval_language_spec::specs::Expressions::suffixes))]
+    fn all_suffixes(
+        &self,
+        runtime: &mut R,
+        suffixes: &[Suffix],
+        operand: &Value,
+        out: &mut AnswerPlace,
+    ) -> Option<i64>
         requires nests { EvaluatesInside R.means R.seen self.now F.pre F.post }
         requires answers { AnswersCalls R.means R.seen self.now.context.now self.now.call C.pre C.post }
-        ensures { Returns R.means R.seen (meaning.operand R.means (evals_in R.means self.now) (calls_in R.means self.now) code.now suffixes.now (frame_of self.now)) runtime.old result runtime.new }
+        ensures { Returns R.means R.seen (meaning.suffixes R.means (evals_in R.means self.now) (calls_in R.means self.now) suffixes.now (frame_of self.now) operand.now) runtime.old (answer_of result out.new) runtime.new }
     {
-        runtime.step(suffixes.len() as u64)?;
-        let operand = self.operand(runtime, code)?;
         match suffixes {
-            [suffix] => self.suffix(runtime, suffix, operand.get()),
-            _ => self.long_suffixed(runtime, suffixes, operand.get()),
+            [suffix] => self.suffix(runtime, suffix, operand, out),
+            _ => {
+                let outcome = self.long_suffixed(runtime, suffixes, operand);
+                unboxed(out, outcome)
+            }
+        }
+    }
+
+    /// Evaluates an operand, which is only read, and its suffixes.
+    #[inline(always)]
+    fn operand_suffixed(
+        &self,
+        runtime: &mut R,
+        code: &Expr,
+        suffixes: &[Suffix],
+        out: &mut AnswerPlace,
+    ) -> Option<i64>
+        requires nests { EvaluatesInside R.means R.seen self.now F.pre F.post }
+        requires answers { AnswersCalls R.means R.seen self.now.context.now self.now.call C.pre C.post }
+        ensures { Returns R.means R.seen (and_then (value_inside R.means self.now code.now) (meaning.suffixes R.means (evals_in R.means self.now) (calls_in R.means self.now) suffixes.now (frame_of self.now))) runtime.old (answer_of result out.new) runtime.new }
+    {
+        match self.operand(runtime, code) {
+            Err(why) => failed(out, why),
+            Ok(operand) => self.all_suffixes(runtime, suffixes, operand.get(), out),
+        }
+    }
+
+    /// Takes the steps of suffixes, and evaluates their operand and them.
+    #[inline(always)]
+    #[tactic(auto, unfolding(bq_eval_language_spec::specs::Expressions::operand))]
+    fn suffixed(
+        &self,
+        runtime: &mut R,
+        code: &Expr,
+        suffixes: &[Suffix],
+        out: &mut AnswerPlace,
+    ) -> Option<i64>
+        requires nests { EvaluatesInside R.means R.seen self.now F.pre F.post }
+        requires answers { AnswersCalls R.means R.seen self.now.context.now self.now.call C.pre C.post }
+        ensures { Returns R.means R.seen (meaning.operand R.means (evals_in R.means self.now) (calls_in R.means self.now) code.now suffixes.now (frame_of self.now)) runtime.old (answer_of result out.new) runtime.new }
+    {
+        match runtime.step(suffixes.len() as u64) {
+            Err(why) => failed(out, why),
+            Ok(()) => self.operand_suffixed(runtime, code, suffixes, out),
         }
     }
 
@@ -237,31 +340,36 @@ impl<
     {
         runtime.step(suffixes.len() as u64 + 1)?;
         let function = runtime.predeclared(member)?;
-        let value = self.call_of(runtime, arguments, &function)?;
+        let mut out = new_place();
+        let given = self.call_of(runtime, arguments, &function, &mut out);
+        let value = settled(given, out)?;
         self.suffixes(runtime, suffixes, value)
     }
 
     /// Evaluates an operand with suffixes: a call of a namespace's member is one.
+    #[inline(always)]
     #[tactic(auto, unfolding(bq_eval_language_spec::specs::Expressions::primary))]
     pub fn primary(
         &self,
         runtime: &mut R,
         code: &Expr,
         suffixes: &[Suffix],
-    ) -> Result<Value, EvalErr>
+        out: &mut AnswerPlace,
+    ) -> Option<i64>
         requires nests { EvaluatesInside R.means R.seen self.now F.pre F.post }
         requires answers { AnswersCalls R.means R.seen self.now.context.now self.now.call C.pre C.post }
-        ensures { Returns R.means R.seen (meaning.primary R.means by_slots (evals_in R.means self.now) (calls_in R.means self.now) (round_in self.now) code.now suffixes.now (frame_of self.now)) runtime.old result runtime.new }
+        ensures { Returns R.means R.seen (meaning.primary R.means by_slots (evals_in R.means self.now) (calls_in R.means self.now) (round_in self.now) code.now suffixes.now (frame_of self.now)) runtime.old (answer_of result out.new) runtime.new }
     {
         if let Expr::Name(name) = code {
             if let Referent::Member(member) = name.referent {
                 if let [first, rest @ ..] = suffixes {
                     if let Suffix::Method(_, arguments) = first {
-                        return self.call_member(runtime, member, arguments.as_slice(), rest);
+                        let outcome = self.call_member(runtime, member, arguments.as_slice(), rest);
+                        return unboxed(out, outcome);
                     }
                 }
             }
         }
-        self.suffixed(runtime, code, suffixes)
+        self.suffixed(runtime, code, suffixes, out)
     }
 }

@@ -46,9 +46,10 @@ mod sources;
 mod work;
 
 pub use bq_load_module::{FailedModule, LoadedModule};
-pub use gate::{Gate, OpenGate, Workers};
+pub use gate::{Gate, GateWatch, OpenGate, Workers};
 pub use load::{load_graph_with, load_one_thread, load_with, load_within};
 pub use loaded::Loaded;
+pub use loading::Loading;
 pub use outcome::ModuleOutcome;
 pub use pool::{Evaluated, Pool, PoolSeat, Worked};
 pub use sources::Sources;

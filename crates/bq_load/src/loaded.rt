@@ -31,7 +31,7 @@ pub struct Loaded {
 impl Loaded {
     /// Gathers the outcomes of modules, which have these labels, in a workspace with these packages.
     #[tactic(auto, using(crate::proofs::Ascending::packages_ascend))]
-    pub(crate) fn gathered(
+    pub fn gathered(
         alloc: Global,
         packages: &Packages,
         labels: &LabelSet,

@@ -42,7 +42,7 @@ impl<'a> Loading<'a> {
 
     /// Takes what decides the outcomes of the modules from a load graph.
     #[tactic(auto, using(crate::proofs::Joined::decided, crate::proofs::Joined::as_wide))]
-    pub(crate) fn of(
+    pub fn of(
         alloc: Global,
         workspace: &'a Workspace,
         schema: &'a Schema,

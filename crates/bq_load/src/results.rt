@@ -186,7 +186,7 @@ impl<'a> Loading<'a> {
 
     /// Returns the modules with their outcomes.
     #[tactic(auto, using(crate::proofs::Listed::next), unfolding(crate::specs::Results::outcomes))]
-    pub(crate) fn outcomes(
+    pub fn outcomes(
         &self,
         alloc: Global,
         edges: &Graph,

@@ -6,10 +6,10 @@ ghost use Rattle.bq_value_rule_class.specs.Value.{all_labels_of};
 ghost use Rattle.bq_query_graph.specs.Marks.{IsSet, Marked};
 ghost use Rattle.bq_query_target_sets.specs.Order.{AreInOrder};
 ghost use Rattle.bq_query_target_sets.specs.Words.{Adds};
-ghost use Rattle.bq_query_target_sets.specs.Labels.{Labels, labels_named, is_among};
+ghost use Rattle.bq_query_target_sets.specs.Labels.{Labels, labels_named, is_among, is_named_by};
 
 use crate::pattern::add_label;
-use crate::set::no_target;
+use crate::related::{Relation, related};
 use crate::text::given;
 use bq_label::Label;
 use bq_package_target::{Target, TargetKind};
@@ -50,6 +50,27 @@ fn add_named(targets: &[Target], name: &[u8], target: &Target, marks: &mut Vec<b
     }
 }
 
+/// The targets that the attribute of this name of a rule names.
+#[derive(Drop)]
+struct NamedBy<'a> {
+    name: &'a [u8],
+}
+
+impl<'a> Relation for NamedBy<'a> {
+    ghost relates = { λ r. is_named_by r.name.now };
+
+    fn add_related(
+        &self,
+        _alloc: Global,
+        targets: &[Target],
+        target: &Target,
+        marks: &mut Vec<bool>,
+    ) -> Result<(), AllocError> {
+        add_named(targets, self.name, target, marks);
+        Ok(())
+    }
+}
+
 pub fn labels(
     alloc: Global,
     targets: &[Target],
@@ -60,12 +81,5 @@ pub fn labels(
     requires long { length x.now ≡ length targets.now }
     ensures { IfOk result (λ r. IsSet (length targets.now) r.items (Labels name.now targets.now (Marked x.now))) }
 {
-    let mut marks = no_target(alloc, targets.len())?;
-    for at in 0..targets.len() {
-        if !x[at] {
-            continue;
-        }
-        add_named(targets, name, &targets[at], &mut marks);
-    }
-    Ok(marks)
+    related(alloc, targets, &NamedBy { name }, x)
 }

@@ -12,6 +12,7 @@
 //! - `missing`: what a pattern names that isn't there (Q5, Q6);
 //! - `pattern`, `set`: the targets that patterns name;
 //! - `matching`: the members of a set whose text has a match of a pattern;
+//! - `related`: the targets to which those of a set are related;
 //! - `kind`, `filter`, `attr`, `labels`: the functions of queries;
 //! - `laws`: what words name, said of packages.
 #![tactic(auto)]
@@ -25,6 +26,7 @@ mod matching;
 mod missing;
 mod order;
 mod pattern;
+pub mod related;
 mod set;
 mod text;
 

@@ -41,3 +41,7 @@ string_counted ps i p less is = ap line_count (left_more ps i p less is) ∙ cou
 pub no_string_counted : (ps : List (List ℕ)) (i : ℕ) → length ps ≤ i → line_count (concat (drop i ps)) ≡ 0
 unfolding line_count
 no_string_counted ps i less = ap line_count (left_none ps i less)
+
+-- a text and the line after it
+pub body_counted : (text error line : List ℕ) (count lines : ℕ) → count ≡ lines + line_count text → lines ≡ line_count error → error ≡ line → count ≡ line_count (text ++ line)
+body_counted text error line count lines is counted same = omega (arith, is, counted ∙ ap line_count same, counted_joined text line)

@@ -1,5 +1,5 @@
 -- What a query is answered: what a run with that query alone is.
-use Rattle.std.specs.Prelude.{◌≡◌, ◌⊎◌, ◌<◌, ◌≤◌, ◌++◌, ◌||◌, ℕ, Bool, false, List, [], ◌∷◌, Ok, Err, length}
+use Rattle.std.specs.Prelude.{◌≡◌, ◌⊎◌, ◌<◌, ◌≤◌, ℕ, List, [], Ok, Err, length}
 use Rattle.bq_base_limits.specs.declared.limits.Limits.{Limits}
 use Rattle.bq_label.specs.declared.workspace.File.{File}
 use Rattle.bq_label.specs.Label.{LabelParts}
@@ -16,7 +16,6 @@ use Rattle.bq_run_write.specs.declared.ending.NoAnswer.TheVariants.{Query}
 use Rattle.bq_run.specs.WorkspaceRun.{IsReportOn, Loads, Fits, Fronts, AreFronts, loaded_in}
 use Rattle.bq_run.specs.declared.options.Options.{Options}
 use Rattle.bq_run_session.specs.Queries.{max_query_bytes}
-use Rattle.bq_run_session.specs.Block.{block, is_refused}
 
 -- the workspace has this in it once it is loaded, by these limits
 pub record IsLoadedAs (files : List File) (limits : Limits) (i : Inside) : Type 0 where
@@ -47,9 +46,3 @@ pub data IsAnswerTo (files : List File) (limits : Limits) (i : Inside) (form : O
   ran : length query ≤ max_query_bytes → (faults : List ℕ) → HasFaults i query faults
       → ((o : Options) → Asks query form limits o → IsReportOn o files (record { faults = faults; answer = reply.text; end = reply.end }))
       → IsAnswerTo files limits i form query reply
-
--- the text of the blocks of all these queries, in order, and whether one was refused
-pub data AreAnswered (IsAnswer : List ℕ → ReplyView → Type 0) : List (List ℕ) → List ℕ → Bool → Type 0 where
-  none : AreAnswered IsAnswer [] [] false
-  more : {all queries : List (List ℕ)} {whole text : List ℕ} {any refused : Bool} (query : List ℕ) (reply : ReplyView) → AreAnswered IsAnswer queries text refused → IsAnswer query reply
-      → all ≡ queries ++ query ∷ [] → whole ≡ text ++ block query reply → any ≡ (is_refused reply.end || refused) → AreAnswered IsAnswer all whole any

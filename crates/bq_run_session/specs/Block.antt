@@ -22,13 +22,18 @@ abbrev pub run_end : Result Status NoAnswer → Result Status RunErr
 run_end (Ok status) = Ok status
 run_end (Err why) = Err (run_err why)
 
--- the answer's lines, or the error line
-abbrev pub body : ReplyView → List ℕ
-body reply = reply.text ++ status_line (run_end reply.end)
+-- the lines of a text, or the error line
+abbrev pub body : List ℕ → Result Status RunErr → List ℕ
+body text end = text ++ status_line end
 
+-- a block: what is written for a line
+abbrev pub run_block : List ℕ → List ℕ → Result Status RunErr → List ℕ
+run_block line text end = header (status_code end) (line_count (body text end)) line ++ body text end
+
+-- what is written for a query
 abbrev pub block : List ℕ → ReplyView → List ℕ
-block query reply = header (status_code (run_end reply.end)) (line_count (body reply)) query ++ body reply
+block query reply = run_block query reply.text (run_end reply.end)
 
-abbrev pub is_refused : Result Status NoAnswer → Bool
+abbrev pub is_refused : Result Status RunErr → Bool
 is_refused (Ok status) = false
 is_refused (Err why) = true

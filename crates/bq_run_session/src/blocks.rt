@@ -1,20 +1,21 @@
-//! What is written for a query: a header line `=== STATUS LINES QUERY`, and then as many lines: the answer's, or the
-//! line of the error.
+//! What is written for a query or a command: a header line `=== STATUS LINES QUERY`, and then as many lines: those of the
+//! answer, or the line of the error.
 
-ghost use Rattle.std.specs.Prelude.{◌≡◌, ◌⊎◌, ◌+◌, ◌-◌, ◌^◌, ◌<◌, take, IfOk, IsErr, IsErrOf, OnOk};
+ghost use Rattle.std.specs.Prelude.{◌≡◌, ◌⊎◌, ◌++◌, ◌+◌, ◌-◌, ◌^◌, ◌<◌, [], Err, take, IfOk, IsErr, IsErrOf, OnErr, OnOk};
 ghost use Rattle.std.specs.Io.KnownBytes.{Appends, Keeps};
 ghost use Rattle.std.specs.List.{concat};
 ghost use Rattle.bq_run_device.specs.Device.{Begins};
-ghost use Rattle.bq_run_write.specs.Status.{status_code};
-ghost use Rattle.bq_run_report.specs.Report.{reply_view};
-ghost use Rattle.bq_run_session.specs.Block.{block, body, header, line_count, run_end};
+ghost use Rattle.bq_run_write.specs.Status.{status_code, status_line};
+ghost use Rattle.bq_run_session.specs.Block.{body, header, is_refused, line_count, run_block, run_end};
 ghost use Rattle.bq_run_session.specs.Queries.{max_query_bytes};
+ghost use Rattle.bq_run_session.specs.Steps.{IsBlockOf, WritesOne};
 
-use crate::queries::MAX_QUERY_BYTES;
+use crate::lines::MAX_QUERY_BYTES;
 use bq_base::Bytes;
 use bq_base_rope::Rope;
 use bq_run::{ByteSink, RunErr, status_of, write_all, write_rope};
-use bq_run_report::{NoAnswer, Reply, Status};
+use bq_run_device::WriteFault;
+use bq_run_report::{NoAnswer, Status};
 use std::alloc::{AllocError, Global};
 
 fn line_count(text: &[u8]) -> usize
@@ -44,13 +45,16 @@ fn with_lines_of(before: usize, pieces: &[Bytes]) -> Result<usize, AllocError>
     Ok(count)
 }
 
-/// Returns how many newlines a text has. In strings that are shared there could be more of them than can be counted, and then it fails as if
-/// memory were refused.
-fn text_line_count(text: &Rope) -> Result<usize, AllocError>
-    ensures { IfOk result (λ count. count ≡ line_count text.now) }
+/// Returns so many and the newlines of a text. In strings that are shared there could be more of them than can be counted, and then it
+/// fails as if memory were refused.
+fn with_text_lines(before: usize, text: &Rope) -> Result<usize, AllocError>
+    ensures { IfOk result (λ count. count ≡ before + line_count text.now) }
 {
     let parts = text.parts();
-    with_lines_of(line_count(parts.rest), parts.pieces)
+    match before.checked_add(line_count(parts.rest)) {
+        Some(count) => with_lines_of(count, parts.pieces),
+        None => Err(AllocError),
+    }
 }
 
 /// Returns what the header line has of a query: all, unless it is too long.
@@ -76,7 +80,7 @@ fn header(alloc: Global, status: u8, count: usize, query: &[u8]) -> Result<Vec<u
 }
 
 /// Returns how a run ends.
-fn run_end(end: Result<Status, NoAnswer>) -> Result<Status, RunErr>
+pub(crate) fn run_end(end: Result<Status, NoAnswer>) -> Result<Status, RunErr>
     ensures { result ≡ run_end end }
 {
     match end {
@@ -85,43 +89,106 @@ fn run_end(end: Result<Status, NoAnswer>) -> Result<Status, RunErr>
     }
 }
 
-/// The texts of a block.
+/// What is written for a line: a text, or the line of an error.
 #[derive(Drop)]
-struct BlockTexts {
-    header: Vec<u8>,
-    body: Rope,
+pub(crate) struct Told {
+    pub text: Rope,
+    pub end: Result<Status, RunErr>,
 }
 
-fn block_of(alloc: Global, query: &[u8], reply: Reply) -> Result<BlockTexts, AllocError>
-    ensures header { IfOk result (λ b. b.header.items ≡ header (status_code (run_end reply.end)) (line_count (body (reply_view reply))) query.now) }
-    ensures body { IfOk result (λ b. b.body ≡ body (reply_view reply)) }
+/// Returns what is written where something is refused.
+pub(crate) fn refusal(alloc: Global, why: RunErr) -> Told
+    ensures text { result.text ≡ [] }
+    ensures end { result.end ≡ Err why }
 {
-    let Reply { text, end } = reply;
-    let (code, line) = status_of(alloc, &run_end(end))?;
-    let mut body = text;
-    body.push_slice(&line)?;
-    let count = text_line_count(&body)?;
-    let header = header(alloc, code, count, query)?;
-    Ok(BlockTexts { header, body })
+    Told {
+        text: Rope::new(alloc),
+        end: Err(why),
+    }
 }
 
-/// Writes the block of a query. No byte is written where memory is refused.
+fn is_refused(end: &Result<Status, RunErr>) -> bool
+    ensures { result ≡ is_refused end.now }
+{
+    match end {
+        Ok(_) => false,
+        Err(_) => true,
+    }
+}
+
+/// What stands before and after the text of a block.
+#[derive(Drop)]
+struct BlockFrame {
+    header: Vec<u8>,
+    error: Vec<u8>,
+}
+
+fn frame_of(
+    alloc: Global,
+    line: &[u8],
+    text: &Rope,
+    end: &Result<Status, RunErr>,
+) -> Result<BlockFrame, AllocError>
+    ensures header { IfOk result (λ b. b.header.items ≡ header (status_code end.now) (line_count (body text.now end.now)) line.now) }
+    ensures error { IfOk result (λ b. b.error.items ≡ status_line end.now) }
+{
+    let (code, error) = status_of(alloc, end)?;
+    let count = with_text_lines(line_count(&error), text)?;
+    let header = header(alloc, code, count, line)?;
+    Ok(BlockFrame { header, error })
+}
+
+/// Writes the text of a block, and the error line.
+fn write_body<W: ByteSink>(
+    writer: &mut W,
+    text: &Rope,
+    frame: &BlockFrame,
+) -> Result<(), WriteFault>
+    requires { W.failed writer.old < 2 ^ 64 - 1 }
+    ensures whole { OnOk result (Appends (W.contents writer.old) (W.contents writer.new) (text.now ++ frame.now.error.items)) }
+    ensures begins { Begins (W.contents writer.old) (W.contents writer.new) (text.now ++ frame.now.error.items) }
+    ensures device { OnErr result (W.failed writer.new ≡ W.failed writer.old + 1) }
+    ensures quiet { OnOk result (W.failed writer.new ≡ W.failed writer.old) }
+{
+    write_rope(writer, text)?;
+    write_all(writer, &frame.error)?;
+    Ok(())
+}
+
+/// Writes the block of a line: this text, or the error line. No byte is written where memory is refused.
 pub(crate) fn write_block<W: ByteSink>(
     alloc: Global,
     writer: &mut W,
-    query: &[u8],
-    reply: Reply,
+    line: &[u8],
+    text: &Rope,
+    end: &Result<Status, RunErr>,
 ) -> Result<(), RunErr>
     requires { W.failed writer.old < 2 ^ 64 - 1 }
-    ensures whole { OnOk result (Appends (W.contents writer.old) (W.contents writer.new) (block query.now (reply_view reply))) }
+    ensures whole { OnOk result (Appends (W.contents writer.old) (W.contents writer.new) (run_block line.now text.now end.now)) }
     ensures memory { IsErrOf result RunErr.Memory → Keeps (W.contents writer.old) (W.contents writer.new) }
-    ensures begins { IsErrOf result RunErr.Write → Begins (W.contents writer.old) (W.contents writer.new) (block query.now (reply_view reply)) }
+    ensures begins { IsErrOf result RunErr.Write → Begins (W.contents writer.old) (W.contents writer.new) (run_block line.now text.now end.now) }
     ensures only { IsErr result → IsErrOf result RunErr.Memory ⊎ IsErrOf result RunErr.Write }
     ensures device { IsErrOf result RunErr.Write → W.failed writer.new ≡ W.failed writer.old + 1 }
     ensures quiet { (IsErrOf result RunErr.Write → ⊥) → W.failed writer.new ≡ W.failed writer.old }
 {
-    let block = block_of(alloc, query, reply)?;
-    write_all(writer, &block.header)?;
-    write_rope(writer, &block.body)?;
+    let frame = frame_of(alloc, line, text, end)?;
+    write_all(writer, &frame.header)?;
+    write_body(writer, text, &frame)?;
     Ok(())
+}
+
+/// Writes the block of a line. Returns whether what it asks is refused.
+pub(crate) fn write_told<W: ByteSink>(
+    alloc: Global,
+    writer: &mut W,
+    line: &[u8],
+    told: Told,
+) -> Result<bool, RunErr>
+    requires { W.failed writer.old < 2 ^ 64 - 1 }
+    ensures does { WritesOne (IsBlockOf line.now told.text told.end) result (W.contents writer.old) (W.contents writer.new) }
+    ensures device { IsErrOf result RunErr.Write → W.failed writer.new ≡ W.failed writer.old + 1 }
+    ensures quiet { (IsErrOf result RunErr.Write → ⊥) → W.failed writer.new ≡ W.failed writer.old }
+{
+    write_block(alloc, writer, line, &told.text, &told.end)?;
+    Ok(is_refused(&told.end))
 }

@@ -7,7 +7,7 @@ ghost use Rattle.bq_run.specs.Run.{IsInRange};
 ghost use Rattle.bq_run_session.specs.Queries.{max_query_bytes};
 ghost use Rattle.bq_run_session.specs.Session.{IsAnswerIn, Opens};
 
-use crate::queries::MAX_QUERY_BYTES;
+use crate::lines::MAX_QUERY_BYTES;
 use bq_base_rope::Rope;
 use bq_label::Workspace;
 use bq_load_discover::{LoadErr, schema_of};

@@ -8,7 +8,7 @@ use crate::options::options;
 use bq_label::Workspace;
 use bq_run::{Counted, Metered, RunErr, WorkspaceRun, read_bundle, status_code};
 use bq_run_facts::run_facts;
-use bq_run_session::{SessionStatus, run_queries, session_code};
+use bq_run_session::{SessionOptions, SessionRun, SessionStatus, run_queries, session_code};
 use std::alloc::{AllocError, Global};
 use std::cell::Cell;
 use std::io;
@@ -39,7 +39,7 @@ fn code_of(ended: Result<SessionStatus, RunErr>) -> u8 {
 fn is_session<R: Threads + Wait + RandomSource + Sync>(
     rt: &R,
     alloc: Global,
-    workspace: &Workspace,
+    workspace: Workspace,
     (lines, reader, writer): (&[u8], u64, u64),
     wanted: &[u8],
 ) -> Result<bool, AllocError> {
@@ -47,11 +47,12 @@ fn is_session<R: Threads + Wait + RandomSource + Sync>(
     let mut queries = make_drip(lines, reader);
     let mut writer = make_sip(alloc, writer, false);
     let mut faults = make_sip(alloc, 0, false);
-    let over = WorkspaceRun {
-        workspace,
+    let by = SessionOptions {
+        version: b"1.7.0",
         options: &asked,
     };
-    let ended = run_queries(rt, alloc, &over, &mut queries, &mut writer, &mut faults);
+    let run = SessionRun { workspace, by };
+    let ended = run_queries(rt, alloc, run, &mut queries, &mut writer, &mut faults);
     let failures = queries.failures().wrapping_add(writer.failures());
     let is_written = faults.device.held.is_empty() && writer.device.held.as_slice() == wanted;
     Ok(code_of(ended) == 5 && failures == 1 && is_written)
@@ -72,7 +73,7 @@ fn are_facts<R: Threads + Wait + RandomSource + Sync>(
         workspace,
         options: &asked,
     };
-    let ended = run_facts(rt, alloc, b"1.6.0", &over, None, &mut writer, &mut faults);
+    let ended = run_facts(rt, alloc, b"1.7.0", &over, None, &mut writer, &mut faults);
     let is_written = faults.device.held.is_empty() && writer.device.held.as_slice() == wanted;
     Ok(status_code(&ended) == 5 && writer.failures() == 1 && is_written)
 }
@@ -142,7 +143,7 @@ fn make_counting(written: &Cell<usize>) -> Metered<Counting<'_>>
 fn are_turns<R: Threads + Wait + RandomSource + Sync>(
     rt: &R,
     alloc: Global,
-    workspace: &Workspace,
+    workspace: Workspace,
     lines: &[u8],
     wanted: &[usize],
 ) -> Result<bool, AllocError> {
@@ -151,25 +152,26 @@ fn are_turns<R: Threads + Wait + RandomSource + Sync>(
     let mut queries = make_asking(alloc, lines, &written);
     let mut writer = make_counting(&written);
     let mut faults = make_sip(alloc, 0, false);
-    let over = WorkspaceRun {
-        workspace,
+    let by = SessionOptions {
+        version: b"1.7.0",
         options: &asked,
     };
-    let _ = run_queries(rt, alloc, &over, &mut queries, &mut writer, &mut faults);
+    let run = SessionRun { workspace, by };
+    let _ = run_queries(rt, alloc, run, &mut queries, &mut writer, &mut faults);
     Ok(queries.device.seen.as_slice() == wanted)
 }
 
 fn holds<R: Threads + Wait + RandomSource + Sync>(
     rt: &R,
     alloc: Global,
-    workspace: &Workspace,
+    workspace: Workspace,
     property: Property,
 ) -> Result<bool, AllocError> {
     match property {
         Property::Session(lines, reader, writer, wanted) => {
             is_session(rt, alloc, workspace, (lines, reader, writer), wanted)
         }
-        Property::Facts(writer, wanted) => are_facts(rt, alloc, workspace, writer, wanted),
+        Property::Facts(writer, wanted) => are_facts(rt, alloc, &workspace, writer, wanted),
         Property::Turns(lines, wanted) => are_turns(rt, alloc, workspace, lines, wanted),
     }
 }
@@ -181,14 +183,14 @@ pub fn has<R: Threads + Wait + RandomSource + Sync>(
     bundle: &[u8],
     property: Property,
 ) -> Result<bool, AllocError> {
-    let workspace = read_bundle(alloc, &mut make_drip(bundle, 0));
-    let found = match &workspace {
+    match read_bundle(alloc, &mut make_drip(bundle, 0)) {
         Ok(workspace) => holds(rt, alloc, workspace, property),
         Err(_) => Ok(false),
-    };
-    drop(workspace);
-    found
+    }
 }
+
+/// Lines with a file that is put and a reload.
+const EDITS: &[u8] = b"=== put 4 b\nabc\n\n=== reload\n//a:x\n";
 
 const BUNDLE: &[u8] = b"=== a/BUILD\nfilegroup(name = \"x\")\n";
 
@@ -209,6 +211,14 @@ fn answer_each_query(rt: HostRuntime) -> Result<(), AllocError> {
 const SESSIONS: &[(&[u8], u64, u64, &[u8])] = &[
     (b"//a:x\n//a:x\n", 7, 0, b"=== 0 1 //a:x\n//a:x\n"),
     (b"//a:x\n//a:x\n", 0, 5, b"=== "),
+    // within a file that is put
+    (
+        b"//a:x\n=== put 3 b\nabc\n",
+        20,
+        0,
+        b"=== 0 1 //a:x\n//a:x\n",
+    ),
+    (b"=== put 0 b\n\n=== reload\n", 0, 5, b"=== "),
 ];
 
 #[test]
@@ -223,5 +233,7 @@ fn write_facts(rt: HostRuntime) -> Result<(), AllocError> {
 fn answer_in_turn(rt: HostRuntime) -> Result<(), AllocError> {
     let property = Property::Turns(b"//a:x\n//a:y\n//a:x\n", &[0, 20, 60, 80]);
     assert!(rt; has(&rt, rt.alloc(), BUNDLE, property)?);
+    let edits = Property::Turns(EDITS, &[0, 0, 0, 0, 19, 39]);
+    assert!(rt; has(&rt, rt.alloc(), BUNDLE, edits)?);
     Ok(())
 }

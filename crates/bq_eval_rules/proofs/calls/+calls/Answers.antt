@@ -1,15 +1,17 @@
 use Rattle.std.proofs.Common.{◌∙◌, ap, sym, subst, arith}
 use Rattle.std.proofs.lemmas.Grind.{common_steps}
 use Rattle.bq_value.specs.Datum.{Datum, list_of_data_of}
-use Rattle.bq_builtin_machine.specs.Action.{Run, done}
+use Rattle.bq_builtin_machine.specs.Action.{Run}
 use Rattle.bq_eval_language_spec.specs.Slots.{by_slots}
 use Rattle.bq_eval_frame.specs.Slots.{slots_of}
 use Rattle.bq_eval_rules.specs.Acts.{Acts}
 use Rattle.bq_eval_rules.specs.Round.{evals, in_function, inside, round_of, units_at, globals_of}
 use Rattle.bq_eval_rules.specs.TreeUnits.{unit_of}
-use Rattle.bq_eval_rules.specs.Flows.{flow_of}
-use Rattle.bq_eval_rules.proofs.CallSteps.{calls_step, known_function, no_body, no_function, no_unit, ran_body}
-use Rattle.bq_eval_language_spec.specs.Calls.{apply, call_function, inner_calls}
+use Rattle.bq_eval_rules.specs.Answers.{AnswerPlace}
+use Rattle.bq_eval_rules.specs.Flows.{flow_of, result_of}
+use Rattle.bq_eval_rules.proofs.CallSteps.{body_runs, calls_step, known_function, no_body, no_function, no_unit}
+use Rattle.bq_eval_rules.proofs.Flowing.{body_returns}
+use Rattle.bq_eval_language_spec.specs.Calls.{apply, call_function, inner_calls, run_body}
 use Rattle.bq_eval_rules.proofs.calls.+calls.Goals as goal
 
 pub run_body-returns-then-context-eq0 : goal.run_body-returns-then-context-eq0
@@ -23,8 +25,16 @@ unfolding evals in_function inside round_of
 run_body-returns g t c =
     let h = g.R.Runtime in
     let x = c.args.context.now in
-    let ran = ran_body x.left h.means (units_at x.program.now (globals_of x.own)) (unit_of c.args.unit.now) c.args.function.now (slots_of c.args.frame.now) (h.seen c.args.runtime.now) (flow_of c.in_ok-flow.flow) (slots_of c.run_block.new.frame) (h.seen c.run_block.new.runtime) c.as_slice.result.now (omega (arith, c.if-context-eq0.false)) c.as_slice.ensures c.in_ok-flow.ensures in
-    ran ∙ ap (λ v. done v (h.seen c.run_block.new.runtime)) (sym c.answered.ensures)
+    let units = units_at x.program.now (globals_of x.own) in
+    let unit = unit_of c.args.unit.now in
+    let s = h.seen c.args.runtime.now in
+    let env = slots_of c.args.frame.now in
+    let after = h.seen c.run_block-flow.new.runtime in
+    let flow = flow_of c.run_block-flow.result c.run_block-flow.new.out in
+    let runs = body_runs x.left h.means units unit c.args.function.now env s c.as_slice.result.now (omega (arith, c.if-context-eq0.false)) c.as_slice.ensures in
+    let P : Run h.State Datum → Type 0 = λ run. Acts h.means (λ v. v) (result_of flow) after run in
+    let Q : AnswerPlace → Type 0 = λ place. Acts h.means (λ v. v) place after (run_body h.means by_slots (inner_calls x.left h.means by_slots units) unit c.args.function.now env s) in
+    subst Q (sym c.result_of.ensures) (subst P (sym runs) (body_returns h.means (slots_of c.run_block-flow.new.frame) after flow _ c.run_block-flow.ensures))
 
 pub call_function-returns-in_err-frame : goal.call_function-returns-in_err-frame
 unfolding call_function

@@ -1,35 +1,44 @@
-use Rattle.std.proofs.Common.{◌∙◌, refl, subst, sym}
+use Rattle.std.proofs.Common.{◌∙◌, refl, rules}
 use Rattle.std.proofs.lemmas.Result.{err_from_is_err_and}
-use Rattle.bq_run_session.specs.Reading.{TakesQuery, ahead}
-use Rattle.bq_run_session.specs.Session.{IsAnswerIn}
-use Rattle.bq_run_session.proofs.Progress.{at_first, not_err, one_more, one_not_answered}
+use Rattle.bq_run_session.specs.Reading.{ahead}
+use Rattle.bq_run_session.proofs.Progress.{next_not_read, none_yet, not_err, one_more, one_not_done}
 use Rattle.bq_run_session.proofs.runs.answer_all.Goals as goal
 
-pub loop-query-init : goal.loop-query-init
-loop-query-init g c = record {
-  progress = at_first (IsAnswerIn c.args.session.now c.args.form) (g.Q.ByteSource.remaining c.args.queries.now) (g.W.ByteSink.contents c.args.writer.now);
+pub loop-item-init : goal.loop-item-init
+loop-item-init g c = record {
+  progress = λ s holds. none_yet c.args.by.version.now c.args.by.options.now s (g.Q.ByteSource.remaining c.args.queries.now) c.args.held.now (g.W.ByteSink.contents c.args.writer.now) holds;
+  limit = refl;
   quiet_queries = refl;
   quiet = refl;
 }
 
-pub returns-in_err-refused-clause-does : goal.returns-in_err-refused-clause-does
-returns-in_err-refused-clause-does g c =
-    let now = ahead c.loop-query.left (g.Q.ByteSource.remaining c.loop-query.queries) in
-    let next = ahead c.next_query.new.left (g.Q.ByteSource.remaining c.next_query.new.reader) in
-    let p = err_from_is_err_and c.from_residual-in_err-refused.result c.from_residual-in_err-refused.ensures.1 in
-    rw (p.1, p.2) (one_not_answered (IsAnswerIn c.args.session.now c.args.form) c.args.session.now.status (g.Q.ByteSource.remaining c.args.queries.now) now next c.loop-query.refused
-    (g.W.ByteSink.contents c.args.writer.now) (g.W.ByteSink.contents c.loop-query.writer) (g.W.ByteSink.contents c.answer_one.new.writer) c.deref.result.now c.in_err-refused.field-0.0
-    c.loop-query.invariant.progress (subst (TakesQuery now next) (sym c.deref.ensures.value) (rw c.in-Some.is at c.in_ok-query.ensures.query)) c.in_err-refused.ensures.does)
+pub returns-in_err-item-clause-does : goal.returns-in_err-item-clause-does
+returns-in_err-item-clause-does g c =
+    let now = ahead c.loop-item.left (g.Q.ByteSource.remaining c.loop-item.queries) in
+    let p = err_from_is_err_and c.from_residual.result c.from_residual.ensures.1 in
+    rw (p.1, p.2) (λ s holds. next_not_read c.args.by.version.now c.args.by.options.now s (g.Q.ByteSource.remaining c.args.queries.now) now c.loop-item.held c.loop-item.refused
+    (g.W.ByteSink.contents c.args.writer.now) (g.W.ByteSink.contents c.loop-item.writer) (c.loop-item.invariant.progress s holds) c.in_err-item.field-0.0 (c.in_err-item.ensures.only (search rules)))
 
-pub loop-query-preserved : goal.loop-query-preserved
-loop-query-preserved g c =
-    let now = ahead c.loop-query.left (g.Q.ByteSource.remaining c.loop-query.queries) in
-    let next = ahead c.next_query.new.left (g.Q.ByteSource.remaining c.next_query.new.reader) in
-    let one = c.in_ok-refused.ensures.does in
+pub returns-in_err-is_refused-clause-does : goal.returns-in_err-is_refused-clause-does
+returns-in_err-is_refused-clause-does g c =
+    let now = ahead c.loop-item.left (g.Q.ByteSource.remaining c.loop-item.queries) in
+    let next = ahead c.next_item.new.left (g.Q.ByteSource.remaining c.next_item.new.reader) in
+    let item = c.in-Some.item in
+    let p = err_from_is_err_and c.from_residual-in_err-is_refused.result c.from_residual-in_err-is_refused.ensures.1 in
+    rw (p.1, p.2) (λ s holds. one_not_done c.args.by.version.now c.args.by.options.now s (g.Q.ByteSource.remaining c.args.queries.now) now c.loop-item.held c.loop-item.refused
+    (g.W.ByteSink.contents c.args.writer.now) (g.W.ByteSink.contents c.loop-item.writer) (c.loop-item.invariant.progress s holds) next (g.W.ByteSink.contents c.take_item.new.writer)
+    item.line.items item.request c.take_item.new.held c.in_err-is_refused.field-0.0 (rw c.in-Some.is at c.in_ok-item.ensures.item) c.in_err-is_refused.ensures.does)
+
+pub loop-item-preserved : goal.loop-item-preserved
+loop-item-preserved g c =
+    let now = ahead c.loop-item.left (g.Q.ByteSource.remaining c.loop-item.queries) in
+    let next = ahead c.next_item.new.left (g.Q.ByteSource.remaining c.next_item.new.reader) in
+    let item = c.in-Some.item in
     record {
-      progress = one_more (IsAnswerIn c.args.session.now c.args.form) (g.Q.ByteSource.remaining c.args.queries.now) now next c.loop-query.refused c.in_ok-refused.refused
-          (g.W.ByteSink.contents c.args.writer.now) (g.W.ByteSink.contents c.loop-query.writer) (g.W.ByteSink.contents c.answer_one.new.writer) c.deref.result.now one.0
-          c.loop-query.invariant.progress (subst (TakesQuery now next) (sym c.deref.ensures.value) (rw c.in-Some.is at c.in_ok-query.ensures.query)) one.1 one.2 one.3;
-      quiet_queries = c.in_ok-query.ensures.quiet (not_err c.in_ok-query.field-0 _) ∙ c.loop-query.invariant.quiet_queries;
-      quiet = c.in_ok-refused.ensures.quiet (not_err c.in_ok-refused.refused _) ∙ c.loop-query.invariant.quiet;
+      progress = λ s holds. one_more c.args.by.version.now c.args.by.options.now s (g.Q.ByteSource.remaining c.args.queries.now) now c.loop-item.held c.loop-item.refused
+          (g.W.ByteSink.contents c.args.writer.now) (g.W.ByteSink.contents c.loop-item.writer) (c.loop-item.invariant.progress s holds) next (g.W.ByteSink.contents c.take_item.new.writer)
+          item.line.items item.request c.take_item.new.held c.in_ok-is_refused.is_refused _ (rw c.in-Some.is at c.in_ok-item.ensures.item) c.in_ok-is_refused.ensures.does c.either-refused.ensures;
+      limit = c.loop-item.invariant.limit;
+      quiet_queries = c.in_ok-item.ensures.quiet (not_err c.in_ok-item.field-0 _) ∙ c.loop-item.invariant.quiet_queries;
+      quiet = c.in_ok-is_refused.ensures.quiet (not_err c.in_ok-is_refused.is_refused _) ∙ c.loop-item.invariant.quiet;
     }

@@ -1,15 +1,19 @@
 use Rattle.std.proofs.Common.{◌≡◌}
 use Rattle.bq_run_session.specs.Reading.{ahead}
-use Rattle.bq_run_session.specs.Session.{IsAnswerIn}
+use Rattle.bq_run_session.specs.State.{State}
+use Rattle.bq_run_session.specs.Steps.{Holds}
 use Rattle.bq_run_session.proofs.Progress.{Progress}
 use Rattle.bq_run_session.proofs.runs.answer_all.Given as goal
 
-abbrev pub invariant-loop-query : goal.invariant-loop-query
-invariant-loop-query g l = record {
-  progress : Progress (IsAnswerIn l.session l.form) (g.Q.ByteSource.remaining l.fn.queries) (ahead l.left (g.Q.ByteSource.remaining l.queries)) l.refused (g.W.ByteSink.contents l.fn.writer) (g.W.ByteSink.contents l.writer);
+abbrev pub invariant-loop-item : goal.invariant-loop-item
+invariant-loop-item g l = record {
+  progress : (s : State) → Holds l.by.options.now.limits l.fn.held s
+      → Progress l.by.version.now l.by.options.now s (g.Q.ByteSource.remaining l.fn.queries) (ahead l.left (g.Q.ByteSource.remaining l.queries)) l.held l.refused
+      (g.W.ByteSink.contents l.fn.writer) (g.W.ByteSink.contents l.writer);
+  limit : l.limit ≡ l.by.options.now.limits.bundle_bytes;
   quiet_queries : g.Q.Counted.failed l.queries ≡ g.Q.Counted.failed l.fn.queries;
   quiet : g.W.Counted.failed l.writer ≡ g.W.Counted.failed l.fn.writer;
 }
 
-abbrev pub decreases-loop-query : goal.decreases-loop-query
-decreases-loop-query g l = l.left
+abbrev pub decreases-loop-item : goal.decreases-loop-item
+decreases-loop-item g l = l.left

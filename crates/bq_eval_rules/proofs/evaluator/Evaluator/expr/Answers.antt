@@ -1,99 +1,23 @@
-use Rattle.std.proofs.Common.{rules, ◌≡◌, ◌∙◌, ap, arith, sym, subst, w64, to_z, of_z}
+use Rattle.std.proofs.Common.{arith}
 use Rattle.std.proofs.lemmas.Grind.{common_steps}
-use Rattle.bq_value.specs.Datum.{Datum, int}
-use Rattle.bq_builtin_machine.specs.Action.{Run}
-use Rattle.bq_eval_language_spec.specs.Expressions.{literal}
-use Rattle.bq_eval_frame.specs.Slots.{slots_of}
-use Rattle.bq_eval_rules.specs.Acts.{Acts}
-use Rattle.bq_eval_rules.specs.Nests.{nested}
-use Rattle.bq_eval_rules.specs.Round.{inside, round_of}
-use Rattle.bq_eval_rules.proofs.Forms.{binary_by, compare_by, conditional_by, dict_by, dict_comprehension_by, int_by, list_by, list_comprehension_by, name_by, primary_by, string_by, tuple_by, unary_by}
+use Rattle.bq_eval_rules.specs.Evaluators.{calls_in, evals_in, frame_of, round_in}
+use Rattle.bq_eval_rules.proofs.Forms.{binary_by, conditional_by, primary_by}
 use Rattle.bq_eval_rules.proofs.evaluator.Evaluator.expr.Goals as goal
-
-pub returns-in_err-use_of-in-Name : goal.returns-in_err-use_of-in-Name
-returns-in_err-use_of-in-Name g c =
-    let h = g.R.Runtime in
-    let e = nested h.means c.args.self.now.depth c.args.self.now.context.now in
-    rw (name_by h.means e (inside h.means c.args.self.now.context.now) (round_of c.args.self.now.context.now) c.args.code.now (slots_of c.args.self.now.frame.now) (h.seen c.args.runtime.now) _ c.in-Name.is) (grind (arith, common_steps))
-
-pub returns-in_ok-own-in-Name : goal.returns-in_ok-own-in-Name
-returns-in_ok-own-in-Name g c =
-    let h = g.R.Runtime in
-    let e = nested h.means c.args.self.now.depth c.args.self.now.context.now in
-    rw (name_by h.means e (inside h.means c.args.self.now.context.now) (round_of c.args.self.now.context.now) c.args.code.now (slots_of c.args.self.now.frame.now) (h.seen c.args.runtime.now) _ c.in-Name.is) (grind (arith, common_steps))
-
-pub returns-in-Int : goal.returns-in-Int
-returns-in-Int g c =
-    let h = g.R.Runtime in
-    let e = nested h.means c.args.self.now.depth c.args.self.now.context.now in
-    let z : to_z w64 (of_z w64 c.in-Int.n) ≡ c.in-Int.n = search rules in
-    let by = int_by h.means e (inside h.means c.args.self.now.context.now) (round_of c.args.self.now.context.now) c.args.code.now (slots_of c.args.self.now.frame.now) (h.seen c.args.runtime.now) c.in-Int.n c.in-Int.is in
-    let Q : Datum → Type 0 = λ v. Acts h.means (λ v. v) c.literal.result (h.seen c.literal.new.runtime) (literal h.means v (h.seen c.args.runtime.now)) in
-    let P : Run h.State Datum → Type 0 = λ run. Acts h.means (λ v. v) c.literal.result (h.seen c.literal.new.runtime) run in
-    subst P (sym by) (subst Q (c.int.ensures ∙ ap int z) c.literal.ensures)
-
-pub returns-in_ok-share-in-String : goal.returns-in_ok-share-in-String
-returns-in_ok-share-in-String g c =
-    let h = g.R.Runtime in
-    let e = nested h.means c.args.self.now.depth c.args.self.now.context.now in
-    rw (string_by h.means e (inside h.means c.args.self.now.context.now) (round_of c.args.self.now.context.now) c.args.code.now (slots_of c.args.self.now.frame.now) (h.seen c.args.runtime.now) _ c.in-String.is) (grind (arith, common_steps))
-
-pub returns-in-List : goal.returns-in-List
-returns-in-List g c =
-    let h = g.R.Runtime in
-    let e = nested h.means c.args.self.now.depth c.args.self.now.context.now in
-    rw (list_by h.means e (inside h.means c.args.self.now.context.now) (round_of c.args.self.now.context.now) c.args.code.now (slots_of c.args.self.now.frame.now) (h.seen c.args.runtime.now) _ c.in-List.is) (search rules)
-
-pub returns-in-Tuple : goal.returns-in-Tuple
-returns-in-Tuple g c =
-    let h = g.R.Runtime in
-    let e = nested h.means c.args.self.now.depth c.args.self.now.context.now in
-    rw (tuple_by h.means e (inside h.means c.args.self.now.context.now) (round_of c.args.self.now.context.now) c.args.code.now (slots_of c.args.self.now.frame.now) (h.seen c.args.runtime.now) _ c.in-Tuple.is) (search rules)
-
-pub returns-in-Dict : goal.returns-in-Dict
-returns-in-Dict g c =
-    let h = g.R.Runtime in
-    let e = nested h.means c.args.self.now.depth c.args.self.now.context.now in
-    rw (dict_by h.means e (inside h.means c.args.self.now.context.now) (round_of c.args.self.now.context.now) c.args.code.now (slots_of c.args.self.now.frame.now) (h.seen c.args.runtime.now) _ c.in-Dict.is) (search rules)
-
-pub returns-in-ListComprehension : goal.returns-in-ListComprehension
-returns-in-ListComprehension g c =
-    let h = g.R.Runtime in
-    let e = nested h.means c.args.self.now.depth c.args.self.now.context.now in
-    rw (list_comprehension_by h.means e (inside h.means c.args.self.now.context.now) (round_of c.args.self.now.context.now) c.args.code.now (slots_of c.args.self.now.frame.now) (h.seen c.args.runtime.now) _ _ _ c.in-ListComprehension.is) (search rules)
-
-pub returns-in-DictComprehension : goal.returns-in-DictComprehension
-returns-in-DictComprehension g c =
-    let h = g.R.Runtime in
-    let e = nested h.means c.args.self.now.depth c.args.self.now.context.now in
-    rw (dict_comprehension_by h.means e (inside h.means c.args.self.now.context.now) (round_of c.args.self.now.context.now) c.args.code.now (slots_of c.args.self.now.frame.now) (h.seen c.args.runtime.now) _ _ _ c.in-DictComprehension.is) (search rules)
-
-pub returns-in-Primary : goal.returns-in-Primary
-returns-in-Primary g c =
-    let h = g.R.Runtime in
-    let e = nested h.means c.args.self.now.depth c.args.self.now.context.now in
-    rw (primary_by h.means e (inside h.means c.args.self.now.context.now) (round_of c.args.self.now.context.now) c.args.code.now (slots_of c.args.self.now.frame.now) (h.seen c.args.runtime.now) _ _ c.in-Primary.is) (search rules)
-
-pub returns-in-Unary : goal.returns-in-Unary
-returns-in-Unary g c =
-    let h = g.R.Runtime in
-    let e = nested h.means c.args.self.now.depth c.args.self.now.context.now in
-    rw (unary_by h.means e (inside h.means c.args.self.now.context.now) (round_of c.args.self.now.context.now) c.args.code.now (slots_of c.args.self.now.frame.now) (h.seen c.args.runtime.now) _ _ c.in-Unary.is) (search rules)
 
 pub returns-in-Binary : goal.returns-in-Binary
 returns-in-Binary g c =
     let h = g.R.Runtime in
-    let e = nested h.means c.args.self.now.depth c.args.self.now.context.now in
-    rw (binary_by h.means e (inside h.means c.args.self.now.context.now) (round_of c.args.self.now.context.now) c.args.code.now (slots_of c.args.self.now.frame.now) (h.seen c.args.runtime.now) _ _ c.in-Binary.is) (search rules)
+    let x = c.args.self.now in
+    rw (binary_by h.means (evals_in h.means x) (calls_in h.means x) (round_in x) c.args.code.now (frame_of x) (h.seen c.args.runtime.now) _ _ c.in-Binary.is) (grind (arith, common_steps))
 
-pub returns-in-Compare : goal.returns-in-Compare
-returns-in-Compare g c =
+pub returns-in-Primary : goal.returns-in-Primary
+returns-in-Primary g c =
     let h = g.R.Runtime in
-    let e = nested h.means c.args.self.now.depth c.args.self.now.context.now in
-    rw (compare_by h.means e (inside h.means c.args.self.now.context.now) (round_of c.args.self.now.context.now) c.args.code.now (slots_of c.args.self.now.frame.now) (h.seen c.args.runtime.now) _ _ _ c.in-Compare.is) (search rules)
+    let x = c.args.self.now in
+    rw (primary_by h.means (evals_in h.means x) (calls_in h.means x) (round_in x) c.args.code.now (frame_of x) (h.seen c.args.runtime.now) _ _ c.in-Primary.is) (grind (arith, common_steps))
 
 pub returns-in-Conditional : goal.returns-in-Conditional
 returns-in-Conditional g c =
     let h = g.R.Runtime in
-    let e = nested h.means c.args.self.now.depth c.args.self.now.context.now in
-    rw (conditional_by h.means e (inside h.means c.args.self.now.context.now) (round_of c.args.self.now.context.now) c.args.code.now (slots_of c.args.self.now.frame.now) (h.seen c.args.runtime.now) _ _ c.in-Conditional.is) (search rules)
+    let x = c.args.self.now in
+    rw (conditional_by h.means (evals_in h.means x) (calls_in h.means x) (round_in x) c.args.code.now (frame_of x) (h.seen c.args.runtime.now) _ _ c.in-Conditional.is) (grind (arith, common_steps))

@@ -1,6 +1,15 @@
-use Rattle.std.proofs.Common.{arith}
+use Rattle.std.proofs.Common.{arith, subst}
 use Rattle.std.proofs.lemmas.Grind.{common_steps}
-use Rattle.bq_eval_language_spec.specs.Statements.{block}
+use Rattle.bq_builtin_machine.specs.Action.{Run}
+use Rattle.bq_eval_meaning_spec.specs.Frame.{Frame}
+use Rattle.bq_eval_language_spec.specs.Slots.{by_slots}
+use Rattle.bq_eval_language_spec.specs.Statements.{Flow, block, run_to}
+use Rattle.bq_eval_frame.specs.Slots.{slots_of}
+use Rattle.bq_eval_rules.specs.declared.flow.Flow.TheVariants as variants
+use Rattle.bq_eval_rules.specs.Acts.{Acts}
+use Rattle.bq_eval_rules.specs.Flows.{flow_of}
+use Rattle.bq_eval_rules.specs.Round.{evals}
+use Rattle.bq_eval_rules.proofs.Flowing.{ends_statements}
 use Rattle.bq_eval_rules.proofs.statements.Runner.block.Goals as goal
 
 pub loop-stmt-init : goal.loop-stmt-init
@@ -11,10 +20,6 @@ pub loop-stmt-preserved : goal.loop-stmt-preserved
 unfolding block
 loop-stmt-preserved g c = grind (arith, common_steps)
 
-pub returns-in_err-run : goal.returns-in_err-run
-unfolding block
-returns-in_err-run g c = grind (arith, common_steps)
-
 pub returns-in-Leave : goal.returns-in-Leave
 unfolding block
 returns-in-Leave g c = grind (arith, common_steps)
@@ -23,9 +28,14 @@ pub returns-in-Again : goal.returns-in-Again
 unfolding block
 returns-in-Again g c = grind (arith, common_steps)
 
-pub returns-in-Answer : goal.returns-in-Answer
-unfolding block
-returns-in-Answer g c = grind (arith, common_steps)
+pub returns-in-Ended : goal.returns-in-Ended
+returns-in-Ended g c =
+    let h = g.R.Runtime in
+    let e = evals h.means c.args.self.now.reader.context.now in
+    let last = slots_of c.run.new.arg5 in
+    let t = h.seen c.run.new.arg6 in
+    let P : Run h.State (Flow × Frame) → Type 0 = λ run. Acts h.means (λ f. (f, last)) (flow_of variants.Ended c.run.new.arg8) t run in
+    subst P c.loop-stmt.invariant (ends_statements h.means last t c.run.new.arg8 e (run_to c.args.self.now.depth h.means by_slots e) c.args.stmts.now c.loop-stmt.stmt-index c.stmt-item.result c.loop-stmt-test.true c.stmt-item.is (slots_of c.loop-stmt.frame) (h.seen c.loop-stmt.runtime) (c.requires.says _ _ _ _ _ _ _ _ _ c.in-Ended.ensures))
 
 pub returns : goal.returns
 unfolding block

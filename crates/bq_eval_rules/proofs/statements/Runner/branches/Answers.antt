@@ -11,13 +11,13 @@ pub loop-branch-preserved : goal.loop-branch-preserved
 unfolding branches
 loop-branch-preserved g c = grind (arith, common_steps)
 
-pub returns-in_err-holds : goal.returns-in_err-holds
+pub returns-in-None : goal.returns-in-None
 unfolding branches
-returns-in_err-holds g c = grind (arith, common_steps)
+returns-in-None g c = grind (arith, common_steps)
 
-pub returns-then-branch : goal.returns-then-branch
+pub returns-in-Some-true : goal.returns-in-Some-true
 unfolding branches
-returns-then-branch g c = grind (arith, common_steps)
+returns-in-Some-true g c = grind (arith, common_steps)
 
 pub returns : goal.returns
 unfolding branches

@@ -13,26 +13,14 @@ returns-in-Simple g c =
     let e = evals h.means c.args.self.now.reader.context.now in
     rw (line_runs h.means e (run_to c.args.self.now.depth h.means by_slots e) c.args.stmt.now (slots_of c.args.frame.now) (h.seen c.args.runtime.now) _ c.in-Simple.is) (grind (arith, common_steps))
 
-pub returns-in_err-step-in-If : goal.returns-in_err-step-in-If
-returns-in_err-step-in-If g c =
+pub returns-in-If : goal.returns-in-If
+returns-in-If g c =
     let h = g.R.Runtime in
     let e = evals h.means c.args.self.now.reader.context.now in
     rw (branches_run h.means e (run_to c.args.self.now.depth h.means by_slots e) c.args.stmt.now (slots_of c.args.frame.now) (h.seen c.args.runtime.now) _ _ c.in-If.is) (grind (arith, common_steps))
 
-pub returns-in_ok-step-in-If : goal.returns-in_ok-step-in-If
-returns-in_ok-step-in-If g c =
-    let h = g.R.Runtime in
-    let e = evals h.means c.args.self.now.reader.context.now in
-    rw (branches_run h.means e (run_to c.args.self.now.depth h.means by_slots e) c.args.stmt.now (slots_of c.args.frame.now) (h.seen c.args.runtime.now) _ _ c.in-If.is) (grind (arith, common_steps))
-
-pub returns-in_err-step-in-For : goal.returns-in_err-step-in-For
-returns-in_err-step-in-For g c =
-    let h = g.R.Runtime in
-    let e = evals h.means c.args.self.now.reader.context.now in
-    rw (loop_runs h.means e (run_to c.args.self.now.depth h.means by_slots e) c.args.stmt.now (slots_of c.args.frame.now) (h.seen c.args.runtime.now) _ _ _ c.in-For.is) (grind (arith, common_steps))
-
-pub returns-in_ok-step-in-For : goal.returns-in_ok-step-in-For
-returns-in_ok-step-in-For g c =
+pub returns-in-For : goal.returns-in-For
+returns-in-For g c =
     let h = g.R.Runtime in
     let e = evals h.means c.args.self.now.reader.context.now in
     rw (loop_runs h.means e (run_to c.args.self.now.depth h.means by_slots e) c.args.stmt.now (slots_of c.args.frame.now) (h.seen c.args.runtime.now) _ _ _ c.in-For.is) (grind (arith, common_steps))

@@ -5,12 +5,12 @@ use Rattle.bq_eval_frame.specs.Slots.{slots_of}
 use Rattle.bq_eval_rules.specs.Round.{evals}
 use Rattle.bq_eval_rules.proofs.statements.Runner.turns.Given as goal
 
-abbrev pub invariant-loop-value : goal.invariant-loop-value
-invariant-loop-value g l =
+abbrev pub invariant-loop-out : goal.invariant-loop-out
+invariant-loop-out g l =
     let h = g.R.Runtime in
     let e = evals h.means l.self.reader.context.now in
     let f = run_to l.self.depth h.means by_slots e in
-    turns h.means by_slots e f l.target l.body l.elements (slots_of l.frame) (h.seen l.runtime) ≡ turns h.means by_slots e f l.target l.body l.fn.elements (slots_of l.fn.frame) (h.seen l.fn.runtime)
+    turns h.means by_slots e f l.each.target.now l.each.stmts.now l.elements (slots_of l.frame) (h.seen l.runtime) ≡ turns h.means by_slots e f l.each.target.now l.each.stmts.now l.fn.elements (slots_of l.fn.frame) (h.seen l.fn.runtime)
 
-abbrev pub decreases-loop-value : goal.decreases-loop-value
-decreases-loop-value g l = length l.elements
+abbrev pub decreases-loop-out : goal.decreases-loop-out
+decreases-loop-out g l = length l.elements

@@ -1,0 +1,20 @@
+-- The files of a workspace as they are edited.
+use Rattle.std.specs.Prelude.{ℕ, ◌++◌, Bool, List, [], ◌∷◌, bytes_eq, not}
+use Rattle.std.specs.List.{filter}
+use Rattle.bq_label.specs.declared.workspace.File.{File}
+use Rattle.bq_run_session.specs.declared.edits.Edit.{Edit}
+use Rattle.bq_run_session.specs.declared.edits.Edit.TheVariants.{Put, Remove}
+
+-- the file is at another path
+abbrev pub is_elsewhere : List ℕ → File → Bool
+is_elsewhere path file = not (bytes_eq file.path path)
+
+-- the file that is put takes the place of the one at its path, if there is one
+abbrev pub with_edit : Edit → List File → List File
+with_edit (Put file) files = filter (is_elsewhere file.path) files ++ file ∷ []
+with_edit (Remove path) files = filter (is_elsewhere path) files
+
+-- the files after these edits, one after another
+abbrev pub edited : List File → List Edit → List File
+edited files [] = files
+edited files (e ∷ es) = edited (with_edit e files) es
