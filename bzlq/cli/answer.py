@@ -10,10 +10,10 @@ import threading
 from bzlq.bq import LARGE, Facts
 from bzlq.cache.store import Kept
 from bzlq.cli.formats import FORMS
-from bzlq.cli.labels import Labels
+from bzlq.cli.labels import ALL, Labels
 from bzlq.cli.process import Unwritten, write, write_bytes
 from bzlq.cli.relative_labels import BadWord, absolute
-from bzlq.overlay.approximations import ask, of_targets
+from bzlq.overlay.approximations import ask, ask_all, looking_through, of_targets
 from bzlq.overlay.assembly import MAX_STEPS, run_options
 from bzlq.workspace.root import folder_of, root_of
 
@@ -67,8 +67,9 @@ class Answer:
         if not form:
             from bzlq.overlay.package_defaults import lines_of  # (not at the top: it reads files)
             return ended, ended.stdout + text_of(lines_of(self.kept.path("bundle"), ended.stdout)), None
-        targets = Facts.of_lines(ended.stdout.splitlines()).targets
-        return ended, text_of(form(targets, ended.stdout, self.path)), of_targets(self.query, targets.values())
+        targets, inner = Facts.of_lines(ended.stdout.splitlines()).targets, sum(looking_through(self.query), [])
+        counts = [len(lines) for _, lines in ask_all(self.program, options, bundle, inner)[0]] if inner else []
+        return ended, text_of(form(targets, ended.stdout, self.path)), of_targets(self.query, targets.values(), counts)
 
     def ask(self, bundle, more):
         """Asks for the answer, and for more in the same session."""
@@ -92,6 +93,7 @@ class Answer:
     def many(self, bundle, name):
         """Answers the queries of a file, or those of standard input, each as soon as it is there."""
         words = [self.program, *self.options(), *self.call.of_bq("--output"), "--bundle", f"/dev/fd/{bundle.fileno()}", "--queries", "-"]
+        lost = LostOfAll(self.program, self.options(), bundle)
         with open(sys.stdin.fileno() if name == "-" else name, "rb", closefd=name != "-") as lines:
             # (SIGXFSZ stays ignored, as Python has it: a limit of file sizes is an error of a write)
             outputs = [subprocess.PIPE if it.isatty() else None for it in (sys.stdout, sys.stderr)]
@@ -115,6 +117,8 @@ class Answer:
             finally:
                 for it in readers:
                     it.join()
+            lost.join()
+            write([f"bzlq: {it}" for it in (lost.found.lines("the workspace") if lost.found else ())], sys.stderr)
             return run.returncode
 
     def full(self, line):
@@ -160,6 +164,19 @@ class Answer:
         if found:
             lines = lines + [f"bzlq: {it}" for it in found.lines()]
         write(lines, sys.stderr)
+
+
+class LostOfAll(threading.Thread):
+    """Finds out beside a run what is lost of all targets: `found` has it at the end."""
+
+    def __init__(self, *asked):
+        super().__init__(daemon=True)
+        self.asked, self.found = asked, None
+        self.start()
+
+    def run(self):
+        """Asks for it."""
+        _, self.found, _ = ask(*self.asked, ALL)
 
 
 def passed_on(pipe, to):

@@ -4,7 +4,7 @@ import os
 import re
 from collections import Counter, defaultdict
 
-from bzlq.overlay.definitions import definition, value_for
+from bzlq.overlay.definitions import definition, made_up, value_for
 from bzlq.overlay.extra_targets import text_of
 from bzlq.overlay.global_names import VALUE, GlobalNames
 from bzlq.overlay.guesses import by_values
@@ -12,7 +12,6 @@ from bzlq.overlay.lost_values import lost_names
 from bzlq.overlay.reading import BUILD_FUNCTIONS, BUILT_INS, LEFT_OUT, Statement, read
 from bzlq.overlay.replaced import Replaced
 from bzlq.overlay.replacements import NATIVE_VALUES
-from bzlq.overlay.rule_sets import TYPES
 from bzlq.overlay.skylib import MEMBERS, REPOSITORY as SKYLIB
 from bzlq.workspace.files import MAX_SIZE, SCHEMA, content, files, has_content, is_path
 
@@ -530,7 +529,7 @@ class Facts:
         repository, package, name = place
         if repository is not None:
             label = (f"@{repository}" if repository else "") + f"//{package}:{name}"
-            return [] if symbol.rpartition("__")[2] in TYPES else [f"kind: {symbol} of {label}, which isn't there"]
+            return made_up(symbol, label)
         file = self.workspace.files[package]
         if symbol in file.made:
             return []

@@ -105,10 +105,18 @@ def _of_text(rule, key, value, edges, lost):
     lost.append("select: " + key)
     return plain
 
+def _labels(values):
+    return [it for it in values if type(it) == "string" and (it[:1] in (":", "@") or it[:2] == "//")]
+
 def _is_left_out(rule, key, value, edges, lost):
     is_open = rule not in _DICTS
     if type(value) == "dict" and (is_open or key in _DICTS[rule]):
-        edges[_AND.join([it for it in value.keys() if type(it) == "string" and (it[:1] in (":", "@") or it[:2] == "//") and key not in _TEXTS])] = None
+        if key not in _TEXTS:
+            edges[_AND.join(_labels(value.keys()))] = None
+            if rule == "cc_toolchain_suite":
+                edges[_AND.join(value.values())] = None
+            elif _labels([part for it in value.values() for part in (it if type(it) == "list" else [it])]):
+                lost.append("edges: " + key)
     elif not (type(value) == "list" and is_open and not _is_texts(value)):
         return False
     lost.append("dict: " + key)

@@ -43,6 +43,8 @@ class Copy:
         self.empty_texts = empty_texts(facts, file)
         self.more = ""  # a line at the end
         self.has_escapes = b"\\" in text
+        own = facts.workspace.name
+        self.names_own = re.compile(rf"@{re.escape(own)}//[^\s\\]*") if names_own(facts, file) else None
 
     def own_names(self, names):
         """Goes into a function that binds these names."""
@@ -128,7 +130,9 @@ class Copy:
     def visit(self, node, wanted=""):
         """Replaces parts of an expression or statement; `wanted` is what its place takes: list, text, unknown, or empty."""
         if node.__class__ is ast.Constant:
-            if self.has_escapes and isinstance(node.value, str):
+            if self.names_own and isinstance(node.value, str) and self.names_own.fullmatch(node.value):
+                self.own_label(node)
+            elif self.has_escapes and isinstance(node.value, str):
                 self.escapes(node)
             return
         if found := replacement(node, self.all_names, self.labels) if isinstance(node, REPLACED) else None:
@@ -423,6 +427,14 @@ class Copy:
         else:
             self.arguments(node)
 
+    def own_label(self, node):
+        """Writes a label with the workspace's own name as one without, which names the same target; columns after it stay."""
+        start, end = self.span(node)
+        name = f"@{self.facts.workspace.name}".encode()
+        if self.text[start + 1:end - 1] == node.value.encode():
+            self.parts += [(start + 1, start + 1 + len(name), b""), (end, end, b" " * len(name))]
+            self.counts["a label with the workspace's name"] += 1
+
     def escapes(self, node):
         """Writes out what an escape stands for that the language leaves out."""
         start, end = self.span(node)
@@ -444,9 +456,15 @@ def declares_tests(file):
     return any((call.name in TESTS or call.name == "test_suite") and call.name not in file.globals for call in file.calls)
 
 
+def names_own(facts, file):
+    """Whether a file has labels with the name that the workspace gives itself."""
+    own = facts.workspace.name
+    return facts.workspace.is_own(own) and not file.path.startswith("external/") and any(label[0] == own.encode() for label in file.labels)
+
+
 def may_change(facts, file):
     """Whether something in a file may be replaced; there is nothing in most BUILD files."""
-    return not file.is_build or file.is_odd or bool(file.members) or declares_tests(file) or has_unknown_values(facts, file) or bool(used_early(file))
+    return not file.is_build or names_own(facts, file) or file.is_odd or bool(file.members) or declares_tests(file) or has_unknown_values(facts, file) or bool(used_early(file))
 
 
 def has_unknown_values(facts, file):

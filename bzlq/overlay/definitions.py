@@ -3,7 +3,8 @@ from collections import Counter
 
 from bzlq.overlay.guesses import type_of
 from bzlq.overlay.reading import BUILD_FUNCTIONS, BUILT_INS
-from bzlq.overlay.skylib import MEMBERS
+from bzlq.overlay.rule_sets import ENDINGS, OTHER_KINDS, SEVERAL, SIZES, TYPES
+from bzlq.overlay.skylib import MEMBERS, REPOSITORY, RULES
 from bzlq.overlay.starlark_text import quoted
 
 RESERVED = set("""and break continue def elif else for if in lambda load not or pass return as assert async await class del except finally from
@@ -47,14 +48,34 @@ LABELS_OF = {
 }
 
 
+def made_up(symbol, label):
+    """What is made up of the targets that a macro or rule of a file declares which isn't there."""
+    name = symbol.rpartition("__")[2]
+    if name in SEVERAL:
+        return [f"targets: {symbol} of {label}, which isn't there, may declare more"]
+    return [] if name in TYPES and name not in OTHER_KINDS and name not in ENDINGS else [f"kind: {symbol} of {label}, which isn't there"]
+
+
+def forwarded(symbol, lost, endings):
+    """The text of a macro that forwards to a rule, and declares targets of these endings, each with its rule, beside it."""
+    texts = ", ".join(quoted(it) for it in lost)
+
+    def call(rule, given):
+        return f'native.{rule}(**bzlq_given("{rule}", [{texts}], {given}))'
+
+    more = "".join(f'; {call(rule, f"""{{"name": name + "{ending}", "data": [":" + name]}}""")}' for ending, rule in endings.items())
+    size = f', "size": "{SIZES[symbol]}"' if symbol in SIZES else ""
+    return f"def {symbol}(name, *args, **given): " + call(rule_of(symbol), f'dict({{"name": name{size}}}, **given)') + more
+
+
 def definition(repository, symbol, stub, lost=()):
     """The text that defines a symbol, in one line but for members of skylib's. `lost` says what is made up."""
     if symbol in MEMBERS and repository:
         return f"def {symbol}{MEMBERS[symbol]}"
+    if symbol in RULES and repository == REPOSITORY:
+        return f"def {symbol}{RULES[symbol]}".replace("LOST", f"[{', '.join(quoted(it) for it in lost)}]")
     if stub.makes_targets:
-        rule = rule_of(symbol)
-        texts = ", ".join(quoted(it) for it in lost)
-        return f"def {symbol}(name, *args, **given): native.{rule}(**bzlq_given(\"{rule}\", [{texts}], dict({{\"name\": name}}, **given)))"
+        return forwarded(symbol, lost, ENDINGS.get(symbol, {}) if repository else {})
     if repository and symbol in LABELS_OF:
         return f"def {symbol}(name, *args, **kwargs): return {LABELS_OF[symbol].format(repository=repository)}"
     if not stub.is_called:

@@ -12,8 +12,11 @@ LABEL_MEMBERS = {
     "workspace_name": 't[1:].partition("//")[0] if t.startswith("@") else ""',
     "repo_name": 't[1:].partition("//")[0] if t.startswith("@") else ""',
 }
+# what only files and macros of a WORKSPACE may call, which declares no target
+WORKSPACE_FUNCTIONS = ("bind", "local_repository", "new_local_repository", "register_execution_platforms", "register_toolchains")
 # what stands for a call of a member of `native` that bq leaves out, as for a workspace in which nothing was declared before
-NATIVE_VALUES = {"repository_name": '"@"', "repo_name": '""', "module_name": "None", "module_version": "None", "existing_rules": "{}", "existing_rule": "None"}
+NATIVE_VALUES = {"repository_name": '"@"', "repo_name": '""', "module_name": "None", "module_version": "None", "existing_rules": "{}", "existing_rule": "None",
+                 **dict.fromkeys(WORKSPACE_FUNCTIONS, "None")}
 # functions whose calls are replaced; a file or function that binds such a name means something else
 NAMES = ("Label", "abs", "depset", "hasattr", "json", *NATIVE_VALUES)
 

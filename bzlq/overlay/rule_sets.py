@@ -229,3 +229,10 @@ TESTS = frozenset(rule for rule in TYPES if rule.endswith("_test"))
 TEST_TYPES = {"size": "string", "timeout": "string", "flaky": "bool", "shard_count": "int", "args": "string_list", "local": "bool", "env_inherit": "string_list"}
 # attributes without which a call is refused
 MANDATORY = {"genrule": ("outs",), "alias": ("actual",), "toolchain": ("toolchain", "toolchain_type"), "constraint_value": ("constraint_setting",)}
+# macros among the rules of the table: those that declare targets of another kind, those that declare more targets, and those of which it is known
+# which more: the endings of their names, each with the rule that is nearest
+OTHER_KINDS = frozenset("build_test copy_directory copy_file diff_test go_grpc_library pkg_deb pkg_mklink pkg_tar pkg_zip write_file".split())
+SEVERAL = frozenset("cargo_build_script gomock nogo oci_image oci_image_index oci_load oci_push oci_tarball py_wheel".split())
+ENDINGS = {"compile_pip_requirements": {".update": "py_binary", "_test": "py_test"}, "gazelle": {"-runner": "gazelle"}}
+# what macros of tests give as the size where they are given none
+SIZES = {"build_test": "small", "diff_test": "small"}

@@ -6,7 +6,7 @@ from bzlq.overlay.arguments import ATTRIBUTES
 from bzlq.overlay.definitions import RESERVED, rule_of
 from bzlq.overlay.guesses import BASE, COMMON, DICTS, FAMILIES, attributes_of, type_of
 from bzlq.overlay.reading import BUILD_FUNCTIONS, BUILT_INS, IDENTIFIER
-from bzlq.overlay.rule_sets import BAZEL, CLOSED, DICTS_OF, LATER, MANDATORY, OF_BAZEL, TESTS, TEST_TYPES, TYPES
+from bzlq.overlay.rule_sets import BAZEL, CLOSED, DICTS_OF, ENDINGS, LATER, MANDATORY, OF_BAZEL, TESTS, TEST_TYPES, TYPES
 
 # how near a name is to one that it may have been meant for: `sources` to `srcs` is
 NEAR = 0.72
@@ -103,6 +103,8 @@ def schema_of(facts):
             is_forwarded = place[0] is None or not symbol.startswith("_") and not facts.workspace.is_own(place[0])
             if stub.makes_targets and is_forwarded:
                 schema.add(rule_of(symbol), facts.given.get(("stub", place, symbol), {}))
+                for rule in ENDINGS.get(symbol, {}).values() if place[0] else ():
+                    schema.add(rule, {})
                 if place[0] is None:
                     file = facts.workspace.files[place[1]]
                     schema.said[rule_of(symbol)].update(file.made.get(symbol, {}))

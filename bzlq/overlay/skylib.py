@@ -75,9 +75,38 @@ TYPES = {
     f"is_{name}": f"(v):\n    return type(v) == {kind!r}".replace("'", '"')
     for name, kind in {"list": "list", "string": "string", "bool": "bool", "none": "NoneType", "int": "int", "tuple": "tuple", "dict": "dict"}.items()
 }
+# (the branches of each alias are its target and an edge)
+SELECTS = {
+    "config_setting_group": """(name, match_any = [], match_all = [], visibility = None, **given):
+    if bool(match_any) == bool(match_all):
+        fail("Either 'match_any' or 'match_all' must be set, but not both.")
+    settings = match_any or match_all
+    if "//conditions:default" in settings:
+        native.config_setting_group(**bzlq_given("config_setting_group", ["targets: config_setting_group"], {"name": name, "visibility": visibility}))
+        return
+    nexts = [":%s_%d" % (name, i) for i in range(2, len(settings))] + settings[-1:]
+    for i in range(1, max(len(settings), 2)):
+        setting, other = settings[i - 1], nexts[min(i, len(nexts)) - 1]
+        lost = ["select: actual"] if len(settings) > 1 else []
+        found = {"name": name if i == 1 else "%s_%d" % (name, i), "visibility": visibility if i == 1 else ["//visibility:private"]}
+        found["actual"], found["bzlq_edges"] = (other, [setting]) if match_any else (setting, [other])
+        native.alias(**bzlq_given("alias", lost, found))""",
+}
 MEMBERS = {
     f"{symbol}__{member}": text
-    for symbol, members in {"paths": PATHS, "dicts": DICTS, "shell": SHELL, "collections": COLLECTIONS, "sets": SETS, "types": TYPES}.items()
+    for symbol, members in {"paths": PATHS, "dicts": DICTS, "shell": SHELL, "collections": COLLECTIONS, "sets": SETS, "types": TYPES, "selects": SELECTS}.items()
     for member, text in members.items()
 }
 REPOSITORY = "bazel_skylib"
+# macros that declare rules, which aren't called like them in each release
+RULES = {
+    "build_test": """(name, targets, **given):
+    parts, data = {it: None for it in targets}.keys(), []
+    size = max(1, len(parts) // 100)
+    for i in range(0, len(parts), size):
+        data.append("%s_%d__deps" % (name, i // size))
+        made = {"name": data[-1], "srcs": parts[i:i + size], "outs": [data[-1] + ".out"], "cmd": "touch $@", "testonly": True, "visibility": ["//visibility:private"]}
+        made.update({it: given[it] for it in ("compatible_with", "restricted_to", "tags") if it in given})
+        native.genrule(**bzlq_given("genrule", [], made))
+    native.build_test(**bzlq_given("build_test", LOST, dict({"name": name, "data": data, "size": "small"}, **given)))""",
+}

@@ -101,8 +101,17 @@ def unreadable(bench):
 LOSSES = {
     "kind": ({"a/BUILD": R + 'junit_tests(name = "t", srcs = ["T.java"])\n'}, "//a:t", "//a:t\n", "kind made up 1", 0),
     "kind, where kinds are asked for": ({"a/BUILD": R + 'junit_tests(name = "t", srcs = ["T.java"])\n'}, 'kind("test", //a:t)', "//a:t\n", "kind made up 1", 3),
+    "kind, of others than are asked for": ({"a/BUILD": R + 'junit_tests(name = "t", srcs = ["T.java"])\njunit_tests(name = "u")\nfilegroup(name = "x")\n'}, 'kind("filegroup", //a:all) + kind("_test rule", //a:t)', "//a:x\n",
+                                           "2 of the targets that this query looks through have a kind that was made up, and kind(..) leaves them out", 3),
+    "kind, by a variable": ({"a/BUILD": R + 'junit_tests(name = "t", srcs = ["T.java"])\nfilegroup(name = "x")\n'}, 'let v = //a:all in kind("filegroup", $v)', "//a:x\n",
+                            "1 of the targets that this query looks through has a kind that was made up, and kind(..) leaves it out", 3),
     "targets": ({"a/BUILD": 'load(":m.bzl", "m")\nm(name = "t", srcs = ["a.c"])\n', "a/m.bzl": 'def m(name, srcs):\n    x = lambda: 0\n    native.filegroup(name = name)\n'},
                 "//a:t", "//a:t\n", "one target for a macro 1", 3),
+    "targets, of a macro of a rule set": ({"a/BUILD": 'load("@io_bazel_rules_go//go:def.bzl", "nogo")\nnogo(name = "t", vet = True)\n'}, "//a:t", "//a:t\n", "one target for a macro 1", 3),
+    "kind, of a macro of a rule set": ({"a/BUILD": 'load("@bazel_skylib//rules:copy_file.bzl", "copy_file")\ncopy_file(name = "t", src = "a.c", out = "b.c")\n'}, "//a:t", "//a:t\n", "kind made up 1", 0),
+    "kind, of targets that a macro of a rule set declares beside": (
+        {"a/BUILD": 'load("@rules_python//python:pip.bzl", "compile_pip_requirements")\ncompile_pip_requirements(name = "t", requirements_txt = "r.txt")\n', "a/r.txt": ""},
+        'kind("_test rule", rdeps(//..., //a:r.txt))', "//a:t_test\n", "kind made up 1", 3),
     "value": ({"a/BUILD": 'load("@r//:m.bzl", "files")\nfilegroup(name = "t", srcs = files("a", ["b.c"]))\n'}, "deps(//a:t)", "//a:b.c\n//a:t\n", "value that isn't there 1", 3),
     "value, in a macro": ({"a/BUILD": 'load(":m.bzl", "m")\nm(name = "t")\n', "a/m.bzl": 'load("@r//:m.bzl", "MORE")\ndef m(name):\n    native.filegroup(name = name, srcs = MORE)\n'},
                           "//a:t", "//a:t\n", "value that isn't there 1", 3),
@@ -123,6 +132,8 @@ LOSSES = {
                            "a/ü.txt": ""}, "//a:t", "//a:t\n", "files left out 1", 3),
     "dict": ({"a/BUILD": 'config_setting(name = "t", values = {"cpu": "arm"})\n'}, "//a:t", "//a:t\n", "dict left out 1", 0),
     "dict, with labels": ({"a/BUILD": 'config_setting(name = "t", flag_values = {":f": "arm"})\nfilegroup(name = "f")\n'}, "deps(//a:t)", "//a:f\n//a:t\n", "dict left out 1", 0),
+    "dict, with labels as values": ({"a/BUILD": 'load("@r//:m.bzl", "pack")\npack(name = "t", files = {"x": ":a.txt"})\n'}, "//a:t", "//a:t\n", "edges by a type that was guessed 1, dict left out 1", 3),
+    "dict, of toolchains": ({"a/BUILD": 'cc_toolchain_suite(name = "t", toolchains = {"k8": "k8-cc"})\nfilegroup(name = "k8-cc")\n'}, "deps(//a:t)", "//a:k8-cc\n//a:t\n", "dict left out 1", 0),
     "select": ({"a/BUILD": 'alias(name = "t", actual = select({":c": ":x", "//conditions:default": ":y"}))\nfilegroup(name = "c")\nfilegroup(name = "x")\nfilegroup(name = "y")\n'},
                "deps(//a:t)", "//a:c\n//a:t\n//a:x\n//a:y\n", "one branch of a select 1", 0),
     "test_suite": ({"a/BUILD": 'load(":m.bzl", "m")\nm("t")\n', "a/m.bzl": "def m(name):\n    native.test_suite(name = name)\n"}, "//a:t", "//a:t\n", "edges by a type that was guessed 1", 3),
@@ -134,6 +145,14 @@ def losses(bench):
     for what, (files, query, output, line, status) in LOSSES.items():
         bench.lay_out("ws", {"WORKSPACE": "", **files})
         told(bench, f"lost, {what}", bench.run(f"bzlq '{query}'", "ws"), output, [line], status)
+    bench.lay_out("ws", {"WORKSPACE": "", **LOSSES["kind, of others than are asked for"][0]})
+    for form in ("label", "location", "package"):
+        query = f"bzlq --output {form} 'kind(filegroup, //a:all)'"
+        told(bench, f"lost, by --output {form}", bench.run(query, "ws"), {"label": "//a:x\n", "location": "a/BUILD:4: filegroup rule //a:x\n", "package": "a\n"}[form],
+             ["kind(..) leaves them out"], 3)
+    told(bench, "lost, in a workspace that is asked many queries", bench.run("bzlq queries -", "ws", b"//a:x\n"), "=== 0 1 //a:x\n//a:x\n",
+         ["bzlq: 2 of 5 targets of the workspace are approximations: kind made up 2\n"], 0)
+    bench.lay_out("ws", {"WORKSPACE": "", **LOSSES["test_suite"][0]})
     bench.compare("lost, by --strict", bench.run("bzlq --strict //...", "ws")[2], 3)
     bench.lay_out("ws", {"WORKSPACE": "", **LOSSES["dict"][0]})
     bench.compare("lost, a dict by --strict", [bench.run(f"bzlq {word} //...", "ws")[2] for word in ("", "--strict")], [0, 3])

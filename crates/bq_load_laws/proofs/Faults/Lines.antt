@@ -36,71 +36,23 @@ use Rattle.bq_load_laws.proofs.Faults.Outcomes.{outcomes_fail}
 
 of_token : (kind : TokenFault) → is_of_module (kind_of_token kind) ≡ true
 of_token t.BadByte = refl
-of_token t.Indent = refl
-of_token t.Tab = refl
-of_token t.OpenString = refl
-of_token t.Escape = refl
-of_token t.BadInt = refl
-of_token t.Bracket = refl
-of_token t.FileTooLong = refl
+of_token _ = refl
 
 of_statement : (kind : StatementFault) → is_of_module (kind_of_statement kind) ≡ true
 of_statement s.Syntax = refl
-of_statement s.Nesting = refl
-of_statement s.LeftOut = refl
-of_statement s.NotInBuild = refl
+of_statement _ = refl
 
 of_name : (kind : NameFault) → is_of_module (kind_of_name kind) ≡ true
 of_name n.Nesting = refl
-of_name n.UnknownName = refl
-of_name n.Rebound = refl
-of_name n.BoundTwice = refl
-of_name n.BadFlow = refl
-of_name n.DoubleParameter = refl
+of_name _ = refl
 
 of_load : (kind : LoadFault) → is_of_module (kind_of_load kind) ≡ true
 of_load l.BadLoadLabel = refl
-of_load l.NoSuchFile = refl
-of_load l.NoPackage = refl
-of_load l.NoSymbol = refl
-of_load l.PrivateSymbol = refl
-of_load l.CycleReached = refl
-of_load l.LoadFailed = refl
-of_load l.CrossesPackage = refl
-of_load l.LoadDepth = refl
+of_load _ = refl
 
 of_eval : (kind : EvalFault) → is_of_module (kind_of_eval kind) ≡ true
 of_eval e.CrossesPackage = refl
-of_eval e.WrongType = refl
-of_eval e.Overflow = refl
-of_eval e.DivZero = refl
-of_eval e.Index = refl
-of_eval e.NoKey = refl
-of_eval e.Unhashable = refl
-of_eval e.DoubleKey = refl
-of_eval e.Frozen = refl
-of_eval e.Iterating = refl
-of_eval e.Unbound = refl
-of_eval e.Recursion = refl
-of_eval e.CallDepth = refl
-of_eval e.Args = refl
-of_eval e.StepLimit = refl
-of_eval e.TooLong = refl
-of_eval e.TooDeep = refl
-of_eval e.Fail = refl
-of_eval e.BadValue = refl
-of_eval e.NoMethod = refl
-of_eval e.Format = refl
-of_eval e.Select = refl
-of_eval e.NotInPackage = refl
-of_eval e.NoAttribute = refl
-of_eval e.MissingAttribute = refl
-of_eval e.AttributeType = refl
-of_eval e.DoubleTarget = refl
-of_eval e.BadName = refl
-of_eval e.GlobEmpty = refl
-of_eval e.GlobPattern = refl
-of_eval e.BadLabel = refl
+of_eval _ = refl
 
 by_stage : {K : Type 0} (kind : K → FaultKind) (at : Fault K) (why : Fault FaultKind) → why ≡ fault_as kind at → is_of_module (kind at.kind) ≡ true → is_of_module why.kind ≡ true
 by_stage kind at why is h = subst (λ (z : Fault FaultKind). is_of_module z.kind ≡ true) (sym is) h
