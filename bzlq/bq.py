@@ -13,6 +13,7 @@ targets with their attributes and direct dependencies, the modules with their lo
 of a workspace with other repositories, which is read as bzlq reads it; bzlq has to be beside this file then, or on the PATH. Else this file
 needs Python 3.10 or later, and no other file: copy it to where you want it. docs/TOOLS.md says more.
 """
+import contextlib
 import io
 import json
 import os
@@ -24,7 +25,7 @@ import subprocess
 import sys
 import threading
 import time
-from collections.abc import Callable, Iterable, Mapping, Sequence
+from collections.abc import Callable, Iterable, Iterator, Mapping, Sequence
 from dataclasses import dataclass, field
 from typing import TypeVar
 
@@ -379,16 +380,24 @@ class Workspace:
         self._in_turn(lambda: self._say(text, deadline), deadline)
         self._is_edited = True
 
-    def _say(self, text: bytes, deadline: Deadline) -> None:
-        """Writes what is asked. If that is broken off, the process is of no use any more: it is ended."""
+    @contextlib.contextmanager
+    def _or_ended(self) -> Iterator[None]:
+        """Ends the process if anything but a refusal breaks off what is asked: more of an answer may come, or less was said than meant."""
         try:
-            self._write(text, deadline)
+            yield
+        except QueryError:
+            raise
         except ProcessError as error:
             self._end(error)
             raise
         except BaseException:
             self._end(ProcessError("the process was ended, since a query was interrupted"))
             raise
+
+    def _say(self, text: bytes, deadline: Deadline) -> None:
+        """Writes what has no answer."""
+        with self._or_ended():
+            self._write(text, deadline)
 
     def _too_old(self) -> ProcessError:
         """What a process is that takes a reload for a query: it has taken all that was put for queries too, so it is ended."""
@@ -407,19 +416,10 @@ class Workspace:
         self._errors = Errors(unblocked(self._process.stderr))
 
     def _answer(self, query: bytes, deadline: Deadline) -> tuple[bytes, list[bytes]]:
-        """The status of a query, and the lines of its answer. If anything but a refusal breaks it off, more of the answer may come, so that
-        the process is of no use any more: it is ended."""
-        try:
+        """The status of a query, and the lines of its answer."""
+        with self._or_ended():
             self._write(query + b"\n", deadline)
             return self._block(query, deadline)
-        except QueryError:
-            raise
-        except ProcessError as error:
-            self._end(error)
-            raise
-        except BaseException:
-            self._end(ProcessError("the process was ended, since a query was interrupted"))
-            raise
 
     def _write(self, text: bytes, deadline: Deadline) -> None:
         left = memoryview(text)
