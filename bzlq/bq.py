@@ -41,10 +41,19 @@ HEADER = re.compile(rb"=== (?P<status>[023]) (?P<count>\d{1,18}) (?P<query>.*)",
 MAX_QUERY_BYTES = 1 << 20
 # and a file that is put has no more
 MAX_FILE_BYTES = 1 << 30
+# a path in a workspace: segments of printable ASCII without `:` and the backslash, none of them `.` or `..`
+SEGMENT = r"(?!\.{1,2}(?:/|\Z))[ -.0-9;-\[\]-~]+"
+PATH = re.compile(f"{SEGMENT}(?:/{SEGMENT})*")
+# what a query isn't, since bq takes it for a command
+COMMAND = re.compile(r"=== (?:put |remove |facts |(?:facts|reload)\Z)")
 # what bzlq says of a bundle that it has made
 LARGE = "bq reads a bundle of this size with --large"
+# and what it says while it makes one
+READING = "reading the workspace"
 # a query that is answered once the workspace is loaded
 NOTHING = b"set()"
+# commands that are answered: by the faults, and by the facts
+RELOAD, FACTS = b"=== reload", b"=== facts"
 # the formats of facts that are read here; the first, up to bq 1.5, has no first line and no names
 FORMATS = (1, 2)
 # how many bytes are read at once
@@ -139,6 +148,8 @@ def bytes_of(query: str) -> bytes:
         raise BadQuery("a query can't be empty")
     if query.startswith("#"):
         raise BadQuery("a line that begins with # is a comment, and no query")
+    if COMMAND.match(query):
+        raise BadQuery("a line as this one is a command, and no query: there are put, remove, reload and facts for them")
     try:
         return query.encode("utf-8", "surrogateescape")
     except UnicodeEncodeError as error:
@@ -147,10 +158,18 @@ def bytes_of(query: str) -> bytes:
 
 def path_bytes(path: str) -> bytes:
     """A path as bq reads it. The same paths are valid as in a bundle."""
-    is_valid = all(" " <= c <= "~" and c not in ":\\" for c in path) and not any(it in ("", ".", "..") for it in path.split("/"))
-    if not is_valid:
+    if not PATH.fullmatch(path):
         raise BadPath(f"{path!r} is not a path in a workspace")
     return path.encode("ascii")
+
+
+def edit_of(path: str, content: bytes | None) -> bytes:
+    """The command that puts a file, or removes it where it has no content."""
+    if content is None:
+        return b"=== remove %s\n" % path_bytes(path)
+    if len(content) > MAX_FILE_BYTES:
+        raise BadPath(f"{path} has {len(content)} bytes, and a workspace has at most {MAX_FILE_BYTES}")
+    return b"=== put %d %s\n%s\n" % (len(content), path_bytes(path), content)
 
 
 def ended_by(program: str, status: int, errors: list[str], word: str) -> ProcessError:
@@ -206,8 +225,8 @@ def with_overlay(root: str, program: str) -> tuple[str, bool, list[str]]:
     lines = text_of(ended.stderr).splitlines()
     if ended.returncode:
         raise ProcessError(lines[-1] if lines else f"bzlq has ended with status {ended.returncode}")
-    large = f"bzlq: {LARGE}"
-    return text_of(ended.stdout).removesuffix("\n"), large in lines, [it for it in lines if it != large]
+    large, no_warnings = f"bzlq: {LARGE}", (f"bzlq: {LARGE}", f"bzlq: {READING}")
+    return text_of(ended.stdout).removesuffix("\n"), large in lines, [it for it in lines if it not in no_warnings]
 
 
 def options_of(jobs: int | None, max_steps: int | None, large: bool) -> list[str]:
@@ -308,25 +327,27 @@ class Workspace:
         _, lines = self._in_turn(lambda: self._answer(text, deadline), deadline)
         return [text_of(line) for line in lines]
 
-    def facts(self, query: str = "", timeout: float | None = None) -> "Facts":
+    def facts(self, query: str = "", timeout: float | None = None, *, as_loaded: bool = False) -> "Facts":
         """The facts behind a query, or behind all of the workspace, as it is now: they come from a run of their own. Once something was put or
-        removed they are those of the workspace as it was loaded last."""
+        removed, and with `as_loaded`, they are those of the workspace as it was loaded last."""
         seconds = self.timeout if timeout is None else timeout
-        if not self._is_edited:
+        if not self._is_edited and not as_loaded:
             return run_facts(self.program, self._place, query, self._options, seconds)
-        line, deadline = b"=== facts" + (b" " + bytes_of(query) if query else b""), Deadline(seconds, f"told the facts of {query[:200]}")
-        _, lines = self._in_turn(lambda: self._answer(line, deadline), deadline)
-        return Facts.of_lines(lines)
+        line, deadline = FACTS + (b" " + bytes_of(query) if query else b""), Deadline(seconds, f"told the facts of {query[:200]}")
+        return self._in_turn(lambda: self._told(line, deadline), deadline)
 
     def put(self, path: str, content: bytes, timeout: float | None = None) -> None:
         """Says what file is at a path of the workspace from the next reload on."""
-        if len(content) > MAX_FILE_BYTES:
-            raise BadPath(f"{path} has {len(content)} bytes, and a workspace has at most {MAX_FILE_BYTES}")
-        self._edit(b"=== put %d %s\n%s\n" % (len(content), path_bytes(path), content), timeout)
+        self.edit({path: content}, timeout)
 
     def remove(self, path: str, timeout: float | None = None) -> None:
         """Says that there is no file at a path of the workspace from the next reload on."""
-        self._edit(b"=== remove %s\n" % path_bytes(path), timeout)
+        self.edit({path: None}, timeout)
+
+    def edit(self, files: Mapping[str, bytes | None], timeout: float | None = None) -> None:
+        """Puts files, and removes those without content, all of them or none."""
+        text, deadline = b"".join(edit_of(*it) for it in files.items()), Deadline(self.timeout if timeout is None else timeout, "read the files")
+        self._in_turn(lambda: self._say(text, deadline), deadline)
 
     def reload(self, timeout: float | None = None) -> list[str]:
         """Loads the workspace with all that was put and removed. Returns its fault lines, which are `faults` from now on, as are the lines
@@ -334,12 +355,7 @@ class Workspace:
         deadline = Deadline(self.timeout if timeout is None else timeout, "loaded the workspace again")
 
         def ask() -> list[str]:
-            try:
-                status, lines = self._answer(b"=== reload", deadline)
-            except QueryError as error:
-                if error.number.startswith("E"):
-                    raise RunRefused(*error.args) from None
-                raise self._too_old() from None
+            status, lines = self._commanded(RELOAD, deadline)
             texts = [text_of(line) for line in lines]
             self.printed, self.faults = divided(texts) if status == b"3" else (texts, [])
             return self.faults
@@ -374,12 +390,6 @@ class Workspace:
         finally:
             self._lock.release()
 
-    def _edit(self, text: bytes, timeout: float | None) -> None:
-        """Says what becomes of a file, which has no answer."""
-        deadline = Deadline(self.timeout if timeout is None else timeout, "read a file")
-        self._in_turn(lambda: self._say(text, deadline), deadline)
-        self._is_edited = True
-
     @contextlib.contextmanager
     def _or_ended(self) -> Iterator[None]:
         """Ends the process if anything but a refusal breaks off what is asked: more of an answer may come, or less was said than meant."""
@@ -398,12 +408,28 @@ class Workspace:
         """Writes what has no answer."""
         with self._or_ended():
             self._write(text, deadline)
+        self._is_edited = True
 
-    def _too_old(self) -> ProcessError:
-        """What a process is that takes a reload for a query: it has taken all that was put for queries too, so it is ended."""
-        error = ProcessError(f"{self.program} is too old: it has no edits")
-        self._end(error)
-        return error
+    def _told(self, line: bytes, deadline: Deadline) -> "Facts":
+        """The facts that a command asks for."""
+        lines = self._commanded(line, deadline)[1]
+        try:
+            return Facts.of_lines(lines)
+        except (ValueError, KeyError, TypeError):
+            raise ProcessError(f"{self.program} doesn't tell facts as bq does") from None
+
+    def _commanded(self, command: bytes, deadline: Deadline) -> tuple[bytes, list[bytes]]:
+        """The answer to a command. A process that takes it for a query has taken all that was put for queries too, so it is ended."""
+        try:
+            return self._answer(command, deadline)
+        except QueryError as error:
+            if error.number.startswith("E"):
+                raise RunRefused(*error.args) from None
+            if command not in (RELOAD, FACTS):
+                raise
+        why = ProcessError(f"{self.program} is too old: it has no edits")
+        self._end(why)
+        raise why
 
     def _start(self, options: list[str]) -> None:
         where, folder = where_of(self._place)

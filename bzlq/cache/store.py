@@ -13,6 +13,7 @@ import shutil
 import sys
 import time
 
+from bzlq.bq import READING
 from bzlq.cache.fingerprint import Seen
 from bzlq.cache.folder import cache_of, is_at, locked, open_own, own
 from bzlq.cache.plain import keep_at, kept_at
@@ -218,7 +219,7 @@ class Kept:
             said = make_bundle([self.root, f"{new}/overlay"], f"{new}/bundle")
         else:
             from bzlq.cache.readings import Readings
-            print("bzlq: reading the workspace", file=sys.stderr, flush=True)
+            print(f"bzlq: {READING}", file=sys.stderr, flush=True)
             warnings, said, made = make_overlay(self.root, self.program, new, Readings(self.root, self.path("readings"), now["version"]))
         with open(f"{new}/state", "w", encoding="utf-8") as file:
             json.dump({**now, "bundle": os.path.getsize(f"{new}/bundle"), "large": is_large_at(f"{new}/bundle"), "warnings": warnings, "said": said}, file)

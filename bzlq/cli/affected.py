@@ -18,9 +18,10 @@ With --audit N it writes the list of each of the last N commits of HEAD, the old
 and what all lists come to: so you see on your own history what you would have run. --bazel COMMAND (such as bazel) also runs `bazel query` on
 the files of each commit, in a folder of the cache, and lists the targets that follow from its answers and that a list lacks.
 
-Status: 0 if the list is complete; 3 if a file of either side has a fault, or calls declare nothing over the overlay: then targets may be
-missing, so run everything (--all-on-fault lists all, and ends with 0); 2 if nothing can be answered; 4, 5 as for bq. A label that names no
-target (F79) is a fault too, unless --allow-dangling is given: where its package has no other fault, it hides no target.
+Status: 0 if the list is complete, but for other targets that may have edges that aren't known, which a line counts; 3 if a file of either side
+has a fault, or calls declare nothing over the overlay: then targets may be missing, so run everything (--all-on-fault lists all, and ends
+with 0); 2 if nothing can be answered; 4, 5 as for bq. A label that names no target (F79) is a fault too, unless --allow-dangling is given: where
+its package has no other fault, it hides no target.
 """
 import argparse
 import json
@@ -32,7 +33,7 @@ from bzlq.cache.folder import cache, room
 from bzlq.cli.audit import audit
 from bzlq.cli.process import ended, write
 from bzlq.cli.request import SHOWN, pattern
-from bzlq.diff.comparison import compare, users_in
+from bzlq.diff.comparison import compare, unlisted, users_in
 from bzlq.diff.git import WORK_TREE, Git
 from bzlq.diff.owners import PLACES, Owners
 from bzlq.diff.side import Side
@@ -75,7 +76,7 @@ class Affected:
             one, is_one = ("1 target", "may be a test, and isn't listed: --tests lists it"), len(odd) == 1
             count, what = one if is_one else (f"{len(odd)} targets", "may be tests, and aren't listed: --tests lists them")
             found.append(f"{count} of a kind that was made up ({kinds}) {what}")
-        found += [f"{path}: bq takes no file of such a name" for path in self.change.left_out]
+        found += self.change.left_out
         found += sorted({text.partition(": ")[2] for it in targets for text in it.lost if text.startswith("targets: ")})
         return found
 
@@ -158,6 +159,9 @@ def told(found, labels, unsafe, is_all):
     yield from [f"and {len(shown) - MOST} more that are deleted (--json lists them)"] if shown[MOST:] else []
     yield from change.notes
     yield from (f"in no target: {path}" for path in change.others)
+    if not is_all and (odd := unlisted(change, found.head, found.before)):
+        names = ", ".join(odd[:SHOWN]) + (", .." if odd[SHOWN:] else "")
+        yield f"{len(odd)} of the other targets may have edges that aren't known, so that more may be concerned: {names}"
     for it in unsafe[:SHOWN]:
         yield f"targets may be missing{', so all are listed' if is_all else ''}: {it}"
     if unsafe[SHOWN:]:

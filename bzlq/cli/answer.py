@@ -3,19 +3,25 @@ gives the status."""
 import contextlib
 import hashlib
 import os
+import re
 import subprocess
 import sys
 import threading
 
-from bzlq.bq import LARGE, Facts
+from bzlq.bq import LARGE, MAX_FILE_BYTES, PATH, Facts
 from bzlq.cache.store import Kept
 from bzlq.cli.formats import FORMS
 from bzlq.cli.labels import ALL, Labels
 from bzlq.cli.process import Unwritten, write, write_bytes
 from bzlq.cli.relative_labels import BadWord, absolute
-from bzlq.overlay.approximations import ask, ask_all, looking_through, of_targets
+from bzlq.overlay.approximations import KINDS, ask, ask_all, looking_through, of_targets
 from bzlq.overlay.assembly import MAX_STEPS, run_options
 from bzlq.workspace.root import folder_of, root_of
+
+
+# a command that puts a file, whose bytes come next, and one that has a query
+PUT = re.compile(rb"=== put (\d{1,18}) ([^\r\n]+)\r?\n")
+FACTS_OF = "=== facts "
 
 
 class Answer:
@@ -39,7 +45,7 @@ class Answer:
                 return 0
             if "--queries" in self.call.values:
                 self.tell([], warnings)
-                return self.many(bundle, self.call.values["--queries"])
+                return self.many(bundle, self.call.values["--queries"], warnings)
             return self.one(bundle, warnings)
 
     def one(self, bundle, warnings):
@@ -90,8 +96,9 @@ class Answer:
         is_large = self.kept.is_large or "--large" in self.call.flags
         return [*self.call.of_bq("--jobs"), *run_options(is_large, self.call.values.get("--max-steps", MAX_STEPS))]
 
-    def many(self, bundle, name):
-        """Answers the queries of a file, or those of standard input, each as soon as it is there."""
+    def many(self, bundle, name, warnings):
+        """Answers the queries of a file, or those of standard input, each as soon as it is there. (The lines before the answers are bq's own: what
+        the workspace lacks is in the status.)"""
         words = [self.program, *self.options(), *self.call.of_bq("--output"), "--bundle", f"/dev/fd/{bundle.fileno()}", "--queries", "-"]
         lost = LostOfAll(self.program, self.options(), bundle)
         with open(sys.stdin.fileno() if name == "-" else name, "rb", closefd=name != "-") as lines:
@@ -104,7 +111,10 @@ class Answer:
                 it.start()
             try:
                 for line in lines:
+                    lost.is_of_kinds |= bool(KINDS.search(line.decode("utf-8", "replace")))
                     run.stdin.write(self.full(line))
+                    if count := put_bytes(line):
+                        run.stdin.write(lines.read(count))
                     run.stdin.flush()
                 run.stdin.close()
                 run.wait()
@@ -119,15 +129,17 @@ class Answer:
                     it.join()
             lost.join()
             write([f"bzlq: {it}" for it in (lost.found.lines("the workspace") if lost.found else ())], sys.stderr)
-            return run.returncode
+            return 3 if run.returncode == 0 and (warnings or lost.may_lack("--strict" in self.call.flags)) else run.returncode
 
     def full(self, line):
-        """A line of queries with labels in full; one that leads out of the workspace is left to bq, which refuses it in its place."""
+        """A line of queries with labels in full; one that leads out of the workspace is left to bq, which refuses it in its place, and so is a command
+        but for the query of facts."""
         text = line.decode("utf-8", "surrogateescape")
-        if text.startswith("#") or not text.strip():
+        command = FACTS_OF if text.startswith(FACTS_OF) else ""
+        if text.startswith("#") or not text.strip() or text.startswith("=== ") and not command:
             return line
         try:
-            return (absolute(text.rstrip("\r\n"), self.root, self.folder) + "\n").encode("utf-8", "surrogateescape")
+            return (command + absolute(text.removeprefix(command).rstrip("\r\n"), self.root, self.folder) + "\n").encode("utf-8", "surrogateescape")
         except BadWord:
             return line
 
@@ -167,16 +179,26 @@ class Answer:
 
 
 class LostOfAll(threading.Thread):
-    """Finds out beside a run what is lost of all targets: `found` has it at the end."""
+    """Finds out beside a run what is lost of all targets: `found` has it at the end. `is_of_kinds` says whether a query is about kinds."""
 
     def __init__(self, *asked):
         super().__init__(daemon=True)
-        self.asked, self.found = asked, None
+        self.asked, self.found, self.is_of_kinds = asked, None, False
         self.start()
 
     def run(self):
         """Asks for it."""
         _, self.found, _ = ask(*self.asked, ALL)
+
+    def may_lack(self, is_strict):
+        """Whether an answer may lack a target, or is an approximation in any way."""
+        return bool(self.found and (self.found.may_lack() or self.is_of_kinds and self.found.by_word["kind"] or is_strict and self.found.some))
+
+
+def put_bytes(line):
+    """How many bytes come after a line that puts a file, with the newline at their end; 0 after any other line."""
+    found = PUT.fullmatch(line)
+    return int(found[1]) + 1 if found and int(found[1]) <= MAX_FILE_BYTES and PATH.fullmatch(found[2].decode("latin-1")) else 0
 
 
 def passed_on(pipe, to):

@@ -18,12 +18,13 @@ import os
 import shlex
 import sys
 
-from bzlq.bq import ProcessError, QueryError, Workspace, program_of
+from bzlq.bq import BqError, ProcessError, QueryError, program_of
 from bzlq.cli import subcommands
 from bzlq.cli.answer import Answer
 from bzlq.cli.labels import Labels
 from bzlq.cli.options import Call
 from bzlq.cli.process import write
+from bzlq.facts.loaded import Loaded, path_of
 from bzlq.overlay.approximations import Ended, of_counts, queries_of
 from bzlq.overlay.assembly import MAX_STEPS
 from bzlq.workspace.files import Refused
@@ -34,23 +35,23 @@ HELP = "a line is a query, as deps(//app), or a word of bzlq with its own words,
 
 
 class Session:
-    """A workspace that a process of bq has loaded, which is started again once a file has changed. `identity` is that of the bundle it has read."""
+    """A workspace that a process of bq has loaded, and loads again once a file has changed. `identity` is that of the bundle it has read."""
 
     def __init__(self, call):
-        self.call, self.program = call, program_of(call.values.get("--program", ""))
-        self.workspace, self.identity, self.warnings, self.said = None, None, [], []
+        self.call, options = call, call.values
+        self.loaded = Loaded(program_of(options.get("--program", "")), output=options.get("--output", "label"), jobs=options.get("--jobs"),
+                             max_steps=options.get("--max-steps", MAX_STEPS))
+        self.identity, self.warnings, self.said = None, [], []
 
     def close(self):
         """Ends the process, if there is one."""
-        if self.workspace:
-            self.workspace.close()
-            self.workspace = None
+        self.loaded.close()
 
     def answer(self, query):
         """Writes what a query stands for; gives the status."""
         words = Call([])
         words.values, words.flags, words.queries = self.call.values, self.call.flags, [query]
-        answer = Answer(words, self.program)
+        answer = Answer(words, self.loaded.program)
         self.refresh(answer)
         try:
             lines, found = self.asked(answer)
@@ -58,7 +59,7 @@ class Session:
             write(answer.explained(Ended(b"", f"bq: {error}\n".encode("utf-8", "surrogateescape"), 2)), sys.stderr)
             return 2
         write(lines, sys.stdout)
-        status = 3 if self.workspace.faults else 0
+        status = 3 if self.loaded.workspace.faults else 0
         answer.tell([] if lines else answer.explained(Ended(b"", b"", status)), [], found)
         return answer.status(status, self.warnings, found)
 
@@ -66,31 +67,27 @@ class Session:
         """The lines of an answer, and what is lost of it. (A process that was ended, as by Ctrl-C at the prompt, is started once more.)"""
         queries = queries_of(answer.query)
         try:
-            lines = self.workspace.query(queries[0])
+            lines = self.loaded.workspace.query(queries[0])
         except QueryError:
             raise
         except ProcessError:
             self.close()
             self.refresh(answer)
-            lines = self.workspace.query(queries[0])
-        return lines, of_counts(answer.query, [len(lines), *(len(self.workspace.query(it)) for it in queries[1:])])
+            lines = self.loaded.workspace.query(queries[0])
+        return lines, of_counts(answer.query, [len(lines), *(len(self.loaded.workspace.query(it)) for it in queries[1:])])
 
     def refresh(self, answer):
         """Has the process be one of the workspace as it is now, and says which faults that has, where they are others."""
         bundle, self.warnings = answer.kept.open()
         with bundle:
             found = identity_of(bundle)
-            if self.workspace and found == self.identity:
+            if self.loaded.workspace and found == self.identity:
                 return
-        self.close()
-        options = self.call.values
-        self.workspace = Workspace(answer.kept.path("bundle"), program=self.program, output=options.get("--output", "label"), jobs=options.get("--jobs"),
-                                   max_steps=options.get("--max-steps", MAX_STEPS), large=answer.kept.is_large or "--large" in self.call.flags)
-        self.identity = found
-        with open(answer.kept.path("bundle"), "rb") as bundle:
+            self.loaded.take(path_of(bundle))
+            self.identity, workspace = found, self.loaded.workspace
             labels = Labels(answer.kept, bundle)
-            labels.keep([[f"{it}\n".encode("utf-8", "surrogateescape") for it in self.workspace.query(query)] for query in labels.wanted()])
-        text = "".join(f"{it}\n" for it in [*self.workspace.printed, *self.workspace.faults])
+            labels.keep([[f"{it}\n".encode("utf-8", "surrogateescape") for it in workspace.query(query)] for query in labels.wanted()])
+        text = "".join(f"{it}\n" for it in [*workspace.printed, *workspace.faults])
         said = answer.explained(Ended(b" ", text.encode("utf-8", "surrogateescape"), 3))
         answer.tell([it for it in said if it not in self.said], self.warnings)
         self.said = said
@@ -147,7 +144,7 @@ def answered(session, line, is_terminal):
         return subcommands.run(words) if is_call and words[0] != "ask" else session.answer(line)
     except SystemExit as ended:
         return ended.code or 0
-    except (Refused, QueryError, ProcessError) as error:
+    except (Refused, BqError) as error:
         write([f"bzlq: {error}"], sys.stderr)
         return 2
     except KeyboardInterrupt:

@@ -32,6 +32,10 @@ class Changes:
             os.close(self.pipe)
             self.pipe = -1
 
+    def how(self):
+        """How it learns of changes."""
+        return "by inotify" if self.pipe >= 0 else "by looking at its files again and again"
+
     def wait(self):
         """Waits until the workspace is another than it was when this ended last."""
         before = self.now

@@ -7,12 +7,13 @@
 Both revisions are read without a checkout, as by bzlq affected; without HEAD the second one is the work tree with what isn't committed. A line with
 + is only in the answer of HEAD, one with - only in that of BASE. If a revision has no target of that name, its answer is empty, and a line says so.
 
-Status: 0; 3 where a file of either side has a fault, so that something may be missing; 2 if nothing can be answered; 4, 5 as for bq.
+Status: 0; 3 where an answer may lack something, since a file of its side has a fault, or by what the overlay makes up or leaves out, as standard
+error says; 2 if nothing can be answered; 4, 5 as for bq.
 """
 import argparse
 import os
-import subprocess
 import sys
+from collections import namedtuple
 
 from bzlq.bq import ERROR, program_of
 from bzlq.cache.folder import cache, room
@@ -21,28 +22,31 @@ from bzlq.cli.relative_labels import absolute
 from bzlq.cli.request import SHOWN
 from bzlq.diff.git import WORK_TREE, Git
 from bzlq.diff.side import Side
+from bzlq.overlay.approximations import ask
 from bzlq.overlay.assembly import run_options
 from bzlq.workspace.files import Refused
 from bzlq.workspace.root import folder_of, root_of
 
 # a query that names what isn't there: the answer is empty
 NOT_THERE = ("Q5", "Q6")
+# the answer of one revision: its lines, whether there is one, why it may lack some, and what is lost of it
+Answer = namedtuple("Answer", "name lines is_there said lost")
 
 
 def answer(words, room, name, revision, query, git):
-    """The lines of the answer of one revision, and what there is to say of it."""
+    """The answer of one revision."""
     side = Side(git.tree(revision), f"{room}/{name}", words.program, ())
     said = [f"{name}: {it}" for it in [*side.facts.faults, *side.warnings]]
-    command = [words.program, *run_options(side.is_large), f"--output={words.output}", "--bundle", f"{room}/{name}/both", "--", query]
-    run = subprocess.run(command, capture_output=True, check=False)
+    with open(f"{room}/{name}/both", "rb") as bundle:
+        run, lost, _ = ask(words.program, [*run_options(side.is_large), f"--output={words.output}"], bundle, query)
     text = run.stderr.decode("utf-8", "surrogateescape").splitlines()
     if run.returncode not in (0, 3):
         error = ERROR.fullmatch(text[-1]) if text else None
         if not error or error["number"] not in NOT_THERE:
             raise Refused(text[-1].removeprefix("bq: ") if text else f"bq has ended with status {run.returncode}")
         write([f"diff: {name}: nothing is called {error['detail']}"], sys.stderr)
-        return [], said, False
-    return run.stdout.decode("utf-8", "surrogateescape").splitlines(), said, True
+        return Answer(name, [], False, said, None)
+    return Answer(name, run.stdout.decode("utf-8", "surrogateescape").splitlines(), True, said, lost)
 
 
 def diff(words):
@@ -56,14 +60,15 @@ def diff(words):
     with room(cache(), "affected-") as folder:
         git = Git(root, folder)
         sides = (("base", revisions[0]), ("head", revisions[1] if revisions[1:] else WORK_TREE))
-        (before, said, was_there), (after, more, is_there) = (answer(words, folder, name, revision, query, git) for name, revision in sides)
-    if not was_there and not is_there:
+        before, after = (answer(words, folder, name, revision, query, git) for name, revision in sides)
+    if not before.is_there and not after.is_there:
         raise Refused("neither revision has an answer")
-    marks = {**dict.fromkeys(set(before) - set(after), "-"), **dict.fromkeys(set(after) - set(before), "+")}
+    marks = {**dict.fromkeys(set(before.lines) - set(after.lines), "-"), **dict.fromkeys(set(after.lines) - set(before.lines), "+")}
     write([f"{marks[it]} {it}" for it in sorted(marks, key=lambda line: line.rpartition(" ")[2])], sys.stdout)
-    said += more
+    said, lost = before.said + after.said, [it for it in (before, after) if it.lost]
     write([f"diff: targets may be missing: {it}" for it in said[:SHOWN]] + ([f"diff: and {len(said) - SHOWN} more such lines"] if said[SHOWN:] else []), sys.stderr)
-    return 3 if said else 0
+    write([f"diff: {it.name}: {line}" for it in lost for line in it.lost.lines()], sys.stderr)
+    return 3 if said or any(it.lost.may_lack() for it in lost) else 0
 
 
 def main():

@@ -3,16 +3,17 @@ files that are in no target."""
 import os
 from collections import namedtuple
 
+from bzlq.diff.git import MODULE
 from bzlq.diff.missing_edges import unseen
 from bzlq.diff.settings import settings_of
 from bzlq.diff.text_diff import hidden
 from bzlq.facts.graph import users_of
-from bzlq.overlay.arguments import LABEL as GIVEN
+from bzlq.overlay.arguments import LABEL as GIVEN, LOST
 from bzlq.workspace.files import SCHEMA, is_path
 
 SOURCE = "source file"
 
-# `left_out` are changed files of packages whose names bq can't have
+# `left_out` says of changed files of packages that they aren't read
 Change = namedtuple("Change", "targets deleted others notes left_out")
 
 
@@ -39,10 +40,24 @@ def compare(base, head):
             targets.setdefault(label, f"{odd[0]}, and it depends on another repository")
         count = f"{len(found)} target{'s' * (len(found) != 1)}"
         notes.append(f"{' and '.join(odd)}: what depends on another repository counts as changed ({count}), and no other target")
-    others = in_no_target(changed, base, head, settings)
+    modules = {path for tree in (base.tree, head.tree) for path, (mode, _) in tree.entries.items() if mode == MODULE}
+    notes += [f"{path} is a repository of its own: what is in it isn't read, and only its commit is compared" for path in sorted(modules)]
+    # (of a repository in this one the commit stands for its files)
+    used = {it for it in modules for side in (base, head) if any(target.file.startswith(f"{it}/") for target in side.facts.targets.values())}
+    others = in_no_target(changed, base, head, settings | used)
     for label, reason in by_text(others, head).items():
         targets.setdefault(label, reason)
-    return Change(targets, deleted, others, notes, [path for path in others if not is_path(path) and package_of(path, base, head) is not None])
+    left_out = [(path, "bq takes no file of such a name" if not is_path(path) else "what is in a repository of its own isn't read")
+                for path in others if (not is_path(path) or path in modules) and package_of(path, base, head) is not None]
+    return Change(targets, deleted, others, notes, [f"{path}: {why}" for path, why in left_out])
+
+
+def unlisted(change, side, listed):
+    """The labels of a side's other targets than those that a change is known to concern, which it may concern all the same: what they depend on isn't all
+    known."""
+    if not (change.targets or change.deleted or change.others):
+        return []
+    return [label for label, it in side.facts.targets.items() if label not in listed and any(LOST.get(text.partition(":")[0]) for text in it.lost)]
 
 
 def by_text(paths, side):

@@ -11,7 +11,7 @@ from bzlq.overlay.guesses import by_values
 from bzlq.overlay.lost_values import lost_names
 from bzlq.overlay.reading import BUILD_FUNCTIONS, BUILT_INS, LEFT_OUT, Statement, read
 from bzlq.overlay.replaced import Replaced
-from bzlq.overlay.replacements import NATIVE_VALUES
+from bzlq.overlay.replacements import EXISTING, NATIVE_VALUES
 from bzlq.overlay.skylib import MEMBERS, REPOSITORY as SKYLIB
 from bzlq.workspace.files import MAX_SIZE, SCHEMA, content, files, has_content, is_path
 
@@ -501,6 +501,8 @@ class Facts:
 
     def lost_value(self, file, name):
         """What is said of a name that a value stands for; nothing of another."""
+        if name == EXISTING:
+            return "value: existing_rules of native"
         found = self.origin(file, name)
         if not found or found[0] != "stub" or found[1][0] == SKYLIB or self.stub(*found[1:]).makes_targets:
             return ""

@@ -178,9 +178,18 @@ def _plain(rule, found, edges, lost):
         elif kind == "dict" and _is_left_out(rule, key, value, edges, lost):
             found.pop(key)
 
-def bzlq_given(rule, lost, given):
+def _unnamed(args):
+    """What may be edges among arguments without a name, which no attribute has."""
+    values = []
+    for it in args:
+        values += it if type(it) == "list" else it.keys() + it.values() if type(it) == "dict" else [it]
+    texts = [it if type(it) == "string" else str(it) for it in values]
+    is_odd = [it for it in texts if it[:1] in (":", "@") or ("." in it or "/" in it) and " " not in it and it[:1] != "-"]
+    return ["edges: arguments without a name"] if is_odd or _MARK in str(args) else []
+
+def bzlq_given(rule, lost, given, args = ()):
     found, edges = dict(given), {}
-    lost = lost + (found.pop("bzlq_lost", None) or [])
+    lost = lost + (found.pop("bzlq_lost", None) or []) + (_unnamed(args) if args else [])
     text = str(given)
     is_odd = rule not in _DICTS and [1 for value in found.values() if type(value) == "list" and not _is_texts(value)]
     if is_odd or _MARK in text or ": {" in text or ": (" in text:

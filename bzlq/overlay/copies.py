@@ -9,7 +9,7 @@ from bzlq.overlay.arguments import LABEL as GIVEN, PREFIX
 from bzlq.overlay.definitions import value_for
 from bzlq.overlay.guesses import BY_NAME, type_of
 from bzlq.overlay.reading import BUILD_FUNCTIONS, PLACEHOLDER, TRISTATES, Either, children_of, has_name, kind_of, makers_of, names_bound, nodes_of, parsed, why_not
-from bzlq.overlay.replacements import NATIVE_VALUES, REPLACED, label_in, labels_bound, replacement
+from bzlq.overlay.replacements import EXISTING, NATIVE_VALUES, REPLACED, asks_for_rules, label_in, labels_bound, replacement
 from bzlq.overlay.rule_sets import BAZEL, TESTS
 from bzlq.overlay.starlark_text import quoted
 
@@ -393,6 +393,8 @@ class Copy:
             if isinstance(part, ast.Name) and part.id not in self.locals and part.id in self.file.globals and id(part) not in others:
                 if told := self.facts.value_lost(self.file, part.id):
                     found[told] = None
+        if self.file.existing and asks_for_rules(nodes):
+            found[self.facts.lost_value(self.file, EXISTING)] = None
         return list(found)
 
     def given(self, node, name):

@@ -60,12 +60,12 @@ def forwarded(symbol, lost, endings):
     """The text of a macro that forwards to a rule, and declares targets of these endings, each with its rule, beside it."""
     texts = ", ".join(quoted(it) for it in lost)
 
-    def call(rule, given):
-        return f'native.{rule}(**bzlq_given("{rule}", [{texts}], {given}))'
+    def call(rule, given, unnamed=""):
+        return f'native.{rule}(**bzlq_given("{rule}", [{texts}], {given}{unnamed}))'
 
     more = "".join(f'; {call(rule, f"""{{"name": name + "{ending}", "data": [":" + name]}}""")}' for ending, rule in endings.items())
     size = f', "size": "{SIZES[symbol]}"' if symbol in SIZES else ""
-    return f"def {symbol}(name, *args, **given): " + call(rule_of(symbol), f'dict({{"name": name{size}}}, **given)') + more
+    return f"def {symbol}(name, *args, **given): " + call(rule_of(symbol), f'dict({{"name": name{size}}}, **given)', ", args") + more
 
 
 def definition(repository, symbol, stub, lost=()):

@@ -8,6 +8,8 @@ import bisect
 from collections import defaultdict
 from dataclasses import dataclass, field
 
+from bzlq.overlay.replacements import EXISTING
+
 SHOWN = 3
 
 
@@ -16,7 +18,7 @@ class Uses:
 
     def __init__(self, file):
         used = {(line, name) for name, _, line in file.uses} | {(it.line, it.name) for it in file.calls if not it.is_statement and not it.is_native}
-        self.used = sorted(it for it in used if it[1] in file.globals)
+        self.used = sorted([it for it in used if it[1] in file.globals] + [(line, EXISTING) for line in file.existing])
 
     def within(self, first, last):
         """The names in these lines."""

@@ -9,7 +9,7 @@ import warnings
 from collections import defaultdict
 from dataclasses import dataclass, field
 
-from bzlq.overlay.replacements import NAMES, REPLACED, label_in, labels_bound, replacement
+from bzlq.overlay.replacements import EXISTING, NAMES, REPLACED, asks_for_rules, label_in, labels_bound, replacement
 from bzlq.overlay.rule_sets import BAZEL
 from bzlq.workspace.files import MAX_SIZE
 
@@ -145,6 +145,7 @@ class File:
     faults: list = field(default_factory=list)  # (line, what bq leaves out)
     decisions: list = field(default_factory=list)  # what decides which calls are made: (its names, the function around, the first of the calls, the one after the last, line)
     labels: list = field(default_factory=list)  # the labels of other repositories that its text names, each as (repository, package, name)
+    existing: list = field(default_factory=list)  # the lines of calls that ask which rules there are
     is_odd: bool = False  # whether its text has what a copy may have something else for
 
 
@@ -297,7 +298,7 @@ class Reader(ast.NodeVisitor):
         for it in nodes:
             if isinstance(it, ast.Assign) and len(it.targets) == 1 and isinstance(it.targets[0], ast.Name) and it.targets[0].id not in parameters:
                 self.bound.setdefault(it.targets[0].id, kind_of(it.value))
-        self.binds = values_bound(nodes)
+        self.binds = values_bound(nodes, bool(self.file.existing))
         for part in node.body:
             self.visit(part)
         self.inside, self.makers, self.labels, self.bound, self.binds = "", set(), set(), {}, {}
@@ -330,11 +331,11 @@ class Reader(ast.NodeVisitor):
 
     def names_in(self, parts):
         """The global names in these parts, also by what the function around binds its own names to."""
-        found, pending = {}, [it.id for part in parts for it in nodes_of(part) if isinstance(it, ast.Name)]
+        found, pending = {}, [it for part in parts for it in names_used(nodes_of(part), bool(self.file.existing))]
         while pending and len(found) < MOST_NAMES:
             name = pending.pop()
             if name not in found:
-                found[name] = name not in self.locals and name in self.file.globals
+                found[name] = name not in self.locals and name in self.file.globals or name == EXISTING
                 pending += self.binds.get(name, ()) if name in self.locals else ()
         return sorted(name for name, is_global in found.items() if is_global)
 
@@ -523,7 +524,13 @@ def names_bound(function, nodes):
     return found | {it.id for it in nodes if isinstance(it, ast.Name) and isinstance(it.ctx, ast.Store)}
 
 
-def values_bound(nodes):
+def names_used(nodes, may_ask):
+    """The names in nodes. `may_ask` says whether they may ask which rules there are."""
+    found = [it.id for it in nodes if isinstance(it, ast.Name)]
+    return [*found, EXISTING] if may_ask and asks_for_rules(nodes) else found
+
+
+def values_bound(nodes, may_ask):
     """The names that are bound in these nodes, each with the names in what it is bound to, or taken from."""
     found = {}
     for node in nodes:
@@ -534,7 +541,7 @@ def values_bound(nodes):
                 targets = [target]
             case _:
                 continue
-        names = {it.id for it in nodes_of(value) if isinstance(it, ast.Name)}
+        names = set(names_used(nodes_of(value), may_ask))
         for name in {it.id for target in targets for it in nodes_of(target) if isinstance(it, ast.Name)}:
             found.setdefault(name, set()).update(names)
     return found
@@ -748,6 +755,8 @@ def read(path, text):
         tree = parsed(text)
         if not text.isascii() and has_odd_name(tree):
             raise ValueError("a name isn't ASCII")
+        if b"existing_rules" in text:
+            file.existing = [it.lineno for node in tree.body for it in asks_for_rules(nodes_of(node))]
         fill(file, tree, b":=" in text or bool(FOR.search(text)))
     except Exception as error:  # (Python's parser has limits of its own; and no file is to end the reading of the others)
         # (what was read until then is no more sure than nothing)

@@ -21,6 +21,8 @@ NATIVE_VALUES = {"repository_name": '"@"', "repo_name": '""', "module_name": "No
 NAMES = ("Label", "abs", "depset", "hasattr", "json", *NATIVE_VALUES)
 
 
+# what stands for a call of `existing_rules` among the names that a file uses: no file binds it
+EXISTING = "native.existing_rules"
 # the nodes that may be replaced
 REPLACED = (ast.Call, ast.Attribute, ast.BinOp)
 
@@ -40,6 +42,21 @@ def label_in(call):
             return text
         case _:
             return None
+
+
+def asks_for_rules(nodes):
+    """The calls among nodes that ask which rules there are, but for those of which only is asked whether a name is among them."""
+    asked = {id(part) for it in nodes if isinstance(it, ast.Compare) and isinstance(it.ops[-1], ast.In | ast.NotIn) for part in ast.walk(it.comparators[-1])}
+    return [it for it in nodes if isinstance(it, ast.Call) and id(it) not in asked and is_for_rules(it.func)]
+
+
+def is_for_rules(called):
+    """Whether what is called gives all rules that there are."""
+    match called:
+        case ast.Name(id="existing_rules") | ast.Attribute(value=ast.Name(id="native"), attr="existing_rules"):
+            return True
+        case _:
+            return False
 
 
 # what may bind a name

@@ -22,7 +22,7 @@ from collections import Counter, defaultdict
 
 from bzlq.cli import process
 from bzlq.overlay.analysis import Facts, Workspace
-from bzlq.overlay.arguments import LABEL as GIVEN, STUB, given_files
+from bzlq.overlay.arguments import LABEL as GIVEN, LOST_ATTRIBUTE, STUB, given_files
 from bzlq.overlay.copies import copies
 from bzlq.overlay.definitions import definition
 from bzlq.overlay.extra_targets import further_targets, text_of
@@ -117,7 +117,8 @@ def is_below(path, directory, packages):
 
 
 def build_files(workspace, targets, bzl_files, room, written):
-    """BUILD files for stubs and for labels that are named, as far as there is room for modules. `written` are the labels that stand in texts."""
+    """BUILD files for stubs and for labels that are named, as far as there is room for modules. `written` are the labels that stand in texts. What a
+    label of a repository that isn't there names has the kind of a group, which is made up."""
     packages = {directory: set() for _, directory in bzl_files.values() if directory not in workspace.directories}
     for (repository, package), names in sorted(targets.items()):
         directory = f"external/{repository}/{package}".rstrip("/")
@@ -131,9 +132,10 @@ def build_files(workspace, targets, bzl_files, room, written):
             if is_below(f"{directory}/{name}", directory, packages) or f"{directory}/{name}" in bzl_files or name in ("BUILD", "BUILD.bazel"):
                 continue
             is_own = repository == workspace.name
-            lines[name] = f'alias(name = "{name}", actual = "@//{package}:{name}")\n' if is_own else f'filegroup(name = "{name}")\n'
+            lines[name] = f'alias(name = "{name}", actual = "@//{package}:{name}")\n' if is_own else f'filegroup(name = "{name}", {LOST_ATTRIBUTE} = LOST)\n'
+        head = f'LOST = ["kind: @{repository} isn\'t there"]\n' if any(LOST_ATTRIBUTE in it for it in lines.values()) else ""
         # (those that a text names go before those that a macro makes up)
-        found[f"{directory}/BUILD"] = STUB + "".join(fitting(lines, lambda name: (repository, package, name) in written))
+        found[f"{directory}/BUILD"] = STUB + head + "".join(fitting(lines, lambda name: (repository, package, name) in written))
     return found
 
 

@@ -20,8 +20,15 @@ from bzlq.overlay import stubs  # noqa: F401
 
 ROOT = os.path.dirname(os.path.dirname(os.path.dirname(os.path.realpath(__file__))))
 
-# a call of bzlq for which no shell is needed: its words are plain, or in single quotes
-PLAIN = re.compile(r"bzlq((?: (?:'[^']*'|(?!-h |--help|--complete)[\w./:=@,+-]+))*)")
+# words of a call of bzlq for which no shell is needed: they are plain, or in quotes
+WORDS = r"""((?: (?:'[^']*'|"[^"$`\\]*"|(?!-h |--help|--complete)[\w./:=@,+-]+))*)"""
+# such a call, with what a shell runs before a pipe to it, where its outputs go, and what a shell runs after a pipe from it
+CALL = re.compile(rf"(?:((?:2>&1|[^|;&])*) \| )?bzlq{WORDS}( 2>&1(?: >/dev/null)?)?(?: \| (.*))?")
+
+
+def encoded(text):
+    """The bytes of a text that was read."""
+    return text.encode("utf-8", "surrogateescape")
 
 
 class Bench:
@@ -35,26 +42,39 @@ class Bench:
             if not os.path.lexists(f"{room}/{name}"):
                 os.symlink(to, f"{room}/{name}")
         path = f"{room}/bin:{os.environ['PATH']}"
-        self.environment = {**os.environ, "PATH": path, "XDG_CACHE_HOME": f"{room}/cache", "PYTHONPYCACHEPREFIX": f"{room}/compiled"}
+        # (what is compiled is of all rooms, where tests/scripts/run says so)
+        compiled = os.environ.get("PYTHONPYCACHEPREFIX") or f"{room}/compiled"
+        self.environment = {**os.environ, "PATH": path, "XDG_CACHE_HOME": f"{room}/cache", "PYTHONPYCACHEPREFIX": compiled}
         self.program = program
         self.environment["BZLQ_BQ"] = program
 
     def run(self, command, folder="", given=b""):
         """What bash writes to each output, and the status."""
-        if found := PLAIN.fullmatch(command):
-            return self.forked(shlex.split(found[1]), f"{self.room}/{folder}", given)
+        if not (found := CALL.fullmatch(command)):
+            return self.by_shell(command, folder, given)
+        before, words, to, after = found.groups()
+        first = self.by_shell(before, folder, given) if before else ("", "", 0)
+        output, errors, status = self.forked(shlex.split(words), f"{self.room}/{folder}", encoded(first[0]) if before else given, to == " 2>&1")
+        if to and to != " 2>&1":
+            output, errors = errors, ""
+        last = self.by_shell(after, folder, encoded(output)) if after else (output, "", status)
+        return last[0], first[1] + errors + last[1], last[2]
+
+    def by_shell(self, command, folder, given):
+        """The same, where nothing of it is run here."""
         ended = subprocess.run(["bash", "-c", command], input=given, cwd=f"{self.room}/{folder}", env=self.environment, capture_output=True, check=False)
         return ended.stdout.decode(errors="surrogateescape"), ended.stderr.decode(errors="surrogateescape"), ended.returncode
 
-    def forked(self, words, folder, given):
-        """The same of bzlq, in a copy of this process, which has its modules already: most of what a small call takes is to import them."""
+    def forked(self, words, folder, given, is_one=False):
+        """The same of bzlq, in a copy of this process, which has its modules already: most of what a small call takes is to import them. `is_one` says
+        whether both outputs are one file."""
         with contextlib.ExitStack() as stack:
             files = [stack.enter_context(tempfile.TemporaryFile()) for _ in range(3)]
             files[0].write(given)
             sys.stdout.flush()
             child = os.fork()
             if not child:
-                self.call(words, folder, files)
+                self.call(words, folder, [*files[:2], files[1 if is_one else 2]])
             status = os.waitstatus_to_exitcode(os.waitpid(child, 0)[1])
             for file in files:
                 file.seek(0)

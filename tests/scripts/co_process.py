@@ -13,8 +13,8 @@ from bzlq.bq import BqError, Workspace
 FAULTY = {"a/BUILD": 'print("//a:BUILD:1: F71 NoAttribute")\nfilegroup(name = "x", srcs = ["//b"])\n', "b/BUILD": "1 // 0\n",
           "c/BUILD": 'filegroup(name = "y", srcs = ["a b.c"])\n'}
 QUERIES = ("//...", "deps(//app)", "  deps( //app )  ", 'kind("source file", //...:*)', "set()", "//app:none", "//none:all", "deps(", "nix(//app)",
-           "somepath(//app, //log)", 'filter("(", //...)', "$v", "deps()", ":app", "-//app", "=== 0 1 //app", "//app:é", "a\tb")
-NO_QUERIES = ("", " \t", "# //app", "//app\n", "//app\r", "//a\n//b", "\ud800")
+           "somepath(//app, //log)", 'filter("(", //...)', "$v", "deps()", ":app", "-//app", "=== 0 1 //app", "=== reload now", "=== factsx", "===facts", "//app:é", "a\tb")
+NO_QUERIES = ("", " \t", "# //app", "//app\n", "//app\r", "//a\n//b", "\ud800", "=== reload", "=== facts", "=== facts //app", "=== put 1 a", "=== remove a")
 # what a program does until the workspace is loaded; all these are scripts of sh
 LOADED = 'read -r q; echo "=== 0 0 $q"\n'
 # what it is: (what the program does then, what a query gives)
@@ -152,12 +152,28 @@ def edits(bench):
         workspace.remove("a")
         workspace.put("c/BUILD", b'print("loaded")\n')
         bench.compare("bq.py, another reload", (workspace.reload(), workspace.printed), ([], ["//c:BUILD: loaded"]))
-        for path in ("", "/a", "a/", "../a", "a:b", "a\nb", "é"):
-            bench.compare(f"bq.py, {path!r} is put", outcome(lambda it=path: workspace.put(it, b"")).partition(":")[0], "BadPath")
-        bench.compare("bq.py, after bad paths", workspace.query("//a:x"), ["//a:x"])
+        for path in ("", "/a", "a/", "../a", "a/..", "a//b", "./a", ".", "a:b", "a\\b", "a\nb", "a\n", "é"):
+            for edit in (lambda it=path: workspace.put(it, b""), lambda it=path: workspace.remove(it), lambda it=path: workspace.edit({"b/BUILD": b"x", it: None})):
+                bench.compare(f"bq.py, {path!r} is edited", outcome(edit).partition(":")[0], "BadPath")
+        bench.compare("bq.py, after bad paths", (workspace.reload(), workspace.query("//...:*")), ([], ["//a:BUILD", "//a:s", "//a:x", "//c:BUILD"]))
+        workspace.edit({"c/BUILD": None, "a/n/b c": b"\0\n\xff", "a/BUILD": b'filegroup(name = "y", srcs = glob(["**/b c"]))\n"""\n=== a/s\n""" + none'})
+        many = (["//a:BUILD:4: F20 UnknownName none"], [])
+        bench.compare("bq.py, many edits", (workspace.reload(), workspace.query("//...:*")), many)
+        workspace.edit({})
+        bench.compare("bq.py, no edit", (workspace.reload(), workspace.query("//...:*")), many)
+        workspace.put("a/BUILD", b'filegroup(name = "y", srcs = glob(["**/b c"]))\n"""\n=== a/s\n"""')
+        bench.compare("bq.py, a line like a command in a file", (workspace.reload(), workspace.query("//a:*")), ([], ["//a:BUILD", "//a:n/b c", "//a:y"]))
+        bench.compare("bq.py, facts of a query that is refused", outcome(lambda: workspace.facts("deps(")), "QueryError: Q1 Syntax")
+    with Workspace(f"{bench.room}/e", program=bench.program) as workspace:
+        bench.lay_out("e", {"a/BUILD": 'filegroup(name = "x", srcs = ["t"])\n', "a/t": ""})
+        bench.compare("bq.py, facts as they are, and as they were loaded", [list(workspace.facts("//a:x", as_loaded=it).targets["//a:x"].names) for it in (False, True)], [["//a:t"], ["//a:s"]])
     bench.compare("bq.py, a closed workspace that is edited", outcome(lambda: workspace.put("a", b"")), "ProcessError: the workspace is closed")
     with Workspace(ROOT, program=script(bench, LOADED + 'read -r q; printf "=== 2 1 %s\\nbq: Q1 Syntax\\n" "$q"; cat')) as old:
         bench.compare("bq.py, a program without edits", outcome(old.reload).partition(" is ")[2], "too old: it has no edits")
+    with Workspace(ROOT, program=script(bench, LOADED + 'read -r q; printf "=== 2 1 %s\\nbq: Q1 Syntax\\n" "$q"; cat')) as old:
+        bench.compare("bq.py, and without facts", outcome(lambda: old.facts(as_loaded=True)).partition(" is ")[2], "too old: it has no edits")
+    with Workspace(ROOT, program=script(bench, LOADED + 'read -r q; printf "=== 0 1 %s\\n{\\"x\\": 1}\\n" "$q"; cat')) as odd:
+        bench.compare("bq.py, facts that are none", outcome(lambda: odd.facts(as_loaded=True)).partition(" doesn't ")[2], "tell facts as bq does")
 
 
 def ends(bench):

@@ -78,6 +78,10 @@ def words(bench):
     """The words beside a query."""
     bench.compare_calls(WORDS, "ws")
     bench.compare("bzlq queries", bench.run("echo :a | bzlq queries", "ws/a")[0], "=== 3 1 //a:a\n//a:a\n")
+    edits = b'=== put 25 f/BUILD\n:a\nfilegroup(name = ":a")\n=== put x f\n:a\n=== put 23 f/BUILD\nfilegroup(name = "f")\n#\n=== reload\n//f\n=== facts ../none:a\n=== remove f/BUILD\n=== reload\n=== put 99 f\n:a\n'
+    answers = ("=== 2 1 === put x f\nbq: E4 Bundle\n=== 3 1 //a:a\n//a:a\n=== 0 0 === reload\n=== 0 1 //f\n//f:f\n=== 2 1 === facts //none:a\nbq: Q6 NoSuchPackage //none:a\n"
+               "=== 0 0 === reload\n")
+    bench.compare("edits by bzlq queries", bench.run("bzlq queries", "ws/a", edits)[::2], (answers, 2))
     for call, errors in REFUSED:
         bench.compare(f"bzlq {call}", bench.run(f"bzlq {call}", "ws"), ("", errors, 2))
     bench.compare("bzlq version", bench.run("bzlq version", "ws")[0][:3], "bq ")
@@ -162,7 +166,7 @@ def visible(bench):
     bench.lay_out("seen", SEEN)
     bench.run("bzlq //a:x", "seen")
     found = bench.run("bzlq visible", "seen")
-    bench.compare("breaches of visibility", (found[0], found[1].partition("visible: 3 of")[0], found[2]), (BREACHES, UNKNOWN, 1))
+    bench.compare("breaches of visibility", (found[0], found[1].partition("visible: 4 of")[0], found[2]), (BREACHES, UNKNOWN, 1))
     bench.compare("those of a query", bench.run("bzlq visible ...", "seen/b")[0::2], (BREACHES.splitlines(True)[0].replace("b/BUILD", "BUILD").replace("(a/", "(../a/"), 1))
     bench.compare("none of a query", bench.run("bzlq visible //a/...", "seen")[0::2], ("", 0))
     bench.compare_calls((("", f"visible {words}", *wanted) for words, *wanted in PAIRS), "seen")

@@ -10,7 +10,7 @@ import os
 import random
 import subprocess
 
-
+from bench import encoded
 
 GIT = ("git", "-c", "user.name=x", "-c", "user.email=x", "-c", "init.defaultBranch=main", "-c", "core.hooksPath=/dev/null", "-c", "commit.gpgsign=false", "-c", "gc.auto=0",
        "-c", "protocol.file.allow=always")
@@ -96,7 +96,8 @@ def told(bench, tree, room, overlays):
     if not is_whole and not overlays:
         said = bench.run(f"bzlq stubs '{tree}' '{room}/overlay'")[1]
         is_whole, overlays = not said, [f"{room}/overlay"]
-    bench.run("bzlq bundle " + " ".join(f"'{it}'" for it in [tree, *overlays]) + f" > '{room}/bundle'")
+    with open(f"{room}/bundle", "wb") as file:
+        file.write(encoded(bench.run("bzlq bundle " + " ".join(f"'{it}'" for it in [tree, *overlays]))[0]))
     output, errors, status = bench.run(f"\"$BZLQ_BQ\" --facts --bundle '{room}/bundle'")
     objects = [json.loads(line) for line in output.splitlines()]
     return {it["target"]: it for it in objects if "target" in it}, f"{room}/bundle", is_whole and status == 0
@@ -399,9 +400,18 @@ def modules(bench):
     project.commit()
     subprocess.run([*GIT, "commit", "-q", "--allow-empty", "-m", "x"], cwd=f"{bench.room}/outer/ws/inner", check=True)
     found = project.affected("--base", "HEAD", "ws")
-    bench.compare("a repository in the repository", found[::2], ("//:a\n//:inner/x.c\n", 0))
+    module = "affected: inner is a repository of its own: what is in it isn't read, and only its commit is compared\n"
+    bench.compare("a repository in the repository", found, ("//:a\n//:inner/x.c\n", "affected: 1 changed target, 0 deleted, 2 affected\n" + module, 0))
     found = project.affected("--base", "HEAD~1", "--head", "HEAD", "ws")
     bench.compare("a repository that comes", found[::2], ("//:a\n//:inner/x.c\n", 0))
+    project.write("ws/BUILD", 'filegroup(name = "a", srcs = glob(["inner/*"]))\nfilegroup(name = "b")\n')
+    project.commit()
+    subprocess.run([*GIT, "commit", "-q", "--allow-empty", "-m", "x"], cwd=f"{bench.room}/outer/ws/inner", check=True)
+    found = project.affected("--base", "HEAD", "ws")
+    lacking = "affected: in no target: inner\naffected: targets may be missing: inner: what is in a repository of its own isn't read\n"
+    bench.compare("a repository in the repository, under a glob", found, ("", "affected: 0 changed targets, 0 deleted, 0 affected\n" + module + lacking, 3))
+    project.write("ws/BUILD", 'filegroup(name = "a", srcs = ["inner/x.c"])\nfilegroup(name = "b")\n')
+    project.commit()
     project.git("mv", "ws", "other")
     found = project.affected("--base", "HEAD", "other")
     bench.compare("a workspace that comes", found[::2], ("//:BUILD\n//:a\n//:b\n//:inner/x.c\n", 0))

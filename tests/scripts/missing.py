@@ -29,6 +29,7 @@ def told(bench, what, found, output, errors, status):
 
 
 JUNIT = {"a/BUILD": R + 'junit_tests(name = "t", srcs = ["T.java"])\n', "a/T.java": ""}
+SUITES = {"a/BUILD": 'load("@r//:m.bzl", "other", "suite")\nsuite(name = "t", size = "small", srcs = ["T.java"])\nother(name = "u", srcs = ["T.java"])\n', "a/T.java": ""}
 UNLISTED = "affected: targets may be missing: 1 target of a kind that was made up (junit_tests) may be a test, and isn't listed: --tests lists it\n"
 SETTINGS = {
     "MODULE.bazel": 'pip.parse(hub_name = "pip", requirements_lock = "//third_party:requirements_lock.txt")\ngo_deps.from_file(go_mod = "//:go.mod")\n',
@@ -45,6 +46,7 @@ def tests(bench):
     run = lambda *words: changed(bench, "junit", JUNIT, "a/T.java", "x", *words)  # noqa: E731
     told(bench, "tests of a made-up kind, by kind", run("--kind", "'_test rule'"), "", [UNLISTED], 3)
     told(bench, "tests of a made-up kind, by --tests", run("--tests"), "//a:t\n", ["1 affected\n"], 0)
+    told(bench, "what is given what tests alone are given", changed(bench, "suites", SUITES, "a/T.java", "x", "--tests"), "//a:t\n", ["1 affected\n"], 0)
     told(bench, "tests of a made-up kind, where all are listed", run("--kind", "'_test rule'", "--all-on-fault"), "//a:t\n", ["1 affected\n"], 0)
 
 
@@ -83,6 +85,9 @@ def names(bench):
         bench.run("rm c/ü*.txt c/日*.txt", "ws")
     told(bench, "a file with such a name, that came", bench.run("bzlq --facts //c:g | grep -c 'files: c/ö.txt'", "ws"), "1\n", [""], 0)
     told(bench, "what has no such file", bench.run("bzlq 'deps(//c:h)'", "ws"), "//c:a b.txt\n//c:h\n", [""], 0)
+    bench.lay_out("ws", {"WORKSPACE": "", "c/BUILD": 'filegroup(name = "g", srcs = ["ünï.txt"])\n', "c/ünï.txt": ""})
+    line = "c/BUILD:1:31: F78 BadLabel: 'ünï.txt' is no label: the name 'ünï.txt' has the character 'ü'\n"
+    told(bench, "such a name in srcs", bench.run("bzlq //c:all", "ws"), "", [line], 3)
     found = changed(bench, "names", NAMES, "c/ünï.txt", "x")
     told(bench, "a change of such a file", found, "", ["affected: targets may be missing: c/ünï.txt: bq takes no file of such a name\n"], 3)
 
@@ -109,6 +114,7 @@ LOSSES = {
                 "//a:t", "//a:t\n", "one target for a macro 1", 3),
     "targets, of a macro of a rule set": ({"a/BUILD": 'load("@io_bazel_rules_go//go:def.bzl", "nogo")\nnogo(name = "t", vet = True)\n'}, "//a:t", "//a:t\n", "one target for a macro 1", 3),
     "kind, of a macro of a rule set": ({"a/BUILD": 'load("@bazel_skylib//rules:copy_file.bzl", "copy_file")\ncopy_file(name = "t", src = "a.c", out = "b.c")\n'}, "//a:t", "//a:t\n", "kind made up 1", 0),
+    "kind, of a target of another repository": ({"a/BUILD": 'filegroup(name = "t", srcs = ["@r//p:x"])\n'}, 'kind("filegroup", deps(//a:t))', "//a:t\n@r//p:x\n", "1 of 2 targets of this answer is an approximation: kind made up 1", 3),
     "kind, of targets that a macro of a rule set declares beside": (
         {"a/BUILD": 'load("@rules_python//python:pip.bzl", "compile_pip_requirements")\ncompile_pip_requirements(name = "t", requirements_txt = "r.txt")\n', "a/r.txt": ""},
         'kind("_test rule", rdeps(//..., //a:r.txt))', "//a:t_test\n", "kind made up 1", 3),
@@ -128,6 +134,14 @@ LOSSES = {
     "value, under a query of users": ({"a/BUILD": 'load("@r//:m.bzl", "files")\nfilegroup(name = "t", srcs = files("a"))\nfilegroup(name = "u")\n'}, "rdeps(//..., //a:u)",
                                       "//a:u\n", "1 of the targets that this query looks through may lack edges", 3),
     "edges": ({"a/BUILD": 'load("@r//:m.bzl", "pack")\npack(name = "t", odd_of = ["a.txt"])\n'}, "//a:t", "//a:t\n", "kind made up 1, edges by a type that was guessed 1", 3),
+    "edges, by arguments without a name": ({"a/BUILD": 'load("@r//:m.bzl", "suite")\nsuite("t", ["a.java"], size = "small")\n'}, "//a:t", "//a:t\n", "kind made up 1, edges by a type that was guessed 1", 3),
+    "kind, with other arguments without a name": ({"a/BUILD": 'load("@r//:m.bzl", "suite")\nsuite("t", "small", 1, ["-a"], size = "small")\n'}, "//a:t", "//a:t\n", "kind made up 1\n", 0),
+    "value, of all rules": ({"a/BUILD": 'load(":m.bzl", "m")\nm("s")\n', "a/m.bzl": "def m(name):\n    native.filegroup(name = name, srcs = [it for it in native.existing_rules()])\n"},
+                            "//a:s", "//a:s\n", "value that isn't there 1", 3),
+    "value, of all rules, by a function": ({"a/BUILD": 'load(":m.bzl", "m")\nm("s")\n', "a/m.bzl": "def f():\n    return native.existing_rules().keys()\ndef m(name):\n    native.filegroup(name = name, srcs = f())\n"},
+                                           "//a:s", "//a:s\n", "value that isn't there 1", 3),
+    "whether there is a rule": ({"a/BUILD": 'load(":m.bzl", "m")\nm("s")\n', "a/m.bzl": "def m(name):\n    if name not in native.existing_rules():\n        native.filegroup(name = name)\n"},
+                                "//a:s", "//a:s\n", "bzlq: reading the workspace\n", 0),
     "files, by a macro": ({"a/BUILD": 'load("//:m.bzl", "m")\nm(name = "t")\n', "BUILD": "", "m.bzl": 'def m(name):\n    srcs = native.glob(["*.txt"])\n    native.filegroup(name = name, srcs = srcs)\n',
                            "a/ü.txt": ""}, "//a:t", "//a:t\n", "files left out 1", 3),
     "dict": ({"a/BUILD": 'config_setting(name = "t", values = {"cpu": "arm"})\n'}, "//a:t", "//a:t\n", "dict left out 1", 0),
@@ -188,9 +202,33 @@ def loops(bench):
         bench.lay_out("ws", {"WORKSPACE": "", "a/BUILD": build, "a/m.bzl": loaded})
         line = f"bzlq: targets may be missing: 1 loop or condition declares targets by {value} of @r//:m.bzl, whose value isn't known: {place}\n"
         told(bench, f"{what}, by a value that isn't there", bench.run("bzlq //a:all", "ws"), "", [line], 3)
+    bench.lay_out("ws", {"WORKSPACE": "", "a/BUILD": 'load(":m.bzl", "m")\nm()\n', "a/m.bzl": "def m():\n    rules = native.existing_rules()\n    for it in rules:\n        native.filegroup(name = it + \"_more\")\n"})
+    line = "bzlq: targets may be missing: 1 loop or condition declares targets by existing_rules of native, whose value isn't known: a/m.bzl:3\n"
+    told(bench, "a loop over all rules", bench.run("bzlq //a:all", "ws"), "", [line], 3)
     for what, (build, loaded) in OTHER_LOOPS.items():
         bench.lay_out("ws", {"WORKSPACE": "", "a/BUILD": build, "a/m.bzl": loaded})
         bench.compare(f"{what}, by a value that isn't there", "whose value isn't known" in bench.run("bzlq //a:all", "ws")[1], False)
+
+
+def more_answers(bench):
+    """The same by words that give more than one answer: queries, diff, affected."""
+    value, line = LOSSES["value"][0], "1 of 2 targets of this answer is an approximation: value that isn't there 1\n"
+    for what, files, query, output, status in (
+            ("kinds, made up", LOSSES["kind"][0], 'kind("test", //a:t)', "//a:t\n", 3), ("a value", value, "//a:t", "//a:t\n", 3), ("a dict", LOSSES["dict"][0], "//a:t", "//a:t\n", 0),
+            ("a loop", {"a/BUILD": LOOPS["a loop"][0]}, "//a:all", "", 3)):
+        bench.lay_out("ws", {"WORKSPACE": "", **files})
+        found = bench.run("bzlq queries -", "ws", f"{query}\n".encode())
+        bench.compare(f"lost, in many queries: {what}", (found[0], found[2]), (f"=== 0 {output.count('//')} {query}\n{output}", status))
+        if what == "a dict":
+            bench.compare("lost, in many queries, by --strict", bench.run("bzlq --queries - --strict", "ws", f"{query}\n".encode())[2], 3)
+    project = Project(bench, "diff", {"WORKSPACE": "", **value})
+    told(bench, "lost, on both sides of bzlq diff", bench.run("bzlq diff HEAD 'deps(//a:t)'", "diff"), "", [f"diff: base: {line}", f"diff: head: {line}"], 3)
+    project.write("a/BUILD", LOSSES["dict"][0]["a/BUILD"])
+    told(bench, "lost, on one side", bench.run("bzlq diff HEAD 'deps(//a:t)'", "diff"), "- //a:b.c\n", [f"diff: base: {line}"], 3)
+    project.commit()
+    told(bench, "lost, and nothing lacks", bench.run("bzlq diff HEAD //a:t", "diff"), "", ["diff: head: 1 of 1 targets of this answer is an approximation: dict left out 1\n"], 0)
+    found = changed(bench, "edges", {**value, "b/BUILD": 'filegroup(name = "u", srcs = ["u.c"])\n', "b/u.c": ""}, "b/u.c", "x", "--kind", "rule")
+    told(bench, "lost, of what a change may concern", found, "//b:u\n", ["affected: 1 of the other targets may have edges that aren't known, so that more may be concerned: //a:t\n"], 0)
 
 
 def packages(bench):
@@ -270,5 +308,5 @@ def replaced(bench):
 
 def check(bench):
     """Tries all of it."""
-    for part in (tests, settings, further, names, unreadable, losses, loops, guessed, packages, defaults, mistakes, rows, replaced):
+    for part in (tests, settings, further, names, unreadable, losses, loops, more_answers, guessed, packages, defaults, mistakes, rows, replaced):
         part(bench)

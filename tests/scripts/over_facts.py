@@ -102,7 +102,7 @@ def places(bench):
                   ("f/BUILD:1: //:a -> //:c (srcs)\nf/BUILD:2: //:c -> //:d (srcs)\n", fault, 3))
     bench.compare("a bundle", bench.run("bzlq bundle w > w.bundle; bzlq users --bundle w.bundle genrule"), ("c/BUILD:3: genrule: //c:gen\nc/BUILD:3: genrule: //c:made.c\n", "", 0))
     bench.lay_out("ws", {"WORKSPACE": "", "x y/BUILD": 'load("@r//:d.bzl", "lib")\nlib(name = "x", srcs = ["a b.c"], deps = ["@r//e:f"])\n'})
-    made = "why: 1 of 7 targets of the workspace is an approximation: kind made up 1\n"
+    made = "why: 2 of 7 targets of the workspace are approximations: kind made up 2\n"
     bench.compare("a workspace with other repositories", bench.run("bzlq why x 'a b.c'", "ws/x y"),
                   ("BUILD:2: //x y:x -> //x y:a b.c (srcs)\n", "bzlq: reading the workspace\n" + made, 0))
     found = bench.run("bzlq why '//x y:x' @r//e:f", "ws")

@@ -4,7 +4,7 @@ import os
 import re
 import shutil
 
-from bench import ROOT
+from bench import CALL, ROOT
 from histories import Project
 from mistakes import MISTAKES, WORKSPACE
 
@@ -62,7 +62,8 @@ def page(bench, table):
         for line in found[1].splitlines():
             if line.startswith("$ "):
                 is_drawn = " -o " in line and not shutil.which("dot")
-                output = "" if is_drawn else bench.run(f"exec 2>&1; {line[2:]}")[0]
+                is_call = "|" not in line and CALL.fullmatch(f"{line[2:]} 2>&1")
+                output = "" if is_drawn else bench.run(f"{line[2:]} 2>&1" if is_call else f"exec 2>&1; {line[2:]}")[0]
                 lines += [line, *output.replace(bench.room, "..").splitlines()]
         return "```console\n" + "".join(f"{line}\n" for line in lines) + "```"
 

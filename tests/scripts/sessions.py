@@ -5,9 +5,12 @@ import select
 import shutil
 import signal
 import subprocess
+import threading
 import time
+from unittest import mock
 
 from bench import ROOT
+from bzlq.cli import changes
 
 FILES = {
     "WORKSPACE": "", "app/BUILD": 'load("//tools:m.bzl", "both")\nboth("app")\n', "app/main.c": "", "log/BUILD": 'filegroup(name = "log", srcs = ["log.c"])\n', "log/log.c": "",
@@ -84,6 +87,7 @@ def watch(bench):
             before = ["source file //log:BUILD", "filegroup rule //log:log", "source file //log:log.c"]
             bench.compare("the answer", [line_of(run.stdout) for _ in before], before)
             until(run.stderr, "what changes comes below")
+            bench.compare("what is watched", until(run.stderr, f"bzlq: watching {bench.room}/ws by inotify"), True)
             append(bench, "ws/log/BUILD", 'filegroup(name = "x", srcs = glob(["*.h"]))\n')
             bench.compare("what came", line_of(run.stdout), "+ filegroup rule //log:x")
             append(bench, "ws/log/y.h", "")
@@ -102,6 +106,39 @@ def watch(bench):
                           ("'deps('", "bq: Q1 Syntax\n    deps(\n        ^ this parenthesis is never closed\n")):
         found = bench.run(f"bzlq watch {words}", "ws")
         bench.compare(f"bzlq watch {words}", (found[0], found[1][-len(errors):], found[2]), ("", errors, 2))
+
+
+def guesses(bench):
+    """What was made up for an answer that is watched: it is said once it comes, and once it has gone."""
+    bench.lay_out("guessed", {"WORKSPACE": "", "a/BUILD": 'filegroup(name = "x")\n'})
+    with started(bench, "bzlq watch //a:all", "guessed") as run:
+        bench.compare("the answer", (line_of(run.stdout), until(run.stderr, "watching")), ("//a:x", True))
+        append(bench, "guessed/a/BUILD", 'load("@r//:r.bzl", "lib")\nlib(name = "y")\n')
+        bench.compare("what was made up", (line_of(run.stdout), until(run.stderr, "1 of 2 targets of this answer is an approximation: kind made up 1")), ("+ //a:y", True))
+        append(bench, "guessed/b/BUILD", "1 // 0\n")
+        bench.compare("a fault beside it", until(run.stderr, "b/BUILD:1:1: F42 DivZero: 1 // 0"), True)
+        os.remove(f"{bench.room}/guessed/b/BUILD")
+        bench.compare("a fault that goes", until(run.stderr, "bzlq: there are no faults any more"), True)
+        with open(f"{bench.room}/guessed/a/BUILD", "w", encoding="utf-8") as file:
+            file.write('filegroup(name = "x")\n')
+        bench.compare("nothing is made up", (line_of(run.stdout), until(run.stderr, "bzlq: nothing of this answer is made up or left out any more")), ("- //a:y", True))
+        run.send_signal(signal.SIGINT)
+        bench.compare("its end", run.wait(PATIENCE), 130)
+
+
+def looks(bench):
+    """Changes where the system doesn't report them: the files are looked at."""
+    bench.lay_out("looked", {"WORKSPACE": "", "a/BUILD": ""})
+    with mock.patch.object(changes.sys, "platform", "another"):
+        found = changes.Changes(f"{bench.room}/looked")
+        bench.compare("how changes are noticed", found.how(), "by looking at its files again and again")
+        writer = threading.Timer(0.2, append, (bench, "looked/a/BUILD", 'filegroup(name = "x")\n'))
+        writer.start()
+        found.wait()
+        writer.join()
+        bench.compare("a change that is noticed", os.path.getsize(f"{bench.room}/looked/a/BUILD") > 0, True)
+        found.close()
+
 
 # the folder, the beginning of a word, and what it may become
 COMPLETED = (
@@ -182,5 +219,5 @@ def screen_until(screen, wanted):
 
 def check(bench):
     """Tries all of it."""
-    for part in (ask, terminal, watch, completion):
+    for part in (ask, terminal, watch, guesses, looks, completion):
         part(bench)

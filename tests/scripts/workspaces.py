@@ -1,5 +1,8 @@
 """Tries bzlq in workspaces: answers from their folders, after edits, behind links, and of several runs at once."""
 import os
+from unittest import mock
+
+from bzlq.cache import readings
 
 LIB = {
     "WORKSPACE": "", "a/BUILD": 'load("@rules_cc//cc:defs.bzl", "cc_library")\ncc_library(name = "a", srcs = ["lib/x.c"], deps = ["//a b:c"])\n',
@@ -33,6 +36,20 @@ def folders(bench):
     bench.compare("no workspace", bench.run("bzlq //...")[2], 2)
     bench.compare("a program that isn't there", bench.run("bzlq --program none //...", "ws"), ("", "bzlq: no program none\n", 2))
     bench.compare("a cache that can't be written", bench.run("XDG_CACHE_HOME=/proc/x bzlq //...", "ws")[2], 2)
+
+
+def reading(bench):
+    """How far the reading is stands on a terminal; and no file of a real workspace takes too many steps."""
+    bench.lay_out("ws", LIB)
+    bench.run("bzlq --clean", "ws")
+    with mock.patch.object(readings, "PAUSE", -1):
+        found, status = bench.on_terminal(["//a:a"], "ws")
+        piped = bench.run("bzlq --clean; bzlq //a:a", "ws")
+    lines = ["bzlq: reading the workspace", *(f"bzlq: {it} of 3 BUILD and .bzl files" for it in (1, 2, 3)), "//a:a"]
+    bench.compare("how far it is, on a terminal", (found.decode().splitlines(), status), (lines, 0))
+    bench.compare("and in a pipe", piped, ("//a:a\n", "bzlq: reading the workspace\n", 0))
+    bench.lay_out("steps", {"WORKSPACE": "", "BUILD": 'N = len([1 for m in range(1500) for n in range(1000) if False])\nfilegroup(name = "n%d" % N)\n'})
+    bench.compare("more than 1,000,000 steps", bench.run("bzlq //...", "steps"), ("//:n0\n", "bzlq: reading the workspace\n", 0))
 
 
 def edits(bench):
@@ -90,5 +107,5 @@ def at_once(bench):
 
 def check(bench):
     """Tries all of it."""
-    for part in (folders, edits, links, at_once):
+    for part in (folders, reading, edits, links, at_once):
         part(bench)

@@ -1,6 +1,6 @@
 //! The shared byte string.
 
-ghost use Rattle.std.specs.Prelude.{◌≡◌, ◌≤◌, ◌↔◌, [], Some, length, take, IfOk, IfSome, IsTrue, nat_eq, refl};
+ghost use Rattle.std.specs.Prelude.{◌≡◌, ◌≤◌, ◌↔◌, ◌++◌, [], Some, length, take, IfOk, IfSome, IsTrue, nat_eq, refl};
 ghost use Rattle.std.specs.Ordering.{nat_cmp};
 ghost use Rattle.std.specs.Cmp.Lexicographic.{pointwise, slice_cmp, nat_list_eq_equiv, nat_list_cmp_total, texts_ties, texts_po};
 ghost use Rattle.std.specs.Cmp.{partial_equiv_from_equiv};
@@ -72,6 +72,32 @@ impl Short {
             bytes: held,
         })
     }
+
+    /// These bytes after its own, where they are few enough together.
+    fn with(&self, more: &[u8]) -> Option<Short>
+        ensures { IfSome result (λ short. take short.len short.bytes ≡ take self.now.len self.now.bytes ++ more.now) }
+    {
+        let begun = self.len as usize;
+        if more.len() > SHORT - begun {
+            return None;
+        }
+        let mut held = self.bytes;
+        for (i, byte) in more.iter().enumerate() {
+            held[begun + i] = *byte;
+        }
+        Some(Short {
+            len: (begun + more.len()) as u8,
+            bytes: held,
+        })
+    }
+
+    /// The bytes of both, one after the other, where they are few enough.
+    fn of_both(first: &[u8], second: &[u8]) -> Option<Short>
+        ensures { IfSome result (λ short. take short.len short.bytes ≡ first.now ++ second.now) }
+    {
+        let short = Short::of(first)?;
+        short.with(second)
+    }
 }
 
 impl Bytes {
@@ -107,6 +133,23 @@ impl Bytes {
             None => Repr::Shared(Arc::new(alloc, bytes.to_vec(alloc)?)?),
         };
         Ok(Bytes { repr })
+    }
+
+    /// The bytes of both, one after the other. Where they are few no memory is asked for.
+    pub fn joined(alloc: Global, first: &[u8], second: &[u8]) -> Result<Bytes, AllocError>
+        ensures { IfOk result (λ b. b ≡ first.now ++ second.now) }
+    {
+        if let Some(short) = Short::of_both(first, second) {
+            return Ok(Bytes {
+                repr: Repr::Short(short),
+            });
+        }
+        let mut bytes = Vec::with_capacity(alloc, first.len() + second.len())?;
+        bytes.extend_from_slice(first)?;
+        bytes.extend_from_slice(second)?;
+        Ok(Bytes {
+            repr: Repr::Shared(Arc::new(alloc, bytes)?),
+        })
     }
 
     /// One owner more. It is refused where 2^63 owners are alive.

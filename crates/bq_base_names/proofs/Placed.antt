@@ -5,7 +5,7 @@ use Rattle.std.specs.BTreeMap.{BTreeMap}
 use Rattle.std.specs.declared.alloc.Global.{Global}
 use Rattle.std.proofs.lemmas.Slice.Eq.{bytes_eq-Decides}
 use Rattle.bq_base_names.specs.Names.{has}
-use Rattle.bq_base_names.specs.Places.{first_place, colliding_place, HasPlace, ArePlaced}
+use Rattle.bq_base_names.specs.Places.{first_place, colliding_place, HasPlace, ArePlaced, AreCandidates, Lacks}
 use Rattle.bq_base_names.proofs.Positions.{true_false, some_is, none_some, pushed_cases, taken_at, position_at, position_nowhere, absent_at, one_more_differs, has_place as has_any}
 
 abbrev Name : Type 0
@@ -24,9 +24,6 @@ pub nothing_placed : (p : Hashes) (q : Keys) → ArePlaced [] p q
 nothing_placed p q = record { differ = λ i j name a b. absurd (none_some name a); placed = λ i name a. absurd (none_some name a) }
 
 -- ---- a place, and the name there
-
-abbrev Lacks : Names → Option ℕ → Name → Type 0
-Lacks names place name = (i : ℕ) → place ≡ Some i → slice_get names i ≡ Some name → ⊥
 
 pub no_place : (names : Names) (o : Option ℕ) (name : Name) → o ≡ None → Lacks names o name
 no_place names o name none i h at = none_some i (sym none ∙ h)
@@ -49,23 +46,33 @@ pub none_of_none : (names : Names) (name : Name) → length names ≡ 0 → posi
 none_of_none [] name h = refl
 none_of_none (n ∷ ns) name h = absurd (omega (arith, h))
 
-pub at_place : (names : Names) (p : Hashes) (q : Keys) (name : Name) (i : ℕ) → ArePlaced names p q → slice_get names i ≡ Some name → position (bytes_eq name) names ≡ Some i
-at_place names p q name i are at = position_at bytes_eq bytes_eq-Decides names name i are.differ at
+pub at_place : (names : Names) (name : Name) (first late : Option ℕ) (i : ℕ) → AreCandidates names name first late → slice_get names i ≡ Some name → position (bytes_eq name) names ≡ Some i
+at_place names name first late i are at = position_at bytes_eq bytes_eq-Decides names name i are.0 at
 
-nowhere : (names : Names) (p : Hashes) (q : Keys) (name : Name) → ArePlaced names p q → Lacks names (first_place p name) name → Lacks names (colliding_place q name) name → position (bytes_eq name) names ≡ None
-nowhere names p q name are first late =
+nowhere : (names : Names) (name : Name) (first late : Option ℕ) → AreCandidates names name first late → Lacks names first name → Lacks names late name → position (bytes_eq name) names ≡ None
+nowhere names name first late are one other =
     position_nowhere bytes_eq bytes_eq-Decides names name
     (λ i at.
-    elim (are.placed i name at) [
-      | inl h ↦ first i h at
-      | inr h ↦ late i h at
+    elim (are.1 i at) [
+      | inl h ↦ one i h at
+      | inr h ↦ other i h at
     ])
 
 -- what a second look-up answers, where the first finds nothing
-pub late_place : (names : Names) (p : Hashes) (q : Keys) (name : Name) (first late o : Option ℕ) → ArePlaced names p q → first ≡ first_place p name → late ≡ colliding_place q name → Lacks names first name → IfSome o (λ i. (late ≡ Some i) × (slice_get names i ≡ Some name)) → IfNone o (Lacks names late name) → o ≡ position (bytes_eq name) names
-late_place names p q name first late None are e f none there nothing =
-    sym (nowhere names p q name are (λ i h at. none i (e ∙ h) at) (λ i h at. nothing i (f ∙ h) at))
-late_place names p q name first late (Some i) are e f none there nothing = sym (at_place names p q name i are there.1)
+pub late_place : (names : Names) (name : Name) (first late o : Option ℕ) → AreCandidates names name first late → Lacks names first name → IfSome o (λ i. (late ≡ Some i) × (slice_get names i ≡ Some name)) → IfNone o (Lacks names late name) → o ≡ position (bytes_eq name) names
+late_place names name first late None are none there nothing = sym (nowhere names name first late are none nothing)
+late_place names name first late (Some i) are none there nothing = sym (at_place names name first late i are there.1)
+
+-- the places that maps have for a name
+pub candidates : (names : Names) (p : Hashes) (q : Keys) (name : Name) (first : Option ℕ) → ArePlaced names p q → first ≡ first_place p name → AreCandidates names name first (colliding_place q name)
+candidates names p q name first are is = (
+  are.differ,
+  λ i at.
+      elim (are.placed i name at) [
+        | inl h ↦ inl (is ∙ h)
+        | inr h ↦ inr h
+      ],
+)
 
 -- ---- more names, and fewer
 
@@ -82,15 +89,18 @@ still_placed names p p' q q' name are new keep =
       placed = λ i other at. keep other i (λ e. absent_at bytes_eq bytes_eq-Decides names name i new (at ∙ ap Some e)) (are.placed i other at);
     }
 
-pub one_more : (names : Names) (p p' : Hashes) (q q' : Keys) (name : Name) → ArePlaced names p q → has names name ≡ false → KeepOthers p q p' q' name → HasPlace p' q' name (length names) → ArePlaced (names ++ name ∷ []) p' q'
-one_more names p p' q q' name are new keep last =
-    let still = still_placed names p p' q q' name are new keep in
+-- where all names keep their places
+pub all_placed : (names : Names) (p p' : Hashes) (q q' : Keys) → ArePlaced names p q → ((other : Name) (i : ℕ) → HasPlace p q other i → HasPlace p' q' other i) → ArePlaced names p' q'
+all_placed names p p' q q' are keep = record { differ = are.differ; placed = λ i other at. keep other i (are.placed i other at) }
+
+pub one_more : (names : Names) (p : Hashes) (q : Keys) (name : Name) → ArePlaced names p q → has names name ≡ false → HasPlace p q name (length names) → ArePlaced (names ++ name ∷ []) p q
+one_more names p q name are new last =
     record {
       differ = one_more_differs bytes_eq bytes_eq-Decides names name are.differ new;
       placed = λ i other at.
           elim (pushed_cases names name other i at) [
-            | inl old ↦ still.placed i other old
-            | inr this ↦ subst (λ (k : ℕ). HasPlace p' q' other k) (sym this.0) (subst (λ (z : Name). HasPlace p' q' z (length names)) this.1 last)
+            | inl old ↦ are.placed i other old
+            | inr this ↦ subst (λ (k : ℕ). HasPlace p q other k) (sym this.0) (subst (λ (z : Name). HasPlace p q z (length names)) this.1 last)
           ];
     }
 

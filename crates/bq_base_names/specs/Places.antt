@@ -25,3 +25,13 @@ HasPlace by_hash colliding name i = (first_place by_hash name ≡ Some i) ⊎ (c
 pub record ArePlaced (names : List (List ℕ)) (by_hash : BTreeMap ℕ ℕ) (colliding : BTreeMap (Vec ℕ Global) ℕ) : Type 0 where
   pub differ : (i j : ℕ) (name : List ℕ) → slice_get names i ≡ Some name → slice_get names j ≡ Some name → i ≡ j
   pub placed : (i : ℕ) (name : List ℕ) → slice_get names i ≡ Some name → HasPlace by_hash colliding name i
+
+-- the name isn't at this place
+abbrev pub Lacks : List (List ℕ) → Option ℕ → List ℕ → Type 0
+Lacks names place name = (i : ℕ) → place ≡ Some i → slice_get names i ≡ Some name → ⊥
+
+-- no name is there twice, and this one is at one of two places, if it is there
+abbrev pub AreCandidates : List (List ℕ) → List ℕ → Option ℕ → Option ℕ → Type 0
+AreCandidates names name first late =
+    ((i j : ℕ) (other : List ℕ) → slice_get names i ≡ Some other → slice_get names j ≡ Some other → i ≡ j)
+    × ((i : ℕ) → slice_get names i ≡ Some name → (first ≡ Some i) ⊎ (late ≡ Some i))

@@ -1,7 +1,8 @@
 //! Sets of names.
 
-ghost use Rattle.std.specs.Prelude.{◌≡◌, [], not, length, take, position, slice_get, bytes_eq, ℕ, Some, IfSome, IfNone, IfOk, OnOk};
+ghost use Rattle.std.specs.Prelude.{◌≡◌, [], not, length, take, position, slice_get, bytes_eq, true, Some, IfSome, IfNone, IfOk, OnOk};
 ghost use Rattle.bq_base_names.specs.Names.{has, with_name};
+ghost use Rattle.bq_base_names.specs.Places.{AreCandidates, ArePlaced, HasPlace, Lacks, colliding_place};
 
 use crate::places::{Places, hash};
 use bq_base::Bytes;
@@ -40,6 +41,64 @@ impl Model for NameSet {
     ghost invariant = { λ s. ArePlaced s.names.items s.places.by_hash s.places.colliding };
 }
 
+/// Returns the place where the name is there.
+#[tactic(auto, using(crate::proofs::Placed::no_place, crate::proofs::Placed::past, crate::proofs::Placed::other_there, crate::proofs::Placed::same_there))]
+fn checked(names: &[Bytes], place: Option<usize>, name: &[u8]) -> Option<usize>
+    ensures there { IfSome result (λ i. (place ≡ Some i) × (slice_get names.now i ≡ Some name.now)) }
+    ensures nowhere { IfNone result (Lacks names.now place name.now) }
+{
+    let place = place?;
+    if names.get(place)?.as_slice() != name {
+        return None;
+    }
+    Some(place)
+}
+
+/// Returns the place of a name, of which that of the first name of its hash is known.
+#[tactic(auto, using(crate::proofs::Placed::at_place, crate::proofs::Placed::late_place))]
+fn place_by(names: &[Bytes], places: &Places, first: Option<usize>, name: &[u8]) -> Option<usize>
+    requires { AreCandidates names.now name.now first (colliding_place places.now.colliding name.now) }
+    ensures { result ≡ position (bytes_eq name.now) names.now }
+{
+    if let Some(place) = checked(names, first, name) {
+        return Some(place);
+    }
+    let late = places.colliding.get(name).copied();
+    checked(names, late, name)
+}
+
+/// Returns whether a name is there, where the place of the first name of its hash is known.
+#[tactic(auto, using(crate::proofs::Placed::has_place))]
+fn is_there(names: &[Bytes], places: &Places, first: Option<usize>, name: &[u8]) -> bool
+    requires { AreCandidates names.now name.now first (colliding_place places.now.colliding name.now) }
+    ensures { result ≡ has names.now name.now }
+{
+    place_by(names, places, first, name).is_some()
+}
+
+/// Puts the place after these names for a name; false if it is one of them.
+fn claim(
+    alloc: Global,
+    names: &[Bytes],
+    places: &mut Places,
+    name: &[u8],
+) -> Result<bool, AllocError>
+    requires { ArePlaced names.now places.old.by_hash places.old.colliding }
+    ensures added { IfOk result (λ added. added ≡ not (has names.now name.now)) }
+    ensures placed { IfOk result (λ added. added ≡ true → HasPlace places.new.by_hash places.new.colliding name.now (length names.now)) }
+    ensures kept { ArePlaced names.now places.new.by_hash places.new.colliding }
+{
+    let first = places.put_first(name, names.len())?;
+    if is_there(names, &*places, first, name) {
+        return Ok(false);
+    }
+    if first.is_none() {
+        return Ok(true);
+    }
+    places.put_colliding(alloc, name, names.len())?;
+    Ok(true)
+}
+
 impl NameSet {
     #[tactic(auto, using(crate::proofs::Placed::nothing_placed))]
     pub fn new(alloc: Global) -> NameSet
@@ -68,21 +127,8 @@ impl NameSet {
         self.names.as_slice()
     }
 
-    /// Returns the place where the name is there.
-    #[tactic(auto, using(crate::proofs::Placed::no_place, crate::proofs::Placed::past, crate::proofs::Placed::other_there, crate::proofs::Placed::same_there))]
-    fn checked(&self, place: Option<usize>, name: &[u8]) -> Option<usize>
-        ensures there { IfSome result (λ i. (place ≡ Some i) × (slice_get self.now i ≡ Some name.now)) }
-        ensures nowhere { IfNone result ((i : ℕ) → place ≡ Some i → slice_get self.now i ≡ Some name.now → ⊥) }
-    {
-        let place = place?;
-        if self.names.get(place)?.as_slice() != name {
-            return None;
-        }
-        Some(place)
-    }
-
     /// Returns the place of a name.
-    #[tactic(auto, using(crate::proofs::Placed::none_of_none, crate::proofs::Placed::at_place, crate::proofs::Placed::late_place))]
+    #[tactic(auto, using(crate::proofs::Placed::none_of_none, crate::proofs::Placed::candidates))]
     pub fn place(&self, name: &[u8]) -> Option<usize>
         ensures { result ≡ position (bytes_eq name.now) self.now }
     {
@@ -91,24 +137,20 @@ impl NameSet {
             return None;
         }
         let first = self.places.by_hash.get(&hash(name)).copied();
-        if let Some(place) = self.checked(first, name) {
-            return Some(place);
-        }
-        let late = self.places.colliding.get(name).copied();
-        self.checked(late, name)
+        place_by(self.names.as_slice(), &self.places, first, name)
     }
 
     /// Appends a name; true if it is new.
-    #[tactic(auto, using(crate::proofs::Placed::has_place, crate::proofs::Placed::still_placed, crate::proofs::Placed::one_more))]
+    #[tactic(auto, using(crate::proofs::Placed::one_more))]
     pub fn add(&mut self, name: &Bytes) -> Result<bool, AllocError>
         ensures added { IfOk result (λ added. added ≡ not (has self.old name.now)) }
         ensures after { OnOk result (self.new ≡ with_name self.old name.now) }
     {
-        if self.place(name.as_slice()).is_some() {
+        let alloc = *self.names.allocator();
+        let names = self.names.as_slice();
+        if !claim(alloc, names, &mut self.places, name.as_slice())? {
             return Ok(false);
         }
-        let alloc = *self.names.allocator();
-        self.places.put(alloc, name.as_slice(), self.names.len())?;
         self.names.push(name.share()?)?;
         Ok(true)
     }

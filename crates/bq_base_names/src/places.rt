@@ -1,10 +1,11 @@
 //! The places of names.
 
-ghost use Rattle.std.specs.Prelude.{◌≡◌, ◌≢◌, List, ℕ, OnOk};
-ghost use Rattle.bq_base_names.specs.Places.{hash_of, HasPlace};
+ghost use Rattle.std.specs.Prelude.{◌≡◌, ◌≢◌, List, ℕ, None, IfOk, OnOk};
+ghost use Rattle.bq_base_names.specs.Places.{first_place, hash_of, HasPlace};
 
 use std::alloc::{AllocError, Global};
 use std::collections::BTreeMap;
+use std::collections::btree_map::Entry;
 use std::hash::{FoldHasher, Hasher};
 
 /// For each name that was put the places that it may have, of which one was put with it.
@@ -25,17 +26,34 @@ pub fn hash(name: &[u8]) -> u64
 }
 
 impl Places {
-    /// Puts the place of a name. Other names keep theirs, even where memory runs out.
-    #[tactic(auto, using(crate::proofs::Put::first_put, crate::proofs::Put::others_first, crate::proofs::Put::colliding_put, crate::proofs::Put::others_colliding, crate::proofs::Put::first_refused, crate::proofs::Put::colliding_refused))]
-    pub fn put(&mut self, alloc: Global, name: &[u8], place: usize) -> Result<(), AllocError>
+    /// Puts a place for the hash of a name, if that has none, and returns the one that it had. All names keep theirs.
+    #[tactic(auto, using(crate::proofs::Put::first_put, crate::proofs::Put::others_first, crate::proofs::Put::first_refused))]
+    pub fn put_first(&mut self, name: &[u8], place: usize) -> Result<Option<usize>, AllocError>
+        ensures first { IfOk result (λ first. first ≡ first_place self.old.by_hash name.now) }
+        ensures put { IfOk result (λ first. first ≡ None → HasPlace self.new.by_hash self.new.colliding name.now place) }
+        ensures all { (other : List ℕ) (i : ℕ) → HasPlace self.old.by_hash self.old.colliding other i → HasPlace self.new.by_hash self.new.colliding other i }
+        ensures colliding { self.new.colliding ≡ self.old.colliding }
+    {
+        match self.by_hash.entry(hash(name))? {
+            Entry::Vacant(entry) => {
+                entry.insert(place);
+                Ok(None)
+            }
+            Entry::Occupied(entry) => Ok(Some(*entry.get())),
+        }
+    }
+
+    /// Puts the place of a name whose hash another name had first. Other names keep theirs, even where memory runs out.
+    #[tactic(auto, using(crate::proofs::Put::colliding_put, crate::proofs::Put::others_colliding, crate::proofs::Put::colliding_refused))]
+    pub fn put_colliding(
+        &mut self,
+        alloc: Global,
+        name: &[u8],
+        place: usize,
+    ) -> Result<(), AllocError>
         ensures put { OnOk result (HasPlace self.new.by_hash self.new.colliding name.now place) }
         ensures others { (other : List ℕ) (i : ℕ) → other ≢ name.now → HasPlace self.old.by_hash self.old.colliding other i → HasPlace self.new.by_hash self.new.colliding other i }
     {
-        let hash = hash(name);
-        if self.by_hash.get(&hash).is_none() {
-            self.by_hash.insert(hash, place)?;
-            return Ok(());
-        }
         let key = name.to_vec(alloc)?;
         self.colliding.insert(key, place)?;
         Ok(())

@@ -27,11 +27,9 @@ pub(crate) fn sum(
     match &a.node {
         Node::Text(text) => match &b.node {
             Node::Text(more) => {
-                let len = joined_len(text.len(), more.len())?;
-                let mut joined = Vec::with_capacity(alloc, len)?;
-                joined.extend_from_slice(text.as_slice())?;
-                joined.extend_from_slice(more.as_slice())?;
-                Ok(Value::string(Bytes::from_vec(alloc, joined)?))
+                joined_len(text.len(), more.len())?;
+                let joined = Bytes::joined(alloc, text.as_slice(), more.as_slice())?;
+                Ok(Value::string(joined))
             }
             _ => Err(EvalErr::Bad(EvalFault::WrongType)),
         },

@@ -13,12 +13,13 @@
 //!
 //! In reading order: `import` (the parcels), `pool` (the board and its seats), `opening` (how a pool begins),
 //! `find` (the outcome of a module that was won), `bring` (a module from its claim to its end), `candidates` (what to try next),
-//! `idle` (what it does while there is nothing), `work` (what a worker does), `threads` (workers in threads of their own), `load` (all workers, and what is left), `close` (the end of a pool).
+//! `idle` (what it does while there is nothing), `work` (what a worker does), `threads` (workers in threads of their own), `evaluation` (what is left, one after another), `load` (all workers, and what is left), `close` (the end of a pool).
 #![tactic(auto)]
 
 mod bring;
 mod candidates;
 mod close;
+mod evaluation;
 mod find;
 mod idle;
 mod import;
@@ -28,6 +29,7 @@ mod pool;
 mod threads;
 mod work;
 
+pub use evaluation::{Evaluation, completed};
 pub use import::{Base, Import};
 pub use load::outcomes_by_workers;
 pub use opening::MAX_WORKERS;

@@ -6,8 +6,9 @@ ghost use Rattle.bq_load_order.specs.Shown.{shown, slot};
 ghost use Rattle.bq_load_order.specs.Slots.{Filling, Tabulates};
 ghost use Rattle.bq_load_workers.specs.Brought.{AreRight, IsAnswer};
 
+use crate::evaluation::{Evaluation, completed};
 use crate::pool::{FinishedModule, WorkerPool, WorkerSeat};
-use crate::threads::{Answer, brought, completed};
+use crate::threads::{Answer, brought};
 use bq_load_order::{Evaluate, SharedOutcome, Watch, empty_slots, share};
 use std::alloc::{AllocError, Global};
 use std::sync::Wait;
@@ -27,7 +28,12 @@ pub fn outcomes_by_workers<R: Threads + Wait + Sync, E: Evaluate, W: Watch>(
 {
     let answers = brought(rt, alloc, pool, seats, watch)?;
     let found = found_by(alloc, pool, answers.as_slice())?;
-    completed(rt, alloc, pool, found, watch)
+    let by = Evaluation {
+        evaluator: &pool.evaluator,
+        graph: &pool.graph,
+        order: &pool.order,
+    };
+    completed(rt, alloc, &by, found, watch)
 }
 
 /// Returns a slot for each module, with what the workers brought, if none of them ran out of memory.

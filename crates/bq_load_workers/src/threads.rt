@@ -1,14 +1,12 @@
 //! Workers in threads of their own, each with the stack that evaluation may take.
-ghost use Rattle.std.specs.Prelude.{◌≡◌, [], length, map, All, IfOk, IfSome};
+ghost use Rattle.std.specs.Prelude.{◌≡◌, length, All, IfOk, IfSome};
 ghost use Rattle.bq_board.specs.Seats.{IsSeatOf};
 ghost use Rattle.bq_load_outcome_spec.specs.Outcome.{outcome};
-ghost use Rattle.bq_load_order.specs.Shown.{shown, slot};
-ghost use Rattle.bq_load_order.specs.Slots.{Filling, Tabulates};
 ghost use Rattle.bq_load_workers.specs.Brought.{IsAnswer};
 
 use crate::import::Base;
 use crate::pool::{WorkDone, WorkerPool, WorkerSeat};
-use bq_load_order::{Evaluate, SharedOutcome, Watch, complete};
+use bq_load_order::{Evaluate, Watch};
 use core::thread::Stack;
 use std::alloc::{AllocError, Global};
 use std::sync::Wait;
@@ -20,18 +18,11 @@ use std::thread::{Promise, PromisedHandle, Scope, Threads};
 /// them) those with comprehensions took most, 32.5 MB.
 pub const EVALUATION_STACK: usize = 64 << 20;
 
-/// What is asked for where there is no room for that much: a fifth more than the deepest evaluation takes.
-const LEAST_EVALUATION_STACK: usize = 40 << 20;
-
 /// What a worker brought, unless it ran out of memory.
 pub type Answer<V, F> = Result<WorkDone<V, F>, AllocError>;
 
 impl<E: Evaluate> Promise<Answer<E::Value, E::Fault>> for Base<E> {
     ghost kept_by = { λ base r. IsAnswer E.see E.see_fault (outcome (E.means base.evaluator.value) base.graph.value) (length base.graph.value) r };
-}
-
-impl<E: Evaluate> Promise<Result<Vec<SharedOutcome<E::Value, E::Fault>>, AllocError>> for Base<E> {
-    ghost kept_by = { λ base r. IfOk r (λ v. Tabulates (length base.graph.value) (outcome (E.means base.evaluator.value) base.graph.value) (map (shown E.see E.see_fault) v.items)) };
 }
 
 /// Returns what the seats bring, each in a thread of its own. A seat for which there is no thread is left out.
@@ -125,84 +116,4 @@ fn joined<R: Threads, E: Evaluate>(
         answers.push(worker.join(rt))?;
     }
     Ok(answers)
-}
-
-/// Evaluates in a thread with the least stack, or if there is none, on this one's.
-fn on_the_least_stack<
-    's,
-    X,
-    R: Threads + Wait,
-    P: Promise<T> + Drop,
-    F: FnOnce() -> T + Send + 's,
-    T: Send + Drop + 's,
->(scope: &Scope<'s, X>, rt: &R, promise: P, evaluate: F) -> T
-    requires runs { F.pre evaluate }
-    requires keeps { (r : T) → F.post evaluate r → P.kept_by promise r }
-    ensures { P.kept_by promise result }
-{
-    match Stack::new()
-        .stack_size(LEAST_EVALUATION_STACK)
-        .spawn_scoped_with(scope, promise, evaluate)
-    {
-        Ok(thread) => thread.join(rt),
-        Err(refused) => (refused.value)(),
-    }
-}
-
-/// Returns the outcome of each module, where some are known. The others are evaluated in a thread, or if there is none,
-/// on this one's stack.
-pub(crate) fn completed<R: Threads + Wait + Sync, E: Evaluate, W: Watch>(
-    rt: &R,
-    alloc: Global,
-    pool: &WorkerPool<E>,
-    found: Vec<Option<SharedOutcome<E::Value, E::Fault>>>,
-    watch: &W,
-) -> Result<Vec<SharedOutcome<E::Value, E::Fault>>, AllocError>
-    requires found { Filling (outcome (E.means pool.now.evaluator) pool.now.graph) (length pool.now.graph) (map (slot E.see E.see_fault) found.items) [] }
-    ensures { IfOk result (λ v. Tabulates (length pool.now.graph) (outcome (E.means pool.now.evaluator) pool.now.graph) (map (shown E.see E.see_fault) v.items)) }
-{
-    thread::scope(
-        thread::scope_env(),
-        rt,
-        |scope| -> Result<Vec<SharedOutcome<E::Value, E::Fault>>, AllocError>
-            requires { Filling (outcome (E.means pool.now.evaluator) pool.now.graph) (length pool.now.graph) (map (slot E.see E.see_fault) found.items) [] }
-            ensures { IfOk result (λ v. Tabulates (length pool.entry.now.graph) (outcome (E.means pool.entry.now.evaluator) pool.entry.now.graph) (map (shown E.see E.see_fault) v.items)) }
-        {
-            let evaluate = move || -> Result<Vec<SharedOutcome<E::Value, E::Fault>>, AllocError>
-                requires { Filling (outcome (E.means pool.now.evaluator) pool.now.graph) (length pool.now.graph) (map (slot E.see E.see_fault) found.items) [] }
-                ensures { IfOk result (λ v. Tabulates (length pool.entry.now.graph) (outcome (E.means pool.entry.now.evaluator) pool.entry.now.graph) (map (shown E.see E.see_fault) v.items)) }
-            { rest(alloc, pool, found, watch) };
-            let base = Base::of(&pool.evaluator, &pool.graph);
-            match Stack::new()
-                .stack_size(EVALUATION_STACK)
-                .spawn_scoped_with(scope, base, evaluate)
-            {
-                Ok(thread) => thread.join(rt),
-                Err(refused) => {
-                    let base = Base::of(&pool.evaluator, &pool.graph);
-                    on_the_least_stack(scope, rt, base, refused.value)
-                }
-            }
-        },
-    )
-}
-
-/// Returns the outcome of each module, where some are known.
-fn rest<E: Evaluate, W: Watch>(
-    alloc: Global,
-    pool: &WorkerPool<E>,
-    found: Vec<Option<SharedOutcome<E::Value, E::Fault>>>,
-    watch: &W,
-) -> Result<Vec<SharedOutcome<E::Value, E::Fault>>, AllocError>
-    requires found { Filling (outcome (E.means pool.now.evaluator) pool.now.graph) (length pool.now.graph) (map (slot E.see E.see_fault) found.items) [] }
-    ensures { IfOk result (λ v. Tabulates (length pool.now.graph) (outcome (E.means pool.now.evaluator) pool.now.graph) (map (shown E.see E.see_fault) v.items)) }
-{
-    complete(
-        alloc,
-        &pool.evaluator,
-        &pool.graph,
-        &pool.order,
-        found,
-        watch,
-    )
 }

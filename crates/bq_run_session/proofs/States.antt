@@ -5,6 +5,8 @@ use Rattle.std.specs.Io.KnownBytes.{Appends, Keeps}
 use Rattle.bq_base_limits.specs.declared.limits.Limits.{Limits}
 use Rattle.bq_label.specs.declared.workspace.File.{File}
 use Rattle.bq_label.specs.Workspace.{workspace_within}
+use Rattle.bq_load_reload.specs.declared.kept.Kept.{Kept}
+use Rattle.bq_load_reload.specs.Kept.{IsKept}
 use Rattle.bq_query.specs.declared.print.OutputForm.{OutputForm}
 use Rattle.bq_run.specs.declared.options.Options.{Options}
 use Rattle.bq_run_device.specs.Device.{Begins}
@@ -26,7 +28,7 @@ use Rattle.bq_run_session.specs.Edits.{edited}
 use Rattle.bq_run_session.specs.Outcome.{at_first}
 use Rattle.bq_run_session.specs.Session.{IsAnswerIn, IsOn}
 use Rattle.bq_run_session.specs.State.{AreRefused, IsStep, Reloads, State}
-use Rattle.bq_run_session.specs.Steps.{Holds, IsBlock, IsBlockOf, IsFactsText, IsStepIn, LoadsEdited, ReloadsIn, WritesOne, is_failed}
+use Rattle.bq_run_session.specs.Steps.{Holds, IsBlock, IsBlockOf, IsFactsText, IsStepIn, KeepsIts, LoadsEdited, ReloadsIn, WritesOne, is_failed}
 
 pub same_err : {T : Type 0} (a b : RunErr) → IsErrOf {T = T} (Err a) b → a ≡ b
 same_err a b h = cc
@@ -63,6 +65,10 @@ pub holds_first : (limits : Limits) (files : List File) (held : Held) (on : IsOn
 holds_first limits files held on workspace edits = record { files = workspace; edits = edits; loaded = on.loaded; over = on.over }
 
 -- ---- a reload
+
+-- what is kept of the files that were loaded
+pub kept_so : (limits : Limits) (held : Held) (workspace : List File) (kept : Kept) → held.workspace ≡ workspace → held.kept ≡ kept → IsKept workspace limits.steps kept → KeepsIts limits held
+kept_so limits held workspace kept w k is = subst (λ (z : Kept). IsKept held.workspace limits.steps z) (sym k) (subst (λ (fs : List File). IsKept fs limits.steps kept) (sym w) is)
 
 module _ (limits : Limits) (old new : Held) (line : List ℕ) where
   pub loads : (opened : Opened) → workspace_within limits (edited old.workspace old.edits.items) ≡ Some opened.workspace → IsOn opened.workspace limits opened.session

@@ -8,13 +8,16 @@ use Rattle.bq_run.specs.declared.options.Options.{Options}
 use Rattle.bq_run_facts.specs.Facts.{IsFactsOver}
 use Rattle.bq_run_write.specs.Deeds.{Run}
 use Rattle.bq_run_write.specs.declared.ending.Status.{Status}
+use Rattle.bq_load_reload.specs.Kept.{IsKept}
 use Rattle.bq_run_device.specs.Device.{Begins}
 use Rattle.bq_run_report.specs.Report.{IsOver, ReplyView}
+use Rattle.bq_run_report.specs.declared.session.Session.{Session}
 use Rattle.bq_run_write.specs.declared.error.RunErr.{RunErr}
 use Rattle.bq_run_write.specs.declared.error.RunErr.TheVariants as run
 use Rattle.bq_run_session.specs.declared.held.Held.{Held}
 use Rattle.bq_run_session.specs.declared.held.Opened.{Opened}
 use Rattle.bq_run_session.specs.declared.items.Request.{Request}
+use Rattle.bq_run_session.specs.declared.opening.Opening.{Opening}
 use Rattle.bq_run_session.specs.Answer.{IsLoadedAs}
 use Rattle.bq_run_session.specs.Block.{block, is_refused, run_block, run_end}
 use Rattle.bq_run_session.specs.Edits.{edited}
@@ -47,6 +50,15 @@ pub record Holds (limits : Limits) (held : Held) (s : State) : Type 0 where
   pub edits : held.edits.items ≡ s.edits
   pub loaded : IsLoadedAs s.files limits s.inside
   pub over : IsOver s.inside held.session
+
+-- what is kept is of the files that were loaded last
+abbrev pub KeepsIts : Limits → Held → Type 0
+KeepsIts limits held = IsKept held.workspace limits.steps held.kept
+
+-- the session that is opened, or why none is
+abbrev pub session_by : Result Opening RunErr → Result Session RunErr
+session_by (Ok r) = Ok r.session
+session_by (Err why) = Err why
 
 -- whatever the session has, the item does this
 abbrev pub IsStepIn : List ℕ → Options → Held → List ℕ → Request → Held → List ℕ → Bool → Type 0

@@ -20,6 +20,8 @@ mod jobs;
 #[cfg(test)]
 mod options;
 #[cfg(test)]
+mod reloads;
+#[cfg(test)]
 mod runs;
 #[cfg(test)]
 mod seeds;

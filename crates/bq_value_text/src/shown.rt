@@ -3,6 +3,8 @@
 ghost use Rattle.std.specs.Prelude.{◌≡◌, option_copied};
 ghost use Rattle.bq_base.specs.Gives.{Gives};
 ghost use Rattle.bq_value.specs.declared.error.EvalErr.TheVariants.{Bad};
+ghost use Rattle.bq_value.specs.Cells.{StoreView};
+ghost use Rattle.bq_value.specs.Datum.{int};
 ghost use Rattle.bq_value_compare.specs.Looked.{max_levels};
 ghost use Rattle.bq_value_text.specs.Shown.{shown_at, repr_shown, text_shown, string_in, list_shown, dict_shown, contents_shown, tuple_end, repr_of, text_of};
 
@@ -11,6 +13,7 @@ use crate::page::Page;
 use bq_base::{Bytes, EvalFault};
 use bq_value::{Body, Content, Dict, EvalErr, Node, Store, Value};
 use bq_value_compare::MAX_LEVELS;
+use itoa::Buffer;
 use std::alloc::Global;
 
 /// What is written before and after items.
@@ -34,6 +37,19 @@ pub fn repr(
     Ok((page.finish(alloc)?, left))
 }
 
+/// Returns the text of an integer, for which no page is needed, and how many of the steps are left.
+#[tactic(auto, using(crate::proofs::Plain::text_of_int, crate::proofs::Plain::no_text_of_int))]
+fn int_text(alloc: Global, steps: u64, n: i64) -> Result<(Bytes, u64), EvalErr>
+    ensures { (s : StoreView) → Gives (λ answer. answer) Bad result (text_of s steps (int n)) }
+{
+    if steps == 0 {
+        return Err(EvalErr::Bad(EvalFault::StepLimit));
+    }
+    let mut buffer = Buffer::new();
+    let digits = Bytes::from_slice(alloc, buffer.format(n).as_bytes())?;
+    Ok((digits, steps - 1))
+}
+
 /// Returns the `str` of a value, and how many of the steps are left.
 pub fn text(
     alloc: Global,
@@ -43,6 +59,9 @@ pub fn text(
 ) -> Result<(Bytes, u64), EvalErr>
     ensures { Gives (λ answer. answer) Bad result (text_of store.now steps value.now) }
 {
+    if let Node::Int(n) = &value.node {
+        return int_text(alloc, steps, *n);
+    }
     let mut page = Page::new(alloc);
     let left = write_text(store, steps, value, &mut page)?;
     Ok((page.finish(alloc)?, left))

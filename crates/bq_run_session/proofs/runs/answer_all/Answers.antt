@@ -7,6 +7,7 @@ use Rattle.bq_run_session.proofs.runs.answer_all.Goals as goal
 pub loop-item-init : goal.loop-item-init
 loop-item-init g c = record {
   progress = λ s holds. none_yet c.args.by.version.now c.args.by.options.now s (g.Q.ByteSource.remaining c.args.queries.now) c.args.held.now (g.W.ByteSink.contents c.args.writer.now) holds;
+  kept = c.requires.kept;
   limit = refl;
   quiet_queries = refl;
   quiet = refl;
@@ -38,6 +39,7 @@ loop-item-preserved g c =
       progress = λ s holds. one_more c.args.by.version.now c.args.by.options.now s (g.Q.ByteSource.remaining c.args.queries.now) now c.loop-item.held c.loop-item.refused
           (g.W.ByteSink.contents c.args.writer.now) (g.W.ByteSink.contents c.loop-item.writer) (c.loop-item.invariant.progress s holds) next (g.W.ByteSink.contents c.take_item.new.writer)
           item.line.items item.request c.take_item.new.held c.in_ok-is_refused.is_refused _ (rw c.in-Some.is at c.in_ok-item.ensures.item) c.in_ok-is_refused.ensures.does c.either-refused.ensures;
+      kept = c.in_ok-is_refused.ensures.kept;
       limit = c.loop-item.invariant.limit;
       quiet_queries = c.in_ok-item.ensures.quiet (not_err c.in_ok-item.field-0 _) ∙ c.loop-item.invariant.quiet_queries;
       quiet = c.in_ok-is_refused.ensures.quiet (not_err c.in_ok-is_refused.is_refused _) ∙ c.loop-item.invariant.quiet;

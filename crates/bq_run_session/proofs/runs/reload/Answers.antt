@@ -13,7 +13,7 @@ returns-in_err-write_block-in-Ok-clause-does g c =
     let line = c.args.line.now in
     let new = c.take_over.new.held in
     let opened = c.in-Ok.opened in
-    let is = c.in-Ok.ensures in
+    let is = c.in-Ok.ensures.loads in
     rw (p.1, p.2) (block_failed (ReloadsIn limits old line new) (run_block line new.session.faults (Ok new.session.status)) false c.in_err-write_block-in-Ok.field-0.0
     (g.W.ByteSink.contents c.args.writer.now) (g.W.ByteSink.contents c.write_block.new.writer)
     (loads limits old new line opened is.0 is.1 c.take_over.ensures.workspace c.take_over.ensures.session c.take_over.ensures.edits)
@@ -25,7 +25,7 @@ returns-in_ok-write_block-in-Ok-clause-does g c =
     let old = c.args.held.now in
     let line = c.args.line.now in
     let new = c.take_over.new.held in
-    let is = c.in-Ok.ensures in (
+    let is = c.in-Ok.ensures.loads in (
       run_block line new.session.faults (Ok new.session.status),
       loads limits old new line c.in-Ok.opened is.0 is.1 c.take_over.ensures.workspace c.take_over.ensures.session c.take_over.ensures.edits,
       c.in_ok-write_block-in-Ok.ensures.whole,
@@ -39,6 +39,6 @@ returns-else-is_failed-clause-does g c =
     let told = c.refusal-told.result in
     let why = c.in-Err.why in
     writes_as (IsBlockOf line told.text told.end) (ReloadsIn limits held line held)
-    (keeps limits held held line why told.text told.end (why_refused limits held why (sym (c.if-is_failed.ensures ∙ ap is_failed c.refusal-told.ensures.end)) c.in-Err.ensures)
+    (keeps limits held held line why told.text told.end (why_refused limits held why (sym (c.if-is_failed.ensures ∙ ap is_failed c.refusal-told.ensures.end)) c.in-Err.ensures.loads)
     c.refusal-told.ensures.text c.refusal-told.ensures.end)
     c.write_told.result (g.W.ByteSink.contents c.args.writer.now) (g.W.ByteSink.contents c.write_told.new.writer) c.write_told.ensures.does

@@ -30,7 +30,7 @@ returns-in-Edit-clause-does g c =
     let held = c.args.held.now in
     let line = c.args.item.line.items in
     let known = g.W.ByteSink.contents c.args.writer.now in
-    let next : Held = record { workspace = held.workspace; edits = c.push.new.self; session = held.session } in
+    let next : Held = record { workspace = held.workspace; edits = c.push.new.self; session = held.session; kept = held.kept } in
     subst (λ (r : Request). WritesOne (IsStepIn version o held line r next) (Ok false) known known) (sym c.in-Edit.is)
     (writes_none (IsStepIn version o held line (request.Edit c.in-Edit.edit) next) false known (is_edit version o held line next c.in-Edit.edit refl refl c.in_ok-push-in-Edit.ensures.items))
 

@@ -1,0 +1,8 @@
+-- files with the same paths, and with the same schema
+mod Frames
+-- outcomes of what is the same, and what is kept with them
+mod Along
+-- modules that have stayed what they were, one after another
+mod Stayed
+-- modules that have stayed what they were are unchanged
+mod Unchanged

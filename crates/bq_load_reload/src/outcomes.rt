@@ -1,0 +1,153 @@
+//! The outcomes of all modules.
+
+ghost use Rattle.std.specs.Prelude.{◌≡◌, ◌<◌, ◌≤◌, Ok, [], length, map, All, IfOk};
+ghost use Rattle.bq_board.specs.Seats.{IsSeatOf};
+ghost use Rattle.bq_load_discover.specs.LoadGraph.{IsReadGraph, inputs_of};
+ghost use Rattle.bq_load_discover.specs.Schema.{schema_in};
+ghost use Rattle.bq_load_outcome_spec.specs.Outcome.{outcome};
+ghost use Rattle.bq_load_order.specs.Shown.{shown, slot};
+ghost use Rattle.bq_load_order.specs.Slots.{Filling, Tabulates};
+ghost use Rattle.bq_load.specs.Views.{module_view, failed_view};
+ghost use Rattle.bq_load.specs.Loading.{loading_in, loading_of};
+ghost use Rattle.bq_load.specs.Evaluation.{means};
+ghost use Rattle.bq_load_reload.specs.Kept.{AreOutcomes, IsKept};
+
+use crate::kept::{Before, KeptOutcome};
+use crate::same::unchanged;
+use bq_base_limits::Limits;
+use bq_board::Graph;
+use bq_load::{Gate, GateWatch, Loading, Sources, Workers};
+use bq_load_again::kept_outcomes;
+use bq_load_discover::LoadGraph;
+use bq_load_workers::{
+    Evaluation, MAX_WORKERS, WorkerPool, WorkerSeat, completed, outcomes_by_workers,
+};
+use std::alloc::{AllocError, Global};
+use std::marker::Sync;
+use std::sync::Wait;
+use std::thread::Threads;
+
+/// Returns the outcomes of the modules of a pool, by its seats.
+fn pooled_outcomes<'a, R: Threads + Wait + Sync, G: Gate>(
+    rt: &R,
+    alloc: Global,
+    pool: &WorkerPool<Loading<'a>>,
+    seats: Vec<WorkerSeat<Loading<'a>>>,
+    gate: &G,
+) -> Result<Vec<KeptOutcome>, AllocError>
+    requires { All (λ s. IsSeatOf pool.now.board s.place) seats.items }
+    ensures { IfOk result (λ v. AreOutcomes (loading_of pool.now.evaluator) pool.now.graph v.items) }
+{
+    let loading = pool.evaluator();
+    let watch = GateWatch { gate, loading };
+    outcomes_by_workers(rt, alloc, pool, seats, &watch)
+}
+
+/// Returns the outcomes of all modules, each evaluated by one of several workers.
+#[tactic(auto, using(crate::proofs::Along::outcomes_so))]
+pub(crate) fn all_outcomes<R: Threads + Wait + Sync, G: Gate>(
+    rt: &R,
+    alloc: Global,
+    sources: &Sources<'_>,
+    limits: Limits,
+    graph: &LoadGraph,
+    workers: &Workers<'_, G>,
+) -> Result<Vec<KeptOutcome>, AllocError>
+    requires graph { IsReadGraph (inputs_of sources.now.workspace.now sources.now.schema.now) graph.now }
+    requires workers { (0 < workers.now.count) × (workers.now.count ≤ MAX_WORKERS) }
+    ensures { IfOk result (λ v. AreOutcomes (loading_in sources.now.workspace.now sources.now.schema.now limits.steps graph.now) graph.now.edges v.items) }
+{
+    let loading = Loading::of(
+        alloc,
+        sources.workspace,
+        sources.schema,
+        limits.steps,
+        sources.seed,
+        graph,
+    )?;
+    let edges = graph.edges().copy(alloc)?;
+    let (pool, seats) = WorkerPool::open(alloc, loading, edges, workers.count)?;
+    // PROOF: the pool is of this load graph
+    Ok(pooled_outcomes(rt, alloc, &pool, seats, workers.gate)?)
+}
+
+/// Returns how many modules have no outcome yet.
+fn unknown(found: &[Option<KeptOutcome>]) -> usize {
+    let mut count: usize = 0;
+    for outcome in found {
+        if outcome.is_none() {
+            count = count.saturating_add(1);
+        }
+    }
+    count
+}
+
+/// Returns whether one worker evaluates so many modules in no more time than all workers take for all modules.
+fn are_few(changed: usize, modules: usize, workers: usize) -> bool {
+    match changed.checked_mul(workers) {
+        Some(turns) => turns <= modules,
+        None => false,
+    }
+}
+
+/// Returns the outcomes of all modules after a change, if few of them are to be evaluated: those alone are.
+fn changed_outcomes<R: Threads + Wait + Sync, G: Gate>(
+    rt: &R,
+    alloc: Global,
+    loading: &Loading<'_>,
+    edges: &Graph,
+    found: Vec<Option<KeptOutcome>>,
+    gate: &G,
+) -> Result<Vec<KeptOutcome>, AllocError>
+    requires found { Filling (outcome (means (loading_of loading.now)) edges.now) (length edges.now) (map (slot module_view failed_view) found.items) [] }
+    ensures { IfOk result (λ v. AreOutcomes (loading_of loading.now) edges.now v.items) }
+{
+    let order = edges.topological_order(alloc)?;
+    let by = Evaluation {
+        evaluator: loading,
+        graph: edges,
+        order: &order,
+    };
+    let watch = GateWatch { gate, loading };
+    completed(rt, alloc, &by, found, &watch)
+}
+
+/// Returns the outcomes of all modules after a change. Those of unchanged modules are kept; the others are evaluated,
+/// or if these are many, all modules.
+#[tactic(auto, using(crate::proofs::Along::outcomes_so, crate::proofs::Along::same_unchanged, crate::proofs::Along::as_many))]
+pub(crate) fn outcomes_after<R: Threads + Wait + Sync, G: Gate>(
+    rt: &R,
+    alloc: Global,
+    before: &Before<'_>,
+    sources: &Sources<'_>,
+    limits: Limits,
+    graph: &LoadGraph,
+    workers: &Workers<'_, G>,
+) -> Result<Vec<KeptOutcome>, AllocError>
+    requires before { IsKept before.now.workspace.now limits.steps before.now.kept.now }
+    requires schema { schema_in sources.now.workspace.now ≡ Ok sources.now.schema.now }
+    requires graph { IsReadGraph (inputs_of sources.now.workspace.now sources.now.schema.now) graph.now }
+    requires workers { (0 < workers.now.count) × (workers.now.count ≤ MAX_WORKERS) }
+    ensures { IfOk result (λ v. AreOutcomes (loading_in sources.now.workspace.now sources.now.schema.now limits.steps graph.now) graph.now.edges v.items) }
+{
+    let was = unchanged(alloc, before, sources, limits, graph)?;
+    let loading = Loading::of(
+        alloc,
+        sources.workspace,
+        sources.schema,
+        limits.steps,
+        sources.seed,
+        graph,
+    )?;
+    let old = bq_load_again::Before {
+        graph: &before.kept.edges,
+        outcomes: before.kept.outcomes.as_slice(),
+    };
+    let found = kept_outcomes(alloc, &old, &loading, graph.edges(), &was)?;
+    if are_few(unknown(&found), found.len(), workers.count) {
+        let edges = graph.edges();
+        // PROOF: what is loaded is of this load graph
+        return Ok(changed_outcomes(rt, alloc, &loading, edges, found, workers.gate)?);
+    }
+    all_outcomes(rt, alloc, sources, limits, graph, workers)
+}

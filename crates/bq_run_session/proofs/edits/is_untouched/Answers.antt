@@ -1,0 +1,12 @@
+use Rattle.std.proofs.Common.{◌∙◌, ap}
+use Rattle.std.specs.Option.{is_some}
+use Rattle.bq_base_names.specs.Names.{has}
+use Rattle.bq_base_names.proofs.Placed.{has_place}
+use Rattle.bq_run_session.proofs.Edited.{none_there}
+use Rattle.bq_run_session.proofs.edits.is_untouched.Goals as goal
+
+pub returns : goal.returns
+returns c =
+    let paths = c.args.paths.now in
+    none_there c.is_none.result (is_some c.place.result) (has paths c.args.file.now.path) c.is_none.ensures
+    (ap is_some c.place.ensures ∙ (has_place paths c.as_slice.result.now ∙ ap (has paths) c.as_slice.ensures))
