@@ -12,7 +12,8 @@ A target has changed if its kind, its attributes or its direct dependencies have
 or if it used one that was deleted. So a comment in a .bzl file changes nothing, and an edit of a macro only what it now declares differently.
 The list has each changed target, and all that depend on one, directly or not. What an overlay leaves out, such as dicts and the conditions
 of `select`, is compared by its text. After a change of MODULE.bazel, WORKSPACE or .bazelrc, or of a file that these name, such as a lock
-file, all targets that depend on another repository are listed. Only the cache is written to, $XDG_CACHE_HOME/bzlq (~/.cache/bzlq).
+file, all targets that depend on another repository are listed; after one in the folder of a local repository, those that depend on that one.
+Only the cache is written to, $XDG_CACHE_HOME/bzlq (~/.cache/bzlq).
 
 With --audit N it writes the list of each of the last N commits of HEAD, the oldest first, below a line with how many of all targets that are,
 and what all lists come to: so you see on your own history what you would have run. --bazel COMMAND (such as bazel) also runs `bazel query` on

@@ -6,7 +6,7 @@ These are the BUILD files of the packages, with the names of the files that the 
 import os
 import re
 
-from bzlq.workspace.files import ROOT_FILES, SCHEMA, Refused, ignored, is_path, read_file, unreadable
+from bzlq.workspace.files import ROOT_FILES, SCHEMA, Refused, ignored, is_path, own_name_in, read_file, unreadable
 from bzlq.workspace.loads import loads_of
 
 LABEL = re.compile(rb"""["'](?:@|@@)?//([^"':\n]*)(?::[^"'\n]*)?["']""")
@@ -24,8 +24,7 @@ class Part:
                 self.files[name] = self.text(name)
         self.own = b""
         for name in ROOT_FILES:
-            if found := re.search(rb"^(?:module|workspace)\(\s*name\s*=\s*[\"']([\w.+~-]+)[\"']", self.files.get(name, b""), re.M):
-                self.own = self.own or found[1]
+            self.own = self.own or own_name_in(self.files.get(name, b""))
 
     def text(self, path):
         """The bytes of a file, or what stands for them where it can't be read."""

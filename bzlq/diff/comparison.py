@@ -5,7 +5,7 @@ from collections import namedtuple
 
 from bzlq.diff.git import MODULE
 from bzlq.diff.missing_edges import unseen
-from bzlq.diff.settings import settings_of
+from bzlq.diff.settings import local_repositories, settings_of
 from bzlq.diff.text_diff import hidden
 from bzlq.facts.graph import users_of
 from bzlq.overlay.arguments import LABEL as GIVEN, LOST
@@ -32,8 +32,8 @@ def compare(base, head):
     for label, reason in hidden(base, head).items():
         targets.setdefault(label, reason)
     changed = changed_files(base.tree, head.tree)
-    notes = []
     settings = settings_of(base.tree) | settings_of(head.tree)
+    notes = in_local(changed, settings, base, head, targets)
     if odd := [path for path in changed if path in settings]:
         found = outward(head.facts)
         for label in found:
@@ -50,6 +50,21 @@ def compare(base, head):
     left_out = [(path, "bq takes no file of such a name" if not is_path(path) else "what is in a repository of its own isn't read")
                 for path in others if (not is_path(path) or path in modules) and package_of(path, base, head) is not None]
     return Change(targets, deleted, others, notes, [f"{path}: {why}" for path, why in left_out])
+
+
+def in_local(changed, settings, base, head, targets):
+    """Adds to the changed targets those that depend on a repository which lies in a folder with a change; gives what there is to say of it."""
+    found, notes = {}, []
+    for side in (base, head):
+        for folder, names in local_repositories([side.texts[path] for path in sorted(settings) if path in side.texts], side.tree).items():
+            found.setdefault(folder, set()).update(names)
+    for folder, names in sorted(found.items()):
+        if odd := next((path for path in changed if path.startswith(f"{folder}/")), ""):
+            users = outward(head.facts, names)
+            for label in users:
+                targets.setdefault(label, f"{odd}, in a repository that it depends on")
+            notes.append(f"{folder}: what depends on {' or '.join(f'@{it}' for it in sorted(names))} counts as changed ({len(users)} target{'s' * (len(users) != 1)})")
+    return notes
 
 
 def unlisted(change, side, listed):
@@ -110,15 +125,18 @@ def differ(one, two):
     return type(one) is not type(two) or one != two
 
 
-def outward(facts):
-    """The targets with an edge into another repository, and those of packages that load a file of one."""
+def outward(facts, names=()):
+    """The targets with an edge into another repository, and those of packages that load a file of one; with names into one of these."""
+    def is_out(label):
+        return label.startswith("@") and label != GIVEN and (not names or label[1:].partition("//")[0].lstrip("@") in names)
+
     loading, count = set(), -1
     while count != len(loading):
         count = len(loading)
-        loading |= {it.label for it in facts.modules.values() if any(load.label.startswith("@") and load.label != GIVEN or load.label in loading for load in it.loads)}
+        loading |= {it.label for it in facts.modules.values() if any(is_out(load.label) or load.label in loading for load in it.loads)}
     files = {facts.modules[label].file for label in loading}
     return [label for label, it in facts.targets.items() if not label.startswith("@") and it.kind != SOURCE
-            and (it.file in files or any(dep.startswith("@") for dep in [*it.deps, *named(it)]))]
+            and (it.file in files or any(is_out(dep) for dep in [*it.deps, *named(it)]))]
 
 
 def named(target):

@@ -13,7 +13,7 @@ from bzlq.overlay.reading import BUILD_FUNCTIONS, BUILT_INS, LEFT_OUT, Statement
 from bzlq.overlay.replaced import Replaced
 from bzlq.overlay.replacements import EXISTING, NATIVE_VALUES
 from bzlq.overlay.skylib import MEMBERS, REPOSITORY as SKYLIB
-from bzlq.workspace.files import MAX_SIZE, SCHEMA, content, files, has_content, is_path
+from bzlq.workspace.files import MAX_SIZE, SCHEMA, content, files, has_content, is_path, own_name_in
 
 REPOSITORY = re.compile(r"@([\w.+~-]+)(?://([^:]*)(?::(.*))?)?")
 # how often a keyword is passed on from macro to macro
@@ -68,9 +68,8 @@ class Workspace:
         """The name that the workspace gives itself."""
         for path in ("MODULE.bazel", "WORKSPACE.bazel", "WORKSPACE"):
             if path in self.paths:
-                found = re.search(rb"^(?:module|workspace)\(\s*name\s*=\s*[\"']([\w.+~-]+)[\"']", content(root, path), re.M)
-                if found:
-                    return found[1].decode()
+                if found := own_name_in(content(root, path)):
+                    return found.decode()
         return ""
 
     def left_out_of(self, file):

@@ -106,6 +106,33 @@ def passed_on(facts):
     return found
 
 
+def given_lost(facts):
+    """Of each macro the parameters that are given a value which isn't there, as it is, each with what is said of that: by a BUILD file, by a macro, or by
+    one that was given it itself."""
+    found, pending = defaultdict(dict), []
+
+    def look(file, call, told_of):
+        if not (call.passed or call.unnamed) or not (called := macro_of(facts, file, call)):
+            return
+        parameters = facts.workspace.files[called[0]].defs[called[1]].parameters
+        for parameter, name in [*zip(parameters, call.unnamed), *call.passed.items()]:
+            told = told_of(name) if name and parameter in parameters and parameter not in found[called] else ""
+            if told:
+                found[called][parameter] = told
+                pending.append(called)
+
+    for path in sorted(facts.reached):
+        file = facts.workspace.files[path]
+        for call in file.calls:
+            own = file.defs[call.inside].parameters if call.inside in file.defs else ()
+            look(file, call, lambda name, file=file, own=own: facts.value_lost(file, name) if name in file.globals and name not in own else "")
+    while pending:
+        macro = pending.pop()
+        for call in facts.calls_in(*macro):
+            look(facts.workspace.files[macro[0]], call, lambda name, macro=macro: found[macro].get(name, ""))
+    return found
+
+
 @dataclass
 class Undecided:
     """A value that isn't there, and the places where it decides which targets are declared."""
@@ -127,13 +154,14 @@ def undecided(facts, macros):
         file = facts.workspace.files[path]
         makers.update({(path, call.inside): True for call in file.calls if call.inside and declares(facts, file, call, ())})
     spread(makers, after)
-    found = {}
+    given, found = given_lost(facts), {}
     for path in sorted(facts.reached):
         file = facts.workspace.files[path]
         for names, inside, first, last, line in file.decisions:
             if inside and (path, inside) not in macros or facts.is_replaced(file, line):
                 continue
-            told = next((lost for name in names if (lost := facts.value_lost(file, name))), "")
+            of = given.get((path, inside), {})
+            told = next((lost for name in names if (lost := of.get(name[1:-1], "") if name[0] == "(" else facts.value_lost(file, name))), "")
             if told and any(declares(facts, file, call, makers) for call in file.calls[first:last]):
                 value = told.removeprefix("value: ")
                 found.setdefault(value, Undecided(value)).places[f"{path}:{line}"] = None

@@ -3,6 +3,7 @@
 Starlark is near enough to Python that Python's own parser reads it; nothing is run. What a value is like is guessed from its form.
 """
 import ast
+import bisect
 import codecs
 import re
 import warnings
@@ -43,6 +44,10 @@ LONE_RETURN = re.compile(r"\r(?!\n)")
 IDENTIFIER = re.compile(r"[A-Za-z_]\w*", re.ASCII)
 # a comprehension, or a loop (the text comes first, so that most of a file is passed over quickly)
 FOR = re.compile(rb"for(?<!\wfor)\b")
+
+
+# what leaves a function, or a turn of a loop, and what it stands in
+LEAVING, BLOCKS = (ast.Return, ast.Continue, ast.Break), (ast.FunctionDef, ast.If, ast.For)
 
 
 class Either:
@@ -97,6 +102,7 @@ class Call:
     wanted: str  # what the place takes: a kind, or empty
     passed: dict  # each keyword that is given a name as it is
     target: str  # the text that it gives as `name`
+    unnamed: list = field(default_factory=list)  # the names that it is given as they are without a keyword, and empty texts for other values
 
 
 @dataclass
@@ -143,7 +149,7 @@ class File:
     members: list = field(default_factory=list)  # (name, member, line, whether it is called)
     member_calls: list = field(default_factory=list)  # (name, member, keywords, line), of those that are statements
     faults: list = field(default_factory=list)  # (line, what bq leaves out)
-    decisions: list = field(default_factory=list)  # what decides which calls are made: (its names, the function around, the first of the calls, the one after the last, line)
+    decisions: list = field(default_factory=list)  # what decides which calls are made: (its names, and parameters in parentheses, the function around, the first of the calls, the one after the last, line)
     labels: list = field(default_factory=list)  # the labels of other repositories that its text names, each as (repository, package, name)
     existing: list = field(default_factory=list)  # the lines of calls that ask which rules there are
     is_odd: bool = False  # whether its text has what a copy may have something else for
@@ -241,6 +247,9 @@ class Reader(ast.NodeVisitor):
         self.binds = {}  # the names that the function around binds, with those in their values
         self.makers = set()  # parameters whose members declare targets
         self.labels = set()  # names that the function around binds to labels
+        self.parameters = set()  # those of the function around
+        self.leaving = []  # the lines in it that leave it, or the turn of a loop
+        self.leaves = []  # the conditions on that, each with how many calls come before
         self.wanted = ""
 
     def own_names(self, names):
@@ -299,8 +308,13 @@ class Reader(ast.NodeVisitor):
             if isinstance(it, ast.Assign) and len(it.targets) == 1 and isinstance(it.targets[0], ast.Name) and it.targets[0].id not in parameters:
                 self.bound.setdefault(it.targets[0].id, kind_of(it.value))
         self.binds = values_bound(nodes, bool(self.file.existing))
+        left = [part.lineno for it in nodes if isinstance(it, BLOCKS) for part in [*it.body, *getattr(it, "orelse", ())] if isinstance(part, LEAVING)]
+        self.parameters, self.leaving, self.leaves = parameters, sorted(left), []
         for part in node.body:
             self.visit(part)
+        for tests, first in self.leaves:
+            self.decide(tests, first)
+        self.parameters, self.leaving = set(), []
         self.inside, self.makers, self.labels, self.bound, self.binds = "", set(), set(), {}, {}
         self.own_names(set())
 
@@ -326,18 +340,22 @@ class Reader(ast.NodeVisitor):
         """Reads calls that these parts decide about."""
         first = len(self.file.calls)
         read()
+        self.decide(parts, first)
+
+    def decide(self, parts, first):
+        """Notes that these parts decide about the calls from this number on."""
         if len(self.file.calls) > first and (names := self.names_in(parts)):
             self.file.decisions.append((names, self.inside, first, len(self.file.calls), parts[0].lineno))
 
     def names_in(self, parts):
-        """The global names in these parts, also by what the function around binds its own names to."""
+        """The global names in these parts, also by what the function around binds its own names to; and its parameters, in parentheses."""
         found, pending = {}, [it for part in parts for it in names_used(nodes_of(part), bool(self.file.existing))]
         while pending and len(found) < MOST_NAMES:
             name = pending.pop()
             if name not in found:
                 found[name] = name not in self.locals and name in self.file.globals or name == EXISTING
                 pending += self.binds.get(name, ()) if name in self.locals else ()
-        return sorted(name for name, is_global in found.items() if is_global)
+        return sorted([name for name, is_global in found.items() if is_global] + [f"({name})" for name in found if name in self.parameters])
 
     def visit_Call(self, node):
         """Reads a call whose value is used."""
@@ -395,7 +413,8 @@ class Reader(ast.NodeVisitor):
         starred = [part for part in node.args if isinstance(part, ast.Starred)]
         positional = [kind_of(part) for part in node.args if part not in starred]
         names = {key.arg: key.value.id for key in node.keywords if key.arg and isinstance(key.value, ast.Name)}
-        self.file.calls.append(Call(name, is_native, node.lineno, self.inside, keywords, splats, positional, is_statement, self.wanted, names, target_of(node)))
+        unnamed = [getattr(part, "id", "") for part in node.args] if not starred and any(isinstance(part, ast.Name) for part in node.args) else []
+        self.file.calls.append(Call(name, is_native, node.lineno, self.inside, keywords, splats, positional, is_statement, self.wanted, names, target_of(node), unnamed))
 
     def member(self, node, name, member, is_called):
         """Notes that a member of a name is used."""
@@ -478,6 +497,9 @@ class Reader(ast.NodeVisitor):
         tests = [it.test for it in chain]
         self.all_of(tests)
         self.deciding(tests, lambda: self.all_of([part for it in chain for part in it.body] + chain[-1].orelse))
+        at = bisect.bisect_left(self.leaving, node.body[0].lineno)
+        if at < len(self.leaving) and self.leaving[at] <= node.end_lineno:
+            self.leaves.append((tests, len(self.file.calls)))
 
     def all_of(self, parts):
         """Reads statements, or expressions."""

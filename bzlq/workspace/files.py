@@ -16,6 +16,10 @@ MOST_READ = 4 * MAX_SIZE
 MAX_BYTES = 1_073_741_824
 ROOT_FILES = ("MODULE.bazel", "REPO.bazel", "WORKSPACE", "WORKSPACE.bazel")
 VALID = re.compile(r"[ -9;-\[\]-~]+")
+# what a file of the root says of the workspace itself, and the names in that
+OWN = re.compile(rb"^(?:module|workspace)\(((?:[^()#]|#[^\n]*)*)", re.M)
+COMMENT = re.compile(rb"#[^\n]*")
+NAMES = re.compile(rb"\b(name|repo_name)\s*=\s*[\"']([\w.+~-]+)[\"']")
 # a part that is empty, `.` or `..`
 ODD = re.compile(r"(?:^|/)\.{0,2}(?:/|$)")
 
@@ -41,6 +45,13 @@ def likely_root(paths):
         return ""
     packages = [path for path in paths if os.path.basename(path) in ("BUILD", "BUILD.bazel")]
     return max(sorted(roots), key=lambda root: (sum(path.startswith(root + "/") for path in packages), -root.count("/")))
+
+
+def own_name_in(text):
+    """The name of the workspace, as its own files know it, by the bytes of a file of its root; nothing where that doesn't say it."""
+    found = OWN.search(text)
+    names = dict(NAMES.findall(COMMENT.sub(b"", found[1]))) if found else {}
+    return names.get(b"repo_name", names.get(b"name", b""))
 
 
 def is_path(path):

@@ -57,6 +57,26 @@ def settings(bench):
     told(bench, "a file that none names", changed(bench, "settings", SETTINGS, "README", "x"), "", ["affected: in no target: README\n"], 0)
 
 
+LOCAL = {
+    "third/sub/MODULE.bazel": "", "third/sub/BUILD": 'filegroup(name = "x", srcs = ["x.c"])\n', "third/sub/x.c": "", "third/y.c": "",
+    "a/BUILD": 'load("@rules//:r.bzl", "lib")\nfilegroup(name = "a", srcs = ["@s//:x"])\nfilegroup(name = "b", srcs = ["@other//:y"])\n', "c/BUILD": 'load("@s//:s.bzl", "lib")\nlib(name = "c")\n',
+}
+# what says where the repository lies, and by which names it is known
+LOCALS = {
+    "WORKSPACE": ('local_repository(\n    name = "s",\n    path = "./third/sub",\n)\n', "@s"),
+    "MODULE.bazel": ('bazel_dep(name = "sub", version = "1", repo_name = "s")\nlocal_path_override(module_name = "sub", path = "third/sub")\n', "@s or @sub"),
+}
+
+
+def local(bench):
+    """A folder of the workspace that is another repository: what depends on that is concerned."""
+    for path, (text, names) in LOCALS.items():
+        line = f"affected: third/sub: what depends on {names} counts as changed (2 targets)\n"
+        found = changed(bench, "local", {**LOCAL, path: text}, "third/sub/x.c", "x", "--kind", "rule")
+        told(bench, f"a repository of a folder, by {path}", found, "//a:a\n//c:c\n//third/sub:x\n", [line], 0)
+        told(bench, f"a file beside it, by {path}", changed(bench, "local", {**LOCAL, path: text}, "third/y.c", "x", "--kind", "rule"), "", ["in no target: third/y.c\n"], 0)
+
+
 FURTHER = {
     "WORKSPACE": "", "a/BUILD": 'load("@r//:m.bzl", "release")\nrelease(name = "x", srcs = ["x.sh"])\nfilegroup(name = "all", srcs = [":x-and-hashes"])\n', "a/x.sh": "",
     "BUILD": 'load("@npm//:defs.bzl", "npm_link_all_packages")\nnpm_link_all_packages(name = "node_modules")\n',
@@ -185,12 +205,19 @@ LOOPS = {
     "a loop in a macro": ('load(":m.bzl", "m")\nm("x")\n', L + "def m(name):\n    for it in SOME:\n        native.filegroup(name = name + it)\n", "a/m.bzl:3", "SOME"),
     "a loop over a variable": ('load(":m.bzl", "m")\nm("x")\n', L + "def m(name):\n    some = []\n    for it in f(SOME):\n        some.append(it)\n    some += SOME\n    [native.filegroup(name = it) for it in some]\n",
                                "a/m.bzl:7", "SOME"),
+    "a loop over what a macro is given": ('load("@r//:m.bzl", "SOME")\nload(":m.bzl", "m")\nm(SOME)\n', "def m(names):\n    [native.filegroup(name = it) for it in names]\n", "a/m.bzl:2", "SOME"),
+    "a loop over what a macro passes on": (L + 'load(":m.bzl", "m")\nm(which = SOME)\n', "def n(some):\n    for it in some:\n        native.filegroup(name = it)\ndef m(which = []):\n    n(some = which)\n",
+                                           "a/m.bzl:2", "SOME"),
+    "a return": ('load(":m.bzl", "m")\nm("x")\n', L + "def m(name):\n    if not SOME:\n        return\n    native.filegroup(name = name)\n", "a/m.bzl:3", "SOME"),
+    "a turn that is left out": ('load(":m.bzl", "m")\nm()\n', L + 'def m():\n    for it in ["a", "b"]:\n        if it not in SOME:\n            continue\n        native.filegroup(name = it)\n', "a/m.bzl:4", "SOME"),
     "a condition in a macro": ('load(":m.bzl", "m")\nm("x")\n', L + 'def m(name):\n    if f("linux"):\n        n(name)\ndef n(name):\n    native.filegroup(name = name)\n', "a/m.bzl:3", "f"),
 }
 # where such a value decides about other things
 OTHER_LOOPS = {
     "a loop of texts": (L + 'filegroup(name = "x", tags = ["a" + it for it in ["b"]])\n', ""),
     "a loop of calls that declare nothing": (L + "[fail(it) for it in SOME]\n[print(it) for it in SOME]\n", ""),
+    "another argument of a macro": ('load("@r//:m.bzl", "SOME")\nload(":m.bzl", "m")\nm("x", SOME, True)\n', "def m(name, srcs, more = False):\n    if more:\n        native.filegroup(name = name, srcs = srcs)\n    "
+                                    'if not name:\n        return\n    native.filegroup(name = name + "_2")\n'),
     "a macro that isn't called": ('load(":m.bzl", "m")\nm("x")\n', L + "def m(name):\n    native.filegroup(name = name)\ndef n(name):\n    for it in SOME:\n        native.filegroup(name = name + it)\n"),
     "a condition on a check": ('load(":m.bzl", "m")\nm("x")\n', L + 'def c(name):\n    fail(name)\ndef m(name):\n    if SOME:\n        c(name)\n    native.filegroup(name = name)\n'),
 }
@@ -308,5 +335,5 @@ def replaced(bench):
 
 def check(bench):
     """Tries all of it."""
-    for part in (tests, settings, further, names, unreadable, losses, loops, more_answers, guessed, packages, defaults, mistakes, rows, replaced):
+    for part in (tests, settings, local, further, names, unreadable, losses, loops, more_answers, guessed, packages, defaults, mistakes, rows, replaced):
         part(bench)

@@ -4,3 +4,5 @@ pub mod Passing
 pub mod Unpacking
 pub mod Calling
 pub mod Runtime
+-- a few arguments, which no limit stops
+pub mod FewArguments

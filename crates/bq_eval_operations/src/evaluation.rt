@@ -3,6 +3,7 @@
 ghost use Rattle.std.specs.Prelude.{◌≡◌, List, [], ℕ};
 ghost use Rattle.bq_builtin_machine.specs.State.{State};
 ghost use Rattle.bq_eval_operations.specs.Runtime.{primitives};
+ghost use Rattle.bq_eval_operations.specs.FewArguments.{no_limit};
 
 use crate::making::{with_element, with_new_pair, with_pair};
 use crate::unpacking::parts_of;
@@ -293,4 +294,6 @@ impl<'a, H: Host, K: RuleNames> Runtime for Evaluation<'a, H, K> {
     fn at_line(&mut self, line: u32) {
         self.machine.set_line(line);
     }
+
+    ghost passes_few = { no_limit K.rules H.means };
 }

@@ -18,5 +18,7 @@ pub mod ParameterLists
 pub mod CallSteps
 -- arguments go straight into the frame
 pub mod Straight
+-- arguments are evaluated straight into the frame
+pub mod Taken
 -- what a walk says of the elements that are left
 pub mod Next

@@ -1,5 +1,5 @@
 -- Arguments of parameters that take one each, whose slots are the first, are the frame itself.
-use Rattle.std.proofs.Common.{◌≡◌, ◌∙◌, ℕ, zero, suc, ◌+◌, ◌-◌, ◌==◌, nat_le, Bool, true, false, not, ◌||◌, ◌&&◌, cond, List, [], ◌∷◌, ◌++◌, append-nil, append_assoc, length, length-set, set, slice_get, drop, Option, Some, None, Result, Ok, Err, IfOk, refl, ap, sym, arith}
+use Rattle.std.proofs.Common.{◌≡◌, ◌∙◌, ℕ, zero, suc, ◌+◌, ◌-◌, ◌==◌, nat_le, Bool, true, false, not, ◌||◌, ◌&&◌, cond, List, [], ◌∷◌, ◌++◌, append-nil, append_assoc, length, length-set, set, slice_get, drop, Option, Some, None, Ok, Err, IfOk, refl, ap, sym, arith}
 use Rattle.std.proofs.lemmas.Bool.Decides.{nat_tests}
 use Rattle.std.proofs.lemmas.List.{length_push}
 use Rattle.std.specs.List.{position_from}
@@ -20,6 +20,7 @@ use Rattle.bq_eval_frame.specs.Slots.{list_slots}
 use Rattle.bq_eval_frame.proofs.Slots.{list_filled, padded as one_empty}
 use Rattle.bq_eval_language_spec.specs.Calls.{entry, fill_parameter, fill_parameters, has_star_star, keywords_of, signature, singles}
 use Rattle.bq_eval_language_spec.specs.Slots.{by_slots, slot_of}
+use Rattle.bq_eval_rules.specs.Taking.{framed}
 use Rattle.bq_eval_rules.specs.Direct.{Values, and_values, are_direct, defaulted, direct_signature, direct_values, placed_all, value_or, with_defaults}
 
 -- ---- what such parameters take
@@ -63,7 +64,7 @@ at_places count first n xs all each = rw all rw each refl
 placed_only : (ps : List Formal) (xs : List Datum) → are_direct 0 ps ≡ true → placed (direct_signature ps) xs ≡ placed_all (length ps) xs
 placed_only ps xs direct = at_places (length (singles ps)) (places (direct_signature ps)) (length ps) xs (all_single 0 ps direct) (all_places ps direct)
 
-placed_long : (p n : ℕ) (xs : List Datum) → length (placed_values p n xs) ≡ n
+pub placed_long : (p n : ℕ) (xs : List Datum) → length (placed_values p n xs) ≡ n
 placed_long zero zero xs = refl
 placed_long (suc p) zero xs = refl
 placed_long zero (suc n) xs = ap suc (placed_long zero n xs)
@@ -118,10 +119,6 @@ next_put before v =
     ∙ (list_filled (before ++ None ∷ []) (length before) v (omega (arith, length_push before None)) ∙ ap (λ frame. put frame (length before) v) (one_empty before))
 
 -- ---- parameters fill the frame with their values
-
-abbrev framed : Values → Result Frame EvalFault
-framed (Ok vs) = Ok (list_slots vs)
-framed (Err kind) = Err kind
 
 -- with one more value before it
 moved : {A : Type 0} (F : ℕ → List (Option Datum) → A) (before rest : List (Option Datum)) (v : Option Datum) → F (length (before ++ v ∷ [])) ((before ++ v ∷ []) ++ rest) ≡ F (length before + 1) (before ++ v ∷ rest)
@@ -240,7 +237,7 @@ module _ {S : Type 0} (m : Primitives S) (d : Function) (ds : List Datum) (s : S
       ∙ named_by (take_all_named D p.named (placed_all (length d.parameters) p.positional))
       (as_many p.named d.parameters (placed_all (length d.parameters) p.positional) (length d.parameters) (placed_long (length d.parameters) (length d.parameters) p.positional)) direct
 
-  directly : (p : Passed) → are_direct 0 d.parameters ≡ true → entry m by_slots d ds p s ≡ given_by m (framed (direct_values d.parameters ds p)) s
+  pub directly : (p : Passed) → are_direct 0 d.parameters ≡ true → entry m by_slots d ds p s ≡ given_by m (framed (direct_values d.parameters ds p)) s
   unfolding entry bind direct_values
   directly p direct =
       let D = direct_signature d.parameters in

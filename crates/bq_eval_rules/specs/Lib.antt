@@ -3,6 +3,9 @@ pub mod Acts
 pub mod Round
 pub mod Operands
 pub mod Conditions
+pub mod TreeUnits
+pub mod ContextCalls
+pub mod Called
 pub mod Nests
 pub mod Evaluators
 pub mod Expressions
@@ -14,6 +17,6 @@ pub mod Runs
 pub mod Readers
 pub mod Runners
 pub mod Fillings
-pub mod TreeUnits
-pub mod ContextCalls
 pub mod Direct
+pub mod Few
+pub mod Taking

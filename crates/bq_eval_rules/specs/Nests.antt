@@ -4,16 +4,17 @@ use denote.Ref.{Bor, MutBor}
 use Rattle.bq_parse_grammar.specs.declared.tree.Expr.{Expr}
 use Rattle.bq_value.specs.declared.error.EvalErr.{EvalErr}
 use Rattle.bq_value.specs.Datum.{Datum}
-use Rattle.bq_builtin_machine.specs.Args.{Passed}
 use Rattle.bq_eval_meaning_spec.specs.Frame.{Frame}
 use Rattle.bq_eval_meaning_spec.specs.Primitives.{Primitives}
 use Rattle.bq_eval_language_spec.specs.Trees.{Eval}
 use Rattle.bq_eval_language_spec.specs.Expressions.{expr_to}
 use Rattle.bq_eval_language_spec.specs.Slots.{by_slots}
 use Rattle.bq_eval_frame.specs.Slots.{Slots, slots_of}
+use Rattle.bq_eval_rules.specs.declared.called.Called.{Called}
 use Rattle.bq_eval_rules.specs.declared.context.Context.{Context}
 use Rattle.bq_eval_rules.specs.Acts.{Acts}
 use Rattle.bq_eval_rules.specs.Answers.{AnswerPlace, answer_of}
+use Rattle.bq_eval_rules.specs.Called.{called_in}
 use Rattle.bq_eval_rules.specs.Round.{round_of, inside}
 
 -- what an expression inside means, to a depth
@@ -31,14 +32,14 @@ pub record Nests {R S C : Type 0} (m : Primitives S) (seen : R → S) (bound dep
 
 -- A function value that calls. It may be called where at most `bound` functions may still become active.
 pub record Answers {R S : Type 0} (m : Primitives S) (seen : R → S) (bound : ℕ)
-    (pre : Bor Context → MutBor R → Bor Datum → Passed → Type 0)
-    (post : Bor Context → MutBor R → Bor Datum → Passed → Result Datum EvalErr → MutBor R → Type 0) : Type 0 where
-  pub callable : (c : Bor Context) (r : MutBor R) (v : Bor Datum) (p : Passed) → c.now.left ≤ bound → pre c r v p
-  pub says : (c : Bor Context) (old new : MutBor R) (v : Bor Datum) (p : Passed) (result : Result Datum EvalErr) → post c old v p result new
-      → Acts m (λ x. x) result (seen new.now) (inside m c.now v.now p (seen old.now))
+    (pre : Bor Context → MutBor R → Called → Type 0)
+    (post : Bor Context → MutBor R → Called → Result Datum EvalErr → MutBor R → Type 0) : Type 0 where
+  pub callable : (c : Bor Context) (r : MutBor R) (x : Called) → c.now.left ≤ bound → pre c r x
+  pub says : (c : Bor Context) (old new : MutBor R) (x : Called) (result : Result Datum EvalErr) → post c old x result new
+      → Acts m (λ v. v) result (seen new.now) (called_in m c.now x (seen old.now))
 
 -- a function value answers calls in a context
 abbrev pub AnswersCalls : {R S C : Type 0} → Primitives S → (R → S) → Context → C
-    → (C → Bor Context → MutBor R → Bor Datum → Passed → Type 0)
-    → (C → Bor Context → MutBor R → Bor Datum → Passed → Result Datum EvalErr → MutBor R → Type 0) → Type 0
+    → (C → Bor Context → MutBor R → Called → Type 0)
+    → (C → Bor Context → MutBor R → Called → Result Datum EvalErr → MutBor R → Type 0) → Type 0
 AnswersCalls m seen c call pre post = Answers m seen c.left (pre call) (post call)

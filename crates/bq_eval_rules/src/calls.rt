@@ -5,12 +5,14 @@ ghost use Rattle.bq_eval_language_spec.specs.Calls as meaning;
 ghost use Rattle.bq_eval_language_spec.specs.Slots.{by_slots};
 ghost use Rattle.bq_eval_frame.specs.Slots.{slots_of};
 ghost use Rattle.bq_eval_rules.specs.Acts.{Acts};
+ghost use Rattle.bq_eval_rules.specs.Called.{called_in, entered};
 ghost use Rattle.bq_eval_rules.specs.TreeUnits.{unit_of};
 ghost use Rattle.bq_eval_rules.specs.Round.{inside};
 ghost use Rattle.bq_eval_rules.specs.Effects.{Returns};
 ghost use Rattle.bq_eval_rules.specs.ContextCalls.{body_here, call_here, call_place};
 
 use crate::answer::new_place;
+use crate::called::{Called, Callee, callee_at};
 use crate::context::Context;
 use crate::direct::{are_direct, direct_values};
 use crate::filling::{Filling, fill_parameters};
@@ -18,7 +20,7 @@ use crate::flow::result_of;
 use crate::parameters::{bind_args, has_star_star, keywords_of};
 use crate::runtime::Runtime;
 use crate::statements::run_block;
-use crate::units::{TreeUnit, unit_at};
+use crate::units::TreeUnit;
 use bq_base::EvalFault;
 use bq_builtin_machine::{Args, Bound, MAX_SEARCHED};
 use bq_eval_frame::Frame;
@@ -113,36 +115,48 @@ pub fn run_body<R: Runtime>(
     result_of(flow, out)
 }
 
-/// Calls a function of the program.
+/// Runs a function of the program, in the frame with which it begins.
 #[cycle(calls)]
-#[tactic(auto, unfolding(bq_eval_language_spec::specs::Calls::call_function))]
-pub fn call_function<R: Runtime>(
+#[tactic(auto, unfolding(crate::specs::Called::entered))]
+fn run_entered<R: Runtime>(
     context: &Context<'_>,
     runtime: &mut R,
-    called: &FunctionValue,
-    unit: &TreeUnit<'_>,
-    function: &Function,
-    args: Args,
+    callee: &Callee<'_>,
+    first: Frame<'_>,
 ) -> Result<Value, EvalErr>
-    ensures { Returns R.means R.seen (call_here R.means context.now called.now.«module» called.now.place (unit_of unit.now) function.now called.now.defaults.items args) runtime.old result runtime.new }
+    ensures { Returns R.means R.seen (entered R.means context.now callee.now (slots_of first.entry)) runtime.old result runtime.new }
 {
-    let mut frame = entry(
-        context.alloc,
-        runtime,
-        function,
-        called.defaults.as_slice(),
-        args,
-    )?;
-    runtime.enter(called.module, called.place)?;
-    let value = run_body(context, runtime, unit, function, &mut frame)?;
+    let mut frame = first;
+    runtime.enter(callee.called.module, callee.called.place)?;
+    let value = run_body(context, runtime, &callee.unit, callee.function, &mut frame)?;
     runtime.leave();
     Ok(value)
 }
 
-/// Calls the function of a module whose `def` has this place.
+/// Calls a function of the program.
 #[cycle(calls)]
-#[tactic(auto, unfolding(bq_eval_language_spec::specs::Calls::call_at))]
-pub fn call_at<R: Runtime>(
+#[tactic(auto, unfolding(bq_eval_language_spec::specs::Calls::call_function, crate::specs::Called::entered))]
+fn call_function<R: Runtime>(
+    context: &Context<'_>,
+    runtime: &mut R,
+    callee: &Callee<'_>,
+    args: Args,
+) -> Result<Value, EvalErr>
+    ensures { Returns R.means R.seen (call_here R.means context.now callee.now.called.now.«module» callee.now.called.now.place (unit_of callee.now.unit) callee.now.function.now callee.now.called.now.defaults.items args) runtime.old result runtime.new }
+{
+    let frame = entry(
+        context.alloc,
+        runtime,
+        callee.function,
+        callee.called.defaults.as_slice(),
+        args,
+    )?;
+    run_entered(context, runtime, callee, frame)
+}
+
+/// Calls a function value.
+#[cycle(calls)]
+fn call_at<R: Runtime>(
     context: &Context<'_>,
     runtime: &mut R,
     called: &FunctionValue,
@@ -150,19 +164,16 @@ pub fn call_at<R: Runtime>(
 ) -> Result<Value, EvalErr>
     ensures { Returns R.means R.seen (call_place R.means context.now called.now.«module» called.now.place called.now.defaults.items args) runtime.old result runtime.new }
 {
-    match unit_at(context.program, context.own, called.module) {
+    match callee_at(&*context, &*runtime, &*called) {
         None => Err(EvalErr::Bad(EvalFault::WrongType)),
-        Some(unit) => match unit.functions.get(called.place as usize) {
-            None => Err(EvalErr::Bad(EvalFault::WrongType)),
-            Some(function) => { call_function(context, runtime, called, &unit, function, args) }
-        },
+        Some(callee) => call_function(context, runtime, &callee, args),
     }
 }
 
-/// Calls a value.
+/// Calls a value with arguments.
 #[cycle(calls)]
 #[tactic(auto, using(crate::proofs::CallSteps::calls_step, bq_value_datum::specs::Datum::list_of_data_of), unfolding(crate::specs::Round::inside, bq_eval_language_spec::specs::Calls::apply))]
-pub fn call<R: Runtime>(
+fn call_value<R: Runtime>(
     context: &Context<'_>,
     runtime: &mut R,
     value: &Value,
@@ -183,5 +194,20 @@ pub fn call<R: Runtime>(
         }
         Node::Cell(cell) => runtime.call_cell(context.alloc, *cell, args),
         _ => Err(EvalErr::Bad(EvalFault::WrongType)),
+    }
+}
+
+/// Calls a value, or runs a function in the frame with which it begins.
+#[cycle(calls)]
+pub fn call<R: Runtime>(
+    context: &Context<'_>,
+    runtime: &mut R,
+    called: Called<'_>,
+) -> Result<Value, EvalErr>
+    ensures { Returns R.means R.seen (called_in R.means context.now called.entry) runtime.old result runtime.new }
+{
+    match called {
+        Called::Value(value, args) => call_value(context, runtime, value, args),
+        Called::Entered(callee, frame) => run_entered(context, runtime, &callee, frame),
     }
 }

@@ -40,7 +40,7 @@ pub fn are_direct(parameters: &[Formal]) -> bool
 }
 
 /// Returns the place of the first parameter of this name among those that take one argument.
-fn parameter_called(parameters: &[Formal], name: &[u8]) -> Option<usize>
+pub fn parameter_called(parameters: &[Formal], name: &[u8]) -> Option<usize>
     ensures { result ≡ position_from (is_called name.now) 0 (singles parameters.now) }
 {
     let mut place = 0;
@@ -95,7 +95,7 @@ fn take_default(values: &mut Vec<Option<Value>>, i: usize, default: &Value) -> R
 
 /// Gives each parameter without an argument its default, or fails with F52.
 #[tactic(auto, unfolding(crate::specs::Direct::with_defaults))]
-fn take_defaults(
+pub fn take_defaults(
     values: &mut Vec<Option<Value>>,
     parameters: &[Formal],
     defaults: &[Value],

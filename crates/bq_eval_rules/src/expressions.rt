@@ -11,12 +11,12 @@ ghost use Rattle.bq_eval_rules.specs.Evaluators.{EvaluatesInside, evals_in, call
 ghost use Rattle.bq_eval_rules.specs.Expressions.{HasNoChoice, HasNoSuffix, IsNoChain};
 
 use crate::answer::{AnswerPlace, failed, unboxed};
+use crate::called::Called;
 use crate::context::Context;
 use crate::evaluator::Evaluator;
 use crate::operand::{literal, string_leaf, use_of};
 use crate::runtime::Runtime;
 use crate::stuck::stuck;
-use bq_builtin_machine::Args;
 use bq_eval_frame::Frame;
 use bq_parse_grammar::Expr;
 use bq_value::{EvalErr, Value};
@@ -27,7 +27,7 @@ use std::marker::PhantomData;
 #[tactic(auto, unfolding(bq_eval_language_spec::specs::Expressions::expr_to))]
 pub fn expr_to<
     R: Runtime,
-    C: Copy + Fn(&Context<'_>, &mut R, &Value, Args) -> Result<Value, EvalErr>,
+    C: Copy + Fn(&Context<'_>, &mut R, Called<'_>) -> Result<Value, EvalErr>,
 >(
     context: &Context<'_>,
     depth: usize,
@@ -58,7 +58,7 @@ pub fn expr_to<
 impl<
     'a,
     R: Runtime,
-    C: Copy + Fn(&Context<'_>, &mut R, &Value, Args) -> Result<Value, EvalErr>,
+    C: Copy + Fn(&Context<'_>, &mut R, Called<'_>) -> Result<Value, EvalErr>,
     F: Copy
         + Fn(&Context<'_>, usize, C, &Frame<'_>, &mut R, &Expr, &mut AnswerPlace) -> Option<i64>,
 > Evaluator<'a, R, C, F> {

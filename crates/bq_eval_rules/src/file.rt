@@ -13,13 +13,13 @@ ghost use Rattle.bq_eval_rules.specs.Effects.{ExecutesLines};
 ghost use Rattle.bq_eval_rules.specs.Readers.{evals_of};
 
 use crate::answer::new_place;
+use crate::called::Called;
 use crate::calls::call;
 use crate::context::Context;
 use crate::flow::{Ending, ending_of};
 use crate::reader::Reader;
 use crate::runtime::Runtime;
 use crate::targets::slot_of;
-use bq_builtin_machine::Args;
 use bq_eval_frame::Frame;
 use bq_parse_grammar::{Expr, SmallStmt};
 use bq_resolve_scope::{Def, FileLine, Outside};
@@ -29,7 +29,7 @@ use std::marker::PhantomData;
 impl<
     'a,
     R: Runtime,
-    C: Copy + Fn(&Context<'_>, &mut R, &Value, Args) -> Result<Value, EvalErr>,
+    C: Copy + Fn(&Context<'_>, &mut R, Called<'_>) -> Result<Value, EvalErr>,
 > Reader<'a, R, C> {
     /// Evaluates expressions, one after another.
     #[tactic(auto, unfolding(bq_eval_language_spec::specs::Expressions::values))]

@@ -26,11 +26,12 @@
 //!   expressions;
 //! - `places`, `targets`, `reader`: the targets of assignments;
 //! - `flow`, `small`, `statements`: the rules of statements;
-//! - `parameters`, `filling`, `direct`, `units`, `calls`: calls;
+//! - `parameters`, `filling`, `direct`, `units`, `called`, `taking`, `calls`: calls;
 //! - `file`: the top-level statements of a file.
 #![tactic(auto)]
 
 mod answer;
+mod called;
 mod calls;
 mod comprehensions;
 mod conditions;
@@ -54,10 +55,12 @@ mod small;
 mod statements;
 mod stuck;
 mod suffixes;
+mod taking;
 mod targets;
 mod units;
 
 pub use answer::AnswerPlace;
+pub use called::{Called, Callee};
 pub use calls::call;
 pub use context::{Context, Globals, Program};
 pub use evaluator::Evaluator;

@@ -20,6 +20,7 @@ ghost use Rattle.bq_eval_rules.specs.Readers.{evals_of, places_in_each, places_i
 use crate::answer::{
     AnswerPlace, failed_there, new_place, placed, settled, taken, unboxed, undecided,
 };
+use crate::called::Called;
 use crate::context::{Context, Globals};
 use crate::evaluator::Evaluator;
 use crate::expressions::expr_to;
@@ -30,7 +31,6 @@ use crate::places::IndexedOperands;
 use crate::runtime::Runtime;
 use crate::stuck::stuck;
 use crate::targets::{MAX_LAYERS, bind_to, slot_of};
-use bq_builtin_machine::Args;
 use bq_eval_frame::Frame;
 use bq_parse_grammar::{Expr, Identifier, Operator, TargetExpr};
 use bq_value::{EvalErr, Value};
@@ -143,7 +143,7 @@ pub struct Reader<'a, R, C> {
 impl<
     'a,
     R: Runtime,
-    C: Copy + Fn(&Context<'_>, &mut R, &Value, Args) -> Result<Value, EvalErr>,
+    C: Copy + Fn(&Context<'_>, &mut R, Called<'_>) -> Result<Value, EvalErr>,
 > Reader<'a, R, C> {
     /// Evaluates an expression in a function.
     #[inline(always)]

@@ -3,6 +3,7 @@
 ghost use Rattle.std.specs.Prelude.{◌≡◌, IfOk};
 ghost use Rattle.bq_eval_meaning_spec.specs.Primitives.{Primitives};
 ghost use Rattle.bq_eval_rules.specs.Acts.{Acts};
+ghost use Rattle.bq_eval_rules.specs.Few.{PassesFew};
 
 use bq_base::Bytes;
 use bq_builtin_machine::{Args, ElementWalk, Elements};
@@ -161,4 +162,7 @@ pub trait Runtime {
     /// Sets the line of the top-level statement that runs.
     fn at_line(&mut self, line: u32)
         ensures { seen self.new ≡ means.at_line line (seen self.old) };
+
+    /// Where there are few arguments, one more joins them, and no limit stops it.
+    ghost passes_few: { PassesFew means };
 }

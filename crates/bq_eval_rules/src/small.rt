@@ -10,11 +10,11 @@ ghost use Rattle.bq_eval_rules.specs.Flows.{flow_of};
 ghost use Rattle.bq_eval_rules.specs.Readers.{evals_of};
 
 use crate::answer::{AnswerPlace, taken};
+use crate::called::Called;
 use crate::context::Context;
 use crate::flow::{Flow, ended, ended_there, returned};
 use crate::reader::{Augmentation, Reader};
 use crate::runtime::Runtime;
-use bq_builtin_machine::Args;
 use bq_eval_frame::Frame;
 use bq_parse_grammar::{Expr, SmallKind, SmallStmt, TargetExpr};
 use bq_value::{EvalErr, Value};
@@ -53,7 +53,7 @@ fn next_there<R: Runtime>(runtime: &R, frame: &Frame<'_>, out: &mut AnswerPlace)
 impl<
     'a,
     R: Runtime,
-    C: Copy + Fn(&Context<'_>, &mut R, &Value, Args) -> Result<Value, EvalErr>,
+    C: Copy + Fn(&Context<'_>, &mut R, Called<'_>) -> Result<Value, EvalErr>,
 > Reader<'a, R, C> {
     /// Carries out an expression as a statement.
     #[inline(always)]

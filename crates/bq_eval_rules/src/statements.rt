@@ -11,13 +11,14 @@ ghost use Rattle.bq_eval_rules.specs.Flows.{flow_of};
 ghost use Rattle.bq_eval_rules.specs.Runners.{RunsInside, WalkEnds, rule_in, walk};
 
 use crate::answer::AnswerPlace;
+use crate::called::Called;
 use crate::context::Context;
 use crate::flow::{Flow, ended, ended_there};
 use crate::reader::Reader;
 use crate::runtime::Runtime;
 use crate::stuck::stuck;
 use crate::targets::{MAX_LAYERS, begin_turn};
-use bq_builtin_machine::{Args, ElementWalk};
+use bq_builtin_machine::ElementWalk;
 use bq_eval_frame::Frame;
 use bq_parse_grammar::{Branch, Expr, Stmt, TargetExpr};
 use bq_value::{EvalErr, Value};
@@ -41,7 +42,7 @@ struct ForBody<'c> {
 /// Runs a statement that is at most `depth` layers deep.
 #[inline(always)]
 #[tactic(auto, unfolding(bq_eval_language_spec::specs::Statements::run_to))]
-fn run_to<R: Runtime, C: Copy + Fn(&Context<'_>, &mut R, &Value, Args) -> Result<Value, EvalErr>>(
+fn run_to<R: Runtime, C: Copy + Fn(&Context<'_>, &mut R, Called<'_>) -> Result<Value, EvalErr>>(
     context: &Context<'_>,
     depth: usize,
     call: C,
@@ -73,7 +74,7 @@ fn run_to<R: Runtime, C: Copy + Fn(&Context<'_>, &mut R, &Value, Args) -> Result
 #[tactic(auto, unfolding(bq_resolve_scope::specs::Names::max_layers))]
 pub fn run_block<
     R: Runtime,
-    C: Copy + Fn(&Context<'_>, &mut R, &Value, Args) -> Result<Value, EvalErr>,
+    C: Copy + Fn(&Context<'_>, &mut R, Called<'_>) -> Result<Value, EvalErr>,
 >(
     context: &Context<'_>,
     call: C,
@@ -117,7 +118,7 @@ fn end_walk<R: Runtime>(runtime: &mut R, iterable: &Value, flow: Flow, out: &Ans
 impl<
     'a,
     R: Runtime,
-    C: Copy + Fn(&Context<'_>, &mut R, &Value, Args) -> Result<Value, EvalErr>,
+    C: Copy + Fn(&Context<'_>, &mut R, Called<'_>) -> Result<Value, EvalErr>,
     G: Fn(&Context<'_>, usize, C, &mut Frame<'_>, &mut R, &Stmt, &mut AnswerPlace) -> Flow,
 > Runner<'a, R, C, G> {
     /// Runs statements in order.

@@ -5,15 +5,19 @@ ghost use Rattle.bq_builtin_machine.specs.Action.{◌>>=◌ as and_then};
 ghost use Rattle.bq_eval_language_spec.specs.Expressions as meaning;
 ghost use Rattle.bq_eval_language_spec.specs.Slots.{by_slots};
 ghost use Rattle.bq_eval_rules.specs.Answers.{answer_of};
+ghost use Rattle.bq_eval_rules.specs.Called.{IsCallee};
 ghost use Rattle.bq_eval_rules.specs.Nests.{AnswersCalls};
 ghost use Rattle.bq_eval_rules.specs.Effects.{Returns, Produces};
+ghost use Rattle.bq_eval_rules.specs.Taking.{GoesStraight};
 ghost use Rattle.bq_eval_rules.specs.Evaluators.{EvaluatesInside, evals_in, calls_in, round_in, frame_of, value_inside};
 
 use crate::answer::{AnswerPlace, failed, new_place, placed, settled, unboxed};
+use crate::called::{Called, Callee};
 use crate::context::Context;
 use crate::evaluator::Evaluator;
 use crate::runtime::Runtime;
 use crate::stuck::stuck;
+use crate::taking::straight_callee;
 use bq_base::Bytes;
 use bq_builtin_machine::Args;
 use bq_eval_frame::Frame;
@@ -154,14 +158,14 @@ impl<
 impl<
     'a,
     R: Runtime,
-    C: Copy + Fn(&Context<'_>, &mut R, &Value, Args) -> Result<Value, EvalErr>,
+    C: Copy + Fn(&Context<'_>, &mut R, Called<'_>) -> Result<Value, EvalErr>,
     F: Copy
         + Fn(&Context<'_>, usize, C, &Frame<'_>, &mut R, &Expr, &mut AnswerPlace) -> Option<i64>,
 > Evaluator<'a, R, C, F> {
-    /// Applies `value(..)`.
-    #[inline(never)]
+    /// Applies `value(..)`, where the arguments are passed one after another.
+    #[inline(always)]
     #[tactic(auto, unfolding(bq_eval_language_spec::specs::Expressions::call_of))]
-    fn call_of(
+    fn call_listed(
         &self,
         runtime: &mut R,
         arguments: &[Argument],
@@ -176,9 +180,55 @@ impl<
         match self.arguments(runtime, &mut args, arguments) {
             Err(why) => failed(out, why),
             Ok(()) => {
-                let outcome = (self.call)(self.context, runtime, value, args);
+                let outcome = (self.call)(self.context, runtime, Called::Value(&*value, args));
                 unboxed(out, outcome)
             }
+        }
+    }
+
+    /// Applies `value(..)`, where the arguments go straight into the frame of the function.
+    #[inline(always)]
+    fn call_straight(
+        &self,
+        runtime: &mut R,
+        arguments: &[Argument],
+        value: &Value,
+        callee: Callee<'_>,
+        out: &mut AnswerPlace,
+    ) -> Option<i64>
+        requires nests { EvaluatesInside R.means R.seen self.now F.pre F.post }
+        requires answers { AnswersCalls R.means R.seen self.now.context.now self.now.call C.pre C.post }
+        requires called { IsCallee R.means self.now.context.now value.now callee }
+        requires straight { GoesStraight callee.function.now arguments.now }
+        ensures { Returns R.means R.seen (meaning.call_of R.means (evals_in R.means self.now) (calls_in R.means self.now) arguments.now (frame_of self.now) value.now) runtime.old (answer_of result out.new) runtime.new }
+    {
+        // for the proof: knows the value that the contract speaks of.
+        let _ = value;
+        match self.straight_frame(runtime, &callee, arguments) {
+            Err(why) => failed(out, why),
+            Ok(frame) => {
+                let outcome = (self.call)(self.context, runtime, Called::Entered(callee, frame));
+                unboxed(out, outcome)
+            }
+        }
+    }
+
+    /// Applies `value(..)`.
+    #[inline(never)]
+    fn call_of(
+        &self,
+        runtime: &mut R,
+        arguments: &[Argument],
+        value: &Value,
+        out: &mut AnswerPlace,
+    ) -> Option<i64>
+        requires nests { EvaluatesInside R.means R.seen self.now F.pre F.post }
+        requires answers { AnswersCalls R.means R.seen self.now.context.now self.now.call C.pre C.post }
+        ensures { Returns R.means R.seen (meaning.call_of R.means (evals_in R.means self.now) (calls_in R.means self.now) arguments.now (frame_of self.now) value.now) runtime.old (answer_of result out.new) runtime.new }
+    {
+        match straight_callee(self.context, &*runtime, &*value, arguments) {
+            Some(callee) => self.call_straight(runtime, arguments, value, callee, out),
+            None => self.call_listed(runtime, arguments, value, out),
         }
     }
 
