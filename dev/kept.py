@@ -6,6 +6,7 @@ the gate does. The gate trusts none of what is here.
 """
 import contextlib
 import fcntl
+import glob
 import hashlib
 import json
 import os
@@ -21,6 +22,8 @@ import kit
 STORE = os.path.join(os.environ.get("XDG_CACHE_HOME") or os.path.expanduser("~/.cache"), "bq-proofs")
 # what a check takes that has not been seen yet, in processor seconds and in bytes
 UNKNOWN = (60, 3e9)
+# files that a function's proof has, and those that list pages
+NO_PAGES = ("Answers.antt", "Invariants.antt", "Proof.antt", "Lib.antt")
 
 
 def rt_module():
@@ -35,6 +38,24 @@ def walked_once(crate):
     if not hasattr(crate, "_walked"):
         crate._walked = list(dict.fromkeys(it for dep in crate.deps for it in [*walked_once(dep), dep]))
     return crate._walked
+
+
+@contextlib.contextmanager
+def with_all_pages_read(crate):
+    """The folder of a copy of a crate that has one more function, `reads_all_pages`, whose proof imports each page of the crate. Where a check
+    names functions, the prover passes over the pages that their proofs don't import: definitions and lemmas that only crates above use."""
+    with tempfile.TemporaryDirectory(prefix="bench-") as folder:
+        for part in kit.PARTS:
+            if os.path.isdir(f"{crate.folder}/{part}"):
+                shutil.copytree(f"{crate.folder}/{part}", f"{folder}/{part}")
+        found = sorted(glob.glob("specs/**/*.antt", root_dir=folder, recursive=True) + glob.glob("proofs/**/*.antt", root_dir=folder, recursive=True))
+        pages = [it.removesuffix(".antt").replace("/", ".") for it in found if os.path.basename(it) not in NO_PAGES]
+        os.makedirs(f"{folder}/proofs/reads_all_pages")
+        with open(f"{folder}/proofs/reads_all_pages/Answers.antt", "w", encoding="utf-8") as file:
+            file.writelines(f"use Rattle.{crate.name}.{page} as page_{number}\n" for number, page in enumerate(pages))
+        with open(f"{folder}/src/{'main' if crate.is_program else 'lib'}.rt", "a", encoding="utf-8") as file:
+            file.write("\nfn reads_all_pages() {}\n")
+        yield folder
 
 
 class Kept:
@@ -90,14 +111,19 @@ class Kept:
         """Whether a crate was proved."""
         return os.path.exists(f"{self.place(crate, tests)}/proved")
 
-    def run(self, words, folder):
-        """Runs the prover: its status, what it says, its processor seconds and its bytes at the peak."""
+    def run(self, words, folder, hears=None, most=None):
+        """Runs the prover: its status, what it says, its processor seconds and its bytes at the peak. `hears` is called with each line when it is
+        said; after `most` seconds of a processor the prover is broken off."""
         with tempfile.NamedTemporaryFile("r") as report:
-            timed = ["/usr/bin/time", "-q", "-f", "%U %S %M", "-o", report.name]
-            words = [*self.lib.guarded(), *timed, self.lib.RATTLE, *words]
-            ran = subprocess.run(words, cwd=folder, stdin=subprocess.DEVNULL, stdout=subprocess.PIPE, stderr=subprocess.STDOUT, errors="replace")
+            timed = ["/usr/bin/time", "-q", "-f", "%U %S %M", "-o", report.name, *(["prlimit", f"--cpu={most}"] if most else [])]
+            words, said = [*self.lib.guarded(), *timed, self.lib.RATTLE, *words], []
+            with subprocess.Popen(words, cwd=folder, stdin=subprocess.DEVNULL, stdout=subprocess.PIPE, stderr=subprocess.STDOUT, errors="replace") as ran:
+                for line in ran.stdout:
+                    said.append(line)
+                    if hears:
+                        hears(line)
             user, system, peak = (report.read().split() or ["0"] * 3)[-3:]
-        return ran.returncode, ran.stdout, float(user) + float(system), int(peak) * 1024
+        return ran.returncode, "".join(said), float(user) + float(system), int(peak) * 1024
 
     def words(self, crate, tests, jobs):
         """The words that check a crate."""
@@ -157,8 +183,23 @@ class Kept:
         shutil.rmtree(crate.rlib, ignore_errors=True)
         return self.run(["build", *words, "--statements", "-o", crate.rlib], crate.folder)
 
+    def gather(self, crate):
+        """Takes what the gate has proved of the crates below a crate, so that it isn't read as sources."""
+        for it in crate.below():
+            here = self.place(it)
+            if self.is_there(it) or not all(self.is_there(low) for low in it.below()):
+                continue
+            os.makedirs(here, exist_ok=True)
+            with open(f"{here}/lock", "w", encoding="utf-8") as lock, contextlib.suppress(BlockingIOError):
+                # (what another clone proves just now is read as a source)
+                fcntl.flock(lock, fcntl.LOCK_EX | fcntl.LOCK_NB)
+                if not self.is_there(it) and self.take(it):
+                    with open(f"{here}/proved", "w", encoding="utf-8") as file:
+                        file.write("taken from the gate")
+
     def words_over_sources(self, crate):
         """The prover's words for a crate over the libraries that are kept, and over the sources of those that aren't."""
+        self.gather(crate)
         there, missing, kit_crates = [], [], {*crate.of_kit}
         for it in crate.below():
             if self.is_there(it):
@@ -177,11 +218,17 @@ class Kept:
         return [*words, "--links", f"{crate.name}=", "--jobs", "1"]
 
     def check(self, crate, flags, over_sources=False):
-        """Checks a crate over what its last check kept in out/, and prints what the prover says. Returns its status."""
+        """Checks a crate over what its last check kept in out/, and prints what the prover says. Returns its status. Over sources, where no
+        flag names functions, all functions of the crate are checked, with those below that they call, and all its pages."""
         words = self.words_over_sources(crate) if over_sources else self.words(crate, False, 1)
-        words = ["check", *words, *flags, "--incremental", "out/incremental-over-sources" if over_sources else "out/incremental-kept"]
+        words = ["check", *words, *flags, "--incremental", f"{crate.folder}/out/incremental-{'over-sources' if over_sources else 'kept'}"]
         os.makedirs(f"{crate.folder}/out", exist_ok=True)
-        status, said, seconds, peak = self.run(words, crate.folder)
+        with contextlib.ExitStack() as stack:
+            folder = crate.folder
+            if over_sources and "--lib" in words and not any(it.startswith(("--only", "--start")) for it in flags):
+                folder = stack.enter_context(with_all_pages_read(crate))
+                words += ["--only", crate.name]
+            status, said, seconds, peak = self.run(words, folder)
         print(f"{said}{seconds:.0f} s of a processor, {peak / 1e9:.1f} GB")
         return status
 

@@ -194,7 +194,7 @@ def make_package(program, version, day, to):
             os.makedirs(os.path.dirname(f"{root}/{path}"), mode=0o755, exist_ok=True)
             os.symlink(target, f"{root}/{path}")
         moment = int(moment_of(day).timestamp())
-        # dpkg-deb moves back only what is later, and on the day itself noon may be to come
+        # (dpkg-deb moves back only what is later, and a release's day may be to come)
         for at, folders, names in os.walk(root, topdown=False):
             for path in (*folders, *names, "."):
                 os.utime(f"{at}/{path}", (moment, moment), follow_symlinks=False)

@@ -1,9 +1,10 @@
 """A query over parts of a workspace by workers of Dask: takes the address of a scheduler, and the parts, which are bundles or facts; gives the answer.
 
-Each part is loaded by a worker (`bq --facts`), and its rows go to partitions by the labels that they are about, in a shuffle of Dask's bag. A
-partition has of each of its labels the target, what that names, and which targets name it. Edges are followed by frontiers: in each round every
-partition gets those labels of the frontier that are its own, and gives what they lead to. What a worker had that ends is made again by others,
-as Dask does by itself. The workers need Python, Dask and bq, and see the files of the parts by the same paths; these scripts go along.
+Each part is loaded by a worker (`bq --facts`), which gives a block of it for each partition; a shuffle of Dask's bag brings the blocks there. A
+partition has the labels of some packages, and of each label the target, what that names, and which targets name it. Edges are followed by
+frontiers: in each round every partition gets those labels of the frontier that are its own, and gives what they lead to. What a worker had that
+ends is made again by others, as Dask does by itself. The workers need Python, Dask and bq, and see the files of the parts by the same paths; these
+scripts go along.
 """
 import logging
 import os
@@ -12,7 +13,7 @@ import tempfile
 import zipfile
 import zlib
 from dataclasses import dataclass
-from functools import partial
+from operator import itemgetter
 
 from bzlq.bq import ended_by, text_of
 from bzlq.facts.query_tree import Let, Name, Sets, Word
@@ -21,7 +22,7 @@ from bzlq.overlay.assembly import run_options
 from bzlq.workspace.files import Refused
 
 try:
-    from dask import bag, delayed
+    from dask import bag, config, delayed
     from distributed import Client, TimeoutError, futures_of
 except ImportError:
     raise Refused("Dask isn't installed: apt-get install python3-distributed (Debian), or pip install distributed") from None
@@ -56,15 +57,24 @@ def loaded(path, program):
     return list(sections(lines_of(path, program), path))
 
 
-def rows_of(found):
-    """The rows of sections: the label that each is about, what it says, and of what."""
-    rows = []
+def blocks_of(found, count):
+    """The block of each partition: its number, its targets, which targets name each of its labels, and the faults of these labels."""
+    blocks, users, faults, texts = [(at, [], [], []) for at in range(count)], {}, {}, {}
     for section in found:
         for it in section.targets:
-            rows.append((it["target"], "target", (it["kind"], it["file"], it.get("line"), tuple(it.get("names", ())))))
-            rows += [(name, "user", it["target"]) for name in it.get("names", ()) if name != it["target"]]
-        rows += [(it["detail"], "fault", tuple(it.items())) for it in section.faults if it["fault"] == "F79"]
-    return rows
+            # (one text for all that say a label: a block goes from worker to worker with each of its texts once)
+            label, *names = (texts.setdefault(text, text) for text in (it["target"], *it.get("names", ())))
+            blocks[number(label, count)][1].append((label, (it["kind"], it["file"], it.get("line"), tuple(names))))
+            for name in names:
+                if name != label:
+                    users.setdefault(name, []).append(label)
+        for it in section.faults:
+            if it["fault"] == "F79":
+                faults.setdefault(it["detail"], []).append(tuple(it.items()))
+    for place, rows in ((2, users), (3, faults)):
+        for label, told in rows.items():
+            blocks[number(label, count)][place].append((label, told))
+    return blocks
 
 
 @dataclass
@@ -85,14 +95,9 @@ def summary_of(found):
                     {t["kind"] for t in it.targets}) for it in found]
 
 
-def partition_of(row, count):
-    """The partition of a row."""
-    return number(row[0], count)
-
-
 def number(label, count):
-    """The partition of a label."""
-    return zlib.crc32(label.encode()) % count
+    """The partition of a label, which is that of its package: most labels name others of their own."""
+    return zlib.crc32(label.partition(":")[0].encode()) % count
 
 
 class Partition:
@@ -100,12 +105,14 @@ class Partition:
 
     def __init__(self, groups):
         self.numbers, self.targets, self.users, self.faults = {it for it, _ in groups}, {}, {}, {}
-        for _, rows in groups:
-            for label, what, value in rows:
-                if what == "target" and self.targets.setdefault(label, value) != value:
+        for _, targets, users, faults in (block for _, blocks in groups for block in blocks):
+            for label, value in targets:
+                if self.targets.setdefault(label, value) != value:
                     raise Refused(f"the target {label} is in two parts, and isn't the same in both")
-                if what != "target":
-                    (self.users if what == "user" else self.faults).setdefault(label, set()).add(value)
+            # (a block may be used once more, where a worker ends, so its lists stay as they are)
+            for known, rows in ((self.users, users), (self.faults, faults)):
+                for label, told in rows:
+                    known[label] = known[label] + told if label in known else told
 
     def numbers_of(self):
         """The numbers by which its labels are known."""
@@ -168,9 +175,11 @@ class Joined:
         with tempfile.TemporaryDirectory() as folder:
             self.client.upload_file(zipped(f"{folder}/bzlq.zip"))
         parts = [delayed(loaded)(os.path.abspath(it), program) for it in paths]
-        rows = bag.from_delayed([delayed(rows_of)(it) for it in parts])
-        index = rows.groupby(partial(partition_of, count=len(paths)), shuffle="tasks").map_partitions(made)
-        self.index, *summaries = self.client.persist([index, *(delayed(summary_of)(it) for it in parts)])
+        blocks = bag.from_delayed([delayed(blocks_of)(it, len(paths)) for it in parts])
+        index = blocks.groupby(itemgetter(0), shuffle="tasks").map_partitions(made)
+        # (a task that Dask fuses with the next one is done once more for others that need it: each part would be loaded twice)
+        with config.set({"optimization.fuse.active": False}):
+            self.index, *summaries = self.client.persist([index, *(delayed(summary_of)(it) for it in parts)])
         self.count, self.partitions = len(paths), futures_of(self.index)
         numbers = self.each("numbers_of", [()] * len(self.partitions))
         self.at = {number: at for at, found in enumerate(numbers) for number in found}

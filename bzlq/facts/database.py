@@ -3,34 +3,28 @@
 A target depends on each label that it names and that is a target of some part. So no edge between two parts is lost, and what a run over the whole
 has to say of labels that name nothing (F79) is what a part says of those that no part has.
 """
-import json
 import sqlite3
 
-from bzlq.facts.sections import Marks, fault_key, fault_line, is_build
+from bzlq.facts.sections import Marks, fault_key, fault_line, is_build, json_of
 from bzlq.workspace.files import Refused
 
 TABLES = """
-PRAGMA journal_mode = OFF; PRAGMA synchronous = OFF;
+PRAGMA journal_mode = OFF; PRAGMA synchronous = OFF; PRAGMA cache_size = -65536;
 CREATE TABLE target (id INTEGER PRIMARY KEY, label TEXT, package TEXT, kind TEXT, file TEXT, line INTEGER, attributes TEXT);
-CREATE TABLE named (src INTEGER, dst INTEGER);
+CREATE TABLE edge (src INTEGER, dst INTEGER, PRIMARY KEY (src, dst)) WITHOUT ROWID;
 CREATE TABLE module (label TEXT PRIMARY KEY, file TEXT, loads TEXT) WITHOUT ROWID;
 CREATE TABLE fault (label TEXT, line INTEGER, number INTEGER, name TEXT, detail TEXT, file TEXT, PRIMARY KEY (label, line, number, detail)) WITHOUT ROWID;
 CREATE TABLE package (label TEXT PRIMARY KEY) WITHOUT ROWID;
 CREATE TABLE lacking (line TEXT);
 """
-# (the order of inserting is that of the key, so the tables of edges are made at once)
-EDGES = """
+# what is looked up in what was put in; before that `edge` has the labels too that name nothing
+INDICES = """
 CREATE UNIQUE INDEX target_of_label ON target (label);
 CREATE INDEX target_of_package ON target (package);
-CREATE TABLE edge (src INTEGER, dst INTEGER, PRIMARY KEY (src, dst)) WITHOUT ROWID;
-INSERT INTO edge SELECT DISTINCT src, dst FROM named WHERE src <> dst AND dst IN (SELECT id FROM target) ORDER BY src, dst;
 CREATE INDEX edge_back ON edge (dst, src);
-DROP TABLE named;
 DELETE FROM fault WHERE number = 79 AND detail IN (SELECT label FROM target);
 """
 HEAD = b"SQLite format 3\0"
-# the text of a value, as facts have it
-json_of = json.JSONEncoder(separators=(",", ":")).encode
 
 
 class Database:
@@ -66,11 +60,21 @@ class Maker:
         self.marks.add(section)
         insert = self.connection.executemany
         insert("INSERT INTO target VALUES (?, ?, ?, ?, ?, ?, ?)", filter(None, (self.row(it, section.place) for it in section.targets)))
-        insert("INSERT INTO named VALUES (?, ?)", ((self.numbers[it["target"]], self.number(name)) for it in section.targets for name in it.get("names", ())))
+        # (the targets of a section have their numbers by now, mostly one after another, so the table grows at its end)
+        insert("INSERT OR IGNORE INTO edge VALUES (?, ?)", self.edges(section.targets))
         for it in section.modules:
             self.add_module(it, section.place)
         insert("INSERT OR IGNORE INTO fault VALUES (?, ?, ?, ?, CAST(? AS TEXT), ?)", (
             (it["label"], it["line"], int(it["fault"][1:]), it["name"], it["detail"].encode("utf-8", "surrogateescape"), it["file"]) for it in section.faults))
+
+    def edges(self, targets):
+        """What targets name, as numbers; no target names itself by that."""
+        numbers, number = self.numbers, self.number
+        for it in targets:
+            source = numbers[it["target"]]
+            for name in it.get("names", ()):
+                if (found := number(name)) != source:
+                    yield source, found
 
     def number(self, label):
         """The number of a label."""
@@ -79,7 +83,7 @@ class Maker:
     def row(self, it, place):
         """The row of a target; nothing where it is there already, as that of a file of facts that was given twice."""
         number, label = self.number(it["target"]), it["target"]
-        row = number, label, label[:label.index(":")], it["kind"], it["file"], it.get("line"), json_of(it.get("attributes", {}))
+        row = number, label, label[:label.index(":")], it["kind"], it["file"], it.get("line"), it.get("attributes", "{}")
         if number not in self.declared:
             self.declared.add(number)
             return row
@@ -97,8 +101,13 @@ class Maker:
             self.connection.execute("INSERT INTO package VALUES (?)", (it["module"][:it["module"].index(":")],))
 
     def finish(self):
-        """Makes the edges, and notes what isn't there."""
-        self.connection.executescript(EDGES)
+        """Leaves the edges that lead to targets, and notes what isn't there."""
+        if loose := [it for it in self.numbers.values() if it not in self.declared]:
+            self.connection.execute("CREATE TEMP TABLE loose (id INTEGER PRIMARY KEY)")
+            self.connection.executemany("INSERT INTO loose VALUES (?)", ((it,) for it in loose))
+            self.connection.execute("DELETE FROM edge WHERE dst IN (SELECT id FROM loose)")
+        self.connection.commit()
+        self.connection.executescript(INDICES)
         self.connection.executemany("INSERT INTO lacking VALUES (?)", ((it,) for it in self.marks.lacking()))
         self.connection.commit()
 
@@ -126,7 +135,8 @@ def opened(path):
     """A database that was made before."""
     connection = sqlite3.connect(f"file:{path.replace('%', '%25').replace('?', '%3f').replace('#', '%23')}?mode=ro", uri=True)
     try:
-        connection.execute("SELECT src, dst FROM edge LIMIT 1")
+        # (the index is made last)
+        connection.execute("SELECT src, dst FROM edge INDEXED BY edge_back LIMIT 1")
         connection.execute("SELECT line FROM lacking LIMIT 1")
     except sqlite3.DatabaseError:
         raise Refused(f"{path} is a database that bzlq join hasn't made, or not to its end") from None

@@ -12,11 +12,15 @@ VERSION = 2
 # the members of a first line that say how many lines follow, and the member by which each of those is known
 COUNTS = {"targets": "target", "modules": "module", "faults": "fault"}
 BUILD_FILE = re.compile(r":BUILD(?:\.bazel)?")
+# what comes right before and after the attributes in a line that bq wrote, with their first and last brace
+BEFORE, AFTER = b',"attributes":{', b'},"names":['
+# the text of a value, as facts have it
+json_of = json.JSONEncoder(separators=(",", ":")).encode
 
 
 @dataclass
 class Section:
-    """What one run has told. `mark` is its part, of how many, and their split; `elsewhere` are the labels of the BUILD files of other parts."""
+    """What one run has told; the attributes of a target are a text. `mark` is its part, of how many, and their split; `elsewhere` are the labels of the BUILD files of other parts."""
 
     place: str
     targets: list = field(default_factory=list)
@@ -61,6 +65,8 @@ def sections(lines, place):
                 told = read(line, f"{place}:{number}") if line else {}
                 if wanted not in told:
                     raise Refused(f"{place} was cut off: it has {len(many):,} of {count:,} {name}")
+                if "attributes" in told:
+                    told["attributes"] = attributes_text(line, told)
                 many.append(told)
         if odd := next((it for it in found.targets if "line" in it and "names" not in it), None):
             raise Refused(f"{place}: {odd['target']} has no `names`, which bq writes into facts from 1.6.0 on: run that version of bq")
@@ -78,10 +84,18 @@ def counts(first, place):
     return {it: first[it] for it in COUNTS}
 
 
+def attributes_text(line, told):
+    """The text of a target's attributes: what is in its line, where that is as bq writes it, since to write it anew takes as long as to read it."""
+    start, end = line.find(BEFORE), line.rfind(AFTER)
+    # (a quote in a text has a backslash before it, so neither is found in one)
+    is_plain = 0 < start < end and list(told)[4:6] == ["attributes", "names"]
+    return line[start + len(BEFORE) - 1:end + 1].decode() if is_plain else json_of(told["attributes"])
+
+
 def read(line, place):
     """The object of a line."""
     try:
-        told = json.loads(line)
+        told = json.loads(line.decode())
     except ValueError:
         told = None
     if not isinstance(told, dict):

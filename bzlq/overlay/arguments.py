@@ -130,6 +130,14 @@ def _list(value, edges):
     pieces = text.split("\\"" + _MARK)
     if "\\\\" in text or _END in text or text.count(_MARK) != len(pieces) - 1:
         return _unmarked(value, edges)
+    if len(pieces) > 4 and text.startswith("[\\"") and text.count("\\", \\"") == len(value) - 1:
+        # (each of so many would be looked for in the whole list)
+        found = [it for it in value if it[:9] != _MARK]
+        if len(value) - len(found) != len(pieces) - 1:
+            return _unmarked(value, edges)
+        for it in pieces[1:]:
+            edges[it.partition("\\"")[0]] = None
+        return found
     found = list(value)
     for it in pieces[1:]:
         conditions = it.partition("\\"")[0]

@@ -201,6 +201,7 @@ def commands(bench):
         bench.compare("its statement", "".join(f"{label}\n" for label, _ in database.execute(sql)), whole[0])
     bench.compare("through a pipe", run('bzlq facts --split 2 --dir w | bzlq join -q "deps(//a)" -'), run('bq --dir w "deps(//a)"'))
     bench.compare("facts of the whole", run('bq --dir w --facts 2> all.txt > all; bzlq join -q "deps(//a)" all'), run('bq --dir w "deps(//a)"'))
+    odd_databases(bench)
     bench.compare("more parts than packages", run("bzlq facts --split 9 -o more --dir w; bzlq join -q //... more/*.bundle")[1].splitlines()[0],
                   "facts: 3 parts, since there are no more packages")
     missing = "join: of 3 parts 1 is missing: 3\n"
@@ -226,6 +227,22 @@ def commands(bench):
     bench.compare("without Dask", run("mkdir without; echo 'raise ImportError' > without/dask.py; PYTHONPATH=without python3 bzlq join --dask tcp://127.0.0.1:1 -q //... parts/1.facts"),
                   ("", "join: Dask isn't installed: apt-get install python3-distributed (Debian), or pip install distributed\n", 2))
     bench.compare("no BUILD file", run("mkdir none2; bzlq facts --split 2 --dir none2"), ("", "facts: there is no BUILD file, so there is nothing to cut\n", 2))
+
+
+def odd_databases(bench):
+    """Facts whose lines another program has written anew, and a database that wasn't finished."""
+    with open(f"{bench.room}/all", encoding="utf-8") as lines, open(f"{bench.room}/sorted", "w", encoding="utf-8") as file:
+        file.writelines(json.dumps(json.loads(it), sort_keys=True) + "\n" for it in lines)
+    bench.run("for it in all sorted; do bzlq join -o $it.db $it; done")
+    found = []
+    for name in ("all", "sorted"):
+        with contextlib.closing(sqlite3.connect(f"{bench.room}/{name}.db")) as database:
+            found.append([(label, json.loads(text)) for label, text in database.execute("SELECT label, attributes FROM target ORDER BY label")])
+    bench.compare("attributes of facts that another program wrote anew", found[1], found[0])
+    bench.compare("attributes are there", {"name": "a", "deps": ["//b:b", "//c:none"]} in [it for _, it in found[0]], True)
+    with contextlib.closing(sqlite3.connect(f"{bench.room}/all.db")) as database:
+        database.execute("DROP INDEX edge_back")
+    bench.compare("a database that wasn't finished", bench.run("bzlq join all.db"), ("", "join: all.db is a database that bzlq join hasn't made, or not to its end\n", 2))
 
 
 class Processes:
@@ -318,16 +335,24 @@ def by_slurm(bench):
     bench.compare("a job array of Slurm, joined", bench.run("bzlq join -q 'rdeps(//..., //c:f.txt)' slurm-parts/*.facts"), bench.run('bq --dir w "rdeps(//..., //c:f.txt)"'))
 
 
+def program_that(bench, name, line):
+    """A program that is bq, but does what a line says before it writes facts."""
+    path = f"{bench.room}/{name}"
+    with open(path, "w", encoding="utf-8") as file:
+        file.write(f'#!/bin/sh\ncase " $* " in *" --facts"*) {line};; esac\nexec {bench.program} "$@"\n')
+    os.chmod(path, 0o755)
+    return path
+
+
 def by_dask(bench):
     """The same over workers of Dask, of which one is killed while it loads a part, and one once all are loaded."""
     python = next((it for it in (sys.executable, "/usr/bin/python3") if not subprocess.run([it, "-c", "import distributed"], capture_output=True, check=False).returncode), "")
     if not python:
         print("Dask isn't installed: nothing was tried with it")
         return
-    killing = f"{bench.room}/killing"
-    with open(killing, "w", encoding="utf-8") as file:
-        file.write(f'#!/bin/sh\ncase " $* " in *" --facts"*) mkdir {bench.room}/killed 2> {os.devnull} && kill -9 $PPID;; esac\nexec {bench.program} "$@"\n')
-    os.chmod(killing, 0o755)
+    loads = f"{bench.room}/loads"
+    counting = program_that(bench, "counting", f"echo >> {loads}")
+    killing = program_that(bench, "killing", f"mkdir {bench.room}/killed 2> {os.devnull} && kill -9 $PPID")
     with Cluster(python, f"{bench.room}/dask", WORKERS) as cluster:
         jobs, wanted = [], []
         for seed in range(3):
@@ -340,12 +365,14 @@ def by_dask(bench):
             queries = [it.format("//d0:BUILD", "//d1:BUILD + //...", "//d1:BUILD") for it in QUERIES]
             answered, faults = answers(bench.program, bundle_of(files), queries)
             wanted.append({"faults": faults, "lacking": [], "answers": {query: [status, lines] for query, (status, lines) in answered.items()}})
-            jobs.append({"parts": paths, "queries": queries, "program": killing if seed == 1 else bench.program, "kill": [cluster.processes[1].pid] if seed == 2 else []})
+            jobs.append({"parts": paths, "queries": queries, "program": (counting, killing, bench.program)[seed], "kill": [cluster.processes[1].pid] if seed == 2 else []})
         with open(f"{bench.room}/jobs.json", "w", encoding="utf-8") as file:
             json.dump(jobs, file)
         ended = subprocess.run([python, os.path.abspath(__file__), cluster.address, f"{bench.room}/jobs.json"], capture_output=True, text=True, check=False)
         found = [json.loads(it) for it in ended.stdout.splitlines()]
         bench.compare(f"runs by Dask {ended.stderr[-2000:] if len(found) < len(jobs) else ''}", len(found), len(jobs))
+        with open(loads, encoding="utf-8") as file:
+            bench.compare("each part is loaded once", len(file.readlines()), len(jobs[0]["parts"]))
         for seed, (one, other) in enumerate(zip(found, wanted)):
             bench.compare(f"faults by Dask, {seed}", (one["faults"], one["lacking"]), (other["faults"], other["lacking"]))
             for query, answered in other["answers"].items():

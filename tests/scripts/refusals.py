@@ -5,6 +5,7 @@ import contextlib
 import io
 import os
 import shutil
+import types
 
 from bench import ROOT
 import kit
@@ -74,11 +75,35 @@ impl<T> fmt::Debug for Pair<T> {
         true
     }
 }
+
+impl<
+    'a,
+    F: Copy
+        + Fn(&Context<'_>, &mut R) -> Option<i64>,
+> Taker<'a, F> {
+    #[cycle(takes)]
+    fn take(&self) -> bool
+        ensures { result ≡ false }
+    {
+        false
+    }
+
+    #[cycle(takes)]
+    fn take_all(&self) -> u32
+        ensures { result ≡ 2 }
+    {
+        2
+    }
+}
 """
 OPEN = "note: src/pair.rt:10:5: it is not proved that what the function ensures holds when it returns (`returns`)"
 GONE = "./proofs/pair/Pair/first/Answers.antt:3:9: error: `returns`: `c.len` is not in scope"
 MISFIT = "./proofs/pair/Pair/first/Answers.antt:3:9: error: `returns`: as printed, the two types first differ"
 NONE = "fn low::pair::Pair::first: not proved"
+FORM = ("fn low::pair::Pair::first: no proof: expected `first_spec` in ./proofs/pair/Pair/first/Proof.antt; the borrow checker does not cover this function "
+        "yet: src/pair.rt:9:9: a loop ends a list")
+CALLER = ("fn low::pair::Pair::first: no proof: the borrow checker's part in its proof is not made yet: a call of `low::pair::alone`, which has no proof: help: "
+          "prove it first")
 # what the prover says of an edit of `first`: (its lines, what dev/trials says)
 SAID = {
     "an open goal": ([OPEN, NONE], f"refused: {OPEN}"),
@@ -86,9 +111,43 @@ SAID = {
     "a name that is gone": ([GONE, NONE], f"REFUSED ONLY FOR A NAME that a proof has and the edit takes away: {GONE}"),
     "a name that is gone, and an open goal": ([GONE, OPEN], f"refused: {OPEN}"),
     "only that it isn't proved": ([NONE], f"refused: {NONE}"),
+    "a form that isn't covered": ([FORM], f"REFUSED ONLY FOR ITS FORM, which the prover does not cover: {FORM}"),
+    "a call of a function that isn't covered": ([FORM.replace("Pair::first", "alone"), CALLER], None),
     "another function": (["note: src/pair.rt:3:5: it is not proved that ..", "fn low::pair::alone: no proof"], None),
     "a warning": (["src/pair.rt:10:5: warning: unused", "fn low::pair::Pair::first: proved"], None),
 }
+
+
+def edit(script, folder, name, *texts):
+    """An edit of the crate that takes these texts away."""
+    trial = script.Trial.__new__(script.Trial)
+    trial.name, trial.pairs, trial.why = f"low/{name}", [("src/pair.rt", old, "") for old in texts], ""
+    trial.functions = trial.places(folder)
+    trial.proofs = {trial.proof(folder, *it) for it in trial.functions}
+    return trial
+
+
+def halves(bench, script, folder):
+    """How dev/trials goes on where the prover was broken off: with what it had ended with, and the rest, or else with halves."""
+    group = [edit(script, folder, name, old) for name, old in (("one", "    x\n"), ("two", "self.one"), ("three", "true\n"), ("four", "false\n"))]
+    room = types.SimpleNamespace(folder=folder)
+    for said, cut in (("", ["one", "two"]), ("checked low::pair::Pair::first, 1 of 4\n", ["two"]), ("checked low::pair::PairDebug::fmt, 1 of 4\nchecked "
+                      "low::pair::alone, 2 of 4\nbroken off", ["one", "three"])):
+        parts = [[it.name.removeprefix("low/") for it in part] for part in script.parts_of_group(room, group, said)]
+        bench.compare("dev/trials: a check that was broken off", parts, [cut, [it for it in ("one", "two", "three", "four") if it not in cut]])
+    found = script.groups([*group, edit(script, folder, "five", "        2\n")])
+    bench.compare("dev/trials: functions that have one proof", [len(it) for it in found], [4, 1])
+
+
+def fits(bench, script, folder):
+    """What dev/trials has the prover check where a name fits no function, or several, and where a text can't be read."""
+    for said, asked in (("rattle: error: `low` has no function `pair::alone`: help: write ..", [["pair::alone"], ["pair"]]),
+                        ("rattle: error: several functions are named `pair::alone`: help: write one of ..", [["pair::alone"], ["pair"]]),
+                        ("src/pair.rt:5:5: error[unknown-name]: cannot find value `y` in this scope", [["pair::alone"]])):
+        seen = []
+        room = types.SimpleNamespace(folder=folder, check=lambda only, said=said, seen=seen: (seen.append(only), (2, said) if len(seen) == 1 else (1, NONE))[1])
+        script.check(room, [edit(script, folder, "one", "    x\n")], True)
+        bench.compare("dev/trials: a name that fits nothing", seen, asked)
 
 
 def trials(bench):
@@ -96,10 +155,10 @@ def trials(bench):
     script = kit.module_of(f"{ROOT}/dev/trials")
     bench.lay_out("crate", {"src/pair.rt": SOURCE})
     folder = f"{bench.room}/crate"
-    trial = script.Trial.__new__(script.Trial)
-    trial.name, trial.pairs, trial.why = "low/first_is_second", [("src/pair.rt", old, "") for old in ("    x\n", "self.one", "true\n")], ""
-    trial.functions = trial.places(folder)
-    bench.compare("dev/trials: names of functions", [*script.paths_of(folder, trial)], ["pair::alone", "Pair::first", "PairDebug::fmt"])
+    trial = edit(script, folder, "first_is_second", "    x\n", "self.one", "true\n", "false\n")
+    bench.compare("dev/trials: names of functions", [*script.paths_of(folder, trial)], ["pair::alone", "Pair::first", "PairDebug::fmt", "Taker::take"])
+    halves(bench, script, folder)
+    fits(bench, script, folder)
     for what, (lines, said) in SAID.items():
         found, written = script.failed_in("\n".join(lines), folder).get(("src/pair.rt", 1)), io.StringIO()
         with contextlib.redirect_stdout(written):

@@ -275,6 +275,12 @@ copied(name = "c", srcs = ["p.cc"], of = ":lib")
 cc_library(name = "lib", srcs = ["lib.cc"])
 
 cc_library(name = "more", hdrs = ["more.h"], deps = [":lib"])
+
+[config_setting(name = it, values = {"define": it + "=1"}) for it in ["f", "g", "i", "j", "k"]]
+
+cc_library(name = "chosen", hdrs = ["more.h"], deps = [":pair"] + select({":f": [":lib", ":more"], "//conditions:default": []}) + select({":g": [":lib", ":more"], "//conditions:default": []}) + select({":i": [":lib", ":more"], "//conditions:default": []}) + select({":j": [":lib", ":more"], "//conditions:default": []}) + select({":k": [":lib", ":more"], "//conditions:default": []}))
+
+filegroup(name = "pair")
 ''',
     **dict.fromkeys(("h2.cc", "inproc.cc", "p.cc", "lib.cc", "more.h"), ""),
 }
@@ -288,6 +294,9 @@ MODULES_RULES = {
     "//:c": ("copied", ["//:lib", "//:p.cc"], []),
     "//:lib": ("cc_library", ["//:lib.cc"], []),
     "//:more": ("cc_library", ["//:lib", "//:more.h"], []),
+    **{f"//:{it}": ("config_setting", [], ["dict"]) for it in "fgijk"},
+    "//:chosen": ("cc_library", ["//:f", "//:g", "//:i", "//:j", "//:k", "//:lib", "//:more", "//:more.h", "//:pair"], []),
+    "//:pair": ("filegroup", [], []),
 }
 
 # name: the files, and of each rule of a package with tests its kind, its edges, and the words that say what was made up

@@ -20,8 +20,8 @@ With --dir, .git, directories in .bazelignore and links bazel-* at the root are 
 With --queries the workspace is loaded once for all the queries of a file, one a line. For each query
 standard output gets a line `=== STATUS LINES QUERY`, at once, and then that many lines: the answer, or
 the error. Between queries `=== put COUNT PATH`, with COUNT bytes and a newline after it, and
-`=== remove PATH` edit files; `=== reload` loads the workspace with these edits, and is answered by its
-faults; `=== facts [QUERY]` is answered as --facts is.
+`=== remove PATH` edit files; `=== reload` loads the workspace with these edits, and with --dir as the
+directory is then, and is answered by its faults; `=== facts [QUERY]` is answered as --facts is.
 
 With --facts standard output gets JSON, an object a line: one that says how many follow; each target of
 the query, or each target if there is none, with its kind, file, line, attributes, the labels that it
@@ -43,7 +43,7 @@ Exit status:
   5  reading the input or writing the output failed"#;
 
 /// The version of the program. The man page and the packages take it from this line (`dev/release`).
-pub const VERSION: &str = "1.8.1";
+pub const VERSION: &str = "1.9.0";
 
 pub const MAX_STEPS: u64 = 1_000_000_000;
 

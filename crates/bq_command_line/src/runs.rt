@@ -1,6 +1,6 @@
 //! Runs over bundles and directories, of one query and of many, and for facts.
 
-ghost use Rattle.std.specs.Prelude.{◌≡◌, ◌-◌, ◌^◌, ◌<◌, IfOk};
+ghost use Rattle.std.specs.Prelude.{◌-◌, ◌^◌, ◌<◌};
 ghost use Rattle.bq_base_limits.specs.Limits.{AreBounded};
 ghost use Rattle.bq_run.specs.Run.{IsInRange};
 
@@ -15,6 +15,7 @@ use bq_run::{
 };
 use bq_run_directory::{DirectoryErr, read_directory};
 use bq_run_facts::run_facts;
+use bq_run_follow::FollowedText;
 use bq_run_session::{SessionOptions, SessionRun, SessionStatus, run_queries, session_code};
 use std::alloc::Global;
 use std::fs::File;
@@ -135,18 +136,18 @@ fn read_workspace(
     }
 }
 
-/// Answers the queries that a reader has, with threads of this handle.
-fn answer_queries<T: Threads + Wait + RandomSource + Sync, Q: ByteSource>(
+/// Answers the queries that a reader has over a workspace, with threads of this handle.
+fn answer_over<T: Threads + Wait + RandomSource + Sync, Q: ByteSource>(
     rt: &HostRuntime,
     threads: &T,
     alloc: Global,
+    workspace: Workspace,
     queries: &mut Q,
     words: &Words,
 ) -> Result<SessionStatus, RunErr>
     requires in_range { IsInRange words.now.options }
     requires queries { Q.failed queries.old < 2 ^ 64 - 1 }
 {
-    let workspace = read_workspace(rt, alloc, words.place, words.options.limits)?;
     let mut writer = Metered::new(rt.stdout());
     let mut faults = Metered::new(rt.stderr());
     let by = SessionOptions {
@@ -157,14 +158,43 @@ fn answer_queries<T: Threads + Wait + RandomSource + Sync, Q: ByteSource>(
     run_queries(threads, alloc, over, queries, &mut writer, &mut faults)
 }
 
-/// Returns a reader that reads ahead.
-fn ahead<R: Read + Drop>(alloc: Global, reader: R) -> Result<Metered<BufReader<R>>, RunErr>
-    ensures { IfOk result (λ r. r.failures ≡ 0) }
+/// Returns other owners of the files of a workspace.
+fn share_files(alloc: Global, limits: Limits, workspace: &Workspace) -> Result<Workspace, RunErr>
+    requires { AreBounded limits }
 {
-    match BufReader::new(alloc, reader) {
-        Ok(reader) => Ok(Metered::new(reader)),
-        Err(_) => Err(RunErr::Memory),
+    let mut files = Vec::with_capacity(alloc, workspace.files().len())?;
+    for file in workspace.files() {
+        files.push(file.share()?)?;
     }
+    match Workspace::within(limits, files) {
+        Ok(shared) => Ok(shared),
+        Err(_) => Err(RunErr::Bundle),
+    }
+}
+
+/// Answers the queries of a text. Over a directory the text is followed: a reload looks at the directory again.
+fn answer_text<T: Threads + Wait + RandomSource + Sync, R: Read + Drop>(
+    rt: &HostRuntime,
+    threads: &T,
+    alloc: Global,
+    text: R,
+    words: &Words,
+) -> Result<SessionStatus, RunErr>
+    requires { IsInRange words.now.options }
+{
+    let Ok(text) = BufReader::new(alloc, text) else {
+        return Err(RunErr::Memory);
+    };
+    let limits = words.options.limits;
+    let workspace = read_workspace(rt, alloc, words.place, limits)?;
+    if let WorkspacePlace::Directory(path) = words.place {
+        let seen = share_files(alloc, limits, &workspace)?;
+        let followed = FollowedText::new(rt, path, limits, seen, text);
+        let mut queries = Metered::new(followed);
+        return answer_over(rt, threads, alloc, workspace, &mut queries, words);
+    }
+    let mut queries = Metered::new(text);
+    answer_over(rt, threads, alloc, workspace, &mut queries, words)
 }
 
 /// Runs with the queries of a file, or of standard input.
@@ -178,11 +208,9 @@ fn run_many<T: Threads + Wait + RandomSource + Sync>(
     requires { IsInRange words.now.options }
 {
     if file == "-" {
-        let mut queries = ahead(alloc, rt.stdin())?;
-        return answer_queries(rt, threads, alloc, &mut queries, words);
+        return answer_text(rt, threads, alloc, rt.stdin(), words);
     }
-    let mut queries = ahead(alloc, open(rt, file)?)?;
-    answer_queries(rt, threads, alloc, &mut queries, words)
+    answer_text(rt, threads, alloc, open(rt, file)?, words)
 }
 
 /// Runs for the facts behind the answer to a query, or for all.

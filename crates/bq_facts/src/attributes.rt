@@ -6,18 +6,19 @@ ghost use Rattle.bq_facts_json.specs.Values.{comma, member_text};
 ghost use Rattle.bq_facts.specs.Attributes.{attribute_member, json_attributes};
 ghost use Rattle.bq_facts.specs.Members.{further_members};
 
-use bq_facts_json::push_key;
+use crate::json_text::push_key;
+use crate::lists::push_value;
+use crate::shared_text::SharedText;
 use bq_package_target::GivenAttribute;
-use bq_package_typed_value::push_value;
 use std::alloc::{AllocError, Global};
 
 /// Appends an attribute: its name, and its value.
 fn push_attribute(
     alloc: Global,
-    text: &mut Vec<u8>,
+    text: &mut SharedText,
     given: &GivenAttribute,
 ) -> Result<(), AllocError>
-    ensures { OnOk result (text.new.items ≡ text.old.items ++ member_text (attribute_member given.now)) }
+    ensures { OnOk result (text.new ≡ text.old ++ member_text (attribute_member given.now)) }
 {
     push_key(text, given.name.as_slice())?;
     push_value(alloc, text, &given.value)
@@ -26,10 +27,10 @@ fn push_attribute(
 /// Appends further attributes, each after a comma.
 fn push_further(
     alloc: Global,
-    text: &mut Vec<u8>,
+    text: &mut SharedText,
     attributes: &[GivenAttribute],
 ) -> Result<(), AllocError>
-    ensures { OnOk result (text.new.items ≡ text.old.items ++ further_members (map attribute_member attributes.now)) }
+    ensures { OnOk result (text.new ≡ text.old ++ further_members (map attribute_member attributes.now)) }
 {
     for given in attributes {
         text.push(b',')?;
@@ -41,10 +42,10 @@ fn push_further(
 /// Appends the members of the object of attributes.
 fn push_members(
     alloc: Global,
-    text: &mut Vec<u8>,
+    text: &mut SharedText,
     attributes: &[GivenAttribute],
 ) -> Result<(), AllocError>
-    ensures { OnOk result (text.new.items ≡ text.old.items ++ join_by member_text comma (map attribute_member attributes.now)) }
+    ensures { OnOk result (text.new ≡ text.old ++ join_by member_text comma (map attribute_member attributes.now)) }
 {
     match attributes {
         [] => Ok(()),
@@ -59,13 +60,12 @@ fn push_members(
 #[tactic(auto, unfolding(bq_facts_json::specs::Values::json_object))]
 pub(crate) fn push_attributes(
     alloc: Global,
-    text: &mut Vec<u8>,
+    text: &mut SharedText,
     attributes: &[GivenAttribute],
 ) -> Result<(), AllocError>
-    ensures { OnOk result (text.new.items ≡ text.old.items ++ json_attributes attributes.now) }
+    ensures { OnOk result (text.new ≡ text.old ++ json_attributes attributes.now) }
 {
     text.push(b'{')?;
     push_members(alloc, text, attributes)?;
-    text.push(b'}')?;
-    Ok(())
+    text.push(b'}')
 }

@@ -6,11 +6,12 @@ ghost use Rattle.bq_facts_json.specs.Values.{comma, member_text};
 ghost use Rattle.bq_facts.specs.Members.{further_members};
 ghost use Rattle.bq_facts.specs.Header.{workspace_limits, further_limits, json_limits, origin_members, count_members, header_line};
 
+use crate::json_text::next_key;
 use crate::members::{next_number, next_string, open_with_number};
+use crate::shared_text::SharedText;
 use bq_base::Bytes;
 use bq_base_limits::Limits;
-use bq_facts_json::{close_object, next_key};
-use std::alloc::AllocError;
+use std::alloc::{AllocError, Global};
 
 /// The version of the format. It goes up when a reader of facts has to change.
 const FORMAT: u64 = 2;
@@ -33,8 +34,8 @@ pub struct Counts {
 }
 
 /// Begins the object of limits, with those of what a workspace has.
-fn push_workspace_limits(text: &mut Vec<u8>, limits: Limits) -> Result<(), AllocError>
-    ensures { OnOk result (text.new.items ≡ text.old.items ++ (123 ∷ join_by member_text comma (workspace_limits limits))) }
+fn push_workspace_limits(text: &mut SharedText, limits: Limits) -> Result<(), AllocError>
+    ensures { OnOk result (text.new ≡ text.old ++ (123 ∷ join_by member_text comma (workspace_limits limits))) }
 {
     open_with_number(text, b"files", limits.files as u64)?;
     next_number(text, b"directories", limits.directories as u64)?;
@@ -42,8 +43,8 @@ fn push_workspace_limits(text: &mut Vec<u8>, limits: Limits) -> Result<(), Alloc
 }
 
 /// Appends the other limits.
-fn push_further_limits(text: &mut Vec<u8>, limits: Limits) -> Result<(), AllocError>
-    ensures { OnOk result (text.new.items ≡ text.old.items ++ further_members (further_limits limits)) }
+fn push_further_limits(text: &mut SharedText, limits: Limits) -> Result<(), AllocError>
+    ensures { OnOk result (text.new ≡ text.old ++ further_members (further_limits limits)) }
 {
     next_number(text, b"loads", limits.edges as u64)?;
     next_number(text, b"bytes", limits.bundle_bytes as u64)?;
@@ -51,28 +52,28 @@ fn push_further_limits(text: &mut Vec<u8>, limits: Limits) -> Result<(), AllocEr
 }
 
 /// Appends limits as an object.
-fn push_limits(text: &mut Vec<u8>, limits: Limits) -> Result<(), AllocError>
-    ensures { OnOk result (text.new.items ≡ text.old.items ++ json_limits limits) }
+fn push_limits(text: &mut SharedText, limits: Limits) -> Result<(), AllocError>
+    ensures { OnOk result (text.new ≡ text.old ++ json_limits limits) }
 {
     push_workspace_limits(text, limits)?;
     push_further_limits(text, limits)?;
-    close_object(text)?;
+    text.push(b'}')?;
     Ok(())
 }
 
 /// Begins the object of the first line: the version of the format, and by which program the facts are made.
-fn push_origin(text: &mut Vec<u8>, origin: &Origin) -> Result<(), AllocError>
-    ensures { OnOk result (text.new.items ≡ text.old.items ++ (123 ∷ join_by member_text comma (origin_members origin.now))) }
+fn push_origin(alloc: Global, text: &mut SharedText, origin: &Origin) -> Result<(), AllocError>
+    ensures { OnOk result (text.new ≡ text.old ++ (123 ∷ join_by member_text comma (origin_members origin.now))) }
 {
     open_with_number(text, b"facts", FORMAT)?;
-    next_string(text, b"version", origin.version.as_slice())?;
+    next_string(alloc, text, b"version", origin.version.as_slice())?;
     next_key(text, b"limits")?;
     push_limits(text, origin.limits)
 }
 
 /// Appends how many lines of each kind there are.
-fn push_counts(text: &mut Vec<u8>, counts: Counts) -> Result<(), AllocError>
-    ensures { OnOk result (text.new.items ≡ text.old.items ++ further_members (count_members counts)) }
+fn push_counts(text: &mut SharedText, counts: Counts) -> Result<(), AllocError>
+    ensures { OnOk result (text.new ≡ text.old ++ further_members (count_members counts)) }
 {
     next_number(text, b"targets", counts.targets as u64)?;
     next_number(text, b"modules", counts.modules as u64)?;
@@ -81,12 +82,17 @@ fn push_counts(text: &mut Vec<u8>, counts: Counts) -> Result<(), AllocError>
 
 /// Appends the first line: an object with the version of the format, that of the program, its limits, and how many lines of each kind
 /// come after it.
-pub fn push_header(text: &mut Vec<u8>, origin: &Origin, counts: Counts) -> Result<(), AllocError>
-    ensures { OnOk result (text.new.items ≡ text.old.items ++ header_line origin.now counts) }
+pub fn push_header(
+    alloc: Global,
+    text: &mut SharedText,
+    origin: &Origin,
+    counts: Counts,
+) -> Result<(), AllocError>
+    ensures { OnOk result (text.new ≡ text.old ++ header_line origin.now counts) }
 {
-    push_origin(text, origin)?;
+    push_origin(alloc, text, origin)?;
     push_counts(text, counts)?;
-    close_object(text)?;
-    text.push(b'\n')?;
+    text.push(b'}')?;
+    text.end_line(alloc)?;
     Ok(())
 }

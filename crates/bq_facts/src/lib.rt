@@ -7,6 +7,8 @@
 //!
 //! In reading order:
 //!
+//! - `shared_text`: a text whose long pieces are shared;
+//! - `json_text`, `lists`: keys, strings, lists and values in such a text;
 //! - `labels`: the labels of numbered targets;
 //! - `attributes`: the attributes that a target keeps;
 //! - `members`: the parts of objects;
@@ -23,11 +25,14 @@ mod attributes;
 mod deps;
 mod fault_object;
 mod header;
+mod json_text;
 mod labels;
 mod laws;
+mod lists;
 mod members;
 mod module_line;
 mod names;
+mod shared_text;
 mod symbols;
 mod target_line;
 
@@ -40,4 +45,5 @@ pub use laws::{
 };
 pub use module_line::push_module;
 pub use names::named_labels;
+pub use shared_text::SharedText;
 pub use target_line::{file_of, push_target};

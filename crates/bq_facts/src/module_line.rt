@@ -6,10 +6,11 @@ ghost use Rattle.bq_facts_json.specs.Values.{comma, member_text};
 ghost use Rattle.bq_facts.specs.Members.{further_members};
 ghost use Rattle.bq_facts.specs.ModuleLine.{comma_before, file_members, clause_members, load_object, json_loads, load_members, module_line};
 
-use crate::members::{next_string, open_with_string};
+use crate::json_text::next_key;
+use crate::members::{next_number, next_string, open_with_label};
+use crate::shared_text::SharedText;
 use crate::symbols::push_symbols;
-use bq_facts_json::{close_object, next_key, push_number};
-use bq_label::{Label, label_path, print_label};
+use bq_label::{Label, label_path};
 use bq_load_front::NamedFiles;
 use bq_resolve_scope::LoadStmt;
 use std::alloc::{AllocError, Global};
@@ -17,63 +18,60 @@ use std::alloc::{AllocError, Global};
 /// Begins an object with the label and the path of a file.
 fn open_with_file(
     alloc: Global,
-    text: &mut Vec<u8>,
+    text: &mut SharedText,
     key: &[u8],
     file: &Label,
 ) -> Result<(), AllocError>
-    ensures { OnOk result (text.new.items ≡ text.old.items ++ (123 ∷ join_by member_text comma (file_members key.now file.now))) }
+    ensures { OnOk result (text.new ≡ text.old ++ (123 ∷ join_by member_text comma (file_members key.now file.now))) }
 {
-    let label = print_label(alloc, file)?;
     let path = label_path(alloc, file)?;
-    open_with_string(text, key, &label)?;
-    next_string(text, b"file", &path)
+    open_with_label(alloc, text, key, file)?;
+    next_string(alloc, text, b"file", &path)
 }
 
 /// Appends the line of a load, and the names that it binds.
-fn push_clauses(text: &mut Vec<u8>, load: &LoadStmt) -> Result<(), AllocError>
-    ensures { OnOk result (text.new.items ≡ text.old.items ++ further_members (clause_members load.now)) }
+fn push_clauses(alloc: Global, text: &mut SharedText, load: &LoadStmt) -> Result<(), AllocError>
+    ensures { OnOk result (text.new ≡ text.old ++ further_members (clause_members load.now)) }
 {
-    next_key(text, b"line")?;
-    push_number(text, load.line)?;
+    next_number(text, b"line", load.line as u64)?;
     next_key(text, b"symbols")?;
-    push_symbols(text, load.clauses.as_slice())
+    push_symbols(alloc, text, load.clauses.as_slice())
 }
 
 /// Appends a load, which names this file.
 fn push_load(
     alloc: Global,
-    text: &mut Vec<u8>,
+    text: &mut SharedText,
     load: &LoadStmt,
     file: &Label,
 ) -> Result<(), AllocError>
-    ensures { OnOk result (text.new.items ≡ text.old.items ++ load_object (load.now, file.now)) }
+    ensures { OnOk result (text.new ≡ text.old ++ load_object (load.now, file.now)) }
 {
     open_with_file(alloc, text, b"label", file)?;
-    push_clauses(text, load)?;
-    close_object(text)?;
+    push_clauses(alloc, text, load)?;
+    text.push(b'}')?;
     Ok(())
 }
 
 /// Appends a comma, unless this is the first item.
-fn push_comma(text: &mut Vec<u8>, number: usize) -> Result<(), AllocError>
-    ensures { OnOk result (text.new.items ≡ text.old.items ++ comma_before number) }
+fn push_comma(text: &mut SharedText, number: usize) -> Result<(), AllocError>
+    ensures { OnOk result (text.new ≡ text.old ++ comma_before number) }
 {
     if number == 0 {
         return Ok(());
     }
-    text.push(b',')?;
-    Ok(())
+    text.push(b',')
 }
 
 /// Appends loads, which name these files.
 #[tactic(auto, using(crate::proofs::Loads::no_load))]
 fn push_items(
     alloc: Global,
-    text: &mut Vec<u8>,
+    text: &mut SharedText,
     loads: &[LoadStmt],
     files: &NamedFiles,
 ) -> Result<(), AllocError>
-    ensures { OnOk result (text.new.items ≡ text.old.items ++ join_by load_object comma (zip loads.now files.now)) }
+    ensures { OnOk result (text.new ≡ text.old ++ join_by load_object comma (zip loads.now files.now)) }
 {
     for (number, load) in loads.iter().enumerate() {
         let Some(file) = files.label(number) else {
@@ -89,26 +87,25 @@ fn push_items(
 #[tactic(auto, unfolding(bq_facts_json::specs::Values::json_array))]
 fn push_loads(
     alloc: Global,
-    text: &mut Vec<u8>,
+    text: &mut SharedText,
     loads: &[LoadStmt],
     files: &NamedFiles,
 ) -> Result<(), AllocError>
-    ensures { OnOk result (text.new.items ≡ text.old.items ++ json_loads loads.now files.now) }
+    ensures { OnOk result (text.new ≡ text.old ++ json_loads loads.now files.now) }
 {
     text.push(b'[')?;
     push_items(alloc, text, loads, files)?;
-    text.push(b']')?;
-    Ok(())
+    text.push(b']')
 }
 
 /// Appends the member of an object that has loads.
 fn push_load_member(
     alloc: Global,
-    text: &mut Vec<u8>,
+    text: &mut SharedText,
     loads: &[LoadStmt],
     files: &NamedFiles,
 ) -> Result<(), AllocError>
-    ensures { OnOk result (text.new.items ≡ text.old.items ++ further_members (load_members loads.now files.now)) }
+    ensures { OnOk result (text.new ≡ text.old ++ further_members (load_members loads.now files.now)) }
 {
     next_key(text, b"loads")?;
     push_loads(alloc, text, loads, files)
@@ -117,16 +114,16 @@ fn push_load_member(
 /// Appends the line of a module: an object with its label, the path of its file, and its loads, which name these files.
 pub fn push_module(
     alloc: Global,
-    text: &mut Vec<u8>,
+    text: &mut SharedText,
     label: &Label,
     loads: &[LoadStmt],
     files: &NamedFiles,
 ) -> Result<(), AllocError>
-    ensures { OnOk result (text.new.items ≡ text.old.items ++ module_line label.now loads.now files.now) }
+    ensures { OnOk result (text.new ≡ text.old ++ module_line label.now loads.now files.now) }
 {
     open_with_file(alloc, text, b"module", label)?;
     push_load_member(alloc, text, loads, files)?;
-    close_object(text)?;
-    text.push(b'\n')?;
+    text.push(b'}')?;
+    text.end_line(alloc)?;
     Ok(())
 }

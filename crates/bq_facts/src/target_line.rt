@@ -8,12 +8,13 @@ ghost use Rattle.bq_facts.specs.Members.{further_members};
 ghost use Rattle.bq_facts.specs.TargetLine.{build_path, file_of, named, names_member, declared_members, declared_by, target_line};
 
 use crate::attributes::push_attributes;
-use crate::members::{next_string, open_with_string};
+use crate::json_text::next_key;
+use crate::lists::push_labels;
+use crate::members::{next_number, next_string, open_with_label};
 use crate::names::named_labels;
-use bq_facts_json::{close_object, next_key, push_number};
-use bq_label::{BuildFile, Label, Packages, label_path, write_label};
+use crate::shared_text::SharedText;
+use bq_label::{BuildFile, Label, Packages, label_path};
 use bq_package_target::{Target, TargetKind};
-use bq_package_typed_value::push_labels;
 use bq_query_target_sets::write_kind;
 use std::alloc::{AllocError, Global};
 
@@ -41,24 +42,22 @@ pub fn file_of(alloc: Global, packages: &Packages, target: &Target) -> Result<Ve
 /// Begins the object of a target with the members that every target has.
 fn push_named(
     alloc: Global,
-    text: &mut Vec<u8>,
+    text: &mut SharedText,
     target: &Target,
     file: &[u8],
 ) -> Result<(), AllocError>
-    ensures { OnOk result (text.new.items ≡ text.old.items ++ (123 ∷ join_by member_text comma (named target.now file.now))) }
+    ensures { OnOk result (text.new ≡ text.old ++ (123 ∷ join_by member_text comma (named target.now file.now))) }
 {
-    let mut label = Vec::new(alloc);
-    write_label(&target.label, &mut label)?;
     let mut kind = Vec::new(alloc);
     write_kind(&target.kind, &mut kind)?;
-    open_with_string(text, b"target", &label)?;
-    next_string(text, b"kind", &kind)?;
-    next_string(text, b"file", file)
+    open_with_label(alloc, text, b"target", &target.label)?;
+    next_string(alloc, text, b"kind", &kind)?;
+    next_string(alloc, text, b"file", file)
 }
 
 /// Appends the labels that a target names.
-fn push_names(alloc: Global, text: &mut Vec<u8>, target: &Target) -> Result<(), AllocError>
-    ensures { OnOk result (text.new.items ≡ text.old.items ++ (comma ++ member_text (names_member target.now))) }
+fn push_names(alloc: Global, text: &mut SharedText, target: &Target) -> Result<(), AllocError>
+    ensures { OnOk result (text.new ≡ text.old ++ (comma ++ member_text (names_member target.now))) }
 {
     let names = named_labels(alloc, target)?;
     next_key(text, b"names")?;
@@ -68,14 +67,13 @@ fn push_names(alloc: Global, text: &mut Vec<u8>, target: &Target) -> Result<(), 
 /// Appends the line, the attributes, the names and the dependencies of a target.
 fn push_declared(
     alloc: Global,
-    text: &mut Vec<u8>,
+    text: &mut SharedText,
     target: &Target,
     deps: &[Label],
 ) -> Result<(), AllocError>
-    ensures { OnOk result (text.new.items ≡ text.old.items ++ further_members (declared_members target.now deps.now)) }
+    ensures { OnOk result (text.new ≡ text.old ++ further_members (declared_members target.now deps.now)) }
 {
-    next_key(text, b"line")?;
-    push_number(text, target.line)?;
+    next_number(text, b"line", target.line as u64)?;
     next_key(text, b"attributes")?;
     push_attributes(alloc, text, target.attributes.as_slice())?;
     push_names(alloc, text, target)?;
@@ -86,11 +84,11 @@ fn push_declared(
 /// Appends what a target has that a call declares.
 fn push_rest(
     alloc: Global,
-    text: &mut Vec<u8>,
+    text: &mut SharedText,
     target: &Target,
     deps: &[Label],
 ) -> Result<(), AllocError>
-    ensures { OnOk result (text.new.items ≡ text.old.items ++ further_members (declared_by target.now.kind target.now deps.now)) }
+    ensures { OnOk result (text.new ≡ text.old ++ further_members (declared_by target.now.kind target.now deps.now)) }
 {
     match &target.kind {
         TargetKind::Source => Ok(()),
@@ -104,16 +102,16 @@ fn push_rest(
 /// the statement that declares it, its attributes, the labels that it names and those of what it depends on.
 pub fn push_target(
     alloc: Global,
-    text: &mut Vec<u8>,
+    text: &mut SharedText,
     target: &Target,
     file: &[u8],
     deps: &[Label],
 ) -> Result<(), AllocError>
-    ensures { OnOk result (text.new.items ≡ text.old.items ++ target_line target.now file.now deps.now) }
+    ensures { OnOk result (text.new ≡ text.old ++ target_line target.now file.now deps.now) }
 {
     push_named(alloc, text, target, file)?;
     push_rest(alloc, text, target, deps)?;
-    close_object(text)?;
-    text.push(b'\n')?;
+    text.push(b'}')?;
+    text.end_line(alloc)?;
     Ok(())
 }

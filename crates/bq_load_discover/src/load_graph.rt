@@ -54,7 +54,7 @@ impl LoadGraph {
     ghost use Rattle.bq_load_discover.specs.LoadGraph.{GraphParts, IsNumbered};
 
     /// Makes the load graph of these parts, which is evaluated once or many times.
-    pub(crate) fn of(
+    pub fn of(
         labels: LabelSet,
         modules: Vec<Module>,
         edges: Graph,
@@ -112,6 +112,31 @@ impl LoadGraph {
         ensures { result.now ≡ self.now.packages }
     {
         &self.packages
+    }
+
+    /// Returns the labels of the modules as a set, in which each has its number.
+    pub fn label_set(&self) -> &LabelSet
+        ensures { result.now ≡ self.now.labels }
+    {
+        &self.labels
+    }
+
+    /// Returns the labels of the modules, the modules, for each the numbers of those that it loads, and the packages.
+    pub fn into_all(self) -> (LabelSet, Vec<Module>, Graph, Packages)
+        ensures labels { result.0 ≡ self.labels }
+        ensures modules { result.1.items ≡ self.modules }
+        ensures edges { result.2 ≡ self.edges }
+        ensures packages { result.3 ≡ self.packages }
+        ensures valid { IsNumbered self }
+    {
+        let LoadGraph {
+            labels,
+            modules,
+            edges,
+            packages,
+            is_evaluated_once: _,
+        } = self;
+        (labels, modules, edges, packages)
     }
 
     /// Returns the labels of the modules and the packages of the workspace, once nobody needs the modules. Drops them

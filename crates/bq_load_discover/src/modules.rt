@@ -20,11 +20,7 @@ pub struct Module {
 
 impl Module {
     /// Reads the module of this label.
-    pub(crate) fn of(
-        alloc: Global,
-        inputs: &Inputs<'_>,
-        label: &Label,
-    ) -> Result<Module, AllocError>
+    pub fn of(alloc: Global, inputs: &Inputs<'_>, label: &Label) -> Result<Module, AllocError>
         ensures { IfOk result (λ m. m ≡ module_of inputs.now label.now) }
     {
         let shared = label.share()?;

@@ -2,6 +2,7 @@
 use Rattle.std.specs.Prelude.{◌≡◌, ℕ, ◌+◌, ◌<◌, ◌≤◌, Bool, true, false, cond, List, ◌⊎◌, length, slice_index_or}
 use Rattle.std.specs.Bool.{Decides}
 use Rattle.std.specs.List.{Contains, sum_by}
+use Rattle.std.specs.List.Sorted.{IsStrictlyIncreasing}
 use Rattle.bq_query_graph.specs.Paths.{Pair}
 
 -- a target is marked
@@ -27,6 +28,12 @@ unmarked ms = sum_by (λ b. cond b 0 1) ms
 -- the marked ones are those listed
 abbrev pub Held : List Bool → List ℕ → Type 0
 Held ms q = (y : ℕ) → Decides (slice_index_or ms y false) (Contains q y)
+
+-- those listed are the marked ones below i, in ascending order
+pub record HeldBelow (ms : List Bool) (i : ℕ) (q : List ℕ) : Type 0 where
+  pub sound : (y : ℕ) → Contains q y → Marked ms y × (y < i)
+  pub full : (y : ℕ) → y < i → Marked ms y → Contains q y
+  pub ascending : IsStrictlyIncreasing q
 
 -- what is in P was marked and put at the end of the list, unless it was marked before
 pub record Grew (P : ℕ → Type 0) (ms : List Bool) (q : List ℕ) (ns : List Bool) (r : List ℕ) : Type 0 where

@@ -61,7 +61,7 @@ pub record FurtherView : Type 0 where
   pub faults : ℕ
 
 abbrev pub further_view : Further → FurtherView
-further_view f = record { text = f.text.items; modules = f.modules; faults = f.faults }
+further_view f = record { text = f.text; modules = f.modules; faults = f.faults }
 
 -- the first line, the lines of these targets, and these further ones
 abbrev pub facts_text : Origin → List BuildFile → GraphParts → List ℕ → FurtherView → List ℕ
@@ -92,7 +92,7 @@ pub record BeforeView : Type 0 where
   pub count : ℕ
 
 abbrev pub before_view : Before → BeforeView
-before_view b = record { origin = b.origin; packages = b.packages; modules = b.modules.items; count = b.count }
+before_view b = record { origin = b.origin; packages = b.packages; modules = b.modules; count = b.count }
 
 abbrev pub TellsAll : BeforeView → GraphParts → Option CheckedQuery → List FaultLine → ReportView → Type 0
 TellsAll b w asked faults r =

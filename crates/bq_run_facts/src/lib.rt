@@ -8,7 +8,6 @@
 //!
 //! - `lines`: the lines of targets, modules and faults;
 //! - `selection`: which targets are meant;
-//! - `rope`: a text as a rope;
 //! - `replies`: the whole text;
 //! - `reports`: the report on a workspace;
 //! - `runs`: the run;
@@ -19,9 +18,9 @@ mod laws;
 mod lines;
 mod replies;
 mod reports;
-mod rope;
 mod runs;
 mod selection;
 
 pub use laws::{deps_are_names_of_targets, direct_is_deps, facts_end_as_answers, parts_join};
+pub use reports::report_facts;
 pub use runs::run_facts;

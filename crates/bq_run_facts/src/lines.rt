@@ -5,7 +5,7 @@ ghost use Rattle.std.specs.List.{All};
 ghost use Rattle.bq_run_facts.specs.Lines.{line_at, line_of_module, target_lines, module_lines, fault_objects};
 
 use bq_base_fault_line::FaultLines;
-use bq_facts::{direct_deps, file_of, labels_at, push_fault, push_module, push_target};
+use bq_facts::{SharedText, direct_deps, file_of, labels_at, push_fault, push_module, push_target};
 use bq_label::Packages;
 use bq_load_discover::Module;
 use bq_load_front::{Front, NamedFiles};
@@ -15,13 +15,13 @@ use std::alloc::{AllocError, Global};
 /// Appends the line of the target of this number.
 fn push_target_at(
     alloc: Global,
-    text: &mut Vec<u8>,
+    text: &mut SharedText,
     packages: &Packages,
     graph: &TargetGraph,
     at: usize,
 ) -> Result<(), AllocError>
     requires { at < length graph.now.targets }
-    ensures { OnOk result (text.new.items ≡ text.old.items ++ line_at packages.now graph.now at) }
+    ensures { OnOk result (text.new ≡ text.old ++ line_at packages.now graph.now at) }
 {
     let targets = graph.targets();
     let target = &targets[at];
@@ -34,13 +34,13 @@ fn push_target_at(
 /// Appends the lines of the targets of these numbers.
 pub(crate) fn push_targets(
     alloc: Global,
-    text: &mut Vec<u8>,
+    text: &mut SharedText,
     packages: &Packages,
     graph: &TargetGraph,
     numbers: &[usize],
 ) -> Result<(), AllocError>
     requires { All (λ at. at < length graph.now.targets) numbers.now }
-    ensures { OnOk result (text.new.items ≡ text.old.items ++ target_lines packages.now graph.now numbers.now) }
+    ensures { OnOk result (text.new ≡ text.old ++ target_lines packages.now graph.now numbers.now) }
 {
     for at in numbers {
         push_target_at(alloc, text, packages, graph, *at)?;
@@ -49,8 +49,8 @@ pub(crate) fn push_targets(
 }
 
 /// Appends the line of a module. Of a file with a fault of its own no load is known.
-fn push_module_line(alloc: Global, text: &mut Vec<u8>, module: &Module) -> Result<(), AllocError>
-    ensures { OnOk result (text.new.items ≡ text.old.items ++ line_of_module «module».now) }
+fn push_module_line(alloc: Global, text: &mut SharedText, module: &Module) -> Result<(), AllocError>
+    ensures { OnOk result (text.new ≡ text.old ++ line_of_module «module».now) }
 {
     match &module.front {
         Ok(Front { file, loads }) => {
@@ -63,10 +63,10 @@ fn push_module_line(alloc: Global, text: &mut Vec<u8>, module: &Module) -> Resul
 /// Appends the lines of modules.
 pub(crate) fn push_modules(
     alloc: Global,
-    text: &mut Vec<u8>,
+    text: &mut SharedText,
     modules: &[Module],
 ) -> Result<(), AllocError>
-    ensures { OnOk result (text.new.items ≡ text.old.items ++ module_lines modules.now) }
+    ensures { OnOk result (text.new ≡ text.old ++ module_lines modules.now) }
 {
     for module in modules {
         push_module_line(alloc, text, module)?;
@@ -77,10 +77,10 @@ pub(crate) fn push_modules(
 /// Appends the lines of faults.
 pub(crate) fn push_faults(
     alloc: Global,
-    text: &mut Vec<u8>,
+    text: &mut SharedText,
     faults: &FaultLines,
 ) -> Result<(), AllocError>
-    ensures { OnOk result (text.new.items ≡ text.old.items ++ fault_objects faults.now) }
+    ensures { OnOk result (text.new ≡ text.old ++ fault_objects faults.now) }
 {
     for line in faults.lines() {
         push_fault(alloc, text, line)?;

@@ -7,10 +7,9 @@ ghost use Rattle.bq_run_report.specs.Report.{reply_view};
 ghost use Rattle.bq_run_facts.specs.Facts.{Tells, facts_text, further_view};
 
 use crate::lines::push_targets;
-use crate::rope::rope_of;
 use crate::selection::meant;
 use bq_base_rope::Rope;
-use bq_facts::{Counts, Origin, push_header};
+use bq_facts::{Counts, Origin, SharedText, push_header};
 use bq_label::Packages;
 use bq_query_check::CheckedQuery;
 use bq_query_target_graph::TargetGraph;
@@ -20,7 +19,7 @@ use std::alloc::{AllocError, Global};
 /// The lines after those of targets, and how many there are.
 #[derive(Drop)]
 pub(crate) struct Further {
-    pub text: Vec<u8>,
+    pub text: Rope,
     /// How many of them are of modules.
     pub modules: usize,
     /// How many are of faults.
@@ -35,20 +34,20 @@ fn facts_text(
     graph: &TargetGraph,
     numbers: &[usize],
     further: &Further,
-) -> Result<Vec<u8>, AllocError>
+) -> Result<Rope, AllocError>
     requires { All (λ at. at < length graph.now.targets) numbers.now }
-    ensures { IfOk result (λ text. text.items ≡ facts_text origin.now packages.now graph.now numbers.now (further_view further.now)) }
+    ensures { IfOk result (λ text. text ≡ facts_text origin.now packages.now graph.now numbers.now (further_view further.now)) }
 {
-    let mut text = Vec::new(alloc);
+    let mut text = SharedText::new(alloc);
     let counts = Counts {
         targets: numbers.len(),
         modules: further.modules,
         faults: further.faults,
     };
-    push_header(&mut text, origin, counts)?;
+    push_header(alloc, &mut text, origin, counts)?;
     push_targets(alloc, &mut text, packages, graph, numbers)?;
-    text.extend_from_slice(&further.text)?;
-    Ok(text)
+    text.push_rope(alloc, &further.text)?;
+    text.into_rope(alloc)
 }
 
 /// Returns the facts of the targets that are meant, which end with these lines; with them the run ends with `status`.
@@ -65,10 +64,7 @@ pub(crate) fn facts_over(
 {
     match meant(alloc, graph, asked) {
         Ok(numbers) => Ok(Reply {
-            text: rope_of(
-                alloc,
-                facts_text(alloc, origin, packages, graph, &numbers, further)?,
-            )?,
+            text: facts_text(alloc, origin, packages, graph, &numbers, further)?,
             end: Ok(status),
         }),
         Err(why) => Ok(Reply {

@@ -21,7 +21,7 @@ use crate::replies::{Further, facts_over};
 use bq_base::Bytes;
 use bq_base_fault_line::FaultLines;
 use bq_base_rope::Rope;
-use bq_facts::Origin;
+use bq_facts::{Origin, SharedText};
 use bq_label::{Packages, Workspace};
 use bq_load_discover::{LoadErr, LoadGraph, Module, discover_by_workers, schema_of};
 use bq_package_schema::Schema;
@@ -40,7 +40,7 @@ pub(crate) struct Before {
     origin: Origin,
     packages: Packages,
     /// The lines of its modules.
-    modules: Vec<u8>,
+    modules: SharedText,
     /// How many modules there are.
     count: usize,
 }
@@ -63,10 +63,10 @@ fn read_before(
 ) -> Result<Before, AllocError>
     ensures origin { IfOk result (λ b. b.origin ≡ origin_of version.now over.now.options.now) }
     ensures packages { IfOk result (λ b. b.packages ≡ packages_of over.now.workspace.now) }
-    ensures modules { IfOk result (λ b. b.modules.items ≡ module_lines modules.now) }
+    ensures modules { IfOk result (λ b. b.modules ≡ module_lines modules.now) }
     ensures count { IfOk result (λ b. b.count ≡ length modules.now) }
 {
-    let mut lines = Vec::new(alloc);
+    let mut lines = SharedText::new(alloc);
     push_modules(alloc, &mut lines, modules)?;
     let packages = Packages::of(alloc, over.workspace)?;
     Ok(Before {
@@ -113,7 +113,7 @@ fn report_over(
     let status = status_by(&faults);
     push_faults(alloc, &mut lines, &faults)?;
     let further = Further {
-        text: lines,
+        text: lines.into_rope(alloc)?,
         modules: count,
         faults: faults.lines().len(),
     };
@@ -248,7 +248,7 @@ fn report_asked<T: Threads + Wait + RandomSource + Sync>(
 
 /// Returns the texts of a run over this workspace that is asked for facts, and how it ends once they are written. Only out
 /// of memory is an error; Q1 to Q8, E6 and E7 are in the ending.
-pub(crate) fn report_facts<T: Threads + Wait + RandomSource + Sync>(
+pub fn report_facts<T: Threads + Wait + RandomSource + Sync>(
     rt: &T,
     alloc: Global,
     version: &[u8],

@@ -10,8 +10,6 @@ pub mod Edited
 pub mod Contents
 -- items
 pub mod Requests
--- facts
-pub mod FactsWritten
 -- newlines are counted
 pub mod Newlines
 -- what a session has, step by step

@@ -21,7 +21,7 @@ const RELOAD: &[u8] = b"=== reload";
 
 /// What a line asks for.
 #[derive(Drop)]
-pub(crate) enum Command {
+pub enum Command {
     /// Nothing: it is empty, or a comment.
     Nothing,
     /// The answer to the query that it is.
@@ -143,7 +143,7 @@ fn is_skipped(line: &[u8]) -> bool
 
 /// Returns what a line asks for, where a file that is put has at most `limit` bytes.
 #[tactic(auto, unfolding(crate::specs::Commands::command_of))]
-pub(crate) fn command_of(alloc: Global, line: &[u8], limit: usize) -> Result<Command, AllocError>
+pub fn command_of(alloc: Global, line: &[u8], limit: usize) -> Result<Command, AllocError>
     ensures { IfOk result (λ c. c ≡ command_of limit line.now) }
 {
     if is_skipped(line) {

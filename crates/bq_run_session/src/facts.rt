@@ -3,27 +3,38 @@
 ghost use Rattle.std.specs.Prelude.{◌≡◌, IfOk};
 ghost use Rattle.std.specs.Option.{option_copied};
 ghost use Rattle.bq_run.specs.Run.{IsInRange};
+ghost use Rattle.bq_run_write.specs.Deeds.{run_report};
+ghost use Rattle.bq_run_write.specs.Report.{report_view};
 ghost use Rattle.bq_run_session.specs.Steps.{IsFactsText, is_failed};
 
-use crate::blocks::Told;
+use crate::blocks::{Told, refusal};
 use crate::options::SessionOptions;
-use bq_base_rope::Rope;
 use bq_label::{Bytes, Workspace};
-use bq_run::{Metered, RunErr, Status, WorkspaceRun};
-use bq_run_facts::run_facts;
+use bq_run::{RunErr, Status, WorkspaceRun};
+use bq_run_facts::report_facts;
+use bq_run_report::Report;
 use std::alloc::{AllocError, Global};
 use std::random::RandomSource;
 use std::sync::Wait;
 use std::thread::Threads;
 
-/// Returns the text as a rope. A long one is not copied.
-fn rope_of(alloc: Global, text: Vec<u8>) -> Result<Rope, AllocError>
-    ensures { IfOk result (λ rope. rope ≡ text.items) }
+/// Returns what is written of a report, and how the run ends.
+fn told_by(alloc: Global, report: Report) -> Told
+    ensures text { result.text ≡ (run_report (report_view report)).answer }
+    ensures end { result.end ≡ (run_report (report_view report)).end }
 {
-    let bytes = Bytes::from_vec(alloc, text)?;
-    let mut rope = Rope::new(alloc);
-    rope.push_bytes(alloc, &bytes)?;
-    Ok(rope)
+    let Report {
+        faults: _,
+        answer,
+        end,
+    } = report;
+    match end {
+        Ok(status) => Told {
+            text: answer,
+            end: Ok(status),
+        },
+        Err(why) => refusal(alloc, RunErr::from(why)),
+    }
 }
 
 /// Returns the bytes of a query, if there is one.
@@ -63,17 +74,11 @@ pub(crate) fn facts_of<T: Threads + Wait + RandomSource + Sync>(
     requires { IsInRange by.options.now }
     ensures { IfOk result (λ t. IsFactsText by.entry.version.now by.entry.options.now workspace.now query.now t.text t.end) }
 {
-    let mut text = Metered::new(Vec::new(alloc));
-    let mut faults = Metered::new(Vec::new(alloc));
     let over = WorkspaceRun {
         workspace,
         options: by.options,
     };
     let asked = query_bytes(query);
-    let end = run_facts(rt, alloc, by.version, &over, asked, &mut text, &mut faults);
-    if is_failed(&end) {
-        return Err(AllocError); // a writer in memory fails where memory is refused
-    }
-    let text = rope_of(alloc, text.device)?;
-    Ok(Told { text, end })
+    let report = report_facts(rt, alloc, by.version, &over, asked)?;
+    Ok(told_by(alloc, report))
 }

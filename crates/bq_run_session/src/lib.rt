@@ -35,6 +35,7 @@ mod options;
 mod runs;
 mod session;
 
+pub use commands::{Command, command_of};
 pub use ending::{SessionStatus, session_code};
 pub use lines::MAX_QUERY_BYTES;
 pub use options::{SessionOptions, SessionRun};

@@ -6,4 +6,4 @@ use Rattle.bq_value.specs.declared.tree.TreeNode.TheVariants as node
 abbrev pub trie_of : TreeNode → Trie
 trie_of node.Bare = bare
 trie_of (node.Leaf c) = leaf c
-trie_of (node.Fork k halves) = fork k halves.value.left halves.value.right
+trie_of (node.Fork k halves) = fork k halves.value.words.items halves.value.left halves.value.right

@@ -111,6 +111,9 @@ fn raised(alloc: Global, tree: &Tree, from: u32, to: u32) -> Result<Tree, AllocE
     ensures shaped { IfOk result (λ t. IsShaped t to) }
     ensures modules { IfOk result (λ t. entries t to 0 ≡ entries tree.now from 0) }
 {
+    if tree.is_bare() {
+        return Ok(Tree::bare());
+    }
     let mut longer = tree.share()?;
     for level in from..to {
         longer = Tree::fork(alloc, level + 1, longer, Tree::bare())?;

@@ -5,12 +5,13 @@
 //! fork has the modules of the lower half and those of the upper half (a binary trie; Okasaki and Gill, "Fast Mergeable
 //! Integer Maps"). So of modules that load one another in a chain each makes `height` nodes, and shares the others.
 //! Where two modules reach nearly the same ones, their trees are joined block by block: the keys of 64 numbers are one
-//! word of 64 bits.
+//! word of 64 bits. Where a range of 4,096 numbers has modules in much of it, it has the words of its blocks in a row too, so
+//! that one look at these tells that a join adds none of it.
 
-ghost use Rattle.std.specs.Prelude.{◌≡◌, ◌+◌, ◌-◌, ◌*◌, ◌^◌, ◌<◌, ◌≤◌, ◌∷◌, [], None, IfOk, MatchOption};
+ghost use Rattle.std.specs.Prelude.{◌≡◌, ℕ, ◌+◌, ◌-◌, ◌*◌, ◌^◌, ◌<◌, ◌≤◌, ◌∷◌, [], None, IfOk, IsTrue, MatchOption, OnOk, length, ◌++◌};
 ghost use Rattle.std.specs.Option.{option_copied, unwrap_or};
 ghost use Rattle.bq_value.specs.Cells.{module_at};
-ghost use Rattle.bq_value.specs.Tries.{bare, IsShaped, IsFork, Joins, entries, keys};
+ghost use Rattle.bq_value.specs.Tries.{bare, AreWithin, AreWordsOf, IsShaped, IsFork, Joins, blocks, entries, keys};
 
 use crate::shared::Shared;
 use std::alloc::{AllocError, Global};
@@ -19,6 +20,12 @@ use std::sync::Arc;
 
 /// The height of a block of 64 numbers.
 const BLOCK: u32 = 6;
+
+/// The height of a range whose words are kept in a row.
+const WIDE: u32 = 12;
+
+/// A range has modules in much of it if so many of its sixteenths have some.
+const MUCH: u32 = 4;
 
 /// A tree of modules. Contracts see its `Trie`.
 #[cycle(tree)]
@@ -41,6 +48,8 @@ enum TreeNode {
 struct Halves {
     left: Tree,
     right: Tree,
+    /// Of a range of 64 blocks the words of these, or none.
+    words: Vec<u64>,
 }
 
 impl Model for Tree {
@@ -71,6 +80,13 @@ impl Tree {
         }
     }
 
+    /// Returns whether it is known that the tree has no module.
+    pub(crate) fn is_bare(&self) -> bool
+        ensures { IsTrue result → self.now ≡ bare }
+    {
+        matches!(&self.node, TreeNode::Bare)
+    }
+
     /// Makes a tree of this height of two halves.
     pub(crate) fn fork(
         alloc: Global,
@@ -84,7 +100,8 @@ impl Tree {
         ensures { IfOk result (λ t. IsFork t height left right) }
     {
         let keys = keys_of(height, &left, &right);
-        let halves = Arc::new(alloc, Halves { left, right })?;
+        let words = words_of(alloc, height, &left, &right)?;
+        let halves = Arc::new(alloc, Halves { left, right, words })?;
         Ok(Tree {
             node: TreeNode::Fork(keys, halves),
         })
@@ -97,6 +114,44 @@ impl Tree {
             TreeNode::Bare => 0,
             TreeNode::Leaf(_) => 1,
             TreeNode::Fork(keys, _) => *keys,
+        }
+    }
+
+    /// Returns how many of the parts at this many levels below have a module.
+    fn spread(&self, levels: u32) -> u32 {
+        match &self.node {
+            TreeNode::Bare => 0,
+            TreeNode::Leaf(_) => 1,
+            TreeNode::Fork(_, halves) => {
+                if levels == 0 {
+                    return 1;
+                }
+                let left = halves.left.spread(levels - 1);
+                left.saturating_add(halves.right.spread(levels - 1))
+            }
+        }
+    }
+
+    /// Appends the words of the blocks.
+    #[tactic(auto, using(crate::proofs::Tries::words_pushed, crate::proofs::Tries::blocks_at))]
+    fn push_words(&self, height: u32, words: &mut Vec<u64>) -> Result<(), AllocError>
+        requires high { 6 ≤ height }
+        ensures { OnOk result (words.new.items ≡ words.old.items ++ blocks (height - 6) self.now) }
+    {
+        if height == BLOCK {
+            words.push(self.keys())?;
+            return Ok(());
+        }
+        match &self.node {
+            TreeNode::Fork(_, halves) => {
+                halves.left.push_words(height - 1, words)?;
+                halves.right.push_words(height - 1, words)
+            }
+            _ => {
+                let none = Tree::bare();
+                none.push_words(height - 1, words)?;
+                none.push_words(height - 1, words)
+            }
         }
     }
 
@@ -164,6 +219,20 @@ impl Tree {
         Tree::fork(alloc, height, Tree::bare(), right)
     }
 
+    /// Returns whether the words of the blocks tell that a join adds nothing of `other`.
+    #[tactic(auto, using(crate::proofs::Tries::joins_words))]
+    fn covers(&self, other: &Tree) -> bool
+        ensures { IsTrue result → (height : ℕ) → IsShaped self.now height → IsShaped other.now height → Joins self.now other.now height self.now }
+    {
+        match &self.node {
+            TreeNode::Fork(_, halves) => match &other.node {
+                TreeNode::Fork(_, others) => has_words(&halves.words, &others.words),
+                _ => false,
+            },
+            _ => false,
+        }
+    }
+
     /// Returns the tree with those modules of `other` too whose numbers aren't here, or `None` if there are none.
     pub(crate) fn joined(
         &self,
@@ -175,6 +244,9 @@ impl Tree {
         requires other { IsShaped other.now height }
         ensures { IfOk result (λ t. Joins self.now other.now height (unwrap_or t self.now)) }
     {
+        if height == WIDE && self.covers(other) {
+            return Ok(None);
+        }
         match &self.node {
             TreeNode::Bare => match &other.node {
                 TreeNode::Bare => Ok(None),
@@ -247,4 +319,41 @@ fn keys_of(height: u32, left: &Tree, right: &Tree) -> u64
     }
     let width: u32 = 1 << (height - 1);
     (right.keys() << width) | left.keys()
+}
+
+/// Returns the words of a tree of this height with these halves, if it has modules in much of it, and else none.
+#[tactic(auto, using(crate::proofs::Tries::words_are))]
+fn words_of(alloc: Global, height: u32, left: &Tree, right: &Tree) -> Result<Vec<u64>, AllocError>
+    ensures { IfOk result (λ words. AreWordsOf words.items left.now right.now height) }
+{
+    if height != WIDE || left.spread(3).saturating_add(right.spread(3)) < MUCH {
+        return Ok(Vec::new(alloc));
+    }
+    let mut words = Vec::with_capacity(alloc, 64)?;
+    left.push_words(height - 1, &mut words)?;
+    right.push_words(height - 1, &mut words)?;
+    Ok(words)
+}
+
+/// Returns whether the words are known, and each has all bits of that of `more` at its place.
+fn has_words(words: &[u64], more: &[u64]) -> bool
+    ensures { IsTrue result → (0 < length more.now) × AreWithin more.now words.now }
+{
+    if more.is_empty() {
+        return false;
+    }
+    are_within(more, words)
+}
+
+/// Returns whether each of the words has no bit that the one at its place among `all` hasn't.
+fn are_within(some: &[u64], all: &[u64]) -> bool
+    ensures { IsTrue result → AreWithin some.now all.now }
+{
+    match (some, all) {
+        ([], []) => true,
+        ([word, words @ ..], [bits, more @ ..]) => {
+            *word & *bits == *word && are_within(words, more)
+        }
+        _ => false,
+    }
 }

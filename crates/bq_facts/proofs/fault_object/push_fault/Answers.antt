@@ -6,6 +6,6 @@ use Rattle.bq_facts.proofs.fault_object.push_fault.Goals as goal
 pub returns : goal.returns
 unfolding fault_object
 returns c =
-    two_parts c.args.text.now.items c.push_what.new.text.items c.push_where.new.text.items c.close_object.new.text.items c.push.new.self.items
+    two_parts c.args.text.now c.push_what.new.text c.push_where.new.text c.push.new.self c.end_line.new.self
     (what_members c.args.line.now) (where_members c.args.line.now) (lit< tt) c.in_ok-push_what.ensures c.in_ok-push_where.ensures
-    c.in_ok-close_object.ensures c.in_ok-push.ensures.items
+    c.in_ok-push.ensures c.in_ok-end_line.ensures

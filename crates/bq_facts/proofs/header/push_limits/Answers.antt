@@ -6,6 +6,6 @@ use Rattle.bq_facts.proofs.header.push_limits.Goals as goal
 pub returns : goal.returns
 unfolding json_limits
 returns c =
-    closed_object c.args.text.now.items c.push_workspace_limits.new.text.items c.push_further_limits.new.text.items c.close_object.new.text.items
+    closed_object c.args.text.now c.push_workspace_limits.new.text c.push_further_limits.new.text c.push.new.self
     (workspace_limits c.args.limits) (further_limits c.args.limits) (lit< tt) c.in_ok-push_workspace_limits.ensures c.in_ok-push_further_limits.ensures
-    c.in_ok-close_object.ensures
+    c.in_ok-push.ensures

@@ -6,4 +6,4 @@ use Rattle.bq_facts.proofs.Loads.{left}
 use Rattle.bq_facts.proofs.module_line.push_items.Given as goal
 
 abbrev pub invariant-loop-number : goal.invariant-loop-number
-invariant-loop-number l = l.text.items ++ left l.number (drop l.number l.loads) (drop l.number l.files) ≡ l.initial.text.items ++ join_by load_object comma (zip l.loads l.files)
+invariant-loop-number l = l.text ++ left l.number (drop l.number l.loads) (drop l.number l.files) ≡ l.initial.text ++ join_by load_object comma (zip l.loads l.files)

@@ -6,6 +6,6 @@ use Rattle.bq_facts.proofs.target_line.push_target.Goals as goal
 pub returns : goal.returns
 unfolding target_line
 returns c =
-    two_parts c.args.text.now.items c.push_named.new.text.items c.push_rest.new.text.items c.close_object.new.text.items c.push.new.self.items
+    two_parts c.args.text.now c.push_named.new.text c.push_rest.new.text c.push.new.self c.end_line.new.self
     (named c.args.target.now c.args.file.now) (declared_by c.args.target.now.kind c.args.target.now c.args.deps.now) (lit< tt)
-    c.in_ok-push_named.ensures c.in_ok-push_rest.ensures c.in_ok-close_object.ensures c.in_ok-push.ensures.items
+    c.in_ok-push_named.ensures c.in_ok-push_rest.ensures c.in_ok-push.ensures c.in_ok-end_line.ensures

@@ -30,6 +30,6 @@ returns c =
     let is : t ≡ get_or w.targets x t = c.index-targets-at.is ∙ ap (λ (ts : List Target). get_or ts x t) c.targets-targets.ensures.value in
     let labels : c.deref-3.result.now ≡ labels_at w.targets ds =
     c.deref-3.ensures.value ∙ c.in_ok-deps.ensures ∙ (λ i. labels_at (c.targets-targets.ensures.value i) (c.deref.ensures.value i)) in
-    subst (λ (line : List ℕ). OnOk c.push_target.result (c.push_target.new.text.items ≡ c.args.text.now.items ++ line))
+    subst (λ (line : List ℕ). OnOk c.push_target.result (c.push_target.new.text ≡ c.args.text.now ++ line))
     (line_is c.args.packages.now w x t c.requires is ds c.deref-3.result.now c.deref-2.result.now are below labels (c.deref-2.ensures.value ∙ c.in_ok-file.ensures))
     c.push_target.ensures

@@ -11,7 +11,7 @@ returns-then-home-middle t c =
     let l = c.in-Fork.halves.value.left in
     let r = c.in-Fork.halves.value.right in
     let h = c.args.height in
-    let f = forked c.args.self.now c.in-Fork.field-0 l r h (sym c.self.view_is ∙ ap trie_of c.in-Fork.is) c.requires.shaped in
+    let f = forked c.args.self.now c.in-Fork.field-0 c.in-Fork.halves.value.words.items l r h (sym c.self.view_is ∙ ap trie_of c.in-Fork.is) c.requires.shaped in
     let less : c.args.home < c.args.base + 2 ^ (h - 1) = omega (arith, c.if-home-middle.true, c.middle-middle.ensures) in
     c.get.ensures
     ∙ (ap (λ (z : Halves). module_at c.args.home (entries z.left (h - 1) c.args.base)) c.deref.ensures
@@ -22,7 +22,7 @@ returns-else-home-middle t c =
     let l = c.in-Fork.halves.value.left in
     let r = c.in-Fork.halves.value.right in
     let h = c.args.height in
-    let f = forked c.args.self.now c.in-Fork.field-0 l r h (sym c.self.view_is ∙ ap trie_of c.in-Fork.is) c.requires.shaped in
+    let f = forked c.args.self.now c.in-Fork.field-0 c.in-Fork.halves.value.words.items l r h (sym c.self.view_is ∙ ap trie_of c.in-Fork.is) c.requires.shaped in
     let le : c.args.base + 2 ^ (h - 1) ≤ c.args.home = omega (arith, c.if-home-middle.false, c.middle-middle.ensures) in
     c.get-in-Fork.ensures
     ∙ (ap (λ (z : Halves). module_at c.args.home (entries z.right (h - 1) c.middle-middle.result)) c.deref-in-Fork.ensures

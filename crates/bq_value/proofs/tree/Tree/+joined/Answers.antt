@@ -34,8 +34,8 @@ returns-in_ok-right-in-Fork-node t c =
     let n = c.in-Fork-node.others.value.right in
     let left = c.in_ok-left-in-Fork-node.left in
     let right = c.in_ok-right-in-Fork-node.right in
-    let f = forked a c.in-Fork.keys l r h (sym c.self.view_is ∙ ap trie_of c.in-Fork.is) c.requires.shaped in
-    let g = forked b c.in-Fork-node.more m n h (sym c.other.view_is ∙ ap trie_of c.in-Fork-node.is) c.requires.other in
+    let f = forked a c.in-Fork.keys c.in-Fork.halves.value.words.items l r h (sym c.self.view_is ∙ ap trie_of c.in-Fork.is) c.requires.shaped in
+    let g = forked b c.in-Fork-node.more c.in-Fork-node.others.value.words.items m n h (sym c.other.view_is ∙ ap trie_of c.in-Fork-node.is) c.requires.other in
     let p : Joins l m (h - 1) (unwrap_or left l) =
     subst (λ (z : Halves). Joins z.left m (h - 1) (unwrap_or left z.left)) c.deref.ensures
     (subst (λ (z : Halves). Joins c.deref.result.now.left z.left (h - 1) (unwrap_or left c.deref.result.now.left)) c.deref-in-Fork-node.ensures
