@@ -350,7 +350,7 @@ class Workspace:
         self._in_turn(lambda: self._say(text, deadline), deadline)
 
     def reload(self, timeout: float | None = None) -> list[str]:
-        """Loads the workspace with all that was put and removed. Returns its fault lines, which are `faults` from now on, as are the lines
+        """Loads the workspace with all that was put and removed, a directory as it is by then. Returns its fault lines, which are `faults` from now on, as are the lines
         that files print `printed`. Where it is refused (E4, E6, E7) a RunRefused is raised, and all stays as it was."""
         deadline = Deadline(self.timeout if timeout is None else timeout, "loaded the workspace again")
 
