@@ -30,8 +30,11 @@ from dataclasses import dataclass, field
 from typing import TypeVar
 
 HERE = os.path.dirname(os.path.realpath(__file__))
+# the folder in which share/bq/bzlq is, where this is installed; else the folders above may be other users'
+PREFIX = HERE.removesuffix("/share/bq/bzlq")
+INSTALLED = (f"{PREFIX}/lib/bq/bq", f"{PREFIX}/bin/bq") if PREFIX != HERE else ()
 # where the program is: built in the repository, unpacked there from dist/, beside the tools in a tarball, or installed with them
-PROGRAMS = (f"{HERE}/../crates/bq/out/bq", f"{HERE}/../crates/bq/out/dist/bq", f"{HERE}/../bq", f"{HERE}/../../../lib/bq/bq", f"{HERE}/../../../bin/bq", "/usr/bin/bq")
+PROGRAMS = (f"{HERE}/../crates/bq/out/bq", f"{HERE}/../crates/bq/out/dist/bq", f"{HERE}/../bq", *INSTALLED, "/usr/bin/bq")
 # lines that bq writes to standard error
 FAULT = re.compile(r"(?P<label>(?:@[^/]*)?//[^:]*:[^:]*):(?P<line>\d+): (?P<number>F\d+) (?P<name>\w+) ?(?P<detail>.*)")
 ERROR = re.compile(r"bq: (?P<number>[QE]\d) (?P<name>\w+) ?(?P<detail>.*)")

@@ -126,13 +126,14 @@ def make_tarball(program, version, day, to):
 
 
 def changelog(version):
-    """docs/CHANGELOG.md in Debian's format."""
+    """docs/CHANGELOG.md in Debian's format. Releases of one day are a second apart: Debian wants each later than the one before."""
     parts = re.split(r"^## (\S+), (\S+)$", text_of("docs/CHANGELOG.md"), flags=re.M)[1:]
-    written = []
-    for number, day, text in zip(parts[::3], parts[1::3], parts[2::3]):
+    written, days = [], parts[1::3]
+    for at, (number, day, text) in enumerate(zip(parts[::3], days, parts[2::3])):
         items = re.split(r"^- ", text, flags=re.M)[1:]
         lines = "\n".join(textwrap.fill(it, 78, initial_indent="  * ", subsequent_indent="    ") for it in items)
-        stamp = moment_of(day).strftime("%a, %d %b %Y %H:%M:%S +0000")
+        moment = moment_of(day) + datetime.timedelta(seconds=days[at + 1:].count(day))
+        stamp = moment.strftime("%a, %d %b %Y %H:%M:%S +0000")
         written.append(f"bq ({number}) unstable; urgency=medium\n\n{lines}\n\n -- {MAINTAINER}  {stamp}\n")
     return "\n".join(written).encode()
 

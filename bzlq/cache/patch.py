@@ -63,8 +63,9 @@ class Patch:
         before, now = self.made["files"][path], self.seen.files[path]
         if before == now:
             return False
-        # (a file that had changed just before it was read may have changed again within a tick of the clock: its bytes tell)
-        return len(before) < 6 or before[0] != now[0] or before[5] != (now[5] if len(now) > 5 else sum_of(os.path.join(self.root, path)))
+        # (a file that had changed just before it was read may have changed again within a tick of the clock: its bytes tell. A link that leads nowhere
+        # has nothing here)
+        return len(before) < 6 or before[:1] != now[:1] or before[5] != (now[5] if len(now) > 5 else sum_of(os.path.join(self.root, path)))
 
     def names(self):
         """The paths that have come and gone, whose bytes don't count."""

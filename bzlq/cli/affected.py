@@ -39,6 +39,7 @@ from bzlq.diff.git import WORK_TREE, Git
 from bzlq.diff.owners import PLACES, Owners
 from bzlq.diff.side import Side
 from bzlq.facts.graph import edges, path_to, reached
+from bzlq.overlay.extra_targets import NAMED
 from bzlq.workspace.files import Refused
 from bzlq.workspace.root import NoRoot, root_of
 
@@ -83,7 +84,9 @@ class Affected:
 
     def may_be_test(self, target):
         """Whether tests are looked for, and a target may be one, since its kind was made up."""
-        is_like_one = "test" in target.kind or any(name in target.attributes for name in OF_TESTS)
+        # (what labels alone name has no kind of its own: its name tells)
+        what = target.label if NAMED in target.lost else target.kind
+        is_like_one = "test" in what.rpartition(":")[2] or any(name in target.attributes for name in OF_TESTS)
         return "test" in self.kind.pattern and is_like_one and any(text.startswith(("kind: ", "targets: ")) for text in target.lost)
 
     def matches(self, target):

@@ -14,7 +14,7 @@ from bzlq.cli.formats import FORMS
 from bzlq.cli.labels import ALL, Labels
 from bzlq.cli.process import Unwritten, write, write_bytes
 from bzlq.cli.relative_labels import BadWord, absolute
-from bzlq.overlay.approximations import KINDS, ask, ask_all, looking_through, of_targets
+from bzlq.overlay.approximations import KINDS, TESTONLY, VISIBILITY, ask, ask_all, looking_through, of_targets, path_of, unmarked_of, unseen_of
 from bzlq.overlay.assembly import MAX_STEPS, run_options
 from bzlq.workspace.root import folder_of, root_of
 
@@ -73,7 +73,7 @@ class Answer:
         if not form:
             from bzlq.overlay.package_defaults import lines_of  # (not at the top: it reads files)
             return ended, ended.stdout + text_of(lines_of(self.kept.path("bundle"), ended.stdout)), None
-        targets, inner = Facts.of_lines(ended.stdout.splitlines()).targets, sum(looking_through(self.query), [])
+        targets, inner = Facts.of_lines(ended.stdout.splitlines()).targets, sum(looking_through(self.query, path_of(bundle)), [])
         counts = [len(lines) for _, lines in ask_all(self.program, options, bundle, inner)[0]] if inner else []
         return ended, text_of(form(targets, ended.stdout, self.path)), of_targets(self.query, targets.values(), counts)
 
@@ -111,7 +111,7 @@ class Answer:
                 it.start()
             try:
                 for line in lines:
-                    lost.is_of_kinds |= bool(KINDS.search(line.decode("utf-8", "replace")))
+                    lost.look(line.decode("utf-8", "replace"))
                     run.stdin.write(self.full(line))
                     if count := put_bytes(line):
                         run.stdin.write(lines.read(count))
@@ -127,7 +127,7 @@ class Answer:
             finally:
                 for it in readers:
                     it.join()
-            lost.join()
+            lost.end()
             write([f"bzlq: {it}" for it in (lost.found.lines("the workspace") if lost.found else ())], sys.stderr)
             return 3 if run.returncode == 0 and (warnings or lost.may_lack("--strict" in self.call.flags)) else run.returncode
 
@@ -179,16 +179,40 @@ class Answer:
 
 
 class LostOfAll(threading.Thread):
-    """Finds out beside a run what is lost of all targets: `found` has it at the end. `is_of_kinds` says whether a query is about kinds."""
+    """Finds out beside a run what is lost of all targets: `found` has it at the end. `is_of_kinds`, `is_of_visibility` and `is_of_testonly` say whether a
+    query is about these."""
 
-    def __init__(self, *asked):
+    def __init__(self, program, options, bundle):
         super().__init__(daemon=True)
-        self.asked, self.found, self.is_of_kinds = asked, None, False
+        self.asked, self.found, self.unseen = (program, options, bundle), None, 0
+        self.is_of_kinds = self.is_of_visibility = self.is_of_testonly = False
         self.start()
 
     def run(self):
         """Asks for it."""
-        _, self.found, _ = ask(*self.asked, ALL)
+        _, self.found, further = ask(*self.asked, ALL, [unseen_of(ALL)])
+        self.unseen = sum(len(lines) for _, lines in further)
+
+    def look(self, query):
+        """Looks at a query."""
+        self.is_of_kinds |= bool(KINDS.search(query))
+        self.is_of_visibility |= bool(VISIBILITY.search(query))
+        self.is_of_testonly |= bool(TESTONLY.search(query))
+
+    def end(self):
+        """Waits for what is lost."""
+        self.join()
+        if self.found and self.is_of_visibility:
+            self.found.unseen = self.unseen
+        if self.found and self.is_of_testonly:
+            # (not beside the run: it reads all files of the bundle, and is asked for rarely)
+            self.found.unmarked = len(self.unmarked())
+
+    def unmarked(self):
+        """The lines of all targets that may be testonly by a default."""
+        *_, bundle = self.asked
+        blocks, _ = ask_all(*self.asked, [unmarked_of(ALL, path_of(bundle))])
+        return [line for _, lines in blocks for line in lines]
 
     def may_lack(self, is_strict):
         """Whether an answer may lack a target, or is an approximation in any way."""

@@ -65,7 +65,7 @@ class Session:
 
     def asked(self, answer):
         """The lines of an answer, and what is lost of it. (A process that was ended, as by Ctrl-C at the prompt, is started once more.)"""
-        queries = queries_of(answer.query)
+        queries = queries_of(answer.query, answer.kept.path("bundle"))
         try:
             lines = self.loaded.workspace.query(queries[0])
         except QueryError:

@@ -37,7 +37,7 @@ class Following(Answer):
 
     def ask(self, bundle, more):
         """Asks for the answer, and for more, once the process has loaded the files as they are."""
-        told, queries = b"", queries_of(" ".join(self.query.split("\n")))
+        told, queries = b"", queries_of(" ".join(self.query.split("\n")), path_of(bundle))
         try:
             self.loaded.take(path_of(bundle))
             workspace = self.loaded.workspace

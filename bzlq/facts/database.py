@@ -17,12 +17,12 @@ CREATE TABLE fault (label TEXT, line INTEGER, number INTEGER, name TEXT, detail 
 CREATE TABLE package (label TEXT PRIMARY KEY) WITHOUT ROWID;
 CREATE TABLE lacking (line TEXT);
 """
-# what is looked up in what was put in; before that `edge` has the labels too that name nothing
+# What is looked up in what was put in. `edge_back` comes last: by it a database is known to be whole.
 INDICES = """
 CREATE UNIQUE INDEX target_of_label ON target (label);
 CREATE INDEX target_of_package ON target (package);
-CREATE INDEX edge_back ON edge (dst, src);
 DELETE FROM fault WHERE number = 79 AND detail IN (SELECT label FROM target);
+CREATE INDEX edge_back ON edge (dst, src);
 """
 HEAD = b"SQLite format 3\0"
 
@@ -106,10 +106,9 @@ class Maker:
             self.connection.execute("CREATE TEMP TABLE loose (id INTEGER PRIMARY KEY)")
             self.connection.executemany("INSERT INTO loose VALUES (?)", ((it,) for it in loose))
             self.connection.execute("DELETE FROM edge WHERE dst IN (SELECT id FROM loose)")
-        self.connection.commit()
-        self.connection.executescript(INDICES)
         self.connection.executemany("INSERT INTO lacking VALUES (?)", ((it,) for it in self.marks.lacking()))
         self.connection.commit()
+        self.connection.executescript(INDICES)
 
 
 def made(sections, path=":memory:"):
@@ -135,7 +134,7 @@ def opened(path):
     """A database that was made before."""
     connection = sqlite3.connect(f"file:{path.replace('%', '%25').replace('?', '%3f').replace('#', '%23')}?mode=ro", uri=True)
     try:
-        # (the index is made last)
+        # (this index is made last)
         connection.execute("SELECT src, dst FROM edge INDEXED BY edge_back LIMIT 1")
         connection.execute("SELECT line FROM lacking LIMIT 1")
     except sqlite3.DatabaseError:

@@ -20,7 +20,7 @@ json_of = json.JSONEncoder(separators=(",", ":")).encode
 
 @dataclass
 class Section:
-    """What one run has told; the attributes of a target are a text. `mark` is its part, of how many, and their split; `elsewhere` are the labels of the BUILD files of other parts."""
+    """What one run said; the attributes of a target are a text. `mark` is its part, of how many, and their split; `elsewhere` are the labels of the BUILD files of other parts."""
 
     place: str
     targets: list = field(default_factory=list)

@@ -15,7 +15,8 @@ LEFT_OUT = {
     "loadfiles": "no query has the files that are loaded", "rbuildfiles": "no query has the files that are loaded", "siblings": "write //package:*",
     "visible": "`bzlq visible a b` says whether b is visible to a", "executables": "kinds alone are known", "same_pkg_direct_rdeps": "write rdeps(//package:all, x, 1)",
 }
-KEYWORDS = "except in intersect let set union + ^ -".split()
+OPERATORS = "except intersect union + ^ -".split()
+KEYWORDS = [*OPERATORS, "in", "let", "set"]
 # how many steps of a BUILD file are evaluated for the names of its targets, of which one may be meant: a large one names most of them in its text
 STEPS = 30_000
 
@@ -50,6 +51,8 @@ def syntax(query):
         elif text == "=" or text == ",":
             if not before or before in "(,":
                 return pointed(query, at, "something is missing before this sign")
+        elif text in OPERATORS and (not before or before in "(,=" or before == "in" or before in OPERATORS):
+            return pointed(query, at, f"an operand is missing before '{text}'")
         elif text in MEANT and (text in "&|" or is_value(before) or before == ")"):
             return pointed(query, at, f"'{text}' is no operator of queries: write {MEANT[text]}")
         elif text not in ("+", "^", "-") and not is_word(text):

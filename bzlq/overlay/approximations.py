@@ -15,21 +15,25 @@ HEADER = re.compile(rb"=== (\d) (\d+) [^\n]*\n")
 # what begins with a query about what depends on a target, and so looks through the edges of others
 USERS = re.compile(r"\b(?:rdeps|allpaths)\s*\(\s*(\"[^\"]*\"|'[^']*'|[A-Za-z0-9*/@._:$~\[\]-]+)\s*,")
 KINDS = re.compile(r"\b(?:kind|tests)\s*\(")
+VISIBILITY = re.compile(r"\battr\s*\(\s*[\"']?visibility\b")
+TESTONLY = re.compile(r"\battr\s*\(\s*[\"']?testonly\b")
 
 Ended = namedtuple("Ended", "stdout stderr returncode")
 
 
 class Lost:
     """How many of an answer's targets are approximations, in all and by the words of LOST; of how many of those that a query looks through edges may be
-    missing; and how many have a kind that was made up, and are left out for it."""
+    missing; how many have a kind that was made up, and are left out for it; how many give no visibility, where one is asked for; and how many may be
+    testonly by a default, where that is asked for."""
 
-    def __init__(self, query, count, some, by_word, inner=0, others=0):
-        self.query, self.count, self.some, self.by_word, self.inner = query, count, some, by_word, inner
+    def __init__(self, query, count, some, by_word, inner=0, others=0, unseen=0, unmarked=0):
+        self.query, self.count, self.some, self.by_word, self.inner, self.unseen, self.unmarked = query, count, some, by_word, inner, unseen, unmarked
         self.others = max(0, others - by_word["kind"])
 
     def may_lack(self):
         """Whether the answer may lack a target."""
-        return any(self.by_word[word] for word, lacks in LOST.items() if lacks or word == "kind" and KINDS.search(self.query)) or bool(self.inner or self.others)
+        is_lacking = any(self.by_word[word] for word, lacks in LOST.items() if lacks or word == "kind" and KINDS.search(self.query))
+        return is_lacking or bool(self.inner or self.others or self.unseen or self.unmarked)
 
     def lines(self, of="this answer"):
         """The lines that say it."""
@@ -40,6 +44,11 @@ class Lost:
             yield f"{self.inner} of the targets that this query looks through may lack edges"
         if self.others:
             yield f"{self.others} of the targets that this query looks through {'has' if self.others == 1 else 'have'} a kind that was made up, and kind(..) leaves {'it' if self.others == 1 else 'them'} out"
+        where = "that this query looks through" if of == "this answer" else f"of {of}"
+        if self.unseen:
+            yield f"{self.unseen} of the targets {where} {'gives' if self.unseen == 1 else 'give'} no visibility, and attr(..) leaves out what Bazel takes instead"
+        if self.unmarked:
+            yield f"{self.unmarked} of the targets {where} may be testonly by a default of Bazel's (tests, default_testonly), and attr(..) takes {'it' if self.unmarked == 1 else 'them'} as not"
 
 
 def of_targets(query, targets, counts=()):
@@ -53,41 +62,65 @@ def lost_of(query, *words):
     return f'attr({LOST_ATTRIBUTE}, "(^.|, )({"|".join(words)}): ", {query})'
 
 
-def filtered(query):
-    """What the calls of kind(..) in a query choose from, as queries; where one has a variable, all there is."""
+def unseen_of(query):
+    """The query for the targets of a query that give no visibility."""
+    return f'kind(" rule$", {query}) - attr(visibility, "[^\\[\\]]", {query})'
+
+
+def unmarked_of(query, bundle):
+    """The query for the targets of a query that Bazel may take as testonly though they don't say so: tests, suites of them, and the rules of packages
+    with such a default."""
+    found = [f'kind("(_test|test_suite) rule$", {query})']
+    if bundle:
+        from bzlq.overlay.package_defaults import testonly_packages  # (not at the top: it reads files)
+        if packages := testonly_packages(bundle):
+            labels = " ".join(f'"{it}:all"' for it in packages)
+            found.append(f'kind(" rule$", {query}) ^ set({labels})')
+    return f'({" + ".join(f"({it})" for it in found)}) - attr(testonly, 1, {query})'
+
+
+def arguments_of(query, function):
+    """The arguments of each call of a function in a query, as texts; those with a variable look through all there is."""
     tokens = TOKEN.findall(query)
     for at, token in enumerate(tokens):
         rest = [it for it in enumerate(tokens[at + 1:], at + 1) if not it[1].isspace()]
-        if token != "kind" or not rest or rest[0][1] != "(":
+        if token != function or not rest or rest[0][1] != "(":
             continue
-        depth, start = 0, None
+        depth, starts = 0, [rest[0][0] + 1]
         for place, it in rest:
             depth += (it == "(") - (it == ")")
-            if depth == 1 and it == "," and start is None:
-                start = place + 1
+            if depth == 1 and it == ",":
+                starts.append(place + 1)
             if not depth:
-                text = "".join(tokens[start:place]) if start else ""
-                yield "//..." if "$" in text else text
+                texts = ("".join(tokens[start:end - 1]).strip() for start, end in zip(starts, [*starts[1:], place + 1]))
+                yield ["//..." if "$" in text else text for text in texts]
                 break
 
 
-def looking_through(query):
-    """The queries for what was lost of the targets that a query looks through: first those by whose edges, then those of whose kinds it goes."""
+def looking_through(query, bundle=""):
+    """The queries for what was lost of the targets that a query looks through: those by whose edges it goes, those of whose kinds, those of whose
+    visibility, and those of which it asks whether they are testonly; these need the path of the bundle."""
     query = " ".join(query.split("\n"))
     edges = [lost_of(it, *(word for word, lacks in LOST.items() if lacks)) for it in sorted(set(USERS.findall(query)))]
-    return edges, [lost_of(it, "kind") for it in sorted(set(filtered(query)))]
+    kinds = {it[1] for it in arguments_of(query, "kind") if len(it) == 2 and it[1]}
+    attributes = [(it[0].strip("\"'"), it[2]) for it in arguments_of(query, "attr") if len(it) == 3 and it[2]]
+    seen, only = ({of for name, of in attributes if name == asked} for asked in ("visibility", "testonly"))
+    return edges, [lost_of(it, "kind") for it in sorted(kinds)], [unseen_of(it) for it in sorted(seen)], [unmarked_of(it, bundle) for it in sorted(only)]
 
 
 def looked_through(query, counts):
-    """Of how many targets edges may be missing, and how many have a kind that was made up."""
-    edges = len(looking_through(query)[0])
-    return sum(counts[:edges]), max(counts[edges:], default=0)
+    """Of how many targets edges may be missing, how many have a kind that was made up, how many give no visibility, and how many may be testonly."""
+    edges, *others = looking_through(query)
+    found, at = [sum(counts[:len(edges)])], len(edges)
+    for it in others:
+        found.append(max(counts[at:at + len(it)], default=0))
+        at += len(it)
+    return found
 
 
-def queries_of(query):
-    """The query, and those for what was lost under it."""
-    edges, kinds = looking_through(query)
-    return [query, lost_of(query, *LOST), *(lost_of(query, word) for word in LOST), *edges, *kinds]
+def queries_of(query, bundle):
+    """The query, and those for what was lost under it; `bundle` is the path of the bundle that it is asked of."""
+    return [query, lost_of(query, *LOST), *(lost_of(query, word) for word in LOST), *(it for part in looking_through(query, bundle) for it in part)]
 
 
 def of_counts(query, counts):
@@ -98,7 +131,7 @@ def of_counts(query, counts):
 
 def ask_all(program, options, bundle, queries):
     """Runs queries in a session over an open bundle; gives their blocks, and the fault lines."""
-    words = [program, *options, "--bundle", f"/dev/fd/{bundle.fileno()}", "--queries", "-"]
+    words = [program, *options, "--bundle", path_of(bundle), "--queries", "-"]
     text = "".join(f"{it}\n" for it in queries).encode("utf-8", "surrogateescape")
     ended = subprocess.run(words, input=text, pass_fds=[bundle.fileno()], capture_output=True, check=False)
     return list(blocks_of(ended.stdout)), ended.stderr
@@ -108,8 +141,8 @@ def ask(program, options, bundle, query, more=()):
     """Runs a query, and in the same session those for what was lost under it, and more; gives how a run of the query alone would end, the `Lost`,
     and the blocks of the others."""
     query = " ".join(query.split("\n"))
-    queries = [*queries_of(query), *more]
-    words = [program, *options, "--bundle", f"/dev/fd/{bundle.fileno()}", "--queries", "-"]
+    queries = [*queries_of(query, path_of(bundle)), *more]
+    words = [program, *options, "--bundle", path_of(bundle), "--queries", "-"]
     text = "".join(f"{it}\n" for it in queries).encode("utf-8", "surrogateescape")
     ended = subprocess.run(words, input=text, pass_fds=[bundle.fileno()], capture_output=True, check=False)
     blocks = list(blocks_of(ended.stdout))
@@ -121,6 +154,11 @@ def ask(program, options, bundle, query, more=()):
     if status == 2:
         return Ended(b"", ended.stderr + b"".join(lines), 2), None, further
     return Ended(b"".join(lines), ended.stderr, status), of_counts(query, [len(lines) for _, lines in blocks]), further
+
+
+def path_of(bundle):
+    """A path of an open bundle."""
+    return f"/dev/fd/{bundle.fileno()}"
 
 
 def blocks_of(text):

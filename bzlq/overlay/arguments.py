@@ -132,7 +132,7 @@ def _list(value, edges):
         return _unmarked(value, edges)
     if len(pieces) > 4 and text.startswith("[\\"") and text.count("\\", \\"") == len(value) - 1:
         # (each of so many would be looked for in the whole list)
-        found = [it for it in value if it[:9] != _MARK]
+        found = [it for it in value if not it.startswith(_MARK)]
         if len(value) - len(found) != len(pieces) - 1:
             return _unmarked(value, edges)
         for it in pieces[1:]:

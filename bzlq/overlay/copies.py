@@ -276,6 +276,12 @@ class Copy:
         self.counts["a member"] += 1
         if self.is_rule(called.attr, True) and has_name(call):
             self.rule(call, called.attr)
+        elif has_name(call) and called.attr not in BUILD_FUNCTIONS and not call.args:
+            self.replace(*self.span(called), f'native.{called.attr}(**bzlq_given("{called.attr}", [], dict')
+            self.tell_lost(call)
+            self.arguments(call)
+            _, end = self.span(call)
+            self.parts.append((end, end, b"))"))
         elif has_name(call) or called.attr in BUILD_FUNCTIONS:
             self.replace(*self.span(called.value), "native")
             self.arguments(call)

@@ -1,12 +1,14 @@
 """What stands in a .bzl file for a symbol that isn't there: a macro that forwards to a rule of the schema, a function, or a value."""
 from collections import Counter
 
+from bzlq.overlay import skylib, test_rules
 from bzlq.overlay.guesses import type_of
 from bzlq.overlay.reading import BUILD_FUNCTIONS, BUILT_INS
 from bzlq.overlay.rule_sets import ENDINGS, OTHER_KINDS, SEVERAL, SIZES, TYPES
-from bzlq.overlay.skylib import MEMBERS, REPOSITORY, RULES
 from bzlq.overlay.starlark_text import quoted
 
+# macros of which it is known what they declare, by their repositories
+KNOWN = {it.REPOSITORY: it.RULES for it in (skylib, test_rules)}
 RESERVED = set("""and break continue def elif else for if in lambda load not or pass return as assert async await class del except finally from
     global import is nonlocal raise try while with yield native""".split()) | BUILT_INS | BUILD_FUNCTIONS
 
@@ -70,10 +72,10 @@ def forwarded(symbol, lost, endings):
 
 def definition(repository, symbol, stub, lost=()):
     """The text that defines a symbol, in one line but for members of skylib's. `lost` says what is made up."""
-    if symbol in MEMBERS and repository:
-        return f"def {symbol}{MEMBERS[symbol]}"
-    if symbol in RULES and repository == REPOSITORY:
-        return f"def {symbol}{RULES[symbol]}".replace("LOST", f"[{', '.join(quoted(it) for it in lost)}]")
+    if symbol in skylib.MEMBERS and repository:
+        return f"def {symbol}{skylib.MEMBERS[symbol]}"
+    if symbol in KNOWN.get(repository, {}):
+        return f"def {symbol}{KNOWN[repository][symbol]}".replace("LOST", f"[{', '.join(quoted(it) for it in lost)}]")
     if stub.makes_targets:
         return forwarded(symbol, lost, ENDINGS.get(symbol, {}) if repository else {})
     if repository and symbol in LABELS_OF:

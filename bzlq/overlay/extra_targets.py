@@ -3,9 +3,12 @@
 import re
 from collections import defaultdict
 
+from bzlq.overlay.arguments import LOST_ATTRIBUTE
 from bzlq.overlay.starlark_text import starlark
 from bzlq.workspace.files import is_path
 
+# what is said of such a target, whose kind isn't known: it may be a file that a rule makes
+NAMED = "kind: named by labels alone"
 # how many further targets a macro has at most: they stand in one text
 MOST = 4000
 DANGLING = re.compile(rb" F79 DanglingLabel //([^:\n]*):([^\n]+)$", re.M)
@@ -58,4 +61,4 @@ def text_of(found):
     table = defaultdict(list)
     for call, name in found or ():
         table[call].append(name)
-    return f"; [native.filegroup(name = more, srcs = [name]) for more in {starlark(table)}.get(native.package_name() + \":\" + name, [])]" if found else ""
+    return f"; [native.filegroup(name = more, srcs = [name], {LOST_ATTRIBUTE} = [\"{NAMED}\"]) for more in {starlark(table)}.get(native.package_name() + \":\" + name, [])]" if found else ""

@@ -7,8 +7,10 @@ import re
 
 from bzlq.overlay.reading import parsed
 from bzlq.workspace.files import parts
+from bzlq.workspace.packages import NAMES as NAMES_OF_FILES
 
 CALL = re.compile(rb"^package\(", re.M)
+TESTONLY = re.compile(rb"^[^#\n]*\bdefault_testonly\b", re.M)
 TARGET = re.compile(rb'^\{"target":"([^":]*)', re.M)
 NAMES = ("default_visibility", "default_testonly", "default_deprecation", "features", "default_applicable_licenses", "default_package_metadata")
 
@@ -17,10 +19,22 @@ def lines_of(bundle, facts):
     """The lines, in the order of the packages that these facts have a target of."""
     asked = {it.decode("utf-8", "replace") for it in TARGET.findall(facts)}
     for path, text in parts(bundle).items():
-        if label(os.path.dirname(path)) in asked and os.path.basename(path) in ("BUILD", "BUILD.bazel") and (found := CALL.search(text)):
+        if label(os.path.dirname(path)) in asked and os.path.basename(path) in NAMES_OF_FILES and (found := CALL.search(text)):
             line = text.count(b"\n", 0, found.start()) + 1
             if said := members(text, line):
                 yield json.dumps({"package": label(os.path.dirname(path)), "file": path, "line": line, **said}, separators=(",", ":"), ensure_ascii=False)
+
+
+def testonly_packages(bundle):
+    """The packages whose rules may be testonly by default: their calls say so, or give what they don't show."""
+    found = [(path, text) for path, text in parts(bundle).items() if os.path.basename(path) in NAMES_OF_FILES and TESTONLY.search(text)]
+    return [label(os.path.dirname(path)) for path, text in found if said_of(text).get("default_testonly", True) not in (False, 0)]
+
+
+def said_of(text):
+    """What the first call of `package(..)` says."""
+    found = CALL.search(text)
+    return members(text, text.count(b"\n", 0, found.start()) + 1) if found else {}
 
 
 def label(directory):

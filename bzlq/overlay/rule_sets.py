@@ -179,6 +179,15 @@ run_binary: output_list outs
 run_binary: string_list args
 select_file: label srcs
 select_file: string subpath
+# of Bazel's macros of tests (test_rules.py)
+_file_test_rule: label file
+_file_test_rule: string content regexp
+_file_test_rule: int matches
+_rule_test_rule: label rule
+_rule_test_rule: string_list generates
+_failed_rule _successful_rule: string msg
+_failed_rule _file_test_rule _rule_test_rule _successful_rule: output out
+# settings
 string_flag string_setting: string build_setting_default
 string_flag string_setting: string_list values
 bool_flag bool_setting: bool build_setting_default

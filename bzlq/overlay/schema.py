@@ -2,6 +2,7 @@
 import difflib
 from collections import Counter, defaultdict
 
+from bzlq.overlay import test_rules
 from bzlq.overlay.arguments import ATTRIBUTES
 from bzlq.overlay.definitions import RESERVED, rule_of
 from bzlq.overlay.guesses import BASE, COMMON, DICTS, FAMILIES, attributes_of, type_of
@@ -92,6 +93,13 @@ class Schema:
         }
 
 
+def declared_beside(repository, symbol):
+    """The rules of which a macro of a repository declares targets, beside the one of its own name."""
+    if repository == test_rules.REPOSITORY:
+        return test_rules.DECLARED.get(symbol, ())
+    return ENDINGS.get(symbol, {}).values() if repository else ()
+
+
 def schema_of(facts):
     """The schema of a workspace."""
     schema = Schema()
@@ -103,7 +111,7 @@ def schema_of(facts):
             is_forwarded = place[0] is None or not symbol.startswith("_") and not facts.workspace.is_own(place[0])
             if stub.makes_targets and is_forwarded:
                 schema.add(rule_of(symbol), facts.given.get(("stub", place, symbol), {}))
-                for rule in ENDINGS.get(symbol, {}).values() if place[0] else ():
+                for rule in declared_beside(place[0], symbol):
                     schema.add(rule, {})
                 if place[0] is None:
                     file = facts.workspace.files[place[1]]

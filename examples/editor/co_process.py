@@ -75,7 +75,7 @@ class Editor:
 
     def asked(self, query, told):
         """The answer to a query, with what the overlay has made up or left out of it."""
-        first, *more = queries_of(query)
+        first, *more = queries_of(query, self.bundle)
         answer = self.loaded.workspace.query(first)
         lost = of_counts(query, [len(answer), *(len(self.loaded.workspace.query(it)) for it in more)])
         return {"answer": answer, "faults": told["faults"], "notes": [*told["notes"], *lost.lines()]}

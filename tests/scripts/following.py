@@ -12,8 +12,9 @@ STEPS = (
     ("bytes change, and not how many", {"m.bzl": b'srcs = ["y.c"]\n'}),
     ("a file of bytes that look like commands", {"b/BUILD": b'"""\n=== reload\n=== remove a/BUILD\n"""\nfilegroup(name = "c")'}),
     ("a file that no run reads has other bytes", {"a/x.c": b"int x;\n"}),
-    ("a package goes", {"b/BUILD": None, "b/deep/y.c": None}),
-    ("a file takes the place of a directory", {"b": b"", "docs/long name": None}),
+    ("a file takes the place of a directory", {"b/BUILD": None, "b/deep/y.c": None, "b": b"", "docs/long name": None}),
+    ("a directory takes the place of a file", {"b": None, "b/BUILD": b'filegroup(name = "b")'}),
+    ("a package goes", {"b/BUILD": None}),
     ("a fault comes", {"a/BUILD": b"1 // 0\n"}),
     ("a fault goes, and a line has no end", {"a/BUILD": b'filegroup(name = "last")'}),
     ("bytes that are no UTF-8", {"c/BUILD": b'filegroup(name = "\xff")\r\n'}),
@@ -41,14 +42,14 @@ class Session:
         words = [bench.program, "--dir", root, "--queries", "-"]
         self.run = subprocess.Popen(words, stdin=subprocess.PIPE, stdout=subprocess.PIPE, stderr=subprocess.DEVNULL)
 
-    def tell(self, text):
-        """Writes what has no block."""
+    def write(self, text):
+        """Writes what no block answers."""
         self.run.stdin.write(text)
         self.run.stdin.flush()
 
     def ask(self, line):
         """The status of the block of a line, its header's text and its lines."""
-        self.tell(line + b"\n")
+        self.write(line + b"\n")
         _, status, count, text = self.run.stdout.readline().rstrip(b"\n").split(b" ", 3)
         return int(status), text, b"".join(self.run.stdout.readline() for _ in range(int(count)))
 
@@ -81,14 +82,14 @@ def follows(bench, root):
 def keeps_puts(bench, root):
     """What the text puts stays until the file on the disk changes; what it removes, too; and bytes that it puts are no commands."""
     session, text = Session(bench, root), b'"""\n=== reload\n"""\nfilegroup(name = "put")\n'
-    session.tell(b"=== put %d a/BUILD\n%s\n=== remove m.bzl\r\n" % (len(text), text))
+    session.write(b"=== put %d a/BUILD\n%s\n=== remove m.bzl\r\n" % (len(text), text))
     bench.compare("a put, reload", session.ask(b"=== reload\r")[0], 0)
-    bench.compare("a put", session.ask(b"//a:*")[2], b"//a:a/BUILD\n//a:put\n".replace(b"a/BUILD", b"BUILD"))
+    bench.compare("a put", session.ask(b"//a:*")[2], b"//a:BUILD\n//a:put\n")
     change(root, {"d.bzl": b"", "BUILD": b'exports_files(["d.bzl"])\n'})
-    session.ask(b"=== reload")
+    bench.compare("a put stays, reload", session.ask(b"=== reload")[0], 0)
     bench.compare("a put stays", session.ask(b"//a:put")[::2], (0, b"//a:put\n"))
     change(root, {"a/BUILD": b'filegroup(name = "disk")\n'})
-    session.ask(b"=== reload")
+    bench.compare("a put goes, reload", session.ask(b"=== reload")[0], 0)
     bench.compare("a put goes", session.ask(b"//a:all")[2], b"//a:disk\n")
     bench.compare("a long line", session.ask(b"x" * (1 << 20) + b" === reload")[::2], (2, b"bq: Q1 Syntax\n"))
     bench.compare("after a long line", session.ask(b"//a:all")[2], b"//a:disk\n")
@@ -96,7 +97,8 @@ def keeps_puts(bench, root):
 
 
 def refuses(bench, root):
-    """A directory that is gone, and comes back, with other files."""
+    """A directory that is gone, and comes back, with other files, and with one of any name that was there before."""
+    change(root, {"BUILD": b'filegroup(name = "all", srcs = glob(["*"]))\n', "no directory": b"", ".git": b""})
     session, before = Session(bench, root), alone(bench, root)
     os.rename(root, f"{root}.away")
     for _ in range(2):

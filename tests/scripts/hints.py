@@ -6,7 +6,7 @@ from unittest import mock
 
 import kit
 from bench import ROOT
-from bzlq.hints import scan
+from bzlq.hints import queries, scan
 from bzlq.hints.report import hinted
 from bzlq.hints.sources import Sources
 from hint_rows import ROWS
@@ -55,6 +55,20 @@ def interface(bench):
     bench.lay_out("o", {"app/BUILD": 'filegroup(nam = "x")\n'})
     bench.compare("an overlay", bench.run("bzlq hints w --overlay o", given=b"//app:BUILD:1: F71 NoAttribute\n"),
                   ("w/app/BUILD:1:11: F71 NoAttribute: no attribute 'nam' in rule 'filegroup' (did you mean 'name'?)\n", "", 0))
+
+
+# queries that are none, what is pointed at, and what is said of it
+QUERIES = (
+    ("-//x", 0, "an operand is missing before '-'"), ("//a + + //b", 6, "an operand is missing before '+'"), ("deps(^ //a)", 5, "an operand is missing before '^'"),
+    ("rdeps(//..., union //a)", 13, "an operand is missing before 'union'"), ("let x = - //a in $x", 8, "an operand is missing before '-'"),
+    ("let x = //a in + $x", 15, "an operand is missing before '+'"), ("//a -", 5, "the query ends too early"), ("//a - )", 6, "this parenthesis closes none"),
+)
+
+
+def syntax(bench):
+    """Where a query ends to be one."""
+    for query, at, what in QUERIES:
+        bench.compare(query, queries.syntax(query), queries.pointed(query, at, what))
 
 
 HOSTILE = {
@@ -132,5 +146,5 @@ def linear(bench):
 
 def check(bench):
     """Tries all of it."""
-    for part in (rows, interface, hostile, slow, linear):
+    for part in (rows, interface, syntax, hostile, slow, linear):
         part(bench)

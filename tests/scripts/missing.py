@@ -30,6 +30,8 @@ def told(bench, what, found, output, errors, status):
 
 JUNIT = {"a/BUILD": R + 'junit_tests(name = "t", srcs = ["T.java"])\n', "a/T.java": ""}
 SUITES = {"a/BUILD": 'load("@r//:m.bzl", "other", "suite")\nsuite(name = "t", size = "small", srcs = ["T.java"])\nother(name = "u", srcs = ["T.java"])\n', "a/T.java": ""}
+# a test that no call declares: a label alone names it, as a further target of a macro
+NAMED_TEST = {"a/BUILD": 'load("@r//:m.bzl", "checked")\nchecked(name = "x", srcs = ["T.java"])\ntest_suite(name = "all", tests = [":x_test"])\n', "a/T.java": ""}
 UNLISTED = "affected: targets may be missing: 1 target of a kind that was made up (junit_tests) may be a test, and isn't listed: --tests lists it\n"
 SETTINGS = {
     "MODULE.bazel": 'pip.parse(hub_name = "pip", requirements_lock = "//third_party:requirements_lock.txt")\ngo_deps.from_file(go_mod = "//:go.mod")\n',
@@ -48,6 +50,9 @@ def tests(bench):
     told(bench, "tests of a made-up kind, by --tests", run("--tests"), "//a:t\n", ["1 affected\n"], 0)
     told(bench, "what is given what tests alone are given", changed(bench, "suites", SUITES, "a/T.java", "x", "--tests"), "//a:t\n", ["1 affected\n"], 0)
     told(bench, "tests of a made-up kind, where all are listed", run("--kind", "'_test rule'", "--all-on-fault"), "//a:t\n", ["1 affected\n"], 0)
+    run = lambda *words: changed(bench, "named", NAMED_TEST, "a/T.java", "x", *words)  # noqa: E731
+    told(bench, "a test that a label alone names, by kind", run("--kind", "'_test rule'"), "", [UNLISTED.replace("junit_tests", "filegroup")], 3)
+    told(bench, "a test that a label alone names, by --tests", run("--tests"), "//a:x_test\n", ["1 affected\n"], 0)
 
 
 def settings(bench):
@@ -90,7 +95,9 @@ def further(bench):
     dangling = "b/BUILD:2:31: F79 DanglingLabel: package 'a' has no target 'y'\n"
     told(bench, "a further target of a macro", bench.run("bzlq --output label_kind 'deps(//b) - //b'", "ws"),
          "npm_link_all_packages rule //:node_modules\nfilegroup rule //:node_modules/lodash\nrelease rule //a:x\nfilegroup rule //a:x-and-hashes\n"
-         "source file //a:x.sh\n", [dangling], 3)
+         "source file //a:x.sh\n", [dangling, "bzlq: 4 of 5 targets of this answer are approximations: kind made up 4\n"], 3)
+    told(bench, "a further target of a macro, by its kind", bench.run("bzlq 'kind(test, //a:x-and-hashes)'", "ws"), "",
+         ["bzlq: 1 of the targets that this query looks through has a kind that was made up, and kind(..) leaves it out\n"], 3)
 
 
 NAMES = {"c/BUILD": 'filegroup(name = "g", srcs = glob(["*.txt"]))\nfilegroup(name = "h", srcs = ["a b.txt"])\n', "c/ünï.txt": "", "c/日本.txt": "", "c/a b.txt": ""}
@@ -118,6 +125,8 @@ def unreadable(bench):
     bench.run("rm x/BUILD; ln -s nowhere x/BUILD", "ws")
     lines = ["x/BUILD:1:1: F56 Fail: \"x/BUILD can't be read: No such file or directory\"\n", "y/BUILD:2:1: F1 BadByte"]
     told(bench, "files that can't be read", bench.run("bzlq //...", "ws"), "//z:z\n", lines, 3)
+    bench.run("rm x/BUILD; touch -d tomorrow x/BUILD; bzlq //...; ln -sf nowhere x/BUILD", "ws")
+    told(bench, "a file that can't be read any more", bench.run("bzlq //...", "ws"), "//z:z\n", lines, 3)
     found = changed(bench, "unreadable", {"z/BUILD": 'filegroup(name = "z", srcs = ["z.c"])\n', "x/BUILD": ""}, "z/z.c", "", "--kind", "rule")
     told(bench, "a change beside", found, "//z:z\n", ["1 affected\n"], 0)
 
@@ -269,6 +278,14 @@ def packages(bench):
 SUITE = {"a/BUILD": 'test_suite(name = "all_tests")\nsh_test(name = "x_test", srcs = ["x.sh"])\nsh_test(name = "y_test", srcs = ["y.sh"], tags = ["manual"])\n'}
 SIZES = {"a/BUILD": 'load("@rules_cc//cc:defs.bzl", "cc_test")\ncc_test(name = "a", srcs = ["a.c"])\nsh_test(name = "b", srcs = ["b.sh"], size = "small")\n'
                     'load(":m.bzl", "m")\nm("c")\n', "a/m.bzl": 'def m(name):\n    native.sh_test(name = name, srcs = ["c.sh"], timeout = "long")\n'}
+# of two packages the rules x and b give a visibility
+SEEN = {"a/BUILD": 'filegroup(name = "x", visibility = ["//visibility:private"])\nfilegroup(name = "y", srcs = ["//b"])\n',
+        "b/BUILD": 'filegroup(name = "b", visibility = ["//visibility:public"])\nfilegroup(name = "c")\n'}
+# rules that Bazel takes as testonly though they don't say so: the test and the suite of a, one of b, and that of b+b (bq can't tell that c of b gives False)
+ONLY = {"a/BUILD": 'filegroup(name = "x", testonly = True)\nfilegroup(name = "y")\nsh_test(name = "t", srcs = ["t.sh"])\ntest_suite(name = "s", tests = [":t"])\n',
+        "b/BUILD": 'package(default_testonly = True)\nfilegroup(name = "b")\nfilegroup(name = "c", testonly = False)\n',
+        "b+b/BUILD": 'V = True\npackage(default_testonly = V)\nfilegroup(name = "b")\n',
+        "c/BUILD": 'package(default_testonly = False)\n# default_testonly = True\nfilegroup(name = "c")\n'}
 
 
 def defaults(bench):
@@ -279,6 +296,28 @@ def defaults(bench):
     for query, output in (("attr(size, medium, //...)", "//a:a\n//a:c\n"), ("attr(timeout, moderate, //...)", "//a:a\n"), ("attr(timeout, short, //...)", "//a:b\n"),
                           ("attr(shard_count, \"-1\", //...)", "//a:a\n//a:b\n//a:c\n"), ("attr(flaky, 0, //...)", "//a:a\n//a:b\n//a:c\n")):
         told(bench, query, bench.run(f"bzlq '{query}'", "ws"), output, [""], 0)
+    bench.lay_out("ws", {"WORKSPACE": "", **SEEN})
+    line = "bzlq: {} of the targets that this query looks through {} no visibility, and attr(..) leaves out what Bazel takes instead\n".format
+    for query, output, said in (("attr(visibility, private, //a:all)", "//a:x\n", line(1, "gives")), ("attr(\"visibility\", public, deps(//a:y) + //b:all)", "//b:b\n", line(2, "give")),
+                                ("let v = //a:all in attr(visibility, private, $v)", "//a:x\n", line(2, "give"))):
+        told(bench, query, bench.run(f"bzlq '{query}'", "ws"), output, [said], 3)
+    found = bench.run("bzlq queries -", "ws", b"attr(visibility, private, //a:all)\n")
+    bench.compare("visibilities, in many queries", found, ("=== 0 1 attr(visibility, private, //a:all)\n//a:x\n", "bzlq: 2 of the targets of the workspace give no visibility, and attr(..) leaves out what Bazel takes instead\n", 3))
+    bench.compare("a visibility of each", bench.run("bzlq 'attr(visibility, private, //a:x) + attr(tags, x, //a:y)'", "ws"), ("//a:x\n", "", 0))
+    bench.lay_out("ws", {"WORKSPACE": "", **ONLY})
+    line = "bzlq: {} of the targets {} may be testonly by a default of Bazel's (tests, default_testonly), and attr(..) takes {} as not\n".format
+    looked = "that this query looks through"
+    for query, output, said in (("attr(testonly, 1, //...)", "//a:x\n", line(5, looked, "them")), ("attr('testonly', 0, //b:b)", "//b:b\n", line(1, looked, "it")),
+                                ("attr(testonly, 1, deps(//a:s)) + attr(testonly, 1, //c:*)", "", line(2, looked, "them")), ("let v = //a:t in attr(testonly, 1, $v)", "", line(5, looked, "them"))):
+        told(bench, query, bench.run(f'bzlq "{query}"'.replace("$", "\\$"), "ws"), output, [said], 3)
+        told(bench, f"location: {query}", bench.run(f'bzlq --output location "{query}" | grep -o "//.*"'.replace("$", "\\$"), "ws"), output, [said], 0 if output else 1)
+    found = bench.run("bzlq queries -", "ws", b"attr(testonly, 1, //a:all)\n")
+    bench.compare("testonly, in many queries", found, ("=== 0 1 attr(testonly, 1, //a:all)\n//a:x\n", line(5, "of the workspace", "them"), 3))
+    bench.compare("testonly of each", bench.run("bzlq 'attr(testonly, 1, //a:x) + attr(testonly, 0, //c:c + //a:y) + attr(tags, x, //b:b)'", "ws"), ("//a:x\n//a:y\n//c:c\n", "", 0))
+    bench.lay_out("ws", {"WORKSPACE": "", **ONLY, "d/BUILD": 'package(default_testonly = True)\nfilegroup(\n'})
+    told(bench, "testonly, where a package doesn't load", bench.run("bzlq 'attr(testonly, 1, //...)'", "ws"), "//a:x\n", [line(5, looked, "them")], 3)
+    answer = bench.run("bzlq ask", "ws", b"attr(testonly, 1, //...)\n")
+    told(bench, "testonly, at the prompt", answer, "//a:x\n", [line(5, looked, "them")], answer[2])
 
 
 def mistakes(bench):
@@ -330,7 +369,8 @@ def replaced(bench):
     """Further targets of a macro of the tree that one target stands for."""
     bench.lay_out("ws", REPLACED)
     told(bench, "a further target of a macro that is replaced", bench.run("bzlq --output label_kind 'deps(//b)'", "ws"),
-         "m rule //a:x\nsource file //a:x.c\nfilegroup rule //a:x_more\nfilegroup rule //b:b\n", ["one target for a macro 1"], 3)
+         "m rule //a:x\nsource file //a:x.c\nfilegroup rule //a:x_more\nfilegroup rule //b:b\n",
+         ["bzlq: 2 of 4 targets of this answer are approximations: kind made up 1, one target for a macro 1\n"], 3)
 
 
 def check(bench):

@@ -29,7 +29,7 @@ def run_steps(bench, change):
     """What the steps write to their outputs, and their statuses, up to the first that fails, where a commit adds this change."""
     bench.lay_out("ci", {f"project/{path}": text for path, text in WORKSPACE.items()})
     os.makedirs(f"{bench.room}/ci/bq")
-    for name, to in (("bq", f"{bench.room}/bin/bq"), ("tools", f"{ROOT}/tools")):
+    for name, to in (("bq", f"{bench.room}/bin/bq"), ("bzlq", f"{ROOT}/bzlq")):
         os.symlink(to, f"{bench.room}/ci/bq/{name}")
     bench.run(f"{GIT} init -q && {GIT} add . && {GIT} commit -qm base && {GIT} branch base", "ci")
     bench.run(f"{change} && {GIT} commit -qam change", "ci")

@@ -150,6 +150,14 @@ def fits(bench, script, folder):
         bench.compare("dev/trials: a name that fits nothing", seen, asked)
 
 
+def refused(bench, script):
+    """What dev/trials reads of what the prover keeps of a function's proof: the parts that were refused."""
+    kept = {"Answers": '--@ holes []\n--@ refused ["loop-kept"]\n', "Met": '--@ refused ["met"]\n', "Proof": '--@ refused ["returns-in-Ok","returns"]\n--@ saw x\n'}
+    bench.lay_out("kept", {f"build/Rattle-low-proofs.pair.Pair.first.{part}.oantt": text for part, text in kept.items()})
+    for name, parts in (("low::pair::Pair::first", ["loop-kept", "returns-in-Ok", "returns"]), ("low::pair::alone", [])):
+        bench.compare("dev/trials: the parts that were refused", script.refused_parts(f"{bench.room}/kept", name), parts)
+
+
 def trials(bench):
     """What dev/trials reads of the prover's lines, and how it names functions to the prover."""
     script = kit.module_of(f"{ROOT}/dev/trials")
@@ -159,6 +167,7 @@ def trials(bench):
     bench.compare("dev/trials: names of functions", [*script.paths_of(folder, trial)], ["pair::alone", "Pair::first", "PairDebug::fmt", "Taker::take"])
     halves(bench, script, folder)
     fits(bench, script, folder)
+    refused(bench, script)
     for what, (lines, said) in SAID.items():
         found, written = script.failed_in("\n".join(lines), folder).get(("src/pair.rt", 1)), io.StringIO()
         with contextlib.redirect_stdout(written):

@@ -6,7 +6,7 @@ ghost use Rattle.bq_load_order.specs.Shown.{shown, slot};
 ghost use Rattle.bq_load_order.specs.Slots.{Filling, Tabulates};
 ghost use Rattle.bq_load_again.specs.Again.{had, AreUnchanged};
 
-use crate::before::{After, Before};
+use crate::before::{After, PreviousOutcomes};
 use crate::keep::kept_in_order;
 use bq_board_plan::Graph;
 use bq_load_order::{Evaluate, SharedOutcome, Watch, complete};
@@ -17,7 +17,7 @@ use std::alloc::{AllocError, Global};
 /// deep, all its loads keep theirs, and it had a value or a fault of its own. Nothing is evaluated.
 pub fn kept_outcomes<E: Evaluate>(
     alloc: Global,
-    before: &Before<'_, E::Value, E::Fault>,
+    before: &PreviousOutcomes<'_, E::Value, E::Fault>,
     evaluator: &E,
     graph: &Graph,
     was: &[Option<u32>],
@@ -41,7 +41,7 @@ pub fn kept_outcomes<E: Evaluate>(
 /// [`kept_outcomes`] says, and notifies the watch.
 pub fn outcomes_again<E: Evaluate, W: Watch>(
     alloc: Global,
-    before: &Before<'_, E::Value, E::Fault>,
+    before: &PreviousOutcomes<'_, E::Value, E::Fault>,
     evaluator: &E,
     graph: &Graph,
     was: &[Option<u32>],

@@ -5,7 +5,7 @@ use bq_load_order::SharedOutcome;
 
 /// A load graph, and the outcomes that its modules had.
 #[derive(Drop)]
-pub struct Before<'a, V, F> {
+pub struct PreviousOutcomes<'a, V, F> {
     pub graph: &'a Graph,
     pub outcomes: &'a [SharedOutcome<V, F>],
 }

@@ -9,7 +9,7 @@ ghost use Rattle.bq_load_order.specs.Shown.{shown, slot};
 ghost use Rattle.bq_load_order.specs.Slots.{Filling, IsLoadOrder};
 ghost use Rattle.bq_load_again.specs.Again.{number_at, had, ReachesHad, AreUnchanged, AreKept, Keeps, is_own};
 
-use crate::before::{After, Before};
+use crate::before::{After, PreviousOutcomes};
 use crate::same::{are_same, number_at};
 use bq_load_order::{Evaluate, SharedOutcome, empty_slots, share};
 use bq_load_outcome_spec::Outcome;
@@ -17,7 +17,7 @@ use std::alloc::{AllocError, Global};
 
 /// What is known while modules are looked at: outcomes, and for each module that kept one the number that it had.
 #[derive(Drop)]
-struct Kept<V, F> {
+struct KeptOutcomes<V, F> {
     found: Vec<Option<SharedOutcome<V, F>>>,
     numbers: Vec<Option<u32>>,
 }
@@ -49,7 +49,7 @@ fn no_numbers(alloc: Global, modules: usize) -> Result<Vec<Option<u32>>, AllocEr
 /// Returns the number of the module before the change whose outcome this module keeps, if there is one. The module
 /// isn't cyclic.
 fn kept_number<E: Evaluate>(
-    before: &Before<'_, E::Value, E::Fault>,
+    before: &PreviousOutcomes<'_, E::Value, E::Fault>,
     after: &After<'_, E>,
     numbers: &[Option<u32>],
     m: u32,
@@ -83,10 +83,10 @@ fn kept_number<E: Evaluate>(
 
 /// Keeps the outcome of a module that isn't cyclic, if it is unchanged and its loads keep theirs.
 fn keep_one<E: Evaluate>(
-    before: &Before<'_, E::Value, E::Fault>,
+    before: &PreviousOutcomes<'_, E::Value, E::Fault>,
     after: &After<'_, E>,
     m: u32,
-    kept: &mut Kept<E::Value, E::Fault>,
+    kept: &mut KeptOutcomes<E::Value, E::Fault>,
 ) -> Result<(), AllocError>
     requires known { m < length after.now.graph.now }
     requires acyclic { is_cyclic after.now.graph.now m ≡ false }
@@ -117,7 +117,7 @@ fn keep_one<E: Evaluate>(
 /// Returns a slot for each module, with its outcome if it keeps one.
 pub(crate) fn kept_in_order<E: Evaluate>(
     alloc: Global,
-    before: &Before<'_, E::Value, E::Fault>,
+    before: &PreviousOutcomes<'_, E::Value, E::Fault>,
     after: &After<'_, E>,
 ) -> Result<Vec<Option<SharedOutcome<E::Value, E::Fault>>>, AllocError>
     requires order { IsLoadOrder after.now.graph.now after.now.order.now.modules.items }
@@ -130,7 +130,7 @@ pub(crate) fn kept_in_order<E: Evaluate>(
     let count = after.graph.len();
     let found = empty_slots(alloc, count)?;
     let numbers = no_numbers(alloc, count)?;
-    let mut kept = Kept { found, numbers };
+    let mut kept = KeptOutcomes { found, numbers };
     for m in after.order.modules.as_slice() {
         keep_one(before, after, *m, &mut kept)?;
     }

@@ -17,5 +17,5 @@ mod laws;
 mod same;
 
 pub use again::{kept_outcomes, outcomes_again};
-pub use before::Before;
+pub use before::PreviousOutcomes;
 pub use laws::modules_evaluate_as_they_did;

@@ -3,8 +3,9 @@ use Rattle.std.specs.Prelude.{◌≡◌, ℕ, List, length, map, Result, Ok, Err
 use Rattle.std.specs.declared.alloc.Global.{Global}
 use Rattle.std.specs.declared.sync.Arc.{Arc}
 use Rattle.bq_label.specs.declared.workspace.File.{File}
+use Rattle.bq_label.specs.Label.{LabelParts}
 use Rattle.bq_package_schema.specs.Schema.{Rules}
-use Rattle.bq_board.specs.Graph.{Loads}
+use Rattle.bq_board.specs.Graph.{Loads, Fits}
 use Rattle.bq_load_discover.specs.declared.load_err.LoadErr.{LoadErr}
 use Rattle.bq_load_discover.specs.LoadGraph.{GraphParts, IsNumbered, IsReadGraph, inputs_of}
 use Rattle.bq_load_discover.specs.Schema.{schema_in}
@@ -21,20 +22,34 @@ use Rattle.bq_load.specs.Evaluation.{means}
 use Rattle.bq_load_reload.specs.declared.kept.Kept.{Kept}
 use Rattle.bq_load_reload.specs.declared.kept.Reloaded.{Reloaded}
 
+-- the outcomes of modules, as they are shared
+abbrev pub Shared : Type 0
+Shared = Outcome (Arc LoadedModule Global) (Arc FailedModule Global)
+
 -- these are the outcomes of the modules of a load graph, by the recursion along loads
-abbrev pub AreOutcomes : LoadingParts → Loads → List (Outcome (Arc LoadedModule Global) (Arc FailedModule Global)) → Type 0
+abbrev pub AreOutcomes : LoadingParts → Loads → List Shared → Type 0
 AreOutcomes x p outcomes = Tabulates (length p) (outcome (means x) p) (map (shown module_view failed_view) outcomes)
+
+-- the load graph is that of these files
+pub record IsGraphOf (files : List File) (graph : GraphParts) : Type 0 where
+  pub rules : Rules
+  pub schema : schema_in files ≡ Ok rules
+  pub read : IsReadGraph (inputs_of files rules) graph
+  pub numbered : IsNumbered graph
+
+-- these files were loaded, with so many steps for each module: the modules had these labels and loads, and came to these outcomes
+pub record WereLoaded (files : List File) (limit : ℕ) (ls : List LabelParts) (p : Loads) (os : List Shared) : Type 0 where
+  pub graph : GraphParts
+  pub is : IsGraphOf files graph
+  pub labelled : ls ≡ graph.labels
+  pub loaded : p ≡ graph.edges
+  pub outcomes : AreOutcomes (loading_in files is.rules limit graph) p os
 
 -- this was kept of these files when they were loaded, with so many steps for each module
 pub record IsKept (files : List File) (limit : ℕ) (kept : Kept) : Type 0 where
-  pub rules : Rules
-  pub schema : schema_in files ≡ Ok rules
-  pub graph : GraphParts
-  pub read : IsReadGraph (inputs_of files rules) graph
-  pub numbered : IsNumbered graph
-  pub labels : kept.labels ≡ graph.labels
-  pub edges : kept.edges ≡ graph.edges
-  pub outcomes : AreOutcomes (loading_in files rules limit graph) kept.edges kept.outcomes.items
+  pub is : IsGraphOf files kept.graph
+  pub fits : Fits kept.limits kept.graph.edges
+  pub outcomes : AreOutcomes (loading_in files is.rules limit kept.graph) kept.graph.edges kept.outcomes.items
 
 -- what a workspace loads to, or why it doesn't
 abbrev pub loaded_by : Result Reloaded LoadErr → Result Loaded LoadErr

@@ -1,18 +1,28 @@
 //! The loading of a workspace, and what is kept of it.
 
-ghost use Rattle.std.specs.Prelude.{◌≡◌, ◌<◌, ◌≤◌, Ok, map, IfOk, IfSome};
+ghost use Rattle.std.specs.Prelude.{◌≡◌, ◌<◌, ◌≤◌, Ok, [], true, length, map, IfOk, IfSome};
 ghost use Rattle.bq_base_limits.specs.Limits.{AreBounded};
+ghost use Rattle.bq_board.specs.Graph.{Fits};
 ghost use Rattle.bq_load_discover.specs.LoadGraph.{IsReadGraph, inputs_of};
 ghost use Rattle.bq_load_discover.specs.Schema.{schema_in};
-ghost use Rattle.bq_load.specs.Views.{outcome_view};
+ghost use Rattle.bq_load_outcome_spec.specs.Outcome.{outcome};
+ghost use Rattle.bq_load_order.specs.Shown.{slot};
+ghost use Rattle.bq_load_order.specs.Slots.{Filling};
+ghost use Rattle.bq_load.specs.Evaluation.{means};
+ghost use Rattle.bq_load.specs.Views.{failed_view, module_view, outcome_view};
 ghost use Rattle.bq_load.specs.Loading.{loading_in};
 ghost use Rattle.bq_load.specs.Results.{outcomes};
 ghost use Rattle.bq_load.specs.Loaded.{IsLoaded, LoadsWithin};
-ghost use Rattle.bq_load_reload.specs.Kept.{AreOutcomes, IsKept, loaded_by};
+ghost use Rattle.bq_load_reload.specs.Kept.{AreOutcomes, IsGraphOf, IsKept, WereLoaded, loaded_by};
+ghost use Rattle.bq_load_reload.specs.Same.{HasSameFrame, HaveStayed};
 
-use crate::kept::{Before, Kept, KeptOutcome, Reloaded};
-use crate::outcomes::{all_outcomes, outcomes_after};
+use crate::kept::{Kept, KeptOutcome, Past, PreviousLoad, Reloaded};
+use crate::outcomes::{all_outcomes, are_few_unknown, kept_after, outcomes_after, outcomes_from};
+use crate::renewal::{Renewal, renewed, with_statements};
+use crate::same::Change;
 use bq_base_limits::Limits;
+use bq_base_takeable::Takeable;
+use bq_label::Workspace;
 use bq_load::{Gate, Loaded, Loading, ModuleOutcome, Sources, Workers};
 use bq_load_discover::{LoadErr, LoadGraph, discover_by_workers};
 use bq_load_workers::MAX_WORKERS;
@@ -46,66 +56,39 @@ fn modules_of(
     Ok(loading.outcomes(alloc, graph.edges(), found)?)
 }
 
-/// Gathers the outcomes of a load graph's modules, and keeps them.
+/// Gathers the outcomes of a load graph's modules, and keeps them with the load graph.
 #[tactic(auto, using(bq_load::proofs::Named::labelled, bq_load::proofs::Joined::gathered_is, crate::proofs::Along::is_kept))]
-fn gathered<R: Threads + Wait + Sync>(
-    rt: &R,
+fn gathered(
     alloc: Global,
     sources: &Sources<'_>,
     limits: Limits,
     graph: LoadGraph,
     outcomes: Vec<KeptOutcome>,
-    threads: usize,
 ) -> Result<Reloaded, AllocError>
     requires schema { schema_in sources.now.workspace.now ≡ Ok sources.now.schema.now }
     requires graph { IsReadGraph (inputs_of sources.now.workspace.now sources.now.schema.now) graph }
+    requires fits { Fits limits graph.edges }
     requires outcomes { AreOutcomes (loading_in sources.now.workspace.now sources.now.schema.now limits.steps graph) graph.edges outcomes.items }
-    requires threads { 0 < threads }
     ensures loaded { IfOk result (λ r. IsLoaded (loading_in sources.now.workspace.now sources.now.schema.now limits.steps graph) graph.edges r.loaded) }
     ensures kept { IfOk result (λ r. IsKept sources.now.workspace.now limits.steps r.kept) }
 {
     let modules = modules_of(alloc, sources, limits, &graph, outcomes.as_slice())?;
-    let edges = graph.edges().copy(alloc)?;
-    let (labels, packages) = graph.into_parts_by(rt, threads);
-    let loaded = Loaded::gathered(alloc, &packages, &labels, modules)?;
+    let _edges = graph.edges(); // PROOF: the load graph is numbered
+    let loaded = Loaded::gathered(alloc, graph.packages(), graph.label_set(), modules)?;
     let kept = Kept {
-        labels,
-        edges,
+        graph: Takeable::of(graph),
+        limits,
         outcomes,
     };
     Ok(Reloaded { loaded, kept })
 }
 
-/// Returns the outcomes of a load graph's modules, by what was kept of the workspace when it was loaded before, if it was.
-fn outcomes_of<R: Threads + Wait + Sync, G: Gate>(
-    rt: &R,
-    alloc: Global,
-    before: Option<Before<'_>>,
-    sources: &Sources<'_>,
-    limits: Limits,
-    graph: &LoadGraph,
-    workers: &Workers<'_, G>,
-) -> Result<Vec<KeptOutcome>, AllocError>
-    requires before { IfSome before (λ b. IsKept b.workspace.now limits.steps b.kept.now) }
-    requires schema { schema_in sources.now.workspace.now ≡ Ok sources.now.schema.now }
-    requires graph { IsReadGraph (inputs_of sources.now.workspace.now sources.now.schema.now) graph.now }
-    requires workers { (0 < workers.now.count) × (workers.now.count ≤ MAX_WORKERS) }
-    ensures { IfOk result (λ v. AreOutcomes (loading_in sources.now.workspace.now sources.now.schema.now limits.steps graph.now) graph.now.edges v.items) }
-{
-    match before {
-        None => all_outcomes(rt, alloc, sources, limits, graph, workers),
-        Some(before) => outcomes_after(rt, alloc, &before, sources, limits, graph, workers),
-    }
-}
-
-/// Loads a workspace by several workers, as `bq_load::load_within` does, and keeps its outcomes. If it was loaded before, a
-/// module isn't evaluated if the paths of all files and the schema are what they were, its file and those of all that it
-/// loads, directly or not, are, and these modules have the numbers that they had; but if many are to be evaluated, all are.
+/// Loads a workspace by several workers, as `bq_load::load_within` does, and keeps what it loads.
 #[tactic(auto, using(bq_load::proofs::Joined::loaded_is))]
-pub fn load_again<R: Threads + Wait + Sync, G: Gate>(
+fn load_anew<R: Threads + Wait + Sync, G: Gate>(
     rt: &R,
     alloc: Global,
-    before: Option<Before<'_>>,
+    past: Option<Past<'_>>,
     sources: &Sources<'_>,
     limits: Limits,
     workers: &Workers<'_, G>,
@@ -113,7 +96,7 @@ pub fn load_again<R: Threads + Wait + Sync, G: Gate>(
     requires bounded { AreBounded limits }
     requires workers { (0 < workers.now.count) × (workers.now.count ≤ MAX_WORKERS) }
     requires schema { schema_in sources.now.workspace.now ≡ Ok sources.now.schema.now }
-    requires before { IfSome before (λ b. IsKept b.workspace.now limits.steps b.kept.now) }
+    requires past { IfSome past (λ p. WereLoaded p.workspace.now limits.steps p.labels.now p.edges.now p.outcomes.now) }
     ensures loads { LoadsWithin sources.now.workspace.now sources.now.schema.now limits (loaded_by result) }
     ensures keeps { IfOk result (λ r. IsKept sources.now.workspace.now limits.steps r.kept) }
 {
@@ -129,6 +112,205 @@ pub fn load_again<R: Threads + Wait + Sync, G: Gate>(
         Ok(graph) => graph,
         Err(why) => return Err(why),
     };
-    let outcomes = outcomes_of(rt, alloc, before, sources, limits, &graph, workers)?;
-    Ok(gathered(rt, alloc, sources, limits, graph, outcomes, workers.count)?)
+    let outcomes = outcomes_of(rt, alloc, past, sources, limits, &graph, workers)?;
+    Ok(gathered(alloc, sources, limits, graph, outcomes)?)
+}
+
+/// Returns the outcomes of a load graph's modules, by those that they had before, if they had any.
+fn outcomes_of<R: Threads + Wait + Sync, G: Gate>(
+    rt: &R,
+    alloc: Global,
+    past: Option<Past<'_>>,
+    sources: &Sources<'_>,
+    limits: Limits,
+    graph: &LoadGraph,
+    workers: &Workers<'_, G>,
+) -> Result<Vec<KeptOutcome>, AllocError>
+    requires past { IfSome past (λ p. WereLoaded p.workspace.now limits.steps p.labels.now p.edges.now p.outcomes.now) }
+    requires schema { schema_in sources.now.workspace.now ≡ Ok sources.now.schema.now }
+    requires graph { IsReadGraph (inputs_of sources.now.workspace.now sources.now.schema.now) graph.now }
+    requires workers { (0 < workers.now.count) × (workers.now.count ≤ MAX_WORKERS) }
+    ensures { IfOk result (λ v. AreOutcomes (loading_in sources.now.workspace.now sources.now.schema.now limits.steps graph.now) graph.now.edges v.items) }
+{
+    match past {
+        None => all_outcomes(rt, alloc, sources, limits, graph, workers),
+        Some(past) => outcomes_after(rt, alloc, &past, sources, limits, graph, workers),
+    }
+}
+
+/// Returns whether what keeps the one limits keeps the others.
+fn are_within(limits: Limits, others: Limits) -> bool
+    ensures { result ≡ true → (limits.modules ≤ others.modules) × (limits.edges ≤ others.edges) }
+{
+    limits.modules <= others.modules && limits.edges <= others.edges
+}
+
+/// Evaluates the modules of a load graph that have no outcome yet, and gathers all.
+fn evaluated<R: Threads + Wait + Sync, G: Gate>(
+    rt: &R,
+    alloc: Global,
+    sources: &Sources<'_>,
+    limits: Limits,
+    graph: LoadGraph,
+    found: Vec<Option<KeptOutcome>>,
+    gate: &G,
+) -> Result<Reloaded, AllocError>
+    requires schema { schema_in sources.now.workspace.now ≡ Ok sources.now.schema.now }
+    requires graph { IsReadGraph (inputs_of sources.now.workspace.now sources.now.schema.now) graph }
+    requires fits { Fits limits graph.edges }
+    requires found { Filling (outcome (means (loading_in sources.now.workspace.now sources.now.schema.now limits.steps graph)) graph.edges) (length graph.edges) (map (slot module_view failed_view) found.items) [] }
+    ensures loaded { IfOk result (λ r. IsLoaded (loading_in sources.now.workspace.now sources.now.schema.now limits.steps graph) graph.edges r.loaded) }
+    ensures kept { IfOk result (λ r. IsKept sources.now.workspace.now limits.steps r.kept) }
+{
+    let whole = with_statements(alloc, sources, &found, graph)?;
+    let outcomes = outcomes_from(rt, alloc, sources, limits, &whole, found, gate)?;
+    let reloaded = gathered(alloc, sources, limits, whole, outcomes)?;
+    Ok(reloaded) // PROOF: it is the same load graph
+}
+
+/// Loads a workspace of which texts alone have changed, and whose load graph this is, if few modules are to be evaluated.
+fn load_renewed<R: Threads + Wait + Sync, G: Gate>(
+    rt: &R,
+    alloc: Global,
+    before: &Workspace,
+    outcomes: &[KeptOutcome],
+    renewal: Renewal,
+    sources: &Sources<'_>,
+    limits: Limits,
+    workers: &Workers<'_, G>,
+) -> Result<Option<Reloaded>, AllocError>
+    requires schema { schema_in sources.now.workspace.now ≡ Ok sources.now.schema.now }
+    requires past { WereLoaded before.now limits.steps renewal.graph.labels renewal.graph.edges outcomes.now }
+    requires frame { HasSameFrame before.now sources.now.workspace.now }
+    requires stayed { HaveStayed before.now sources.now.workspace.now renewal.graph.labels renewal.graph.labels renewal.numbers.items }
+    requires graph { IsReadGraph (inputs_of sources.now.workspace.now sources.now.schema.now) renewal.graph }
+    requires fits { Fits limits renewal.graph.edges }
+    ensures loaded { IfOk result (λ o. IfSome o (λ r. IsLoaded (loading_in sources.now.workspace.now sources.now.schema.now limits.steps renewal.graph) renewal.graph.edges r.loaded)) }
+    ensures kept { IfOk result (λ o. IfSome o (λ r. IsKept sources.now.workspace.now limits.steps r.kept)) }
+{
+    let Renewal {
+        graph,
+        numbers,
+        same: _,
+    } = renewal;
+    let past = Past {
+        workspace: before,
+        labels: graph.labels(),
+        edges: graph.edges(),
+        outcomes,
+    };
+    let found = kept_after(alloc, &past, sources, limits, &graph, &numbers)?;
+    if !are_few_unknown(&found, workers.count) {
+        return Ok(None);
+    }
+    Ok(Some(evaluated(rt, alloc, sources, limits, graph, found, workers.gate)?))
+}
+
+/// Loads a workspace of which texts alone have changed. It had this load graph, and its modules these outcomes.
+#[tactic(auto, using(bq_load::proofs::Joined::loaded_is, crate::proofs::Along::fits_so))]
+fn load_changed<R: Threads + Wait + Sync, G: Gate>(
+    rt: &R,
+    alloc: Global,
+    before: &Workspace,
+    outcomes: &[KeptOutcome],
+    graph: LoadGraph,
+    sources: &Sources<'_>,
+    limits: Limits,
+    workers: &Workers<'_, G>,
+) -> Result<Reloaded, LoadErr>
+    requires bounded { AreBounded limits }
+    requires workers { (0 < workers.now.count) × (workers.now.count ≤ MAX_WORKERS) }
+    requires schema { schema_in sources.now.workspace.now ≡ Ok sources.now.schema.now }
+    requires frame { HasSameFrame before.now sources.now.workspace.now }
+    requires graph { IsGraphOf before.now graph }
+    requires past { WereLoaded before.now limits.steps graph.labels graph.edges outcomes.now }
+    requires fits { Fits limits graph.edges }
+    ensures loads { LoadsWithin sources.now.workspace.now sources.now.schema.now limits (loaded_by result) }
+    ensures keeps { IfOk result (λ r. IsKept sources.now.workspace.now limits.steps r.kept) }
+{
+    let renewal = renewed(alloc, before, sources, graph)?;
+    if !renewal.same {
+        let past = Past {
+            workspace: before,
+            labels: renewal.graph.labels(),
+            edges: renewal.graph.edges(),
+            outcomes,
+        };
+        return load_anew(rt, alloc, Some(past), sources, limits, workers);
+    }
+    match load_renewed(
+        rt, alloc, before, outcomes, renewal, sources, limits, workers,
+    )? {
+        Some(reloaded) => Ok(reloaded),
+        None => load_anew(rt, alloc, None, sources, limits, workers),
+    }
+}
+
+/// Loads a workspace that was loaded before.
+#[tactic(auto, using(crate::proofs::Along::graph_taken, crate::proofs::Along::outcomes_taken, crate::proofs::Along::fits_taken))]
+fn load_after<R: Threads + Wait + Sync, G: Gate>(
+    rt: &R,
+    alloc: Global,
+    before: &PreviousLoad<'_>,
+    sources: &Sources<'_>,
+    limits: Limits,
+    workers: &Workers<'_, G>,
+) -> Result<Reloaded, LoadErr>
+    requires bounded { AreBounded limits }
+    requires workers { (0 < workers.now.count) × (workers.now.count ≤ MAX_WORKERS) }
+    requires schema { schema_in sources.now.workspace.now ≡ Ok sources.now.schema.now }
+    requires before { IsKept before.now.workspace.now limits.steps before.now.kept.now }
+    ensures loads { LoadsWithin sources.now.workspace.now sources.now.schema.now limits (loaded_by result) }
+    ensures keeps { IfOk result (λ r. IsKept sources.now.workspace.now limits.steps r.kept) }
+{
+    let kept = before.kept;
+    let change = Change {
+        before: before.workspace,
+        after: sources.workspace,
+    };
+    if !change.has_same_frame() {
+        return load_anew(rt, alloc, None, sources, limits, workers);
+    }
+    if !are_within(kept.limits, limits) {
+        return load_anew(rt, alloc, None, sources, limits, workers);
+    }
+    let Some(graph) = kept.graph.take() else {
+        return load_anew(rt, alloc, None, sources, limits, workers);
+    };
+    let outcomes = kept.outcomes.as_slice();
+    load_changed(
+        rt,
+        alloc,
+        before.workspace,
+        outcomes,
+        graph,
+        sources,
+        limits,
+        workers,
+    )
+}
+
+/// Loads a workspace by several workers, as `bq_load::load_within` does, and keeps what it loads. If it was loaded before, a
+/// module isn't evaluated if the paths of all files and the schema are what they were, its file and those of all that it
+/// loads, directly or not, are, and these modules have the numbers that they had; but if many are to be evaluated, all are.
+/// A file isn't read if the paths, the schema and its text are what they were, and no file that changed loads other files.
+pub fn load_again<R: Threads + Wait + Sync, G: Gate>(
+    rt: &R,
+    alloc: Global,
+    before: Option<PreviousLoad<'_>>,
+    sources: &Sources<'_>,
+    limits: Limits,
+    workers: &Workers<'_, G>,
+) -> Result<Reloaded, LoadErr>
+    requires bounded { AreBounded limits }
+    requires workers { (0 < workers.now.count) × (workers.now.count ≤ MAX_WORKERS) }
+    requires schema { schema_in sources.now.workspace.now ≡ Ok sources.now.schema.now }
+    requires before { IfSome before (λ b. IsKept b.workspace.now limits.steps b.kept.now) }
+    ensures loads { LoadsWithin sources.now.workspace.now sources.now.schema.now limits (loaded_by result) }
+    ensures keeps { IfOk result (λ r. IsKept sources.now.workspace.now limits.steps r.kept) }
+{
+    match before {
+        None => load_anew(rt, alloc, None, sources, limits, workers),
+        Some(before) => load_after(rt, alloc, &before, sources, limits, workers),
+    }
 }

@@ -10,9 +10,10 @@ ghost use Rattle.bq_load_order.specs.Slots.{Filling, Tabulates};
 ghost use Rattle.bq_load.specs.Views.{module_view, failed_view};
 ghost use Rattle.bq_load.specs.Loading.{loading_in, loading_of};
 ghost use Rattle.bq_load.specs.Evaluation.{means};
-ghost use Rattle.bq_load_reload.specs.Kept.{AreOutcomes, IsKept};
+ghost use Rattle.bq_load_again.specs.Again.{had, AreUnchanged};
+ghost use Rattle.bq_load_reload.specs.Kept.{AreOutcomes, WereLoaded};
 
-use crate::kept::{Before, KeptOutcome};
+use crate::kept::{KeptOutcome, Past};
 use crate::same::unchanged;
 use bq_base_limits::Limits;
 use bq_board::Graph;
@@ -90,7 +91,43 @@ fn are_few(changed: usize, modules: usize, workers: usize) -> bool {
     }
 }
 
-/// Returns the outcomes of all modules after a change, if few of them are to be evaluated: those alone are.
+/// Returns whether one worker evaluates the modules without an outcome in no more time than all workers take for all modules.
+pub(crate) fn are_few_unknown(found: &[Option<KeptOutcome>], workers: usize) -> bool {
+    are_few(unknown(found), found.len(), workers)
+}
+
+/// Returns for each module of a load graph its outcome, if it keeps the one that it had.
+#[tactic(auto, using(crate::proofs::Along::as_many))]
+pub(crate) fn kept_after(
+    alloc: Global,
+    past: &Past<'_>,
+    sources: &Sources<'_>,
+    limits: Limits,
+    graph: &LoadGraph,
+    was: &[Option<u32>],
+) -> Result<Vec<Option<KeptOutcome>>, AllocError>
+    requires past { WereLoaded past.now.workspace.now limits.steps past.now.labels.now past.now.edges.now past.now.outcomes.now }
+    requires graph { IsReadGraph (inputs_of sources.now.workspace.now sources.now.schema.now) graph.now }
+    requires unchanged { AreUnchanged (had (map (shown module_view failed_view) past.now.outcomes.now)) past.now.edges.now (means (loading_in sources.now.workspace.now sources.now.schema.now limits.steps graph.now)) was.now }
+    ensures { IfOk result (λ v. Filling (outcome (means (loading_in sources.now.workspace.now sources.now.schema.now limits.steps graph.now)) graph.now.edges) (length graph.now.edges) (map (slot module_view failed_view) v.items) []) }
+{
+    let loading = Loading::of(
+        alloc,
+        sources.workspace,
+        sources.schema,
+        limits.steps,
+        sources.seed,
+        graph,
+    )?;
+    let old = bq_load_again::PreviousOutcomes {
+        graph: past.edges,
+        outcomes: past.outcomes,
+    };
+    let found = kept_outcomes(alloc, &old, &loading, graph.edges(), was)?;
+    Ok(found) // PROOF: what is loaded is of this load graph
+}
+
+/// Returns the outcomes of all modules after a change, of which some are found: the others alone are evaluated.
 fn changed_outcomes<R: Threads + Wait + Sync, G: Gate>(
     rt: &R,
     alloc: Global,
@@ -112,25 +149,21 @@ fn changed_outcomes<R: Threads + Wait + Sync, G: Gate>(
     completed(rt, alloc, &by, found, &watch)
 }
 
-/// Returns the outcomes of all modules after a change. Those of unchanged modules are kept; the others are evaluated,
-/// or if these are many, all modules.
-#[tactic(auto, using(crate::proofs::Along::outcomes_so, crate::proofs::Along::same_unchanged, crate::proofs::Along::as_many))]
-pub(crate) fn outcomes_after<R: Threads + Wait + Sync, G: Gate>(
+/// Returns the outcomes of a load graph's modules, of which some are found: the others alone are evaluated.
+#[tactic(auto, using(crate::proofs::Along::outcomes_so))]
+pub(crate) fn outcomes_from<R: Threads + Wait + Sync, G: Gate>(
     rt: &R,
     alloc: Global,
-    before: &Before<'_>,
     sources: &Sources<'_>,
     limits: Limits,
     graph: &LoadGraph,
-    workers: &Workers<'_, G>,
+    found: Vec<Option<KeptOutcome>>,
+    gate: &G,
 ) -> Result<Vec<KeptOutcome>, AllocError>
-    requires before { IsKept before.now.workspace.now limits.steps before.now.kept.now }
-    requires schema { schema_in sources.now.workspace.now ≡ Ok sources.now.schema.now }
     requires graph { IsReadGraph (inputs_of sources.now.workspace.now sources.now.schema.now) graph.now }
-    requires workers { (0 < workers.now.count) × (workers.now.count ≤ MAX_WORKERS) }
+    requires found { Filling (outcome (means (loading_in sources.now.workspace.now sources.now.schema.now limits.steps graph.now)) graph.now.edges) (length graph.now.edges) (map (slot module_view failed_view) found.items) [] }
     ensures { IfOk result (λ v. AreOutcomes (loading_in sources.now.workspace.now sources.now.schema.now limits.steps graph.now) graph.now.edges v.items) }
 {
-    let was = unchanged(alloc, before, sources, limits, graph)?;
     let loading = Loading::of(
         alloc,
         sources.workspace,
@@ -139,15 +172,32 @@ pub(crate) fn outcomes_after<R: Threads + Wait + Sync, G: Gate>(
         sources.seed,
         graph,
     )?;
-    let old = bq_load_again::Before {
-        graph: &before.kept.edges,
-        outcomes: before.kept.outcomes.as_slice(),
-    };
-    let found = kept_outcomes(alloc, &old, &loading, graph.edges(), &was)?;
-    if are_few(unknown(&found), found.len(), workers.count) {
-        let edges = graph.edges();
-        // PROOF: what is loaded is of this load graph
-        return Ok(changed_outcomes(rt, alloc, &loading, edges, found, workers.gate)?);
+    let edges = graph.edges();
+    // PROOF: what is loaded is of this load graph
+    Ok(changed_outcomes(rt, alloc, &loading, edges, found, gate)?)
+}
+
+/// Returns the outcomes of all modules after a change. Those of unchanged modules are kept; the others are evaluated,
+/// or if these are many, all modules.
+pub(crate) fn outcomes_after<R: Threads + Wait + Sync, G: Gate>(
+    rt: &R,
+    alloc: Global,
+    past: &Past<'_>,
+    sources: &Sources<'_>,
+    limits: Limits,
+    graph: &LoadGraph,
+    workers: &Workers<'_, G>,
+) -> Result<Vec<KeptOutcome>, AllocError>
+    requires past { WereLoaded past.now.workspace.now limits.steps past.now.labels.now past.now.edges.now past.now.outcomes.now }
+    requires schema { schema_in sources.now.workspace.now ≡ Ok sources.now.schema.now }
+    requires graph { IsReadGraph (inputs_of sources.now.workspace.now sources.now.schema.now) graph.now }
+    requires workers { (0 < workers.now.count) × (workers.now.count ≤ MAX_WORKERS) }
+    ensures { IfOk result (λ v. AreOutcomes (loading_in sources.now.workspace.now sources.now.schema.now limits.steps graph.now) graph.now.edges v.items) }
+{
+    let numbers = unchanged(alloc, past, sources, limits, graph)?;
+    let found = kept_after(alloc, past, sources, limits, graph, &numbers)?;
+    if are_few_unknown(&found, workers.count) {
+        return outcomes_from(rt, alloc, sources, limits, graph, found, workers.gate);
     }
     all_outcomes(rt, alloc, sources, limits, graph, workers)
 }

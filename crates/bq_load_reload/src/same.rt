@@ -13,10 +13,10 @@ ghost use Rattle.bq_load_order.specs.Shown.{shown};
 ghost use Rattle.bq_load.specs.Views.{module_view, failed_view};
 ghost use Rattle.bq_load.specs.Loading.{loading_in};
 ghost use Rattle.bq_load.specs.Evaluation.{means};
-ghost use Rattle.bq_load_reload.specs.Kept.{IsKept};
+ghost use Rattle.bq_load_reload.specs.Kept.{WereLoaded};
 ghost use Rattle.bq_load_reload.specs.Same.{HaveStayed, HasStayed, HasSameFrame, have_same_paths, same_content};
 
-use crate::kept::Before;
+use crate::kept::Past;
 use bq_base_limits::Limits;
 use bq_label::{File, Label, Workspace, label_file};
 use bq_load::Sources;
@@ -59,7 +59,7 @@ fn have_same_paths(files: &[File], others: &[File]) -> bool
 
 /// Returns whether two labels are one.
 #[tactic(auto, unfolding(bq_label_set::specs::Labels::same_label))]
-fn is_same_label(label: &Label, other: &Label) -> bool
+pub(crate) fn is_same_label(label: &Label, other: &Label) -> bool
     ensures { result ≡ same_label label.now other.now }
 {
     label.name() == other.name()
@@ -76,7 +76,7 @@ pub(crate) struct Change<'a> {
 impl<'a> Change<'a> {
     /// Returns whether the paths and the schema are what they were.
     #[tactic(auto, using(crate::proofs::Frames::same_frame))]
-    fn has_same_frame(&self) -> bool
+    pub fn has_same_frame(&self) -> bool
         ensures { result ≡ true → HasSameFrame self.now.before.now self.now.after.now }
     {
         let schema = self.before.file(SCHEMA_FILE);
@@ -122,7 +122,7 @@ impl<'a> Change<'a> {
     /// Returns for each module of these labels the number that it had, if it has it still and its file is
     /// what it was.
     #[tactic(auto, using(crate::proofs::Stayed::none_stayed, crate::proofs::Stayed::more_stayed))]
-    fn numbers_before(
+    pub fn numbers_before(
         &self,
         alloc: Global,
         had: &[Label],
@@ -143,24 +143,23 @@ impl<'a> Change<'a> {
 #[tactic(auto, using(crate::proofs::Unchanged::are_unchanged, crate::proofs::Unchanged::none_unchanged))]
 pub(crate) fn unchanged(
     alloc: Global,
-    before: &Before<'_>,
+    past: &Past<'_>,
     sources: &Sources<'_>,
     limits: Limits,
     graph: &LoadGraph,
 ) -> Result<Vec<Option<u32>>, AllocError>
-    requires before { IsKept before.now.workspace.now limits.steps before.now.kept.now }
+    requires past { WereLoaded past.now.workspace.now limits.steps past.now.labels.now past.now.edges.now past.now.outcomes.now }
     requires schema { schema_in sources.now.workspace.now ≡ Ok sources.now.schema.now }
     requires graph { IsReadGraph (inputs_of sources.now.workspace.now sources.now.schema.now) graph.now }
-    ensures { IfOk result (λ was. AreUnchanged (had (map (shown module_view failed_view) before.now.kept.now.outcomes.items)) before.now.kept.now.edges (means (loading_in sources.now.workspace.now sources.now.schema.now limits.steps graph.now)) was.items) }
+    ensures { IfOk result (λ was. AreUnchanged (had (map (shown module_view failed_view) past.now.outcomes.now)) past.now.edges.now (means (loading_in sources.now.workspace.now sources.now.schema.now limits.steps graph.now)) was.items) }
 {
     let _ = limits; // contracts alone speak of them
     let change = Change {
-        before: before.workspace,
+        before: past.workspace,
         after: sources.workspace,
     };
     if !change.has_same_frame() {
         return Ok(Vec::new(alloc));
     }
-    let had = before.kept.labels.as_slice();
-    change.numbers_before(alloc, had, graph.labels())
+    change.numbers_before(alloc, past.labels, graph.labels())
 }

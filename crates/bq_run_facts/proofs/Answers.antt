@@ -24,7 +24,7 @@ use Rattle.bq_run_report.proofs.Parts.{RepliesBy}
 use Rattle.bq_run.specs.WorkspaceRun.{IsReportOn, loaded_in, refused}
 use Rattle.bq_run.specs.declared.options.Options.{Options}
 use Rattle.bq_facts.specs.declared.header.Origin.{Origin}
-use Rattle.bq_run_facts.specs.Facts.{BeforeView, FurtherView, IsFactsBy, IsFactsOn, TellsBy, TellsFacts, origin_of}
+use Rattle.bq_run_facts.specs.Facts.{LoadSummaryView, FurtherView, IsFactsBy, IsFactsOn, TellsBy, TellsFacts, origin_of}
 use Rattle.bq_run_facts.specs.Laws.{EndsAsAnswer}
 
 abbrev reply_at : List ℕ → Result Status NoAnswer → ReplyView
@@ -48,7 +48,7 @@ replies None origin packages w query form further status text end (numbers, mean
     (answer, (numbers, meant, ap (λ (s : ReplyView). reply_at answer s.end) is))
 replies (Some why) origin packages w query form further status text end is = ([], ap (λ (s : ReplyView). reply_at [] s.end) is)
 
-reports : (b : BeforeView) (i : Inside) (query : CheckedQuery) (form : OutputForm) (r : ReportView) → TellsFacts b i (Some query) r
+reports : (b : LoadSummaryView) (i : Inside) (query : CheckedQuery) (form : OutputForm) (r : ReportView) → TellsFacts b i (Some query) r
     → (answer : List ℕ) × Reports i (formula_of query.set) form (record { faults = r.faults; answer = answer; end = r.end })
 reports b i query form r tells =
     let w = tells.graph in

@@ -30,7 +30,7 @@ use Rattle.bq_run.specs.WorkspaceRun.{Fits, loaded_in, refused}
 use Rattle.bq_facts.specs.declared.header.Origin.{Origin}
 use Rattle.bq_facts.specs.Header.{header_line}
 use Rattle.bq_run_facts.specs.declared.replies.Further.{Further}
-use Rattle.bq_run_facts.specs.declared.reports.Before.{Before}
+use Rattle.bq_run_facts.specs.declared.reports.LoadSummary.{LoadSummary}
 use Rattle.bq_run_facts.specs.Lines.{target_lines, module_lines, fault_objects}
 
 -- ---- which targets
@@ -85,28 +85,28 @@ further_lines modules count faults = record { text = modules ++ fault_objects fa
 
 -- what is read of a workspace before its modules are evaluated: its packages, the lines of its modules and how many there are; and by which
 -- program
-pub record BeforeView : Type 0 where
+pub record LoadSummaryView : Type 0 where
   pub origin : Origin
   pub packages : List BuildFile
   pub modules : List ℕ
   pub count : ℕ
 
-abbrev pub before_view : Before → BeforeView
+abbrev pub before_view : LoadSummary → LoadSummaryView
 before_view b = record { origin = b.origin; packages = b.packages; modules = b.modules; count = b.count }
 
-abbrev pub TellsAll : BeforeView → GraphParts → Option CheckedQuery → List FaultLine → ReportView → Type 0
+abbrev pub TellsAll : LoadSummaryView → GraphParts → Option CheckedQuery → List FaultLine → ReportView → Type 0
 TellsAll b w asked faults r =
     Tells b.origin b.packages w asked (further_lines b.modules b.count faults) (status_by faults) (record { text = r.answer; end = r.end })
 
 -- The report over the graph of the targets of a workspace that is loaded.
-pub record TellsFacts (b : BeforeView) (i : Inside) (asked : Option CheckedQuery) (r : ReportView) : Type 0 where
+pub record TellsFacts (b : LoadSummaryView) (i : Inside) (asked : Option CheckedQuery) (r : ReportView) : Type 0 where
   pub graph : GraphParts
   pub made : IsGraphOf i.packages graph
   pub faults : r.faults ≡ fault_text i
   pub reply : TellsAll b graph asked (all_faults i) r
 
 -- what is read of these files with this load graph
-abbrev pub before_of : Origin → List File → LoadParts → BeforeView
+abbrev pub before_of : Origin → List File → LoadParts → LoadSummaryView
 before_of origin files g = record { origin = origin; packages = packages_of files; modules = module_lines g.modules; count = length g.modules }
 
 -- The same, of files with this schema and this load graph.

@@ -36,7 +36,7 @@ use std::thread::Threads;
 
 /// What is read of a load graph before its modules are evaluated.
 #[derive(Drop)]
-pub(crate) struct Before {
+pub(crate) struct LoadSummary {
     origin: Origin,
     packages: Packages,
     /// The lines of its modules.
@@ -60,7 +60,7 @@ fn read_before(
     version: &[u8],
     over: &WorkspaceRun<'_>,
     modules: &[Module],
-) -> Result<Before, AllocError>
+) -> Result<LoadSummary, AllocError>
     ensures origin { IfOk result (λ b. b.origin ≡ origin_of version.now over.now.options.now) }
     ensures packages { IfOk result (λ b. b.packages ≡ packages_of over.now.workspace.now) }
     ensures modules { IfOk result (λ b. b.modules ≡ module_lines modules.now) }
@@ -69,7 +69,7 @@ fn read_before(
     let mut lines = SharedText::new(alloc);
     push_modules(alloc, &mut lines, modules)?;
     let packages = Packages::of(alloc, over.workspace)?;
-    Ok(Before {
+    Ok(LoadSummary {
         origin: origin_of(alloc, version, over.options)?,
         packages,
         modules: lines,
@@ -79,7 +79,7 @@ fn read_before(
 
 /// What a loaded workspace has to say on standard error.
 #[derive(Drop)]
-struct Told {
+struct Diagnostics {
     prints: Rope,
     /// The faults of its modules.
     faults: FaultLines,
@@ -90,21 +90,21 @@ struct Told {
 /// Makes the report over the graph of the targets.
 fn report_over(
     alloc: Global,
-    before: Before,
-    told: Told,
+    before: LoadSummary,
+    told: Diagnostics,
     graph: &TargetGraph,
     asked: Option<&CheckedQuery>,
 ) -> Result<Report, AllocError>
     ensures faults { IfOk result (λ r. r.faults ≡ told.prints ++ flat_map line_text (put_lines told.faults told.dangling)) }
     ensures reply { IfOk result (λ r. TellsAll (before_view before) graph.now (option_copied asked.entry) (put_lines told.faults told.dangling) (report_view r)) }
 {
-    let Before {
+    let LoadSummary {
         origin,
         packages,
         modules: mut lines,
         count,
     } = before;
-    let Told {
+    let Diagnostics {
         prints: mut text,
         mut faults,
         dangling,
@@ -130,7 +130,7 @@ fn report_over(
 fn report_loaded<R: Threads + Sync>(
     rt: &R,
     alloc: Global,
-    before: Before,
+    before: LoadSummary,
     loaded: Loaded,
     asked: Option<&CheckedQuery>,
     threads: usize,
@@ -145,7 +145,7 @@ fn report_loaded<R: Threads + Sync>(
     } = loaded;
     drop(modules); // so that the graph gets the memory of their values
     let (graph, dangling) = build_graph_by(rt, alloc, packages, threads)?;
-    let told = Told {
+    let told = Diagnostics {
         prints,
         faults,
         dangling,

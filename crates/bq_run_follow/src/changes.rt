@@ -1,9 +1,9 @@
-//! What became of the files of a workspace, in the commands that tell it to a session.
+//! What became of the files of a workspace, as the commands by which a session edits them.
 
 ghost use Rattle.std.specs.Prelude.{◌≡◌, ◌++◌, OnOk};
 ghost use Rattle.std.specs.List.{flat_map};
 ghost use Rattle.bq_label.specs.Workspace.{file_at};
-ghost use Rattle.bq_run_follow.specs.Changes.{changes_text, gone_text, has_bytes, new_text, put_text, remove_line};
+ghost use Rattle.bq_run_follow.specs.Changes.{changes, edits_text, has_bytes, if_gone, if_new, put_text, remove_line};
 
 use bq_label::{File, Workspace};
 use itoa::Buffer;
@@ -21,7 +21,7 @@ fn has_same(workspace: &Workspace, file: &File) -> bool
 
 /// Appends the line that removes a file.
 fn push_remove(text: &mut Vec<u8>, file: &File) -> Result<(), AllocError>
-    ensures { OnOk result (text.new.items ≡ text.old.items ++ remove_line file.now) }
+    ensures { OnOk result (text.new.items ≡ text.old.items ++ remove_line file.now.path) }
 {
     text.extend_from_slice(b"=== remove ")?;
     text.extend_from_slice(file.path.as_slice())?;
@@ -44,10 +44,10 @@ fn push_put(text: &mut Vec<u8>, file: &File) -> Result<(), AllocError>
     Ok(())
 }
 
-/// Tells that a file is gone, if it is.
-#[tactic(auto, unfolding(crate::specs::Changes::gone_text))]
-fn push_gone(text: &mut Vec<u8>, after: &Workspace, file: &File) -> Result<(), AllocError>
-    ensures { OnOk result (text.new.items ≡ text.old.items ++ gone_text after.now file.now) }
+/// Appends the line that removes a file of before, if it is gone.
+#[tactic(auto, unfolding(crate::specs::Changes::if_gone))]
+fn push_if_gone(text: &mut Vec<u8>, after: &Workspace, file: &File) -> Result<(), AllocError>
+    ensures { OnOk result (text.new.items ≡ text.old.items ++ edits_text (if_gone after.now file.now)) }
 {
     if after.file(file.path.as_slice()).is_some() {
         return Ok(());
@@ -55,9 +55,10 @@ fn push_gone(text: &mut Vec<u8>, after: &Workspace, file: &File) -> Result<(), A
     push_remove(text, file)
 }
 
-/// Tells that a file is new or has other bytes, if so.
-fn push_new(text: &mut Vec<u8>, before: &Workspace, file: &File) -> Result<(), AllocError>
-    ensures { OnOk result (text.new.items ≡ text.old.items ++ new_text before.now file.now) }
+/// Appends the command that puts a file of after, if it is new or has other bytes.
+#[tactic(auto, unfolding(crate::specs::Changes::if_new))]
+fn push_if_new(text: &mut Vec<u8>, before: &Workspace, file: &File) -> Result<(), AllocError>
+    ensures { OnOk result (text.new.items ≡ text.old.items ++ edits_text (if_new before.now file.now)) }
 {
     if has_same(before, file) {
         return Ok(());
@@ -65,34 +66,35 @@ fn push_new(text: &mut Vec<u8>, before: &Workspace, file: &File) -> Result<(), A
     push_put(text, file)
 }
 
-/// Tells which of these files are gone.
+/// Appends the lines for those of these files of before that are gone.
 fn push_all_gone(text: &mut Vec<u8>, after: &Workspace, files: &[File]) -> Result<(), AllocError>
-    ensures { OnOk result (text.new.items ≡ text.old.items ++ flat_map (gone_text after.now) files.now) }
+    ensures { OnOk result (text.new.items ≡ text.old.items ++ flat_map (λ f. edits_text (if_gone after.now f)) files.now) }
 {
     for file in files {
-        push_gone(text, after, file)?;
+        push_if_gone(text, after, file)?;
     }
     Ok(())
 }
 
-/// Tells which of these files are new or have other bytes.
+/// Appends the commands for those of these files of after that are new or have other bytes.
 fn push_all_new(text: &mut Vec<u8>, before: &Workspace, files: &[File]) -> Result<(), AllocError>
-    ensures { OnOk result (text.new.items ≡ text.old.items ++ flat_map (new_text before.now) files.now) }
+    ensures { OnOk result (text.new.items ≡ text.old.items ++ flat_map (λ f. edits_text (if_new before.now f)) files.now) }
 {
     for file in files {
-        push_new(text, before, file)?;
+        push_if_new(text, before, file)?;
     }
     Ok(())
 }
 
-/// Appends the commands that make of the files of `before` those of `after`: a line for each file that is gone, then a line and
-/// the bytes of each that is new or has other bytes.
+/// Appends the commands that turn the files of `before` into those of `after`: a line for each file that is gone, then a line
+/// and the bytes of each that is new or has other bytes.
+#[tactic(auto, using(crate::proofs::Texts::both_appended))]
 pub fn push_changes(
     text: &mut Vec<u8>,
     before: &Workspace,
     after: &Workspace,
 ) -> Result<(), AllocError>
-    ensures { OnOk result (text.new.items ≡ text.old.items ++ changes_text before.now after.now) }
+    ensures { OnOk result (text.new.items ≡ text.old.items ++ edits_text (changes before.now after.now)) }
 {
     push_all_gone(text, after, before.files())?;
     push_all_new(text, before, after.files())

@@ -5,7 +5,7 @@ ghost use Rattle.bq_base_limits.specs.Limits.{AreBounded};
 use crate::changes::push_changes;
 use bq_base_limits::Limits;
 use bq_label::Workspace;
-use bq_run_directory::read_directory;
+use bq_run_directory::{DirectoryErr, read_directory};
 use bq_run_session::{Command, MAX_QUERY_BYTES, command_of};
 use std::alloc::{AllocError, Global};
 use std::fs::Files;
@@ -19,15 +19,16 @@ const MAX_LINE_BYTES: usize = MAX_QUERY_BYTES + 2;
 /// How much is read at once of a file that is put.
 const PART_BYTES: usize = 65_536;
 
-/// Files that make no workspace, since one is where a directory of the other is.
-const REFUSED: &[u8] = b"=== put 0 no directory\n\n=== put 0 no directory/here\n\n";
+/// Commands that put files which make no workspace, since one is where a directory of the other is. What is read of a directory
+/// has none of these paths.
+const REFUSED: &[u8] = b"=== put 0 .git\n\n=== put 0 .git/HEAD\n\n";
 
-/// What takes these away again.
-const ALLOWED: &[u8] = b"=== remove no directory\n=== remove no directory/here\n";
+/// Commands that remove these files again.
+const ALLOWED: &[u8] = b"=== remove .git\n=== remove .git/HEAD\n";
 
 /// What comes next of the text.
 #[derive(Clone, Copy)]
-enum Next {
+enum NextPart {
     /// A line.
     Line,
     /// What is left of a line that is too long to be a command.
@@ -63,26 +64,26 @@ impl DirectoryLimits {
 }
 
 /// A text of queries and edits over a directory. It reads as the text does, but before each line that reloads come the commands
-/// that tell what became of the files of the directory since it was looked at last. Where the directory can't be read, or is
-/// past the limits, they put files that make no workspace: a session refuses that reload as E4, and goes on.
+/// that edit the files of the last look to those that the directory has now. Where it can't be read, or is past the limits, they
+/// put files that make no workspace: a session refuses that reload as E4, and goes on.
 #[derive(Drop)]
 pub struct FollowedText<'a, R, T> {
     rt: &'a R,
     root: &'a str,
     limits: DirectoryLimits,
     text: T,
-    /// The files of the directory, as it was read last.
+    /// The files of the directory at the last look that could read it.
     files: Workspace,
-    /// Whether it could not be read when it was looked at last.
+    /// Whether it could not be read at the last look.
     is_refused: bool,
-    next: Next,
+    next: NextPart,
     /// What is given next, of which `given` bytes have been.
     ready: Vec<u8>,
     given: usize,
 }
 
 impl<'a, R: Files + Alloc<A = Global> + Clone + Drop, T: BufRead> FollowedText<'a, R, T> {
-    /// Returns the text over the directory at `root`, whose files were these when it was looked at.
+    /// Returns the text over the directory at `root`, which had these files at the first look.
     pub fn new(
         rt: &'a R,
         root: &'a str,
@@ -99,44 +100,45 @@ impl<'a, R: Files + Alloc<A = Global> + Clone + Drop, T: BufRead> FollowedText<'
             text,
             files,
             is_refused: false,
-            next: Next::Line,
+            next: NextPart::Line,
             ready: Vec::new(rt.alloc()),
             given: 0,
         }
     }
 
-    /// Looks at the directory, and puts in front of the line that reloads what became of its files.
+    /// Looks at the directory, and puts the commands for what became of its files before the line that is ready.
     fn look(&mut self) -> Result<(), AllocError> {
-        let mut told = Vec::new(self.rt.alloc());
+        let mut text = Vec::new(self.rt.alloc());
         if self.is_refused {
-            told.extend_from_slice(ALLOWED)?;
+            text.extend_from_slice(ALLOWED)?;
         }
         match read_directory(self.rt, self.root, self.limits.get()) {
             Ok(files) => {
-                push_changes(&mut told, &self.files, &files)?;
+                push_changes(&mut text, &self.files, &files)?;
                 self.files = files;
                 self.is_refused = false;
             }
+            Err(DirectoryErr::Memory) => return Err(AllocError),
             Err(_) => {
-                told.extend_from_slice(REFUSED)?;
+                text.extend_from_slice(REFUSED)?;
                 self.is_refused = true;
             }
         }
-        told.extend_from_slice(self.ready.as_slice())?;
-        self.ready = told;
+        text.extend_from_slice(self.ready.as_slice())?;
+        self.ready = text;
         Ok(())
     }
 
-    /// Reads a line, or the first part of one that is too long to be a command, and what is told before it.
+    /// Reads a line, or the first part of one that is too long to be a command. A line that reloads has its commands before it.
     fn read_line(&mut self) -> io::Result<()> {
         self.read_to_newline()?;
         if !self.ends_line() && self.ready.len() == MAX_LINE_BYTES {
-            self.next = Next::Rest;
+            self.next = NextPart::Rest;
             return Ok(());
         }
         let line = without_end(self.ready.as_slice());
         match command_of(self.rt.alloc(), line, self.limits.get().bundle_bytes)? {
-            Command::Put(count, _) => self.next = Next::Content(count.saturating_add(1)),
+            Command::Put(count, _) => self.next = NextPart::Content(count.saturating_add(1)),
             Command::Reload => self.look()?,
             _ => {}
         }
@@ -164,8 +166,8 @@ impl<'a, R: Files + Alloc<A = Global> + Clone + Drop, T: BufRead> FollowedText<'
             .take(part as u64)
             .read_to_end(&mut self.ready)?;
         self.next = match count.saturating_sub(read) {
-            0 => Next::Line,
-            left => Next::Content(left),
+            0 => NextPart::Line,
+            left => NextPart::Content(left),
         };
         Ok(())
     }
@@ -175,15 +177,15 @@ impl<'a, R: Files + Alloc<A = Global> + Clone + Drop, T: BufRead> FollowedText<'
         self.ready.clear();
         self.given = 0;
         match self.next {
-            Next::Line => self.read_line(),
-            Next::Rest => {
+            NextPart::Line => self.read_line(),
+            NextPart::Rest => {
                 self.read_to_newline()?;
                 if self.ends_line() {
-                    self.next = Next::Line;
+                    self.next = NextPart::Line;
                 }
                 Ok(())
             }
-            Next::Content(count) => self.read_content(count),
+            NextPart::Content(count) => self.read_content(count),
         }
     }
 }

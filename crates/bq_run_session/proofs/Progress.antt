@@ -11,7 +11,7 @@ use Rattle.bq_run_write.specs.declared.ending.Status.{Status}
 use Rattle.bq_run_write.specs.declared.error.RunErr.{RunErr}
 use Rattle.bq_run_write.specs.declared.error.RunErr.TheVariants as run
 use Rattle.bq_run_session.specs.declared.ending.SessionStatus.{SessionStatus}
-use Rattle.bq_run_session.specs.declared.held.Held.{Held}
+use Rattle.bq_run_session.specs.declared.held.SessionState.{SessionState}
 use Rattle.bq_run_session.specs.declared.items.Request.{Request}
 use Rattle.bq_run_session.specs.Items.{AreItems, IsItem, ItemView}
 use Rattle.bq_run_session.specs.Outcome.{Answers, Covers, session_status}
@@ -25,7 +25,7 @@ use Rattle.bq_run_session.proofs.States.{same_err}
 abbrev pub Leaves : ℕ → Option (List ℕ) → Option (List ℕ) → List ItemView → Type 0
 Leaves limit known now items = Known (λ input rest. AreItems limit input items rest) (ahead max_queries_bytes known) now
 
-pub record Progress (version : List ℕ) (o : Options) (first : State) (known now : Option (List ℕ)) (held : Held) (refused : Bool) (old new : Option (List ℕ)) : Type 0 where
+pub record Progress (version : List ℕ) (o : Options) (first : State) (known now : Option (List ℕ)) (held : SessionState) (refused : Bool) (old new : Option (List ℕ)) : Type 0 where
   pub items : List ItemView
   pub last : State
   pub text : List ℕ
@@ -38,7 +38,7 @@ leaves_all : (limit : ℕ) (known : Option (List ℕ)) → Leaves limit known (a
 leaves_all limit None = tt
 leaves_all limit (Some input) = AreItems.none
 
-pub none_yet : (version : List ℕ) (o : Options) (first : State) (known : Option (List ℕ)) (held : Held) (old : Option (List ℕ)) → Holds o.limits held first
+pub none_yet : (version : List ℕ) (o : Options) (first : State) (known : Option (List ℕ)) (held : SessionState) (old : Option (List ℕ)) → Holds o.limits held first
     → Progress version o first known (ahead max_queries_bytes known) held false old old
 none_yet version o first known held old holds = record {
   items = [];
@@ -73,10 +73,10 @@ covers_all limit None now items status leaves end = tt
 covers_all limit (Some input) None items status leaves end = absurd leaves
 covers_all limit (Some input) (Some now) items status leaves end = subst (λ rest. AreItems limit (take max_queries_bytes input) items rest) end leaves
 
-module _ (version : List ℕ) (o : Options) (first : State) (known now : Option (List ℕ)) (held : Held) (refused : Bool) (old new : Option (List ℕ))
+module _ (version : List ℕ) (o : Options) (first : State) (known now : Option (List ℕ)) (held : SessionState) (refused : Bool) (old new : Option (List ℕ))
     (p : Progress version o first known now held refused old new) where
   -- one more is done
-  pub one_more : (then last : Option (List ℕ)) (line : List ℕ) (request : Request) (next : Held) (here after : Bool) → IsNext o.limits.bundle_bytes now then line request
+  pub one_more : (then last : Option (List ℕ)) (line : List ℕ) (request : Request) (next : SessionState) (here after : Bool) → IsNext o.limits.bundle_bytes now then line request
       → WritesOne (IsStepIn version o held line request next) (Ok here) new last → after ≡ (here || refused) → Progress version o first known then next after old last
   one_more then last line request next here after is one same =
       let step = one.1 p.last p.holds in
@@ -148,7 +148,7 @@ module _ (version : List ℕ) (o : Options) (first : State) (known now : Option 
   }
 
   -- a beginning of what is written for the next one was
-  writer_failed : (then last : Option (List ℕ)) (line : List ℕ) (request : Request) (next : Held) → IsNext o.limits.bundle_bytes now then line request
+  writer_failed : (then last : Option (List ℕ)) (line : List ℕ) (request : Request) (next : SessionState) → IsNext o.limits.bundle_bytes now then line request
       → WritesOne (IsStepIn version o held line request next) (Err run.Write) new last → Answers version o first known (Err run.Write) old last
   writer_failed then last line request next is one =
       let step = one.2 p.last p.holds in
@@ -165,7 +165,7 @@ module _ (version : List ℕ) (o : Options) (first : State) (known now : Option 
       }
 
   -- so those after it are not done
-  pub one_not_done : (then last : Option (List ℕ)) (line : List ℕ) (request : Request) (next : Held) (why : RunErr) → IsNext o.limits.bundle_bytes now then line request
+  pub one_not_done : (then last : Option (List ℕ)) (line : List ℕ) (request : Request) (next : SessionState) (why : RunErr) → IsNext o.limits.bundle_bytes now then line request
       → WritesOne (IsStepIn version o held line request next) (Err why) new last → Answers version o first known (Err why) old last
   one_not_done then last line request next run.Memory is one = no_memory_for_one last one
   one_not_done then last line request next run.Write is one = writer_failed then last line request next is one

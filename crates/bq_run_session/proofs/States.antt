@@ -20,7 +20,7 @@ use Rattle.bq_run_write.specs.declared.ending.Status.{Status}
 use Rattle.bq_run_write.specs.declared.error.RunErr.{RunErr}
 use Rattle.bq_run_write.specs.declared.error.RunErr.TheVariants as run
 use Rattle.bq_run_session.specs.declared.edits.Edit.{Edit}
-use Rattle.bq_run_session.specs.declared.held.Held.{Held}
+use Rattle.bq_run_session.specs.declared.held.SessionState.{SessionState}
 use Rattle.bq_run_session.specs.declared.held.Opened.{Opened}
 use Rattle.bq_run_session.specs.declared.items.Request.TheVariants as request
 use Rattle.bq_run_session.specs.Block.{is_refused, run_block, run_end}
@@ -61,16 +61,16 @@ block_is IsAnswer query reply end is same text refused b =
     (reply, is, b.0 ∙ ap (λ (e : Result Status RunErr). run_block query reply.text e) same, b.1 ∙ ap is_refused same)
 
 -- a session that has just loaded these files
-pub holds_first : (limits : Limits) (files : List File) (held : Held) (on : IsOn files limits held.session) → held.workspace ≡ files → held.edits.items ≡ [] → Holds limits held (at_first files on.inside)
+pub holds_first : (limits : Limits) (files : List File) (held : SessionState) (on : IsOn files limits held.session) → held.workspace ≡ files → held.edits.items ≡ [] → Holds limits held (at_first files on.inside)
 holds_first limits files held on workspace edits = record { files = workspace; edits = edits; loaded = on.loaded; over = on.over }
 
 -- ---- a reload
 
 -- what is kept of the files that were loaded
-pub kept_so : (limits : Limits) (held : Held) (workspace : List File) (kept : Kept) → held.workspace ≡ workspace → held.kept ≡ kept → IsKept workspace limits.steps kept → KeepsIts limits held
+pub kept_so : (limits : Limits) (held : SessionState) (workspace : List File) (kept : Kept) → held.workspace ≡ workspace → held.kept ≡ kept → IsKept workspace limits.steps kept → KeepsIts limits held
 kept_so limits held workspace kept w k is = subst (λ (z : Kept). IsKept held.workspace limits.steps z) (sym k) (subst (λ (fs : List File). IsKept fs limits.steps kept) (sym w) is)
 
-module _ (limits : Limits) (old new : Held) (line : List ℕ) where
+module _ (limits : Limits) (old new : SessionState) (line : List ℕ) where
   pub loads : (opened : Opened) → workspace_within limits (edited old.workspace old.edits.items) ≡ Some opened.workspace → IsOn opened.workspace limits opened.session
       → new.workspace ≡ opened.workspace → new.session ≡ opened.session → new.edits.items ≡ [] → ReloadsIn limits old line new (run_block line new.session.faults (Ok new.session.status)) false
   loads opened is on workspace session edits s h =
@@ -97,7 +97,7 @@ module _ (limits : Limits) (old new : Held) (line : List ℕ) where
       )
 
 -- where there is a report
-pub why_refused : (limits : Limits) (held : Held) (why : RunErr) → is_failed (Err why) ≡ false → LoadsEdited limits held (Err why) → AreRefused limits (edited held.workspace held.edits.items) why
+pub why_refused : (limits : Limits) (held : SessionState) (why : RunErr) → is_failed (Err why) ≡ false → LoadsEdited limits held (Err why) → AreRefused limits (edited held.workspace held.edits.items) why
 why_refused limits held run.Memory fine so = absurd (cc)
 why_refused limits held run.Read fine so = so
 why_refused limits held run.Write fine so = so
@@ -108,14 +108,14 @@ why_refused limits held run.TooManyModules fine so = so
 
 -- ---- the other items
 
-module _ (version : List ℕ) (o : Options) (held : Held) (line : List ℕ) where
+module _ (version : List ℕ) (o : Options) (held : SessionState) (line : List ℕ) where
   pub is_nothing : IsStepIn version o held line request.Nothing held [] false
   is_nothing s h = (s, h, (refl, refl, refl))
 
   pub is_cut : IsStepIn version o held line request.Cut held [] true
   is_cut s h = (s, h, (refl, refl, refl))
 
-  pub is_edit : (new : Held) (e : Edit) → new.workspace ≡ held.workspace → new.session ≡ held.session → new.edits.items ≡ held.edits.items ++ e ∷ []
+  pub is_edit : (new : SessionState) (e : Edit) → new.workspace ≡ held.workspace → new.session ≡ held.session → new.edits.items ≡ held.edits.items ++ e ∷ []
       → IsStepIn version o held line (request.Edit e) new [] false
   is_edit new e workspace session edits s h = (
     record { files = s.files; inside = s.inside; edits = s.edits ++ e ∷ [] },

@@ -14,7 +14,7 @@ use Rattle.bq_run_report.specs.Report.{IsOver, ReplyView}
 use Rattle.bq_run_report.specs.declared.session.Session.{Session}
 use Rattle.bq_run_write.specs.declared.error.RunErr.{RunErr}
 use Rattle.bq_run_write.specs.declared.error.RunErr.TheVariants as run
-use Rattle.bq_run_session.specs.declared.held.Held.{Held}
+use Rattle.bq_run_session.specs.declared.held.SessionState.{SessionState}
 use Rattle.bq_run_session.specs.declared.held.Opened.{Opened}
 use Rattle.bq_run_session.specs.declared.items.Request.{Request}
 use Rattle.bq_run_session.specs.declared.opening.Opening.{Opening}
@@ -45,14 +45,14 @@ abbrev pub IsBlockOf : List ℕ → List ℕ → Result Status RunErr → List �
 IsBlockOf line told end text refused = (text ≡ run_block line told end) × (refused ≡ is_refused end)
 
 -- this is what a session has
-pub record Holds (limits : Limits) (held : Held) (s : State) : Type 0 where
+pub record Holds (limits : Limits) (held : SessionState) (s : State) : Type 0 where
   pub files : held.workspace ≡ s.files
   pub edits : held.edits.items ≡ s.edits
   pub loaded : IsLoadedAs s.files limits s.inside
   pub over : IsOver s.inside held.session
 
 -- what is kept is of the files that were loaded last
-abbrev pub KeepsIts : Limits → Held → Type 0
+abbrev pub KeepsIts : Limits → SessionState → Type 0
 KeepsIts limits held = IsKept held.workspace limits.steps held.kept
 
 -- the session that is opened, or why none is
@@ -61,15 +61,15 @@ session_by (Ok r) = Ok r.session
 session_by (Err why) = Err why
 
 -- whatever the session has, the item does this
-abbrev pub IsStepIn : List ℕ → Options → Held → List ℕ → Request → Held → List ℕ → Bool → Type 0
+abbrev pub IsStepIn : List ℕ → Options → SessionState → List ℕ → Request → SessionState → List ℕ → Bool → Type 0
 IsStepIn version o old line request new text refused = (s : State) → Holds o.limits old s → (next : State) × Holds o.limits new next × IsStep version o s line request next text refused
 
 -- the same of a reload
-abbrev pub ReloadsIn : Limits → Held → List ℕ → Held → List ℕ → Bool → Type 0
+abbrev pub ReloadsIn : Limits → SessionState → List ℕ → SessionState → List ℕ → Bool → Type 0
 ReloadsIn limits old line new text refused = (s : State) → Holds limits old s → (next : State) × Holds limits new next × Reloads limits s line next text refused
 
 -- what loading the files gives as they are edited
-abbrev pub LoadsEdited : Limits → Held → Result Opened RunErr → Type 0
+abbrev pub LoadsEdited : Limits → SessionState → Result Opened RunErr → Type 0
 LoadsEdited limits held (Ok opened) = (workspace_within limits (edited held.workspace held.edits.items) ≡ Some opened.workspace) × IsOn opened.workspace limits opened.session
 LoadsEdited limits held (Err run.Memory) = Unit {0}
 LoadsEdited limits held (Err why) = AreRefused limits (edited held.workspace held.edits.items) why

@@ -91,17 +91,17 @@ pub(crate) fn run_end(end: Result<Status, NoAnswer>) -> Result<Status, RunErr>
 
 /// What is written for a line: a text, or the line of an error.
 #[derive(Drop)]
-pub(crate) struct Told {
+pub(crate) struct BlockText {
     pub text: Rope,
     pub end: Result<Status, RunErr>,
 }
 
 /// Returns what is written where something is refused.
-pub(crate) fn refusal(alloc: Global, why: RunErr) -> Told
+pub(crate) fn refusal(alloc: Global, why: RunErr) -> BlockText
     ensures text { result.text ≡ [] }
     ensures end { result.end ≡ Err why }
 {
-    Told {
+    BlockText {
         text: Rope::new(alloc),
         end: Err(why),
     }
@@ -182,7 +182,7 @@ pub(crate) fn write_told<W: ByteSink>(
     alloc: Global,
     writer: &mut W,
     line: &[u8],
-    told: Told,
+    told: BlockText,
 ) -> Result<bool, RunErr>
     requires { W.failed writer.old < 2 ^ 64 - 1 }
     ensures does { WritesOne (IsBlockOf line.now told.text told.end) result (W.contents writer.old) (W.contents writer.new) }

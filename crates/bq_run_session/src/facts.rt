@@ -7,7 +7,7 @@ ghost use Rattle.bq_run_write.specs.Deeds.{run_report};
 ghost use Rattle.bq_run_write.specs.Report.{report_view};
 ghost use Rattle.bq_run_session.specs.Steps.{IsFactsText, is_failed};
 
-use crate::blocks::{Told, refusal};
+use crate::blocks::{BlockText, refusal};
 use crate::options::SessionOptions;
 use bq_label::{Bytes, Workspace};
 use bq_run::{RunErr, Status, WorkspaceRun};
@@ -19,7 +19,7 @@ use std::sync::Wait;
 use std::thread::Threads;
 
 /// Returns what is written of a report, and how the run ends.
-fn told_by(alloc: Global, report: Report) -> Told
+fn told_by(alloc: Global, report: Report) -> BlockText
     ensures text { result.text ≡ (run_report (report_view report)).answer }
     ensures end { result.end ≡ (run_report (report_view report)).end }
 {
@@ -29,7 +29,7 @@ fn told_by(alloc: Global, report: Report) -> Told
         end,
     } = report;
     match end {
-        Ok(status) => Told {
+        Ok(status) => BlockText {
             text: answer,
             end: Ok(status),
         },
@@ -70,7 +70,7 @@ pub(crate) fn facts_of<T: Threads + Wait + RandomSource + Sync>(
     by: SessionOptions<'_>,
     workspace: &Workspace,
     query: &Option<Bytes>,
-) -> Result<Told, AllocError>
+) -> Result<BlockText, AllocError>
     requires { IsInRange by.options.now }
     ensures { IfOk result (λ t. IsFactsText by.entry.version.now by.entry.options.now workspace.now query.now t.text t.end) }
 {

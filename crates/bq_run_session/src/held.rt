@@ -11,7 +11,7 @@ use crate::edits::{Edit, edited_files};
 use crate::opening::open_session;
 use bq_label::Workspace;
 use bq_load::Gate;
-use bq_load_reload::{Before, Kept};
+use bq_load_reload::{Kept, PreviousLoad};
 use bq_run::{Options, RunErr};
 use bq_run_report::{Session, drop_aside};
 use std::alloc::Global;
@@ -22,7 +22,7 @@ use std::thread::Threads;
 
 /// What a session has.
 #[derive(Drop)]
-pub(crate) struct Held {
+pub(crate) struct SessionState {
     /// The files as they were when they were loaded last.
     pub workspace: Workspace,
     /// What became of them since.
@@ -46,7 +46,7 @@ pub(crate) fn load_edited<T: Threads + Wait + RandomSource + Sync, G: Gate>(
     rt: &T,
     alloc: Global,
     options: &Options,
-    held: &Held,
+    held: &SessionState,
     gate: &G,
 ) -> Result<Opened, RunErr>
     requires in_range { IsInRange options.now }
@@ -58,7 +58,7 @@ pub(crate) fn load_edited<T: Threads + Wait + RandomSource + Sync, G: Gate>(
     let Ok(workspace) = Workspace::within(options.limits, files) else {
         return Err(RunErr::Bundle);
     };
-    let before = Before {
+    let before = PreviousLoad {
         workspace: &held.workspace,
         kept: &held.kept,
     };
@@ -71,7 +71,7 @@ pub(crate) fn load_edited<T: Threads + Wait + RandomSource + Sync, G: Gate>(
 }
 
 /// Puts a workspace that is loaded in the place of the one before it.
-pub(crate) fn take_over<T: Threads>(rt: &T, held: &mut Held, opened: Opened)
+pub(crate) fn take_over<T: Threads>(rt: &T, held: &mut SessionState, opened: Opened)
     ensures workspace { held.new.workspace ≡ opened.workspace }
     ensures session { held.new.session ≡ opened.session }
     ensures edits { held.new.edits.items ≡ [] }

@@ -11,7 +11,7 @@ ghost use Rattle.bq_run_session.specs.Steps.{session_by};
 use bq_label::Workspace;
 use bq_load::{Gate, Sources, Workers};
 use bq_load_discover::{LoadErr, schema_of};
-use bq_load_reload::{Before, Kept, Reloaded, load_again};
+use bq_load_reload::{Kept, PreviousLoad, Reloaded, load_again};
 use bq_package_schema::Schema;
 use bq_run::{Options, RunErr};
 use bq_run_report::{Session, session_over};
@@ -33,7 +33,7 @@ pub(crate) struct Opening {
 fn load_anew<T: Threads + Wait + RandomSource + Sync, G: Gate>(
     rt: &T,
     alloc: Global,
-    before: Option<Before<'_>>,
+    before: Option<PreviousLoad<'_>>,
     workspace: &Workspace,
     schema: &Schema,
     options: &Options,
@@ -61,7 +61,7 @@ fn load_anew<T: Threads + Wait + RandomSource + Sync, G: Gate>(
 fn open_with<T: Threads + Wait + RandomSource + Sync, G: Gate>(
     rt: &T,
     alloc: Global,
-    before: Option<Before<'_>>,
+    before: Option<PreviousLoad<'_>>,
     workspace: &Workspace,
     schema: &Schema,
     options: &Options,
@@ -88,7 +88,7 @@ fn open_with<T: Threads + Wait + RandomSource + Sync, G: Gate>(
 pub(crate) fn open_session<T: Threads + Wait + RandomSource + Sync, G: Gate>(
     rt: &T,
     alloc: Global,
-    before: Option<Before<'_>>,
+    before: Option<PreviousLoad<'_>>,
     workspace: &Workspace,
     options: &Options,
     gate: &G,

@@ -8,10 +8,10 @@ ghost use Rattle.bq_run_session.specs.Session.{IsAnswerIn};
 ghost use Rattle.bq_run_session.specs.State.{State};
 ghost use Rattle.bq_run_session.specs.Steps.{Holds, IsBlock, IsStepIn, KeepsIts, ReloadsIn, WritesOne};
 
-use crate::blocks::{Told, refusal, run_end, write_block, write_told};
+use crate::blocks::{BlockText, refusal, run_end, write_block, write_told};
 use crate::ending::{SessionStatus, session_status};
 use crate::facts::{facts_of, is_failed};
-use crate::held::{Held, load_edited, take_over};
+use crate::held::{SessionState, load_edited, take_over};
 use crate::items::{Item, Request, next_item};
 use crate::opening::open_session;
 use crate::options::{SessionOptions, SessionRun};
@@ -39,7 +39,7 @@ fn answer_query<W: ByteSink>(
 {
     let Reply { text, end } = ask(alloc, session, query, form)?;
     let end = run_end(end);
-    write_told(alloc, writer, query, Told { text, end })
+    write_told(alloc, writer, query, BlockText { text, end })
 }
 
 /// Loads the workspace as it is edited, and writes its faults. Where it is refused, all stays. Returns whether it is.
@@ -48,7 +48,7 @@ fn reload<T: Threads + Wait + RandomSource + Sync, W: ByteSink, G: Gate>(
     rt: &T,
     alloc: Global,
     options: &Options,
-    held: &mut Held,
+    held: &mut SessionState,
     line: &[u8],
     writer: &mut W,
     gate: &G,
@@ -83,7 +83,7 @@ fn take_item<T: Threads + Wait + RandomSource + Sync, W: ByteSink, G: Gate>(
     rt: &T,
     alloc: Global,
     by: SessionOptions<'_>,
-    held: &mut Held,
+    held: &mut SessionState,
     item: Item,
     writer: &mut W,
     gate: &G,
@@ -125,7 +125,7 @@ fn answer_all<T: Threads + Wait + RandomSource + Sync, Q: ByteSource, W: ByteSin
     rt: &T,
     alloc: Global,
     by: SessionOptions<'_>,
-    held: &mut Held,
+    held: &mut SessionState,
     queries: &mut Q,
     writer: &mut W,
     gate: &G,
@@ -182,7 +182,7 @@ pub fn run_queries_watched<
 {
     let SessionRun { workspace, by } = run;
     let opening = open_session(rt, alloc, None, &workspace, by.options, gate)?;
-    let mut held = Held {
+    let mut held = SessionState {
         workspace,
         edits: Vec::new(alloc),
         session: opening.session,

@@ -12,13 +12,13 @@ use Rattle.bq_load_reload.proofs.same.unchanged.Goals as goal
 
 pub returns : goal.returns
 returns c =
-    let before = c.args.before.now.workspace.now in
+    let past = c.args.past.now in
+    let before = past.workspace.now in
     let after = c.args.sources.now.workspace.now in
-    let kept = c.args.before.now.kept.now in
     let frame : HasSameFrame before after = c.if-not-has_same_frame.ensures refl in
-    weaker (λ was. HaveStayed before after c.as_slice-had.result.now c.labels.result.now was.items)
-    (λ was. AreUnchanged (had (map (shown module_view failed_view) kept.outcomes.items)) kept.edges (means (loading_in after c.args.sources.now.schema.now c.args.limits.steps c.args.graph.now)) was.items)
+    weaker (λ was. HaveStayed before after past.labels.now c.labels.result.now was.items)
+    (λ was. AreUnchanged (had (map (shown module_view failed_view) past.outcomes.now)) past.edges.now (means (loading_in after c.args.sources.now.schema.now c.args.limits.steps c.args.graph.now)) was.items)
     c.numbers_before.result
-    (λ was stay. are_unchanged before after c.args.limits.steps kept c.requires.before c.args.sources.now.schema.now c.requires.schema c.args.graph.now c.requires.graph frame was.items
-    (subst (λ (ls : List LabelParts). HaveStayed before after kept.labels ls was.items) c.labels.ensures.value (subst (λ (ls : List LabelParts). HaveStayed before after ls c.labels.result.now was.items) c.as_slice-had.ensures stay)))
+    (λ was stay. are_unchanged before after c.args.limits.steps past.labels.now past.edges.now past.outcomes.now c.requires.past c.args.sources.now.schema.now c.requires.schema c.args.graph.now c.requires.graph frame was.items
+    (subst (λ (ls : List LabelParts). HaveStayed before after past.labels.now ls was.items) c.labels.ensures.value stay))
     c.numbers_before.ensures

@@ -6,7 +6,7 @@ use Rattle.bq_query_graph.specs.Paths.{row}
 use Rattle.bq_facts.specs.Deps.{AreDirect}
 use Rattle.bq_facts.specs.Labels.{labels_at}
 use Rattle.bq_run_facts.proofs.Direct.{direct_below}
-use Rattle.bq_run_facts.proofs.Told.{line_is}
+use Rattle.bq_run_facts.proofs.Diagnostics.{line_is}
 use Rattle.bq_run_facts.proofs.lines.push_target_at.Goals as goal
 
 pub labels_at-requires : goal.labels_at-requires
