@@ -14,7 +14,7 @@ from bzlq.cli.formats import FORMS
 from bzlq.cli.labels import ALL, Labels
 from bzlq.cli.process import Unwritten, write, write_bytes
 from bzlq.cli.relative_labels import BadWord, absolute
-from bzlq.overlay.approximations import KINDS, TESTONLY, VISIBILITY, ask, ask_all, looking_through, of_targets, path_of, unmarked_of, unseen_of
+from bzlq.overlay.approximations import KINDS, TESTONLY, VISIBILITY, ask, ask_all, looking_through, lost_beside, path_of, unmarked_of, unseen_of
 from bzlq.overlay.assembly import MAX_STEPS, run_options
 from bzlq.workspace.root import folder_of, root_of
 
@@ -72,10 +72,14 @@ class Answer:
             return ended, ended.stdout, None
         if not form:
             from bzlq.overlay.package_defaults import lines_of  # (not at the top: it reads files)
-            return ended, ended.stdout + text_of(lines_of(self.kept.path("bundle"), ended.stdout)), None
-        targets, inner = Facts.of_lines(ended.stdout.splitlines()).targets, sum(looking_through(self.query, path_of(bundle)), [])
-        counts = [len(lines) for _, lines in ask_all(self.program, options, bundle, inner)[0]] if inner else []
-        return ended, text_of(form(targets, ended.stdout, self.path)), of_targets(self.query, targets.values(), counts)
+            found = self.lost(bundle, Facts.of_lines(ended.stdout.splitlines()).targets).without_own() if any(looking_through(self.query)) else None
+            return ended, ended.stdout + text_of(lines_of(self.kept.path("bundle"), ended.stdout)), found
+        targets = Facts.of_lines(ended.stdout.splitlines()).targets
+        return ended, text_of(form(targets, ended.stdout, self.path)), self.lost(bundle, targets)
+
+    def lost(self, bundle, targets):
+        """What is lost of these targets of an answer, and beside them."""
+        return lost_beside(self.program, self.options(), bundle, self.query, targets.values())
 
     def ask(self, bundle, more):
         """Asks for the answer, and for more in the same session."""

@@ -14,8 +14,8 @@ from bzlq.cli import relative_labels as relative
 from bzlq.cli.process import ended, write
 from bzlq.hints import labels
 from bzlq.hints.suggestions import did_you_mean
-from bzlq.overlay.approximations import of_targets
-from bzlq.overlay.assembly import MAX_STEPS
+from bzlq.overlay.approximations import lost_beside, of_targets
+from bzlq.overlay.assembly import MAX_STEPS, run_options
 from bzlq.workspace.files import Refused
 from bzlq.workspace.root import folder_of, root_of
 
@@ -41,7 +41,7 @@ class Asked:
         self.is_of_targets = is_of_targets
         self.words, self.program = words, program_of(words.program)
         self.root, self.folder, self.bundle, self.overlay = words.dir, "", words.bundle, ""
-        self.faults, self.warnings, self.lost = [], [], None
+        self.faults, self.warnings, self.lost, self.of = [], [], None, "the workspace"
         self.unknown, self.notes, self.status = [], [], 0  # what the answer leaves open, what else is said of it, and the status that a script gives of its own
         if not words.dir and not words.bundle:
             self.root = root_of(os.getcwd())
@@ -51,13 +51,17 @@ class Asked:
 
     def facts(self, query=""):
         """The facts behind a query, or behind all of the workspace."""
+        self.of = "this answer" if query else "the workspace"
         if self.words.dir or self.words.bundle:
             found = facts(self.words.dir or self.words.bundle, query, program=self.program, large=self.words.large)
+            self.lost = of_targets(query, found.targets.values())
         else:
             bundle, self.warnings = self.kept.open()
             with bundle:
-                found = facts(bundle, query, program=self.program, max_steps=MAX_STEPS, large=self.kept.is_large or self.words.large)
-        self.faults, self.lost = found.faults, of_targets(query, found.targets.values()) if self.is_of_targets else None
+                is_large = self.kept.is_large or self.words.large
+                found = facts(bundle, query, program=self.program, max_steps=MAX_STEPS, large=is_large)
+                self.lost = lost_beside(self.program, run_options(is_large), bundle, query, found.targets.values())
+        self.faults, self.lost = found.faults, self.lost if self.is_of_targets else None
         return found
 
     def sources(self):
@@ -99,7 +103,7 @@ class Asked:
         more = len(self.faults) - SHOWN
         said = [f"targets may be missing: {it}" for it in [*self.faults[:SHOWN], *self.warnings]] + ([f"and {more} faults more"] if more > 0 else [])
         open_ones = [f"not known: {it}" for it in self.unknown[:SHOWN]] + ([f"and {len(self.unknown) - SHOWN} more aren't known"] if self.unknown[SHOWN:] else [])
-        return said + open_ones + self.notes + list(self.lost.lines("the workspace") if self.lost else [])
+        return said + open_ones + self.notes + list(self.lost.lines(self.of) if self.lost else [])
 
     def may_lack(self):
         """Whether the answer may lack something."""

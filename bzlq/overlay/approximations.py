@@ -30,6 +30,11 @@ class Lost:
         self.query, self.count, self.some, self.by_word, self.inner, self.unseen, self.unmarked = query, count, some, by_word, inner, unseen, unmarked
         self.others = max(0, others - by_word["kind"])
 
+    def without_own(self):
+        """The same without what the targets of the answer say themselves."""
+        self.some, self.by_word = 0, Counter()
+        return self
+
     def may_lack(self):
         """Whether the answer may lack a target."""
         is_lacking = any(self.by_word[word] for word, lacks in LOST.items() if lacks or word == "kind" and KINDS.search(self.query))
@@ -55,6 +60,13 @@ def of_targets(query, targets, counts=()):
     """The same for targets of facts; `counts` says how many targets each of the queries has that look through others (looking_through)."""
     found = [{it.partition(":")[0] for it in target.lost} for target in targets]
     return Lost(query, len(found), sum(map(bool, found)), Counter(word for words in found for word in words), *looked_through(query, counts))
+
+
+def lost_beside(program, options, bundle, query, targets):
+    """The same, where the queries that look through others are asked of an open bundle."""
+    inner = sum(looking_through(query, path_of(bundle)), [])
+    counts = [len(lines) for _, lines in ask_all(program, options, bundle, inner)[0]] if inner else []
+    return of_targets(query, targets, counts)
 
 
 def lost_of(query, *words):

@@ -195,6 +195,12 @@ def losses(bench):
              ["kind(..) leaves them out"], 3)
     told(bench, "lost, in a workspace that is asked many queries", bench.run("bzlq queries -", "ws", b"//a:x\n"), "=== 0 1 //a:x\n//a:x\n",
          ["bzlq: 2 of 5 targets of the workspace are approximations: kind made up 2\n"], 0)
+    for what in ("kind, of others than are asked for", "kind, by a variable", "value, under a query of users"):
+        files, query, _, line, _ = LOSSES[what]
+        bench.lay_out("ws", {"WORKSPACE": "", **files})
+        for word, of in (("facts", "bzlq"), ("graph", "graph")):
+            found = bench.run(f"bzlq {word} '{query}'", "ws")
+            told(bench, f"lost, by {word}, {what}", ("", *found[1:]), "", [f"{of}: {line}\n"], 3)
     bench.lay_out("ws", {"WORKSPACE": "", **LOSSES["test_suite"][0]})
     bench.compare("lost, by --strict", bench.run("bzlq --strict //...", "ws")[2], 3)
     bench.lay_out("ws", {"WORKSPACE": "", **LOSSES["dict"][0]})
