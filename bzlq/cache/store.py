@@ -17,11 +17,12 @@ from bzlq.bq import READING
 from bzlq.cache.fingerprint import Seen
 from bzlq.cache.folder import cache_of, is_at, locked, open_own, own
 from bzlq.cache.plain import keep_at, kept_at
-from bzlq.overlay.approximations import ask_all
+from bzlq.overlay.approximations import Place
 from bzlq.overlay.arguments import BY_NAMES, DIRECTORY
 from bzlq.overlay.assembly import make_bundle, make_overlay, run_options
 from bzlq.workspace.bundle import is_large, is_large_at
 from bzlq.workspace.files import SCHEMA, Refused
+from bzlq.workspace.root import preludes_of
 
 ROOT = os.path.dirname(os.path.dirname(os.path.dirname(os.path.realpath(__file__))))
 # the folders of what makes and keeps an overlay
@@ -65,11 +66,12 @@ class Kept:
                     self.make(seen, now, before)
                 before = self.state()
             self.is_large = before["large"]
-            return open_own(self.path("bundle"), "rb"), before["warnings"] + before["said"]
+            return open_own(self.path("bundle"), "rb"), before["warnings"] + before["said"] + preludes_of(self.root)
 
     def ask(self, bundle, queries):
-        """Runs queries over an open bundle."""
-        return ask_all(self.program, run_options(self.is_large), bundle, queries)
+        """Runs queries over an open bundle; gives their blocks, and the fault lines."""
+        ended, blocks = Place(self.program, run_options(self.is_large), bundle).session(queries)
+        return blocks, ended.stderr
 
     def is_patched(self, seen, now, before, ask):
         """Patches the bundle where little has changed; gives whether it did."""

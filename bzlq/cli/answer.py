@@ -14,9 +14,10 @@ from bzlq.cli.formats import FORMS
 from bzlq.cli.labels import ALL, Labels
 from bzlq.cli.process import Unwritten, write, write_bytes
 from bzlq.cli.relative_labels import BadWord, absolute
-from bzlq.overlay.approximations import KINDS, TESTONLY, VISIBILITY, ask, ask_all, looking_through, lost_beside, path_of, unmarked_of, unseen_of
+from bzlq.overlay.approximations import KINDS, TESTONLY, VISIBILITY, Place, absent_of, attributes_in, looking_through, unmarked_of, ungiven_of, unseen_of
 from bzlq.overlay.assembly import MAX_STEPS, run_options
 from bzlq.workspace.root import folder_of, root_of
+from bzlq.workspace.taken_away import TakenAway
 
 
 # a command that puts a file, whose bytes come next, and one that has a query
@@ -52,7 +53,7 @@ class Answer:
         """Answers the query."""
         ended, text, found = self.asked(bundle)
         write_bytes(text, sys.stdout)
-        self.tell(self.explained(ended), warnings, found)
+        self.tell(self.explained(ended) + TakenAway(self.root).lines(text), warnings, found)
         return self.status(ended.returncode, warnings, found)
 
     def asked(self, bundle):
@@ -79,11 +80,11 @@ class Answer:
 
     def lost(self, bundle, targets):
         """What is lost of these targets of an answer, and beside them."""
-        return lost_beside(self.program, self.options(), bundle, self.query, targets.values())
+        return Place(self.program, self.options(), bundle).lost(self.query, targets.values())
 
     def ask(self, bundle, more):
         """Asks for the answer, and for more in the same session."""
-        return ask(self.program, [*self.options(), *self.call.of_bq("--output")], bundle, self.query, more)
+        return Place(self.program, [*self.options(), *self.call.of_bq("--output")], bundle).ask(self.query, more)
 
     def ask_with(self, bundle, queries):
         """Asks for the answer, and for more in the same session: gives the blocks of the latter, and the run's fault lines."""
@@ -104,7 +105,7 @@ class Answer:
         """Answers the queries of a file, or those of standard input, each as soon as it is there. (The lines before the answers are bq's own: what
         the workspace lacks is in the status.)"""
         words = [self.program, *self.options(), *self.call.of_bq("--output"), "--bundle", f"/dev/fd/{bundle.fileno()}", "--queries", "-"]
-        lost = LostOfAll(self.program, self.options(), bundle)
+        lost = LostOfAll(Place(self.program, self.options(), bundle))
         with open(sys.stdin.fileno() if name == "-" else name, "rb", closefd=name != "-") as lines:
             # (SIGXFSZ stays ignored, as Python has it: a limit of file sizes is an error of a write)
             outputs = [subprocess.PIPE if it.isatty() else None for it in (sys.stdout, sys.stderr)]
@@ -184,17 +185,18 @@ class Answer:
 
 class LostOfAll(threading.Thread):
     """Finds out beside a run what is lost of all targets: `found` has it at the end. `is_of_kinds`, `is_of_visibility` and `is_of_testonly` say whether a
-    query is about these."""
+    query is about these, `attributes` are those that queries ask for, with their patterns, and `absent` those of them that bq doesn't have."""
 
-    def __init__(self, program, options, bundle):
+    def __init__(self, place):
         super().__init__(daemon=True)
-        self.asked, self.found, self.unseen = (program, options, bundle), None, 0
+        self.place, self.found, self.unseen = place, None, 0
         self.is_of_kinds = self.is_of_visibility = self.is_of_testonly = False
+        self.attributes, self.absent = set(), set()
         self.start()
 
     def run(self):
         """Asks for it."""
-        _, self.found, further = ask(*self.asked, ALL, [unseen_of(ALL)])
+        _, self.found, further = self.place.ask(ALL, [unseen_of(ALL)])
         self.unseen = sum(len(lines) for _, lines in further)
 
     def look(self, query):
@@ -202,6 +204,8 @@ class LostOfAll(threading.Thread):
         self.is_of_kinds |= bool(KINDS.search(query))
         self.is_of_visibility |= bool(VISIBILITY.search(query))
         self.is_of_testonly |= bool(TESTONLY.search(query))
+        self.attributes.update((name, pattern) for name, pattern, _ in attributes_in(query))
+        self.absent.update(absent_of(query))
 
     def end(self):
         """Waits for what is lost."""
@@ -210,13 +214,17 @@ class LostOfAll(threading.Thread):
             self.found.unseen = self.unseen
         if self.found and self.is_of_testonly:
             # (not beside the run: it reads all files of the bundle, and is asked for rarely)
-            self.found.unmarked = len(self.unmarked())
+            self.found.unmarked = self.lacking("testonly", unmarked_of(ALL, self.place.path))
+        if self.found:
+            asked = {(name, query): None for name, pattern in sorted(self.attributes) if (query := ungiven_of(name, pattern, ALL, self.place.path))}
+            for name, query in asked:
+                if count := self.lacking(name, query):
+                    self.found.ungiven[name] = max(count, self.found.ungiven.get(name, 0))
+            self.found.absent = sorted(self.absent)
 
-    def unmarked(self):
-        """The lines of all targets that may be testonly by a default."""
-        *_, bundle = self.asked
-        blocks, _ = ask_all(*self.asked, [unmarked_of(ALL, path_of(bundle))])
-        return [line for _, lines in blocks for line in lines]
+    def lacking(self, name, query):
+        """How many targets of a query don't give an attribute."""
+        return sum(name not in it.attributes for it in self.place.targets(query))
 
     def may_lack(self, is_strict):
         """Whether an answer may lack a target, or is an approximation in any way."""

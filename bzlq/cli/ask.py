@@ -25,7 +25,7 @@ from bzlq.cli.labels import Labels
 from bzlq.cli.options import Call
 from bzlq.cli.process import write
 from bzlq.facts.loaded import Loaded, path_of
-from bzlq.overlay.approximations import Ended, of_counts, queries_of
+from bzlq.overlay.approximations import Ended, Queries
 from bzlq.overlay.assembly import MAX_STEPS
 from bzlq.workspace.files import Refused
 
@@ -65,16 +65,17 @@ class Session:
 
     def asked(self, answer):
         """The lines of an answer, and what is lost of it. (A process that was ended, as by Ctrl-C at the prompt, is started once more.)"""
-        queries = queries_of(answer.query, answer.kept.path("bundle"))
+        queries = Queries(answer.query, answer.kept.path("bundle"))
         try:
-            lines = self.loaded.workspace.query(queries[0])
+            lines = self.loaded.workspace.query(queries.query)
         except QueryError:
             raise
         except ProcessError:
             self.close()
             self.refresh(answer)
-            lines = self.loaded.workspace.query(queries[0])
-        return lines, of_counts(answer.query, [len(lines), *(len(self.loaded.workspace.query(it)) for it in queries[1:])])
+            lines = self.loaded.workspace.query(queries.query)
+        counts = [len(lines), *(len(self.loaded.workspace.query(it)) for it in queries.all[1:])]
+        return lines, queries.lost(counts, self.loaded.targets)
 
     def refresh(self, answer):
         """Has the process be one of the workspace as it is now, and says which faults that has, where they are others."""

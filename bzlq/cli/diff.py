@@ -22,7 +22,7 @@ from bzlq.cli.relative_labels import absolute
 from bzlq.cli.request import SHOWN
 from bzlq.diff.git import WORK_TREE, Git
 from bzlq.diff.side import Side
-from bzlq.overlay.approximations import ask
+from bzlq.overlay.approximations import Place
 from bzlq.overlay.assembly import run_options
 from bzlq.workspace.files import Refused
 from bzlq.workspace.root import folder_of, root_of
@@ -38,7 +38,7 @@ def answer(words, room, name, revision, query, git):
     side = Side(git.tree(revision), f"{room}/{name}", words.program, ())
     said = [f"{name}: {it}" for it in [*side.facts.faults, *side.warnings]]
     with open(f"{room}/{name}/both", "rb") as bundle:
-        run, lost, _ = ask(words.program, [*run_options(side.is_large), f"--output={words.output}"], bundle, query)
+        run, lost, _ = Place(words.program, [*run_options(side.is_large), f"--output={words.output}"], bundle).ask(query)
     text = run.stderr.decode("utf-8", "surrogateescape").splitlines()
     if run.returncode not in (0, 3):
         error = ERROR.fullmatch(text[-1]) if text else None

@@ -14,7 +14,7 @@ from bzlq.cli import relative_labels as relative
 from bzlq.cli.process import ended, write
 from bzlq.hints import labels
 from bzlq.hints.suggestions import did_you_mean
-from bzlq.overlay.approximations import lost_beside, of_targets
+from bzlq.overlay.approximations import Place
 from bzlq.overlay.assembly import MAX_STEPS, run_options
 from bzlq.workspace.files import Refused
 from bzlq.workspace.root import folder_of, root_of
@@ -54,13 +54,14 @@ class Asked:
         self.of = "this answer" if query else "the workspace"
         if self.words.dir or self.words.bundle:
             found = facts(self.words.dir or self.words.bundle, query, program=self.program, large=self.words.large)
-            self.lost = of_targets(query, found.targets.values())
+            options = ["--large"] * self.words.large
+            self.lost = Place(self.program, options, self.words.dir or self.words.bundle).lost(query, found.targets.values())
         else:
             bundle, self.warnings = self.kept.open()
             with bundle:
                 is_large = self.kept.is_large or self.words.large
                 found = facts(bundle, query, program=self.program, max_steps=MAX_STEPS, large=is_large)
-                self.lost = lost_beside(self.program, run_options(is_large), bundle, query, found.targets.values())
+                self.lost = Place(self.program, run_options(is_large), bundle).lost(query, found.targets.values())
         self.faults, self.lost = found.faults, self.lost if self.is_of_targets else None
         return found
 

@@ -22,7 +22,7 @@ from bzlq.cli.changes import Changes
 from bzlq.cli.options import Call
 from bzlq.cli.process import STATUSES, write
 from bzlq.facts.loaded import Loaded, path_of
-from bzlq.overlay.approximations import Ended, of_counts, queries_of
+from bzlq.overlay.approximations import Ended, Queries
 from bzlq.overlay.assembly import MAX_STEPS
 from bzlq.workspace.files import Refused
 
@@ -37,21 +37,21 @@ class Following(Answer):
 
     def ask(self, bundle, more):
         """Asks for the answer, and for more, once the process has loaded the files as they are."""
-        told, queries = b"", queries_of(" ".join(self.query.split("\n")), path_of(bundle))
+        told, queries = b"", Queries(self.query, path_of(bundle))
         try:
             self.loaded.take(path_of(bundle))
             workspace = self.loaded.workspace
             told = encoded([*workspace.printed, *workspace.faults])
-            answer, *others = [encoded(workspace.query(it)) for it in [*queries, *more]]
+            answer, *others = [encoded(workspace.query(it)) for it in [*queries.all, *more]]
         except (NumberedError, ProcessError) as error:
             if isinstance(error, ProcessError):
                 self.loaded.close()  # (the next change starts another one)
             if not isinstance(error, NumberedError):
                 raise
             return Ended(b"", told + encoded([f"bq: {error}"]), STATUSES.get(error.number, 2)), None, []
-        counts = [text.count(b"\n") for text in (answer, *others)][:len(queries)]
-        further = [(0, text.splitlines(keepends=True)) for text in others[len(queries) - 1:]]
-        return Ended(answer, told, 3 if workspace.faults else 0), of_counts(queries[0], counts), further
+        counts = [text.count(b"\n") for text in (answer, *others)][:len(queries.all)]
+        further = [(0, text.splitlines(keepends=True)) for text in others[len(queries.all) - 1:]]
+        return Ended(answer, told, 3 if workspace.faults else 0), queries.lost(counts, self.loaded.targets), further
 
 
 def encoded(lines):

@@ -7,6 +7,7 @@ from bzlq.cache.bundle_cache import with_overlay
 from bzlq.overlay.assembly import MAX_STEPS, make_bundle
 from bzlq.workspace.bundle import is_large_at
 from bzlq.workspace.files import ROOT_FILES, SCHEMA, has_content, parts
+from bzlq.workspace.root import PRELUDE, preludes
 
 # a line that can't be in a bundle; in a copy too a space stands before it
 HEADER = re.compile(rb"^=== ", re.M)
@@ -35,6 +36,8 @@ class Side:
         else:
             said = with_overlay(bundle, program, f"{room}/both")
             self.warnings = [it for it in said if NO_ROOT not in it]
+        if PRELUDE in tree.reals:
+            self.warnings = [*self.warnings, *preludes(tree.texts([PRELUDE])[PRELUDE])]
         laid = parts(f"{room}/both")
         self.overlay = {path: text for path, text in laid.items() if text.rstrip(b"\n") != HEADER.sub(b" === ", self.texts.get(path, b"")).rstrip(b"\n")}
         self.is_large = is_large_at(f"{room}/both")

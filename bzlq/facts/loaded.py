@@ -59,6 +59,10 @@ class Loaded:
         """The facts of all these files."""
         return self.workspace.facts(as_loaded=True)
 
+    def targets(self, query):
+        """The facts of a query's targets."""
+        return self.workspace.facts(query, as_loaded=True).targets.values()
+
 
 def differing(before, after):
     """The files that are others after, and those that are gone, without bytes."""

@@ -4,7 +4,7 @@ import os
 import re
 from collections import Counter, defaultdict
 
-from bzlq.overlay.definitions import definition, made_up, value_for
+from bzlq.overlay.definitions import NO_ATTRIBUTES, definition, made_up, value_for
 from bzlq.overlay.extra_targets import text_of
 from bzlq.overlay.global_names import VALUE, GlobalNames
 from bzlq.overlay.guesses import by_values
@@ -171,6 +171,8 @@ class Facts:
         self.replaced = Replaced()  # those statements
         self.everywhere = defaultdict(Counter)  # keyword -> kinds
         self.refused = set()  # the paths of .bzl files that are loaded, and can't be laid over the tree
+        self.struct_files = None  # once it is asked for: whether a file makes structs
+        self.said = None  # once it is asked for: the types that rules of each name say, by attribute
         self.copies = None  # once they are made: by the path a text, and how many parts of each kind it has instead
         self.further = {}  # what else macros seem to declare, once it is known (extra_targets.py)
         self.further_left = 0  # how many labels more may be such targets, of a macro that has too many
@@ -209,7 +211,7 @@ class Facts:
             for it in listed:
                 found.replaced.add(path, Statement(*it))
         found.names.stand_ins.update((path, set(names)) for path, names in kept["stand_ins"].items())
-        found.stubs, found.left_out, found.inner_calls, found.taken = defaultdict(dict), defaultdict(list), {}, {}
+        found.stubs, found.left_out, found.inner_calls, found.taken, found.struct_files = defaultdict(dict), defaultdict(list), {}, {}, None
         for place, symbol, it in kept["stubs"]:
             found.stubs[place][symbol] = Stub.of_kept(it)
         found.everywhere = defaultdict(Counter, {keyword: Counter(kinds) for keyword, kinds in kept["everywhere"].items()})
@@ -483,6 +485,20 @@ class Facts:
                 found[call.inside].append(call)
         return self.inner_calls[path].get(function, ())
 
+    def fields_loaded(self, file):
+        """The fields of structs that files make which a file loads, directly or not."""
+        if self.struct_files is None:
+            self.struct_files = any(it.structs[0] for it in self.workspace.files.values())
+        found, seen, pending = set(), {file.path}, [file] if self.struct_files else []
+        while pending:
+            it = pending.pop()
+            for path in {self.workspace.resolve(label, it.path)[0] for label, *_ in it.loads} - seen:
+                if loaded := self.workspace.files.get(path):
+                    seen.add(path)
+                    found |= loaded.structs[0]
+                    pending.append(loaded)
+        return frozenset(found)
+
     def stand_in(self, path, name):
         """The text that stands for what the statement of a name binds."""
         place, file = (None, path, ""), self.workspace.files[path]
@@ -491,7 +507,19 @@ class Facts:
             return f"def {name}(name, visibility = None, **given): {function}(name = name, visibility = visibility, **dict({defaults}, **given))"
         if file.size > MAX_SIZE and file.kinds.get(name) == "dict":
             return f"{name} = {{}}"
-        return definition("", name, self.stub(place, name), self.lost_of(place, name)) + text_of(self.further.get((place, name)))
+        return definition("", name, self.stub(place, name), self.lost_of(place, name), self.defaults_of(file, name)) + text_of(self.further.get((place, name)))
+
+    def defaults_of(self, file, name):
+        """The defaults of the attributes of a rule that a file makes, but for those that other rules of its name have with another type: the schema has one."""
+        if not file.defaults.get(name):
+            return {}
+        if self.said is None:
+            self.said = defaultdict(lambda: defaultdict(set))
+            for it in self.workspace.files.values():
+                for symbol, types in it.made.items():
+                    for attribute, kind in types.items():
+                        self.said[symbol][attribute].add(kind)
+        return {attribute: it for attribute, it in file.defaults[name].items() if len(self.said[name][attribute]) == 1 and attribute not in NO_ATTRIBUTES}
 
     def makes_targets(self, file, name):
         """Whether a name stands for a macro or rule that isn't there."""

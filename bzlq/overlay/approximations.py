@@ -4,16 +4,18 @@ import re
 import subprocess
 from collections import Counter, namedtuple
 
+from bzlq.bq import Facts, ended_by, where_of
 from bzlq.facts.query_text import TOKEN
 from bzlq.overlay.arguments import LOST, LOST_ATTRIBUTE
+from bzlq.overlay.attribute_defaults import OF_MACROS, rules_with
 
 WORDS = {
     "kind": "kind made up", "targets": "one target for a macro", "value": "value that isn't there", "edges": "edges by a type that was guessed",
     "files": "files left out", "dict": "dict left out", "select": "one branch of a select",
 }
 HEADER = re.compile(rb"=== (\d) (\d+) [^\n]*\n")
-# what begins with a query about what depends on a target, and so looks through the edges of others
-USERS = re.compile(r"\b(?:rdeps|allpaths)\s*\(\s*(\"[^\"]*\"|'[^']*'|[A-Za-z0-9*/@._:$~\[\]-]+)\s*,")
+# queries about what depends on a target, which look through the edges of all that their first arguments depend on
+USERS = ("rdeps", "allpaths")
 KINDS = re.compile(r"\b(?:kind|tests)\s*\(")
 VISIBILITY = re.compile(r"\battr\s*\(\s*[\"']?visibility\b")
 TESTONLY = re.compile(r"\battr\s*\(\s*[\"']?testonly\b")
@@ -23,12 +25,13 @@ Ended = namedtuple("Ended", "stdout stderr returncode")
 
 class Lost:
     """How many of an answer's targets are approximations, in all and by the words of LOST; of how many of those that a query looks through edges may be
-    missing; how many have a kind that was made up, and are left out for it; how many give no visibility, where one is asked for; and how many may be
-    testonly by a default, where that is asked for."""
+    missing; how many have a kind that was made up, and are left out for it; how many give no visibility, where one is asked for; how many may be
+    testonly by a default, where that is asked for; and how many give none of each other attribute that is asked for and may have a default. `absent` are
+    attributes of the query that bq doesn't have."""
 
-    def __init__(self, query, count, some, by_word, inner=0, others=0, unseen=0, unmarked=0):
+    def __init__(self, query, count, some, by_word, inner=0, others=0, unseen=0, unmarked=0, ungiven=None):
         self.query, self.count, self.some, self.by_word, self.inner, self.unseen, self.unmarked = query, count, some, by_word, inner, unseen, unmarked
-        self.others = max(0, others - by_word["kind"])
+        self.others, self.ungiven, self.absent = max(0, others - by_word["kind"]), ungiven or {}, absent_of(query)
 
     def without_own(self):
         """The same without what the targets of the answer say themselves."""
@@ -38,7 +41,7 @@ class Lost:
     def may_lack(self):
         """Whether the answer may lack a target."""
         is_lacking = any(self.by_word[word] for word, lacks in LOST.items() if lacks or word == "kind" and KINDS.search(self.query))
-        return is_lacking or bool(self.inner or self.others or self.unseen or self.unmarked)
+        return is_lacking or bool(self.inner or self.others or self.unseen or self.unmarked or self.ungiven or self.absent)
 
     def lines(self, of="this answer"):
         """The lines that say it."""
@@ -50,23 +53,13 @@ class Lost:
         if self.others:
             yield f"{self.others} of the targets that this query looks through {'has' if self.others == 1 else 'have'} a kind that was made up, and kind(..) leaves {'it' if self.others == 1 else 'them'} out"
         where = "that this query looks through" if of == "this answer" else f"of {of}"
-        if self.unseen:
-            yield f"{self.unseen} of the targets {where} {'gives' if self.unseen == 1 else 'give'} no visibility, and attr(..) leaves out what Bazel takes instead"
+        for name, count in [("visibility", self.unseen), *self.ungiven.items()]:
+            if count:
+                yield f"{count} of the targets {where} {'gives' if count == 1 else 'give'} no {name}, and attr(..) leaves out what Bazel takes instead"
+        for name in self.absent:
+            yield f"bq has no {name}, which Bazel gives the targets of macros, and attr(..) leaves these out: bzlq users MACRO lists them"
         if self.unmarked:
             yield f"{self.unmarked} of the targets {where} may be testonly by a default of Bazel's (tests, default_testonly), and attr(..) takes {'it' if self.unmarked == 1 else 'them'} as not"
-
-
-def of_targets(query, targets, counts=()):
-    """The same for targets of facts; `counts` says how many targets each of the queries has that look through others (looking_through)."""
-    found = [{it.partition(":")[0] for it in target.lost} for target in targets]
-    return Lost(query, len(found), sum(map(bool, found)), Counter(word for words in found for word in words), *looked_through(query, counts))
-
-
-def lost_beside(program, options, bundle, query, targets):
-    """The same, where the queries that look through others are asked of an open bundle."""
-    inner = sum(looking_through(query, path_of(bundle)), [])
-    counts = [len(lines) for _, lines in ask_all(program, options, bundle, inner)[0]] if inner else []
-    return of_targets(query, targets, counts)
 
 
 def lost_of(query, *words):
@@ -74,20 +67,45 @@ def lost_of(query, *words):
     return f'attr({LOST_ATTRIBUTE}, "(^.|, )({"|".join(words)}): ", {query})'
 
 
+def lost_labels_of(name, query):
+    """The query for the targets of a query of which an attribute may name more than it has."""
+    return f'attr({LOST_ATTRIBUTE}, "(^.|, )((value|files): |(select|dict|edges): {re.escape(name)}([^a-zA-Z0-9_]|$))", {query})'
+
+
 def unseen_of(query):
     """The query for the targets of a query that give no visibility."""
     return f'kind(" rule$", {query}) - attr(visibility, "[^\\[\\]]", {query})'
 
 
-def unmarked_of(query, bundle):
+def ungiven_of(name, pattern, query, place):
+    """The query for the targets of a query of which an attribute may have a default that its type doesn't say, and that a search tells from the type's;
+    empty where there are none."""
+    if name == "deprecation" and place:
+        from bzlq.overlay.package_defaults import packages_with  # (not at the top: it reads files)
+        packages = packages_with("default_deprecation", place)
+        return f'kind(" rule$", {query}) ^ {all_in(packages)}' if packages else ""
+    rules = rules_with(name, pattern)
+    return f'kind("^({"|".join(rules)}) rule$", {query})' if rules else ""
+
+
+def absent_of(query):
+    """The attributes that a query asks for, and bq doesn't have."""
+    return sorted({it[0].strip("\"'") for it in arguments_of(query, "attr")} & {*OF_MACROS}) if OF_MACROS[0][:10] in query else []
+
+
+def all_in(packages):
+    """The query for the rules of packages."""
+    return f"set({' '.join(f'{chr(34)}{it}:all{chr(34)}' for it in packages)})"
+
+
+def unmarked_of(query, place):
     """The query for the targets of a query that Bazel may take as testonly though they don't say so: tests, suites of them, and the rules of packages
-    with such a default."""
-    found = [f'kind("(_test|test_suite) rule$", {query})']
-    if bundle:
-        from bzlq.overlay.package_defaults import testonly_packages  # (not at the top: it reads files)
-        if packages := testonly_packages(bundle):
-            labels = " ".join(f'"{it}:all"' for it in packages)
-            found.append(f'kind(" rule$", {query}) ^ set({labels})')
+    with such a default. (Those that give False are among them: a query can't tell them from others.)"""
+    found = [f'kind("(_test|test_suite) rule$", {query})', f'kind("test", {lost_of(query, "kind")})']
+    if place:
+        from bzlq.overlay.package_defaults import packages_with  # (not at the top: it reads files)
+        if packages := packages_with("default_testonly", place):
+            found.append(f'kind(" rule$", {query}) ^ {all_in(packages)}')
     return f'({" + ".join(f"({it})" for it in found)}) - attr(testonly, 1, {query})'
 
 
@@ -109,63 +127,119 @@ def arguments_of(query, function):
                 break
 
 
-def looking_through(query, bundle=""):
+class LookedThrough(namedtuple("LookedThrough", "edges kinds seen only given")):
     """The queries for what was lost of the targets that a query looks through: those by whose edges it goes, those of whose kinds, those of whose
-    visibility, and those of which it asks whether they are testonly; these need the path of the bundle."""
+    visibility, those of which it asks whether they are testonly, and those of which it asks for another attribute that may have a default, with its name."""
+
+    def all(self):
+        """All of them."""
+        return [*self.edges, *self.kinds, *self.seen, *self.only, *(query for _, query in self.given)]
+
+    def counts(self, counts, targets):
+        """By how many targets each has: of how many edges may be missing, how many have a kind that was made up, how many give no visibility, how many may be
+        testonly, and how many give none of each other attribute. `targets` gives the facts of a query's targets, for what a query can't tell."""
+        found, at = [], 0
+        for part in self:
+            found.append(counts[at:at + len(part)])
+            at += len(part)
+        edges, kinds, seen, only, given = found
+        lacking = lambda name, query: sum(name not in it.attributes for it in targets(query))  # noqa: E731
+        unmarked, ungiven = max((lacking("testonly", it) for it, count in zip(self.only, only) if count), default=0), {}
+        for name, lacks in ((name, lacking(name, query)) for (name, query), count in zip(self.given, given) if count):
+            ungiven[name] = max(lacks, ungiven.get(name, 0))
+        return sum(edges), max(kinds, default=0), max(seen, default=0), unmarked, {name: count for name, count in ungiven.items() if count}
+
+
+def attributes_in(query):
+    """The attributes that a query asks for, each with the pattern and the query of what is asked."""
+    return [(it[0].strip("\"'"), unquoted(it[1]), it[2]) for it in arguments_of(query, "attr") if len(it) == 3 and it[2]] if "attr" in query else []
+
+
+def unquoted(word):
+    """A word without its quotes."""
+    return word[1:-1] if word[:1] in ("'", '"') and word[-1:] == word[:1] and len(word) > 1 else word
+
+
+def looking_through(query, place=""):
+    """The queries for what a query looks through; those about testonly need the place that it is asked of, a directory or the path of a bundle."""
     query = " ".join(query.split("\n"))
-    edges = [lost_of(it, *(word for word, lacks in LOST.items() if lacks)) for it in sorted(set(USERS.findall(query)))]
+    lacking = [word for word, lacks in LOST.items() if lacks]
+    edges = [lost_of(f"deps({it})", *lacking) for it in sorted({it[0] for name in USERS for it in arguments_of(query, name)})]
+    # (those that the answer has say it themselves)
+    edges += [lost_of(f"deps({it}) - ({query})", *lacking) for it in sorted({", ".join(it) for it in arguments_of(query, "deps")}) if f"deps({it})" != query]
+    edges += [lost_labels_of(*it) for it in sorted({(it[0].strip("\"'"), it[1]) for it in arguments_of(query, "labels") if len(it) == 2 and it[1]})]
     kinds = {it[1] for it in arguments_of(query, "kind") if len(it) == 2 and it[1]}
-    attributes = [(it[0].strip("\"'"), it[2]) for it in arguments_of(query, "attr") if len(it) == 3 and it[2]]
-    seen, only = ({of for name, of in attributes if name == asked} for asked in ("visibility", "testonly"))
-    return edges, [lost_of(it, "kind") for it in sorted(kinds)], [unseen_of(it) for it in sorted(seen)], [unmarked_of(it, bundle) for it in sorted(only)]
+    attributes = attributes_in(query)
+    seen, only = ({of for name, _, of in attributes if name == asked} for asked in ("visibility", "testonly"))
+    given = [(name, asked) for name, pattern, of in sorted({*attributes}) if (asked := ungiven_of(name, pattern, of, place))]
+    return LookedThrough(edges, [lost_of(it, "kind") for it in sorted(kinds)], [unseen_of(it) for it in sorted(seen)],
+                         [unmarked_of(it, place) for it in sorted(only)], given)
 
 
-def looked_through(query, counts):
-    """Of how many targets edges may be missing, how many have a kind that was made up, how many give no visibility, and how many may be testonly."""
-    edges, *others = looking_through(query)
-    found, at = [sum(counts[:len(edges)])], len(edges)
-    for it in others:
-        found.append(max(counts[at:at + len(it)], default=0))
-        at += len(it)
-    return found
+class Queries:
+    """A query, as `all` has it first, and those for what was lost under it; `place` is the path that it is asked of."""
+
+    def __init__(self, query, place):
+        self.query, self.through = " ".join(query.split("\n")), looking_through(query, place)
+        self.all = [self.query, lost_of(self.query, *LOST), *(lost_of(self.query, word) for word in LOST), *self.through.all()]
+
+    def lost(self, counts, targets):
+        """What was lost, by how many targets each of these queries has; `targets` gives the facts of a query's."""
+        own = 2 + len(LOST)
+        return Lost(self.query, counts[0], counts[1], dict(zip(LOST, counts[2:own])), *self.through.counts(counts[own:], targets))
 
 
-def queries_of(query, bundle):
-    """The query, and those for what was lost under it; `bundle` is the path of the bundle that it is asked of."""
-    return [query, lost_of(query, *LOST), *(lost_of(query, word) for word in LOST), *(it for part in looking_through(query, bundle) for it in part)]
+class Place:
+    """Where runs of bq, with these options, read a workspace: a bundle that is open, or the directory or bundle of a path."""
 
+    def __init__(self, program, options, place):
+        self.program = program
+        if isinstance(place, str):
+            (where, folder), self.path = where_of(place), place
+            self.words, self.how = [program, *options, *where], {"cwd": folder}
+        else:
+            self.path = path_of(place)
+            self.words, self.how = [program, *options, "--bundle", self.path], {"pass_fds": [place.fileno()]}
 
-def of_counts(query, counts):
-    """What was lost, by how many targets each of these queries has."""
-    own = 2 + len(LOST)
-    return Lost(query, counts[0], counts[1], dict(zip(LOST, counts[2:own])), *looked_through(query, counts[own:]))
+    def session(self, queries):
+        """How a session with these queries ends, and its blocks."""
+        text = "".join(f"{it}\n" for it in queries).encode("utf-8", "surrogateescape")
+        ended = subprocess.run([*self.words, "--queries", "-"], input=text, capture_output=True, check=False, **self.how)
+        return ended, list(blocks_of(ended.stdout))
 
+    def counts(self, queries):
+        """How many lines the answer of each of these queries has."""
+        ended, blocks = self.session(queries) if queries else (None, [])
+        if len(blocks) != len(queries):
+            raise ended_by(self.program, ended.returncode, ended.stderr.decode("utf-8", "replace").splitlines(), "--queries")
+        return [len(lines) for _, lines in blocks]
 
-def ask_all(program, options, bundle, queries):
-    """Runs queries in a session over an open bundle; gives their blocks, and the fault lines."""
-    words = [program, *options, "--bundle", path_of(bundle), "--queries", "-"]
-    text = "".join(f"{it}\n" for it in queries).encode("utf-8", "surrogateescape")
-    ended = subprocess.run(words, input=text, pass_fds=[bundle.fileno()], capture_output=True, check=False)
-    return list(blocks_of(ended.stdout)), ended.stderr
+    def targets(self, query):
+        """The facts of a query's targets."""
+        words = [*self.words, "--facts", "--", query.encode("utf-8", "surrogateescape")]
+        ended = subprocess.run(words, stdin=subprocess.DEVNULL, capture_output=True, check=False, **self.how)
+        if ended.returncode not in (0, 3):
+            raise ended_by(self.program, ended.returncode, ended.stderr.decode("utf-8", "replace").splitlines(), "--facts")
+        return Facts.of_lines(ended.stdout.splitlines()).targets.values()
 
+    def lost(self, query, targets):
+        """What was lost of these targets of facts, which a query has, and of those that it looks through."""
+        found, through = [{it.partition(":")[0] for it in target.lost} for target in targets], looking_through(query, self.path)
+        return Lost(query, len(found), sum(map(bool, found)), Counter(word for words in found for word in words),
+                    *through.counts(self.counts(through.all()), self.targets))
 
-def ask(program, options, bundle, query, more=()):
-    """Runs a query, and in the same session those for what was lost under it, and more; gives how a run of the query alone would end, the `Lost`,
-    and the blocks of the others."""
-    query = " ".join(query.split("\n"))
-    queries = [*queries_of(query, path_of(bundle)), *more]
-    words = [program, *options, "--bundle", path_of(bundle), "--queries", "-"]
-    text = "".join(f"{it}\n" for it in queries).encode("utf-8", "surrogateescape")
-    ended = subprocess.run(words, input=text, pass_fds=[bundle.fileno()], capture_output=True, check=False)
-    blocks = list(blocks_of(ended.stdout))
-    if len(blocks) != len(queries):
-        return ended, None, []
-    further = blocks[len(queries) - len(more):]
-    del blocks[len(queries) - len(more):]
-    status, lines = blocks[0]
-    if status == 2:
-        return Ended(b"", ended.stderr + b"".join(lines), 2), None, further
-    return Ended(b"".join(lines), ended.stderr, status), of_counts(query, [len(lines) for _, lines in blocks]), further
+    def ask(self, query, more=()):
+        """Runs a query, and in the same session those for what was lost under it, and more; gives how a run of the query alone would end, the `Lost`,
+        and the blocks of the others."""
+        queries = Queries(query, self.path)
+        ended, blocks = self.session([*queries.all, *more])
+        if len(blocks) != len(queries.all) + len(more):
+            return ended, None, []
+        blocks, further = blocks[:len(queries.all)], blocks[len(queries.all):]
+        status, lines = blocks[0]
+        if status == 2:
+            return Ended(b"", ended.stderr + b"".join(lines), 2), None, further
+        return Ended(b"".join(lines), ended.stderr, status), queries.lost([len(lines) for _, lines in blocks], self.targets), further
 
 
 def path_of(bundle):

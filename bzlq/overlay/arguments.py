@@ -195,7 +195,7 @@ def _unnamed(args):
     is_odd = [it for it in texts if it[:1] in (":", "@") or ("." in it or "/" in it) and " " not in it and it[:1] != "-"]
     return ["edges: arguments without a name"] if is_odd or _MARK in str(args) else []
 
-def bzlq_given(rule, lost, given, args = ()):
+def bzlq_given(rule, lost, given, args = (), defaults = {}):
     found, edges = dict(given), {}
     lost = lost + (found.pop("bzlq_lost", None) or []) + (_unnamed(args) if args else [])
     text = str(given)
@@ -214,6 +214,9 @@ def bzlq_given(rule, lost, given, args = ()):
         labels = [it for it in {it: None for it in _AND.join(edges.keys()).split(_AND)} if it and it != _DEFAULT]
         if labels:
             found["bzlq_edges"] = labels
+    for key, value in defaults.items():
+        if found.get(key) == None:
+            found[key] = value
     if _PASSED:
         lost = lost + _PASSED.get(native.package_name(), [])
     if lost:

@@ -8,7 +8,7 @@ from bzlq.overlay.analysis import VALUE_METHODS
 from bzlq.overlay.arguments import LABEL as GIVEN, PREFIX
 from bzlq.overlay.definitions import value_for
 from bzlq.overlay.guesses import BY_NAME, type_of
-from bzlq.overlay.reading import BUILD_FUNCTIONS, PLACEHOLDER, TRISTATES, Either, children_of, has_name, kind_of, makers_of, names_bound, nodes_of, parsed, why_not
+from bzlq.overlay.reading import BUILD_FUNCTIONS, PLACEHOLDER, TRISTATES, Either, bound_by, children_of, has_name, kind_of, makers_of, names_bound, nodes_of, parsed, why_not
 from bzlq.overlay.replacements import EXISTING, NATIVE_VALUES, REPLACED, asks_for_rules, label_in, labels_bound, replacement
 from bzlq.overlay.rule_sets import BAZEL, TESTS
 from bzlq.overlay.starlark_text import quoted
@@ -41,6 +41,11 @@ class Copy:
         self.own_names(set())
         self.loads_more = defaultdict(set)  # a loaded name -> members that stand as symbols of their own
         self.empty_texts = empty_texts(facts, file)
+        self.with_directories = named_directories(text)
+        self.structs = file.structs
+        if file.is_build and (fields := facts.fields_loaded(file)):
+            # (members of what isn't there are none)
+            self.structs = fields, {it for it in file.globals if facts.value_lost(file, it) or facts.is_stub(file, it)}
         self.more = ""  # a line at the end
         self.has_escapes = b"\\" in text
         own = facts.workspace.name
@@ -135,7 +140,7 @@ class Copy:
             elif self.has_escapes and isinstance(node.value, str):
                 self.escapes(node)
             return
-        if found := replacement(node, self.all_names, self.labels) if isinstance(node, REPLACED) else None:
+        if found := replacement(node, self.all_names, self.labels, self.structs) if isinstance(node, REPLACED) else None:
             self.put(node, found)
             return
         match node:
@@ -344,6 +349,7 @@ class Copy:
     def may_lose(self, call):
         """Whether what stands for a rule is to be called in its place: it is a test, or some argument may be a dict or have a `select`."""
         is_odd = call.func.id in TESTS or has_output_as_input(call) or call.func.id == "test_suite" and not any(key.arg == "tests" for key in call.keywords)
+        is_odd = is_odd or self.with_directories is not None and self.has_directories(nodes_of(call))
         return is_odd or bool(self.facts.workspace.left_out_of(self.file)) or any(
             not self.is_plain(key.value) if key.arg != "name" else self.values_lost(nodes_of(key.value)) for key in call.keywords)
 
@@ -401,7 +407,13 @@ class Copy:
                     found[told] = None
         if self.file.existing and asks_for_rules(nodes):
             found[self.facts.lost_value(self.file, EXISTING)] = None
+        if self.with_directories is not None and self.has_directories(nodes):
+            found["files: directories of a glob"] = None
         return list(found)
+
+    def has_directories(self, nodes):
+        """Whether nodes have a glob that gives directories, or the name of one."""
+        return any(gives_directories(it) or isinstance(it, ast.Name) and it.id in self.with_directories and it.id not in self.locals for it in nodes)
 
     def given(self, node, name):
         """Has a function of `@bzlq//:given.bzl` stand in the place of a name."""
@@ -457,6 +469,21 @@ class Copy:
             # (half a character has no bytes, and what isn't UTF-8 was read as something else: bq says where the escape is)
             if PLACEHOLDER not in value and not HALVES.search(value):
                 self.parts.append((start, end, f"{quote}{value}{quote}".encode("utf-8")))
+
+
+def gives_directories(node):
+    """Whether a node is the argument by which a glob gives directories."""
+    return isinstance(node, ast.keyword) and node.arg == "exclude_directories" and isinstance(node.value, ast.Constant) and node.value.value in (0, False)
+
+
+def named_directories(text):
+    """The globals of a file in whose values globs give directories; None where it has no such glob."""
+    if b"exclude_directories" not in text:
+        return None
+    statements = [(node, nodes_of(node)) for node in parsed(text).body]
+    if not any(gives_directories(it) for _, nodes in statements for it in nodes):
+        return None
+    return {name for node, nodes in statements if not isinstance(node, ast.FunctionDef) and any(map(gives_directories, nodes)) for name in bound_by(node)}
 
 
 def declares_tests(file):

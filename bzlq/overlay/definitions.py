@@ -5,13 +5,14 @@ from bzlq.overlay import skylib, test_rules
 from bzlq.overlay.guesses import type_of
 from bzlq.overlay.reading import BUILD_FUNCTIONS, BUILT_INS
 from bzlq.overlay.rule_sets import ENDINGS, OTHER_KINDS, SEVERAL, SIZES, TYPES
-from bzlq.overlay.starlark_text import quoted
+from bzlq.overlay.starlark_text import quoted, starlark
 
 # macros of which it is known what they declare, by their repositories
 KNOWN = {it.REPOSITORY: it.RULES for it in (skylib, test_rules)}
 RESERVED = set("""and break continue def elif else for if in lambda load not or pass return as assert async await class del except finally from
     global import is nonlocal raise try while with yield native""".split()) | BUILT_INS | BUILD_FUNCTIONS
-
+# what no attribute may be called
+NO_ATTRIBUTES = RESERVED - BUILD_FUNCTIONS - BUILT_INS
 
 
 def rule_of(symbol):
@@ -58,8 +59,8 @@ def made_up(symbol, label):
     return [] if name in TYPES and name not in OTHER_KINDS and name not in ENDINGS else [f"kind: {symbol} of {label}, which isn't there"]
 
 
-def forwarded(symbol, lost, endings):
-    """The text of a macro that forwards to a rule, and declares targets of these endings, each with its rule, beside it."""
+def forwarded(symbol, lost, endings, defaults):
+    """The text of a macro that forwards to a rule, with these defaults of its attributes, and declares targets of these endings, each with its rule, beside it."""
     texts = ", ".join(quoted(it) for it in lost)
 
     def call(rule, given, unnamed=""):
@@ -67,17 +68,18 @@ def forwarded(symbol, lost, endings):
 
     more = "".join(f'; {call(rule, f"""{{"name": name + "{ending}", "data": [":" + name]}}""")}' for ending, rule in endings.items())
     size = f', "size": "{SIZES[symbol]}"' if symbol in SIZES else ""
-    return f"def {symbol}(name, *args, **given): " + call(rule_of(symbol), f'dict({{"name": name{size}}}, **given)', ", args") + more
+    more_given = f", args, {starlark(defaults)}" if defaults else ", args"
+    return f"def {symbol}(name, *args, **given): " + call(rule_of(symbol), f'dict({{"name": name{size}}}, **given)', more_given) + more
 
 
-def definition(repository, symbol, stub, lost=()):
-    """The text that defines a symbol, in one line but for members of skylib's. `lost` says what is made up."""
+def definition(repository, symbol, stub, lost=(), defaults=()):
+    """The text that defines a symbol, in one line but for members of skylib's. `lost` says what is made up; `defaults` are those of a rule's attributes."""
     if symbol in skylib.MEMBERS and repository:
         return f"def {symbol}{skylib.MEMBERS[symbol]}"
     if symbol in KNOWN.get(repository, {}):
         return f"def {symbol}{KNOWN[repository][symbol]}".replace("LOST", f"[{', '.join(quoted(it) for it in lost)}]")
     if stub.makes_targets:
-        return forwarded(symbol, lost, ENDINGS.get(symbol, {}) if repository else {})
+        return forwarded(symbol, lost, ENDINGS.get(symbol, {}) if repository else {}, defaults)
     if repository and symbol in LABELS_OF:
         return f"def {symbol}(name, *args, **kwargs): return {LABELS_OF[symbol].format(repository=repository)}"
     if not stub.is_called:

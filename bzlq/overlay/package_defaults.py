@@ -6,11 +6,10 @@ import os
 import re
 
 from bzlq.overlay.reading import parsed
-from bzlq.workspace.files import parts
+from bzlq.workspace.files import content, files, parts
 from bzlq.workspace.packages import NAMES as NAMES_OF_FILES
 
 CALL = re.compile(rb"^package\(", re.M)
-TESTONLY = re.compile(rb"^[^#\n]*\bdefault_testonly\b", re.M)
 TARGET = re.compile(rb'^\{"target":"([^":]*)', re.M)
 NAMES = ("default_visibility", "default_testonly", "default_deprecation", "features", "default_applicable_licenses", "default_package_metadata")
 
@@ -25,10 +24,12 @@ def lines_of(bundle, facts):
                 yield json.dumps({"package": label(os.path.dirname(path)), "file": path, "line": line, **said}, separators=(",", ":"), ensure_ascii=False)
 
 
-def testonly_packages(bundle):
-    """The packages whose rules may be testonly by default: their calls say so, or give what they don't show."""
-    found = [(path, text) for path, text in parts(bundle).items() if os.path.basename(path) in NAMES_OF_FILES and TESTONLY.search(text)]
-    return [label(os.path.dirname(path)) for path, text in found if said_of(text).get("default_testonly", True) not in (False, 0)]
+def packages_with(name, place):
+    """The packages of a bundle, or of a directory, whose calls give their rules this default, or one that they don't show."""
+    texts = parts(place) if not os.path.isdir(place) else {it: content(place, it) for it in files(place) if os.path.basename(it) in NAMES_OF_FILES}
+    is_there = re.compile(rb"^[^#\n]*\b%s\b" % name.encode(), re.M)
+    found = [(path, text) for path, text in texts.items() if os.path.basename(path) in NAMES_OF_FILES and is_there.search(text)]
+    return [label(os.path.dirname(path)) for path, text in found if said_of(text).get(name, True) not in (False, 0, "")]
 
 
 def said_of(text):

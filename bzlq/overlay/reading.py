@@ -8,9 +8,9 @@ import codecs
 import re
 import warnings
 from collections import defaultdict
-from dataclasses import dataclass, field
+from dataclasses import dataclass, field, replace
 
-from bzlq.overlay.replacements import EXISTING, NAMES, REPLACED, asks_for_rules, label_in, labels_bound, replacement
+from bzlq.overlay.replacements import EXISTING, NAMES, REPLACED, asks_for_rules, label_in, labels_bound, replacement, struct_makers, structs_in
 from bzlq.overlay.rule_sets import BAZEL
 from bzlq.workspace.files import MAX_SIZE
 
@@ -44,6 +44,12 @@ LONE_RETURN = re.compile(r"\r(?!\n)")
 IDENTIFIER = re.compile(r"[A-Za-z_]\w*", re.ASCII)
 # a comprehension, or a loop (the text comes first, so that most of a file is passed over quickly)
 FOR = re.compile(rb"for(?<!\wfor)\b")
+
+
+# how often a file is read again for its structs
+MOST_READ_AGAIN = 4
+# the parts of a `File` that its tree fills
+FILLED = """loads defs aliases natives made defaults macros tests kinds called plain statements globals calls uses members member_calls faults decisions""".split()
 
 
 # what leaves a function, or a turn of a loop, and what it stands in
@@ -136,6 +142,7 @@ class File:
     aliases: dict = field(default_factory=dict)  # a global that is another name
     natives: dict = field(default_factory=dict)  # a global that is a member of `native`: a rule of Bazel's own
     made: dict = field(default_factory=dict)  # a global that a call of `rule` gives: the types that it says, by attribute
+    defaults: dict = field(default_factory=dict)  # the same global: the defaults that the text shows, by attribute
     macros: dict = field(default_factory=dict)  # a global that a call of `macro` gives: its function, and the text of its attributes' defaults
     size: int = 0
     tests: set = field(default_factory=set)  # those of them that say `test = True`
@@ -152,6 +159,7 @@ class File:
     decisions: list = field(default_factory=list)  # what decides which calls are made: (its names, and parameters in parentheses, the function around, the first of the calls, the one after the last, line)
     labels: list = field(default_factory=list)  # the labels of other repositories that its text names, each as (repository, package, name)
     existing: list = field(default_factory=list)  # the lines of calls that ask which rules there are
+    structs: tuple = (frozenset(), frozenset())  # the fields of structs that its functions make, and names whose members aren't such
     is_odd: bool = False  # whether its text has what a copy may have something else for
 
 
@@ -283,7 +291,7 @@ class Reader(ast.NodeVisitor):
 
     def visit(self, node):
         """Reads a node, or what stands for it."""
-        found = replacement(node, self.all_names, self.labels) if isinstance(node, REPLACED) else None
+        found = replacement(node, self.all_names, self.labels, self.file.structs) if isinstance(node, REPLACED) else None
         if found:
             for part in found.pieces:
                 if isinstance(part, ast.AST):
@@ -451,7 +459,7 @@ class Reader(ast.NodeVisitor):
             rights.append((wanted, node.right))
             node = node.left
             # (the parts of a long sum lie one in another; what is replaced is read by `visit`)
-            if not isinstance(node, ast.BinOp) or replacement(node, self.all_names, self.labels):
+            if not isinstance(node, ast.BinOp) or replacement(node, self.all_names, self.labels, self.file.structs):
                 break
         self.wanting(wanted, node)
         for wanted, right in reversed(rights):
@@ -621,24 +629,43 @@ ATTRIBUTE_TYPES = {name: name for name in "bool int label label_list output outp
 
 
 def rule_attributes(value, dicts):
-    """The types that a call of `rule` gives its attributes, as far as the text and these globals show them; nothing for another value."""
+    """The types that a call of `rule` gives its attributes, and their defaults, as far as the text and these globals show them; nothing for another value."""
     match value:
         case ast.Call(func=ast.Name(id="rule")):
             pass
         case ast.Call(func=ast.Attribute(value=ast.Name(id="analysistest" | "unittest"), attr="make")):
-            return {"target_under_test": "label"}
+            return {"target_under_test": "label"}, {}
         case _:
-            return None
+            return None, {}
     shown = [part for key in value.keywords if key.arg == "attrs" for part in ast.walk(key.value)]
     shown += [part for name in shown if isinstance(name, ast.Name) and name.id in dicts for part in ast.walk(dicts[name.id])]
     pairs = [pair for part in shown if isinstance(part, ast.Dict) for pair in zip(part.keys, part.values)]
     pairs += [(ast.Constant(key.arg), key.value) for part in shown if isinstance(part, ast.Call) for key in part.keywords if key.arg]
-    found = {}
+    types, defaults = {}, {}
     for name, kind in pairs:
         match name, kind:
-            case ast.Constant(value=str() as name), ast.Call(func=ast.Attribute(value=ast.Name(id="attr"), attr=kind)):
-                found[name] = ATTRIBUTE_TYPES.get(kind, "")
-    return found
+            case ast.Constant(value=str() as name), ast.Call(func=ast.Attribute(value=ast.Name(id="attr"), attr=of), keywords=given):
+                types[name] = ATTRIBUTE_TYPES.get(of, "")
+                defaults[name] = default_shown(types[name], given, dicts)
+    return types, {name: it for name, it in defaults.items() if it and IDENTIFIER.fullmatch(name)}
+
+
+# the types of defaults that are given as data: those of labels would make edges, which Bazel counts as implicit
+GIVEN_TYPES = {"bool": bool, "int": int, "string": str, "string_list": list}
+MOST_OF_DEFAULT = 1000
+
+
+def default_shown(kind, given, dicts):
+    """The default of an attribute of this type, where these arguments or these globals show it, and it isn't what the type has anyway."""
+    value = next((key.value for key in given if key.arg == "default"), None)
+    value = dicts.get(value.id) if isinstance(value, ast.Name) else value
+    try:
+        found = ast.literal_eval(value) if isinstance(value, ast.Constant | ast.List | ast.UnaryOp) else None
+    except (ValueError, TypeError):
+        return None
+    texts = found if isinstance(found, list) else [found] if isinstance(found, str) else []
+    is_one = type(found) is GIVEN_TYPES.get(kind) and all(isinstance(it, str) and it.isprintable() for it in texts)
+    return found if is_one and found and len(str(found)) <= MOST_OF_DEFAULT else None
 
 
 # what attributes of a symbolic macro have where neither a call nor their definition says it
@@ -727,9 +754,9 @@ def top_level(file, tree, may_bind):
                     dicts[part.id] = value
                     if found := symbolic(value, dicts):
                         file.macros[part.id] = found
-                    attributes = rule_attributes(value, dicts)
+                    attributes, defaults = rule_attributes(value, dicts)
                     if attributes is not None:
-                        file.made[part.id] = attributes
+                        file.made[part.id], file.defaults[part.id] = attributes, defaults
                         left -= len(attributes)
                         if left < 0:
                             raise ValueError(f"its rules have more than {MOST_ATTRIBUTES:,} attributes")
@@ -779,7 +806,8 @@ def read(path, text):
             raise ValueError("a name isn't ASCII")
         if b"existing_rules" in text:
             file.existing = [it.lineno for node in tree.body for it in asks_for_rules(nodes_of(node))]
-        fill(file, tree, b":=" in text or bool(FOR.search(text)))
+        makers = struct_makers(tree) if not is_build and b"struct(" in text else []
+        file = filled(file, tree, b":=" in text or bool(FOR.search(text)), makers)
     except Exception as error:  # (Python's parser has limits of its own; and no file is to end the reading of the others)
         # (what was read until then is no more sure than nothing)
         file = File(path, is_build, why_not(error), size=len(text), labels=labels, is_odd=is_odd)
@@ -793,6 +821,21 @@ def why_not(error):
     if isinstance(error, SyntaxError | ValueError):
         return f"{getattr(error, 'lineno', 0) or 0}: {getattr(error, 'msg', error)}"
     return f"0: it can't be read here ({type(error).__name__}: {error})"
+
+
+def filled(file, tree, may_bind, makers):
+    """A file with what its tree says. Structs of these functions are read as dicts; where something else of such a function is left out, it is not among
+    them, and all is read again."""
+    for left in range(MOST_READ_AGAIN, -1, -1):
+        structs = structs_in(tree, makers) if makers else (frozenset(), frozenset())
+        found = replace(file, structs=structs, **{name: type(it)() for name, it in vars(file).items() if name in FILLED})
+        fill(found, tree, may_bind)
+        lines = sorted(line for line, _ in found.faults)
+        sure = [it for it in makers if bisect.bisect_left(lines, it.lineno) == bisect.bisect_right(lines, it.end_lineno)]
+        if len(sure) == len(makers):
+            break
+        makers = sure if left > 1 else []
+    return found
 
 
 def fill(file, tree, may_bind):

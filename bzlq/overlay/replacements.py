@@ -21,6 +21,61 @@ NATIVE_VALUES = {"repository_name": '"@"', "repo_name": '""', "module_name": "No
 NAMES = ("Label", "abs", "depset", "hasattr", "json", *NATIVE_VALUES)
 
 
+# parameters of what Bazel runs after loading, whose members are no fields of the file's own structs
+CONTEXTS = ("ctx", "native", "repository_ctx", "module_ctx", "target")
+
+
+def struct_makers(tree):
+    """The functions of a file that make structs."""
+    return [node for node in tree.body if isinstance(node, ast.FunctionDef) and any(map(is_struct, ast.walk(node)))]
+
+
+def structs_in(tree, makers):
+    """The fields of the structs that these functions of a file make, and the names whose members aren't fields: those that it loads, or that are structs
+    of other fields. No fields where one is called, as a function that a struct has: a dict has no such member."""
+    fields = {name for node in makers for it in ast.walk(node) if is_struct(it) for name in fields_of(it)}
+    called = {it.func.attr for it in ast.walk(tree) if isinstance(it, ast.Call) and isinstance(it.func, ast.Attribute)} if fields else set()
+    others = {it.id for node in tree.body if isinstance(node, ast.Assign) and any(is_struct(part) and not fields_of(part) <= fields for part in ast.walk(node.value))
+              for part in node.targets for it in ast.walk(part) if isinstance(it, ast.Name)}
+    loads = [node.value for node in tree.body if isinstance(node, ast.Expr) and isinstance(node.value, ast.Call) and getattr(node.value.func, "id", "") == "load"]
+    others |= {part.value for it in loads for part in it.args[1:] if isinstance(part, ast.Constant)} | {key.arg for it in loads for key in it.keywords}
+    return (frozenset(), frozenset()) if fields & called else (frozenset(fields), frozenset(it for it in others if isinstance(it, str)))
+
+
+def is_struct(node):
+    """Whether a node is a struct that is made of named values, which counts as true as a dict of these does."""
+    return isinstance(node, ast.Call) and isinstance(node.func, ast.Name) and node.func.id == "struct" and bool(node.keywords) and not node.args
+
+
+def fields_of(call):
+    """The fields that a call shows."""
+    return {key.arg for key in call.keywords if key.arg}
+
+
+def struct(call):
+    """A dict with what a struct has."""
+    pieces = ["dict("]
+    for key in call.keywords:
+        pieces += [f"{key.arg} = " if key.arg else "**", key.value, ", "]
+    return Replacement("a struct", [*pieces[:-1], ")"])
+
+
+def is_of_own(name, others):
+    """Whether a member of what has this name at its root may be a field of a struct of the file's own."""
+    return name not in others and name not in CONTEXTS
+
+
+def root_name(node):
+    """The name at the root of members, elements and calls; empty where there is none."""
+    while not isinstance(node, ast.Name):
+        match node:
+            case ast.Attribute(value=of) | ast.Subscript(value=of) | ast.Call(func=of):
+                node = of
+            case _:
+                return ""
+    return node.id
+
+
 # what stands for a call of `existing_rules` among the names that a file uses: no file binds it
 EXISTING = "native.existing_rules"
 # the nodes that may be replaced
@@ -92,8 +147,10 @@ def depset(call):
     return Replacement("a depset", [*pieces, " for part in parts}.keys()"] if given else ["[]"], "list")
 
 
-def replacement(node, bound=(), labels=()):
-    """What stands for a node; nothing where the table hasn't it. `bound` are the names that the file and the function around bind."""
+def replacement(node, bound=(), labels=(), structs=(frozenset(), frozenset())):
+    """What stands for a node; nothing where the table hasn't it. `bound` are the names that the file and the function around bind, `structs` what
+    structs_in says of the file."""
+    fields, others = structs
     match node:
         case ast.Call(func=ast.Name(id="depset")) if "depset" not in bound:
             return depset(node)
@@ -103,6 +160,10 @@ def replacement(node, bound=(), labels=()):
             return Replacement("a member of a label", [f"[({LABEL_MEMBERS[member]}) for t in [", label_in(of), "]][0]"])
         case ast.Attribute(value=ast.Name(id=name) as of, attr=member) if member in LABEL_MEMBERS and name in labels:
             return Replacement("a member of a label", [f"[({LABEL_MEMBERS[member]}) for t in [", of, "]][0]"])
+        case ast.Call() if fields and is_struct(node) and "struct" not in bound and "dict" not in bound and fields_of(node) <= fields:
+            return struct(node)
+        case ast.Attribute(value=of, attr=member, ctx=ast.Load()) if member in fields and root_name(of) in bound and is_of_own(root_name(of), others):
+            return Replacement("a struct", [of, f'["{member}"]'])
         case ast.Call(func=ast.Name(id="abs"), args=[of], keywords=[]) if "abs" not in bound:
             return Replacement("a function", ["max([sign * (", of, ") for sign in (1, -1)])"])
         case ast.Call(func=ast.Name(id="hasattr"), args=[ast.Name(id=name), ast.Constant()]) if "hasattr" not in bound:

@@ -4,16 +4,14 @@ from collections import Counter, defaultdict
 
 from bzlq.overlay import test_rules
 from bzlq.overlay.arguments import ATTRIBUTES
-from bzlq.overlay.definitions import RESERVED, rule_of
+from bzlq.overlay.definitions import NO_ATTRIBUTES, rule_of
 from bzlq.overlay.guesses import BASE, COMMON, DICTS, FAMILIES, attributes_of, type_of
-from bzlq.overlay.reading import BUILD_FUNCTIONS, BUILT_INS, IDENTIFIER
+from bzlq.overlay.reading import IDENTIFIER
 from bzlq.overlay.rule_sets import BAZEL, CLOSED, DICTS_OF, ENDINGS, LATER, MANDATORY, OF_BAZEL, TESTS, TEST_TYPES, TYPES
 
 # how near a name is to one that it may have been meant for: `sources` to `srcs` is
 NEAR = 0.72
 STANDARD = ("alias", "filegroup", "genrule", "test_suite")
-# what no attribute may be called
-NO_ATTRIBUTES = RESERVED - BUILD_FUNCTIONS - BUILT_INS
 # of how many attributes of a rule it is looked whether they are misspelt: no rule has so many
 MOST_ATTRIBUTES = 1000
 

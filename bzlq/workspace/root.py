@@ -1,7 +1,11 @@
 """Where the workspace is: takes the folder that one stands in, gives the root, and the folder's path from there."""
 import os
+import re
 
 from bzlq.workspace.files import ROOT_FILES, SCHEMA, Refused
+
+# what Bazel puts before each BUILD file, and bq doesn't read; a line of it that isn't a comment
+PRELUDE, SAYS = "tools/build_rules/prelude_bazel", re.compile(rb"^[^\s#]", re.M)
 
 
 class NoRoot(Refused):
@@ -22,6 +26,20 @@ def root_of(folder):
     if os.path.isfile(os.path.join(folder, SCHEMA)):
         return folder
     raise NoRoot(f"no WORKSPACE or MODULE.bazel in {folder} or above it{below(folder)}")
+
+
+def preludes(text):
+    """What is said of a prelude, by its text."""
+    return [f"{PRELUDE}, which Bazel puts before each BUILD file, isn't read"] if SAYS.search(text) else []
+
+
+def preludes_of(root):
+    """The same of a directory."""
+    try:
+        with open(os.path.join(root, PRELUDE), "rb") as file:
+            return preludes(file.read(1_000_000))
+    except OSError:
+        return []
 
 
 def folder_of(root):

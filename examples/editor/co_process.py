@@ -20,7 +20,7 @@ import sys
 sys.path.insert(0, f"{os.path.dirname(os.path.realpath(__file__))}/../..")
 from bzlq.bq import FAULT, BqError, ProcessError, program_of, with_overlay  # noqa: E402
 from bzlq.facts.loaded import Loaded, path_of  # noqa: E402
-from bzlq.overlay.approximations import of_counts, queries_of  # noqa: E402
+from bzlq.overlay.approximations import Queries  # noqa: E402
 from bzlq.workspace.files import SCHEMA, Refused, has_content, is_path, parts, read_file  # noqa: E402
 from bzlq.workspace.root import root_of  # noqa: E402
 
@@ -75,9 +75,9 @@ class Editor:
 
     def asked(self, query, told):
         """The answer to a query, with what the overlay has made up or left out of it."""
-        first, *more = queries_of(query, self.bundle)
-        answer = self.loaded.workspace.query(first)
-        lost = of_counts(query, [len(answer), *(len(self.loaded.workspace.query(it)) for it in more)])
+        queries = Queries(query, self.bundle)
+        answer = self.loaded.workspace.query(queries.query)
+        lost = queries.lost([len(answer), *(len(self.loaded.workspace.query(it)) for it in queries.all[1:])], self.loaded.targets)
         return {"answer": answer, "faults": told["faults"], "notes": [*told["notes"], *lost.lines()]}
 
     def notes(self, saved):

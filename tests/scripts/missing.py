@@ -4,8 +4,10 @@ Each has a small workspace in which something is made up, left out or can't be r
 outputs (of standard error: lines that have to be there), with its status.
 """
 import re
+from unittest import mock
 
 from bench import ROOT
+from bzlq.overlay import approximations
 from bzlq.overlay.arguments import LOST
 from histories import Project
 from mistakes import MISTAKES, WORKSPACE
@@ -162,6 +164,18 @@ LOSSES = {
     "value, in a name": ({"a/BUILD": 'load("@r//:m.bzl", "MORE")\nfilegroup(name = "t%d" % len(MORE))\n'}, "//a:all", "//a:t0\n", "value that isn't there 1", 3),
     "value, under a query of users": ({"a/BUILD": 'load("@r//:m.bzl", "files")\nfilegroup(name = "t", srcs = files("a"))\nfilegroup(name = "u")\n'}, "rdeps(//..., //a:u)",
                                       "//a:u\n", "1 of the targets that this query looks through may lack edges", 3),
+    "value, under a query of users below a sum": ({"a/BUILD": 'load("@r//:m.bzl", "files")\nfilegroup(name = "s", srcs = [":t"])\nfilegroup(name = "t", srcs = files("a"))\nfilegroup(name = "u")\n'},
+                                                  "rdeps(//a:s + //a:u, //a:u)", "//a:u\n", "1 of the targets that this query looks through may lack edges", 3),
+    "value, under a query of files": ({"a/BUILD": 'load("@r//:m.bzl", "files")\nfilegroup(name = "t", srcs = files("a", ["b.c"]))\n'}, 'kind("source file", deps(//a:t))', "//a:b.c\n",
+                                      "1 of the targets that this query looks through may lack edges", 3),
+    "value, under a difference": ({"a/BUILD": 'load("@r//:m.bzl", "files")\nfilegroup(name = "t", srcs = files("a", ["b.c"]))\n'}, "let v = deps(//a:t, 1) in $v - //a:t", "//a:b.c\n",
+                                  "1 of the targets that this query looks through may lack edges", 3),
+    "value, under a query of labels": ({"a/BUILD": 'load("@r//:m.bzl", "files")\nfilegroup(name = "t", srcs = files("a"))\nfilegroup(name = "u")\n'}, "labels(srcs, //a:all) + //a:u", "//a:u\n",
+                                       "1 of the targets that this query looks through may lack edges", 3),
+    "select, under a query of labels": ({"a/BUILD": 'alias(name = "t", actual = select({":c": ":x", "//conditions:default": ":y"}))\nfilegroup(name = "c")\nfilegroup(name = "x")\nfilegroup(name = "y")\n'},
+                                        "labels(actual, //a:t)", "//a:y\n", "1 of the targets that this query looks through may lack edges", 3),
+    "testonly, of a kind that was made up": ({"a/BUILD": R + 'junit_tests(name = "t", srcs = ["T.java"])\nfilegroup(name = "x", testonly = 1)\n'}, "attr(testonly, 1, //a:all)", "//a:x\n",
+                                             "1 of the targets that this query looks through may be testonly by a default", 3),
     "edges": ({"a/BUILD": 'load("@r//:m.bzl", "pack")\npack(name = "t", odd_of = ["a.txt"])\n'}, "//a:t", "//a:t\n", "kind made up 1, edges by a type that was guessed 1", 3),
     "edges, by arguments without a name": ({"a/BUILD": 'load("@r//:m.bzl", "suite")\nsuite("t", ["a.java"], size = "small")\n'}, "//a:t", "//a:t\n", "kind made up 1, edges by a type that was guessed 1", 3),
     "kind, with other arguments without a name": ({"a/BUILD": 'load("@r//:m.bzl", "suite")\nsuite("t", "small", 1, ["-a"], size = "small")\n'}, "//a:t", "//a:t\n", "kind made up 1\n", 0),
@@ -173,6 +187,11 @@ LOSSES = {
                                 "//a:s", "//a:s\n", "bzlq: reading the workspace\n", 0),
     "files, by a macro": ({"a/BUILD": 'load("//:m.bzl", "m")\nm(name = "t")\n', "BUILD": "", "m.bzl": 'def m(name):\n    srcs = native.glob(["*.txt"])\n    native.filegroup(name = name, srcs = srcs)\n',
                            "a/ü.txt": ""}, "//a:t", "//a:t\n", "files left out 1", 3),
+    "files, directories of a glob": ({"a/BUILD": 'filegroup(name = "t", srcs = glob(["*"], exclude_directories = 0))\n', "a/d/x": ""}, "deps(//a:t)", "//a:BUILD\n//a:t\n", "files left out 1", 3),
+    "files, directories of a glob with a name": ({"a/BUILD": 'D = glob(["d"], exclude_directories = False)\nfilegroup(name = "t", srcs = D)\nfilegroup(name = "u")\n', "a/d/x": ""}, "deps(//a:t + //a:u)",
+                                                 "//a:t\n//a:u\n", "1 of 2 targets of this answer is an approximation: files left out 1", 3),
+    "files, directories of a glob of a macro": ({"a/BUILD": 'load(":m.bzl", "m")\nm("t")\n', "a/m.bzl": 'def m(name):\n    srcs = native.glob(["d"], exclude_directories = 0)\n    native.filegroup(name = name, srcs = srcs)\n', "a/d/x": ""},
+                                                "deps(//a:t)", "//a:t\n", "files left out 1", 3),
     "dict": ({"a/BUILD": 'config_setting(name = "t", values = {"cpu": "arm"})\n'}, "//a:t", "//a:t\n", "dict left out 1", 0),
     "dict, with labels": ({"a/BUILD": 'config_setting(name = "t", flag_values = {":f": "arm"})\nfilegroup(name = "f")\n'}, "deps(//a:t)", "//a:f\n//a:t\n", "dict left out 1", 0),
     "dict, with labels as values": ({"a/BUILD": 'load("@r//:m.bzl", "pack")\npack(name = "t", files = {"x": ":a.txt"})\n'}, "//a:t", "//a:t\n", "edges by a type that was guessed 1, dict left out 1", 3),
@@ -198,7 +217,8 @@ def losses(bench):
     for what in ("kind, of others than are asked for", "kind, by a variable", "value, under a query of users"):
         files, query, _, line, _ = LOSSES[what]
         bench.lay_out("ws", {"WORKSPACE": "", **files})
-        for word, of in (("facts", "bzlq"), ("graph", "graph")):
+        bench.run("cp $(bzlq --bundle-path) ../bundle", "ws")
+        for word, of in (("facts", "bzlq"), ("graph", "graph"), ("graph --bundle ../bundle", "graph")):
             found = bench.run(f"bzlq {word} '{query}'", "ws")
             told(bench, f"lost, by {word}, {what}", ("", *found[1:]), "", [f"{of}: {line}\n"], 3)
     bench.lay_out("ws", {"WORKSPACE": "", **LOSSES["test_suite"][0]})
@@ -287,8 +307,9 @@ SIZES = {"a/BUILD": 'load("@rules_cc//cc:defs.bzl", "cc_test")\ncc_test(name = "
 # of two packages the rules x and b give a visibility
 SEEN = {"a/BUILD": 'filegroup(name = "x", visibility = ["//visibility:private"])\nfilegroup(name = "y", srcs = ["//b"])\n',
         "b/BUILD": 'filegroup(name = "b", visibility = ["//visibility:public"])\nfilegroup(name = "c")\n'}
-# rules that Bazel takes as testonly though they don't say so: the test and the suite of a, one of b, and that of b+b (bq can't tell that c of b gives False)
-ONLY = {"a/BUILD": 'filegroup(name = "x", testonly = True)\nfilegroup(name = "y")\nsh_test(name = "t", srcs = ["t.sh"])\ntest_suite(name = "s", tests = [":t"])\n',
+# rules that Bazel takes as testonly though they don't say so: the test and the suite of a, one of b, and that of b+b
+ONLY = {"a/BUILD": 'filegroup(name = "x", testonly = True)\nfilegroup(name = "y")\nsh_test(name = "t", srcs = ["t.sh"])\ntest_suite(name = "s", tests = [":t"])\n'
+                   'sh_test(name = "u", srcs = ["t.sh"], testonly = False)\n',
         "b/BUILD": 'package(default_testonly = True)\nfilegroup(name = "b")\nfilegroup(name = "c", testonly = False)\n',
         "b+b/BUILD": 'V = True\npackage(default_testonly = V)\nfilegroup(name = "b")\n',
         "c/BUILD": 'package(default_testonly = False)\n# default_testonly = True\nfilegroup(name = "c")\n'}
@@ -313,17 +334,26 @@ def defaults(bench):
     bench.lay_out("ws", {"WORKSPACE": "", **ONLY})
     line = "bzlq: {} of the targets {} may be testonly by a default of Bazel's (tests, default_testonly), and attr(..) takes {} as not\n".format
     looked = "that this query looks through"
-    for query, output, said in (("attr(testonly, 1, //...)", "//a:x\n", line(5, looked, "them")), ("attr('testonly', 0, //b:b)", "//b:b\n", line(1, looked, "it")),
-                                ("attr(testonly, 1, deps(//a:s)) + attr(testonly, 1, //c:*)", "", line(2, looked, "them")), ("let v = //a:t in attr(testonly, 1, $v)", "", line(5, looked, "them"))):
+    for query, output, said in (("attr(testonly, 1, //...)", "//a:x\n", line(4, looked, "them")), ("attr('testonly', 0, //b:b)", "//b:b\n", line(1, looked, "it")),
+                                ("attr(testonly, 1, deps(//a:s)) + attr(testonly, 1, //c:*)", "", line(2, looked, "them")), ("let v = //a:t in attr(testonly, 1, $v)", "", line(4, looked, "them"))):
         told(bench, query, bench.run(f'bzlq "{query}"'.replace("$", "\\$"), "ws"), output, [said], 3)
         told(bench, f"location: {query}", bench.run(f'bzlq --output location "{query}" | grep -o "//.*"'.replace("$", "\\$"), "ws"), output, [said], 0 if output else 1)
     found = bench.run("bzlq queries -", "ws", b"attr(testonly, 1, //a:all)\n")
-    bench.compare("testonly, in many queries", found, ("=== 0 1 attr(testonly, 1, //a:all)\n//a:x\n", line(5, "of the workspace", "them"), 3))
+    bench.compare("testonly, in many queries", found, ("=== 0 1 attr(testonly, 1, //a:all)\n//a:x\n", line(4, "of the workspace", "them"), 3))
     bench.compare("testonly of each", bench.run("bzlq 'attr(testonly, 1, //a:x) + attr(testonly, 0, //c:c + //a:y) + attr(tags, x, //b:b)'", "ws"), ("//a:x\n//a:y\n//c:c\n", "", 0))
     bench.lay_out("ws", {"WORKSPACE": "", **ONLY, "d/BUILD": 'package(default_testonly = True)\nfilegroup(\n'})
-    told(bench, "testonly, where a package doesn't load", bench.run("bzlq 'attr(testonly, 1, //...)'", "ws"), "//a:x\n", [line(5, looked, "them")], 3)
+    told(bench, "testonly, where a package doesn't load", bench.run("bzlq 'attr(testonly, 1, //...)'", "ws"), "//a:x\n", [line(4, looked, "them")], 3)
+    bench.run("cp $(bzlq --bundle-path) ../bundle", "ws")
+    bench.lay_out("plain", {**ONLY, "rules.schema": "rule filegroup\nrule sh_test\nattr srcs label_list\nrule test_suite\nattr tests label_list\n"})
+    for where in ("", " --bundle ../bundle", " --dir ../plain"):
+        _, *found = bench.run(f"bzlq graph{where} 'attr(testonly, 1, //...)'", "ws")
+        told(bench, f"testonly, by graph{where}", ("", *found), "", [f"graph: {line(4, looked, 'them')[6:]}"], 3)
+    with mock.patch.object(approximations, "looking_through", wraps=approximations.looking_through) as made:
+        found = approximations.Queries("rdeps(//..., //a:x) + attr(testonly, 1, //a:t)", f"{bench.room}/bundle")
+        counted = found.lost([2] * len(found.all), lambda query: [mock.Mock(attributes={}), mock.Mock(attributes={"testonly": 0})])
+    bench.compare("what a query looks through, made once", (made.call_count, counted.inner, counted.unmarked), (1, 2, 1))
     answer = bench.run("bzlq ask", "ws", b"attr(testonly, 1, //...)\n")
-    told(bench, "testonly, at the prompt", answer, "//a:x\n", [line(5, looked, "them")], answer[2])
+    told(bench, "testonly, at the prompt", answer, "//a:x\n", [line(4, looked, "them")], answer[2])
 
 
 def mistakes(bench):
@@ -365,6 +395,90 @@ def guessed(bench):
     told(bench, "a file in an attribute of a guessed type", changed(bench, "guessed", GUESSED, "a/a.txt", "x"), "//a:t\n", ["1 affected\n"], 0)
 
 
+# rules of the workspace's own with defaults: of labels, by texts, names and a function, and of other types
+OWN_RULES = {
+    "tools/BUILD": 'sh_binary(name = "gen", srcs = ["gen.sh"])\nfilegroup(name = "named", srcs = ["named.sh"])\nexports_files(["more.txt", "made.sh"])\n',
+    "tools/names.bzl": 'NAMED = "//tools:named"\nLEVEL = 3\n', "tools/gen.sh": "", "tools/named.sh": "", "tools/more.txt": "", "tools/made.sh": "", "tools/other.sh": "",
+    "tools/defs.bzl": 'load(":names.bzl", "LEVEL", TOOL = "NAMED")\ndef _impl(ctx):\n    pass\ndef _made(name):\n    return Label("//tools:made.sh")\n_MODE = "fast"\n'
+                      '_COMMON = {"_named": attr.label(default = TOOL)}\n'
+                      'mine = rule(\n    implementation = _impl,\n    attrs = dict(_COMMON, mode = attr.string(default = _MODE), level = attr.int(default = -3), strict = attr.bool(default = True),\n'
+                      '        opts = attr.string_list(default = ["-O2"]), _tool = attr.label(default = Label("//tools:gen"), executable = True),\n'
+                      '        _more = attr.label_list(default = [":more.txt"]), _made = attr.label(default = _made)),\n)\nother = rule(implementation = _impl, attrs = {"mode": attr.string()})\n',
+    "a/BUILD": 'load("//tools:defs.bzl", "mine", "other")\nmine(name = "x")\nmine(name = "y", mode = "slow", level = 1, strict = False, opts = [])\nmine(name = "z", mode = None)\nother(name = "o")\n',
+    "b/BUILD": 'filegroup(name = "b", srcs = ["//a:x"])\nfilegroup(name = "mine")\n',
+}
+
+
+# packages that Bazel's query doesn't have: b and c by options, d/n and what is below it by a pattern
+TAKEN = {
+    ".bazelrc": "build --deleted_packages=a\n# query --deleted_packages=a\nquery --noshow_progress --deleted_packages=//b\nimport %workspace%/more.bazelrc\ntry-import none.bazelrc\n",
+    "more.bazelrc": "common --deleted_packages c,\\\nx\ncommon:ci --deleted_packages=a\n", "REPO.bazel": 'ignore_directories(["**/n"])\n',
+    **{f"{it}/BUILD": 'filegroup(name = "x")\n' for it in ("a", "b", "c", "d/n/e", "d")},
+}
+
+
+def taken_away(bench):
+    """Targets of packages that Bazel's query doesn't have are told."""
+    bench.lay_out("ws", TAKEN)
+    line = "bzlq: {} of this answer {} in packages that {} takes away from Bazel's query\n".format
+    lines = [line("1 label", "is", "--deleted_packages of .bazelrc"), line("1 label", "is", "--deleted_packages of more.bazelrc"), line("1 label", "is", "ignore_directories of REPO.bazel")]
+    told(bench, "packages that Bazel's query doesn't have", bench.run("bzlq //...", "ws"), "//a:x\n//b:x\n//c:x\n//d/n/e:x\n//d:x\n", lines, 0)
+    bench.compare("those that it has", bench.run("bzlq //a:x + //d:x", "ws"), ("//a:x\n//d:x\n", "", 0))
+    told(bench, "places of such", bench.run("bzlq --output location //b/...", "ws"), "b/BUILD:1: filegroup rule //b:x\n", [lines[0]], 0)
+
+
+PRELUDE = {"tools/build_rules/BUILD": "", "tools/build_rules/prelude_bazel": 'load("//a:m.bzl", "filegroup")\n', "a/BUILD": 'filegroup(name = "x", srcs = ["x.c"])\n', "a/x.c": "", "a/m.bzl": ""}
+
+
+def prelude(bench):
+    """What Bazel puts before each BUILD file."""
+    bench.lay_out("ws", {"WORKSPACE": "", **PRELUDE})
+    line = "targets may be missing: {}tools/build_rules/prelude_bazel, which Bazel puts before each BUILD file, isn't read\n".format
+    told(bench, "a prelude", bench.run("bzlq //a:all", "ws"), "//a:x\n", [f"bzlq: {line('')}"], 3)
+    told(bench, "a prelude, by affected", changed(bench, "prelude", PRELUDE, "a/x.c", "x", "--kind", "rule"), "//a:x\n", [f"affected: {line('base: ')}"], 3)
+    bench.lay_out("ws", {"WORKSPACE": "", **PRELUDE, "tools/build_rules/prelude_bazel": "# nothing\n\n"})
+    bench.compare("an empty prelude", bench.run("bzlq //a:all", "ws")[2], 0)
+
+
+# what has a default in Bazel that neither its type says nor the data have: linkstatic of bin, pure of the go_binary, deprecation of old
+OTHER_DEFAULTS = {
+    "a/BUILD": 'load("@io_bazel_rules_go//go:def.bzl", "go_binary")\ncc_binary(name = "bin")\ncc_binary(name = "given", linkstatic = True)\ncc_library(name = "lib", tags = ["manual"])\nconfig_setting(name = "c", values = {"cpu": "x"})\n'
+               'go_binary(name = "go", pure = "on")\ngo_binary(name = "go2")\nload(":m.bzl", "m")\nm("made")\n', "a/m.bzl": "def m(name):\n    native.filegroup(name = name)\n",
+    "b/BUILD": 'package(default_deprecation = "gone")\nfilegroup(name = "old")\nfilegroup(name = "older", deprecation = "long gone")\n',
+}
+
+
+def other_defaults(bench):
+    """Attributes whose defaults aren't known here are told where a query asks for them."""
+    bench.lay_out("ws", {"WORKSPACE": "", **OTHER_DEFAULTS})
+    line = "bzlq: 1 of the targets {} gives no {}, and attr(..) leaves out what Bazel takes instead\n".format
+    looked, of = "that this query looks through", "of the workspace"
+    absent = "bzlq: bq has no generator_function, which Bazel gives the targets of macros, and attr(..) leaves these out: bzlq users MACRO lists them\n"
+    cases = (("attr(linkstatic, 1, //...)", "//a:given\n", "linkstatic"), ("attr(tags, manual, //...)", "//a:lib\n", "tags"), ("attr(pure, on, //...)", "//a:go\n", "pure"), ("attr(\"deprecation\", gone, //...)", "//b:older\n", "deprecation"))
+    for query, output, name in cases:
+        told(bench, query, bench.run(f"bzlq '{query}'", "ws"), output, [line(looked, name)], 3)
+        found = bench.run("bzlq queries -", "ws", f"{query}\n".encode())
+        told(bench, f"{query}, in many queries", found, f"=== 0 1 {query}\n{output}", [line(of, name)], 3)
+    told(bench, "attributes of macros", bench.run("bzlq '//a:bin + attr(generator_function, m, //...)'", "ws"), "//a:bin\n", [absent], 3)
+    told(bench, "attributes of macros, in many queries", bench.run("bzlq queries -", "ws", b"attr(generator_function, m, //...)\n"), "=== 0 0 attr(generator_function, m, //...)\n", [absent], 3)
+    told(bench, "attributes of macros, by graph", ("", *bench.run("bzlq graph 'attr(generator_function, m, //...)'", "ws")[1:]), "", [absent.replace("bzlq: bq", "graph: bq")], 3)
+    for query, output in (("attr(linkstatic, 1, //a:given + //a:lib)", "//a:given\n"), ("attr(tags, x, //...)", ""), ("attr(linkstatic, \".\", //a:bin + //a:lib)", "//a:bin\n//a:lib\n"), ("attr(deprecation, gone, //a:all)", ""), ("attr(name, go2, //...)", "//a:go2\n")):
+        bench.compare(f"{query}, with no such default", bench.run(f"bzlq '{query}' | cat", "ws")[1].count("leaves out"), 0)
+
+
+def own_rules(bench):
+    """Defaults of the workspace's own rules: attr(..) has them, and a change of a tool concerns what it makes."""
+    bench.lay_out("ws", {"WORKSPACE": "", **OWN_RULES})
+    for query, output in (("attr(mode, fast, //...)", "//a:x\n//a:z\n"), ("attr(level, \"-3\", //...)", "//a:x\n//a:z\n"), ("attr(strict, 1, //...)", "//a:x\n//a:z\n"),
+                          ("attr(opts, O2, //...)", "//a:x\n//a:z\n"), ("attr(mode, slow, //...)", "//a:y\n"), ("deps(//a:x)", "//a:x\n")):
+        told(bench, f"defaults of own rules: {query}", bench.run(f"bzlq '{query}'", "ws"), output, [""], 0)
+    for path in ("gen.sh", "named.sh", "more.txt", "made.sh"):
+        found = changed(bench, "own", OWN_RULES, f"tools/{path}", "x", "--kind", "'^(mine|other|filegroup) rule'")
+        is_named = "//tools:named\n" if path == "named.sh" else ""
+        told(bench, f"a default of own rules: {path}", found, f"//a:x\n//a:y\n//a:z\n//b:b\n{is_named}", [f"{5 if is_named else 4} affected\n"], 0)
+    told(bench, "no default of own rules", changed(bench, "own", OWN_RULES, "tools/other.sh", "x"), "", ["affected: in no target: tools/other.sh\n"], 0)
+
+
 REPLACED = {
     "WORKSPACE": "", "a/m.bzl": 'def m(name, srcs):\n    f = lambda: 0\n    native.filegroup(name = name, srcs = srcs)\n    native.filegroup(name = name + "_more")\n',
     "a/BUILD": 'load(":m.bzl", "m")\nm(name = "x", srcs = ["x.c"])\nfilegroup(name = "y", srcs = [":x_more"])\n', "b/BUILD": 'filegroup(name = "b", srcs = ["//a:x_more"])\n',
@@ -381,5 +495,5 @@ def replaced(bench):
 
 def check(bench):
     """Tries all of it."""
-    for part in (tests, settings, local, further, names, unreadable, losses, loops, more_answers, guessed, packages, defaults, mistakes, rows, replaced):
+    for part in (tests, settings, local, further, names, unreadable, losses, loops, more_answers, guessed, packages, defaults, mistakes, rows, replaced, own_rules, other_defaults, taken_away, prelude):
         part(bench)

@@ -1,21 +1,25 @@
-//! What every crate above uses: the shared byte string, the faults that users see, and what is said of a call that may be refused. Nothing
+//! What every crate above uses: byte strings that are shared, the faults of files, and the limits of a run. Nothing
 //! here knows of tokens.
 //!
-//! The promise: a [`Bytes`] holds just the bytes that it was made of, and so does each share of it; a kind of fault has the number and the
-//! name of the table (`specs/Fault.antt`). What contracts above mean by "out of memory aside" is `Gives` (`specs/Gives.antt`).
+//! The promise: a [`Bytes`] is its bytes, and so is each share of it. A kind of fault has the number and the name of the
+//! table (`specs/Fault.antt`). Limits have the numbers of `specs/Limits.antt`, written there and in `limits.rt` alone.
+//! What contracts above mean by "out of memory aside" is `Gives` (`specs/Gives.antt`).
 //!
 //! In reading order:
 //!
 //! - `bytes`: the shared byte string of names, texts and details;
 //! - `fault`: the table of all faults that users see, and the faults of each stage, which fails with these alone;
-//! - `shown`: how these two are shown to people.
+//! - `shown`: how these two are shown to people;
+//! - `limits`: how large a workspace may be, and how many steps its modules may take.
 #![tactic(auto)]
 
 mod bytes;
 mod fault;
+mod limits;
 mod shown;
 
 pub use bytes::Bytes;
 pub use fault::{
     EvalFault, Fault, FaultKind, LoadFault, NameFault, SourceErr, StatementFault, TokenFault,
 };
+pub use limits::Limits;

@@ -1,7 +1,7 @@
 -- Why a list of loads makes no plan.
 use Rattle.std.specs.Prelude.{◌≡◌, ℕ, ◌<◌, true, length}
-use Rattle.bq_base_limits.specs.declared.limits.Limits.{Limits}
-use Rattle.bq_base_limits.specs.Limits.{standard}
+use Rattle.bq_base.specs.declared.limits.Limits.{Limits}
+use Rattle.bq_base.specs.Limits.{standard}
 use Rattle.bq_board_plan.specs.Graph.{Loads, Known, Fits}
 use Rattle.bq_board_plan.specs.Cycles.{is_cyclic}
 use Rattle.bq_board_plan.specs.declared.refusal.PlanErr.{PlanErr}

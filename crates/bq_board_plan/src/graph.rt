@@ -1,12 +1,12 @@
 //! Load graphs: for each module, by number, the modules that it loads.
 ghost use Rattle.std.specs.Prelude.{◌≡◌, ℕ, ◌+◌, ◌<◌, ◌≤◌, ◌↔◌, List, [], length, vec_len, IfOk, OnOk, IfErr, IfSome, OnSome, IfNone, IsTrue};
-ghost use Rattle.bq_base_limits.specs.Limits.{AreBounded, standard};
+ghost use Rattle.bq_base.specs.Limits.{AreBounded, standard};
 ghost use Rattle.bq_board_plan.specs.Counts.{Has};
 ghost use Rattle.bq_board_plan.specs.Graph.{row, edges, Known, Fits, IsGraph, lists};
 ghost use Rattle.bq_board_plan.specs.Refusal.{Refused, RefusedWithin};
 
 use crate::refusal::PlanErr;
-use bq_base_limits::Limits;
+use bq_base::Limits;
 use std::alloc::{AllocError, Global};
 use std::marker::Model;
 

@@ -1,6 +1,6 @@
 //! Plans: load graphs without cyclic modules, with their edges numbered.
 ghost use Rattle.std.specs.Prelude.{◌≡◌, ℕ, ◌+◌, ◌<◌, ◌≤◌, ◌^◌, List, length, IfOk, OnOk, IfErr};
-ghost use Rattle.bq_base_limits.specs.Limits.{AreBounded, standard};
+ghost use Rattle.bq_base.specs.Limits.{AreBounded, standard};
 ghost use Rattle.bq_board_plan.specs.Counts.{Has};
 ghost use Rattle.bq_board_plan.specs.Cycles.{IsAcyclic};
 ghost use Rattle.bq_board_plan.specs.Graph.{Loads, sources, edges, Fits, lists};
@@ -9,7 +9,7 @@ ghost use Rattle.bq_board_plan.specs.Refusal.{Refused, RefusedWithin};
 
 use crate::graph::{Graph, empty_rows};
 use crate::refusal::PlanErr;
-use bq_base_limits::Limits;
+use bq_base::Limits;
 use std::alloc::{AllocError, Global};
 use std::marker::Model;
 

@@ -3,7 +3,7 @@ use Rattle.std.proofs.Common.{◌≡◌, refl, Bool, true, false, not, cond, ◌
 use Rattle.std.specs.List.{list_all, list_any}
 use Rattle.bq_value.specs.Datum.{Datum}
 use Rattle.bq_value.specs.Cells.{StoreView}
-use Rattle.bq_value_compare.specs.Truth.{truth_of}
+use Rattle.bq_value.specs.Truth.{truth_of}
 use Rattle.bq_builtin.specs.Truths.{one_counts}
 
 any_by : (b rest all : Bool) → rest ≡ all → cond b true rest ≡ (b || all)

@@ -5,7 +5,7 @@ use Rattle.std.specs.Int.{w64}
 use Rattle.std.proofs.lemmas.Int.{ints}
 use Rattle.bq_base.specs.declared.fault.EvalFault.{EvalFault}
 use Rattle.bq_base.specs.declared.fault.EvalFault.TheVariants.{Overflow}
-use Rattle.bq_builtin_numbers.proofs.Fits.{fitted_some, fitted_none}
+use Rattle.bq_builtin_strings.proofs.Fits.{fitted_some, fitted_none}
 use Rattle.bq_builtin_machine.specs.Answer.{and_then}
 use Rattle.bq_builtin.specs.Sequences.{numbers_fit}
 

@@ -1,21 +1,19 @@
 -- What `parse` reads of a sign and digits.
 use Rattle.std.proofs.Common.{◌≡◌, ◌∙◌, refl, sym, ap, subst, ℕ, ◌<◌, ℤ, Bool, true, false, cond, ◌&&◌, ◌==◌, List, [], ◌∷◌, length, drop, get_or, nat_lt, arith, Option, Result, Ok, Err, SomeIff, FitsSigned, IsUtf8, IsAscii}
-use Rattle.std.specs.Int.{w64}
+use Rattle.std.specs.Int.{w64, IsInRange}
 use Rattle.std.specs.Result.{result_ok}
 use Rattle.std.specs.Cmp.{unsigned_Decides}
 use Rattle.std.specs.Str.{all_ascii_digits}
-use Rattle.std.specs.Str.Parse.{IsNumeral, without_leading_sign, signed_digits_value, ParsesSigned}
+use Rattle.std.specs.Str.Parse.{IsNumeral, without_leading_sign, signed_digits_value, ParsesSigned, digits_value}
 use Rattle.std.proofs.lemmas.Bool.Decides.{nat_tests}
 use Rattle.std.proofs.lemmas.Str.{IsUtf8-from_ascii}
 use Rattle.std.proofs.lemmas.Str.Ascii.{IsAscii-nil, IsAscii-cons, IsAscii-from_reads}
 use Rattle.std.proofs.lemmas.Str.Parse.{tells_all_ascii_digits, numerals_by_value, IsNumeralModel, digit_at}
-use Rattle.std.specs.Int.{IsInRange}
-use Rattle.std.specs.Str.Parse.{digits_value}
 use Rattle.std.specs.Prelude.{ok_or}
 use Rattle.bq_base.specs.declared.fault.EvalFault.{EvalFault}
 use Rattle.bq_base.specs.declared.fault.EvalFault.TheVariants.{Overflow, BadValue}
-use Rattle.bq_builtin_numbers.specs.Integer.{fitted, Fitted}
-use Rattle.bq_builtin_numbers.proofs.Fits.{fitted_is}
+use Rattle.bq_builtin_strings.specs.Integer.{fitted, Fitted}
+use Rattle.bq_builtin_strings.proofs.Fits.{fitted_is}
 use Rattle.bq_builtin.specs.Integers.{is_numeral, read_integer}
 
 pub own : IsNumeralModel (λ ds. all_ascii_digits ds ≡ true) (digits_value 10)

@@ -1,6 +1,6 @@
 -- What `all`, `any`, `max`, `min` and `sorted` give of the integers of a range.
 use Rattle.std.proofs.Common.{◌≡◌, ◌∙◌, refl, sym, ap, subst, ℕ, zero, suc, ◌-◌, ◌<◌, ℤ, pos, Bool, true, false, not, cond, nat_lt, nat_le, ◌&&◌, ◌||◌, List, [], ◌∷◌, map, length, reverse, Result, Ok, Err, arith}
-use Rattle.std.specs.Prelude.{◌+ℤ◌, ◌≤ℤ◌, ◌<ℤ◌, int_lt}
+use Rattle.std.specs.Prelude.{◌+ℤ◌, ◌≤ℤ◌, ◌<ℤ◌, int_lt, codes, Option}
 use Rattle.std.specs.Cmp.{signed_Decides}
 use Rattle.std.specs.Ordering.{int_eq, int_cmp, is_lt}
 use Rattle.std.specs.declared.cmp.Ordering.{Ordering}
@@ -10,19 +10,18 @@ use Rattle.std.proofs.lemmas.Int.{ints}
 use Rattle.std.proofs.lemmas.Bool.Decides.{nat_tests}
 use Rattle.bq_base.specs.declared.fault.EvalFault.{EvalFault}
 use Rattle.bq_base.specs.declared.fault.EvalFault.TheVariants.{BadValue, TooLong}
-use Rattle.bq_builtin_numbers.specs.Length.{max_len}
-use Rattle.bq_builtin_numbers.specs.RangeItem.{range_has}
-use Rattle.bq_builtin_numbers.proofs.Items.{has_elements}
+use Rattle.bq_builtin_strings.specs.Length.{max_len}
+use Rattle.bq_builtin_strings.specs.RangeItem.{range_has}
+use Rattle.bq_builtin_strings.proofs.RangeMembers.{has_elements}
 use Rattle.bq_value.specs.Datum.{Datum, none, boolean, int, string, tuple, range, cell, function, built_in, rule_function, attribute}
 use Rattle.bq_value.specs.Range.{range_count, range_element}
 use Rattle.bq_value.specs.Cells.{StoreView}
-use Rattle.bq_value_compare.specs.Truth.{truth_of}
+use Rattle.bq_value.specs.Truth.{truth_of}
 use Rattle.bq_builtin_machine.specs.Iteration.{integers, range_integers, elements_in}
 use Rattle.bq_builtin_machine.proofs.Integers.{length-integers}
-use Rattle.std.specs.Prelude.{codes, Option}
 use Rattle.bq_builtin_machine.specs.Args.{Passed}
 use Rattle.bq_builtin.specs.Arguments.{one_and_named, flag}
-use Rattle.bq_builtin_collections.specs.Arguments.{integer}
+use Rattle.bq_builtin_methods.specs.Arguments.{integer}
 use Rattle.bq_builtin_machine.specs.Answer.{and_then}
 use Rattle.bq_builtin.specs.Elements.{room_for}
 use Rattle.bq_builtin.specs.Truths.{all_true, any_true}

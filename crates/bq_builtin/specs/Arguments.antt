@@ -6,7 +6,7 @@ use Rattle.bq_base.specs.declared.fault.EvalFault.TheVariants.{WrongType, Args}
 use Rattle.bq_value.specs.Datum.{Datum, boolean, string}
 use Rattle.bq_builtin_machine.specs.Args.{Passed}
 use Rattle.bq_builtin_machine.specs.Answer.{and_then}
-use Rattle.bq_builtin_collections.specs.Arguments.{one_argument, optional_argument, one_or_two}
+use Rattle.bq_builtin_methods.specs.Arguments.{one_argument, optional_argument, one_or_two}
 
 -- no argument by name
 unfoldable pub by_place : Passed → Result (List Datum) EvalFault

@@ -1,14 +1,14 @@
 -- The built-in functions (Starlark, "Built-in constants and functions"), and what a call gives.
 use Rattle.std.specs.Prelude.{ℕ, List, [], ◌∷◌, Option, Some, None, codes, slice_get}
 use Rattle.bq_base.specs.declared.fault.EvalFault.TheVariants as fault
-use Rattle.bq_resolve_predeclared.specs.declared.predeclared.Predeclared.{Predeclared}
-use Rattle.bq_resolve_predeclared.specs.declared.predeclared.Predeclared.TheVariants as p
+use Rattle.bq_predeclared.specs.declared.predeclared.Predeclared.{Predeclared}
+use Rattle.bq_predeclared.specs.declared.predeclared.Predeclared.TheVariants as p
 use Rattle.bq_value.specs.Datum.{Datum}
 use Rattle.bq_builtin_machine.specs.State.{State}
 use Rattle.bq_builtin_machine.specs.Action.{Action, stop}
 use Rattle.bq_builtin_machine.specs.Args.{Passed}
-use Rattle.bq_builtin_collections.specs.Calling.{Calling, gives, lists, does, called}
-use Rattle.bq_builtin_collections.specs.Dict.{dict_made}
+use Rattle.bq_builtin_methods.specs.Calling.{Calling, gives, lists, does, called}
+use Rattle.bq_builtin_methods.specs.Dict.{dict_made}
 use Rattle.bq_builtin.specs.Truths.{all, any, bool}
 use Rattle.bq_builtin.specs.Integers.{int, len, range}
 use Rattle.bq_builtin.specs.Choosing.{chosen, sorted}

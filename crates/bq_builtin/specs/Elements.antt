@@ -2,7 +2,7 @@
 use Rattle.std.specs.Prelude.{ℕ, nat_le, cond, List, [], length, Option, Some, None, Result, Ok, Err}
 use Rattle.bq_base.specs.declared.fault.EvalFault.{EvalFault}
 use Rattle.bq_base.specs.declared.fault.EvalFault.TheVariants.{TooLong}
-use Rattle.bq_builtin_numbers.specs.Length.{max_len}
+use Rattle.bq_builtin_strings.specs.Length.{max_len}
 use Rattle.bq_value.specs.Datum.{Datum}
 use Rattle.bq_value.specs.Cells.{StoreView}
 use Rattle.bq_builtin_machine.specs.Iteration.{elements_in}

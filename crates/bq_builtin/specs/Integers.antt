@@ -5,7 +5,7 @@ use Rattle.std.specs.Str.{all_ascii_digits}
 use Rattle.std.specs.Str.Parse.{without_leading_sign, signed_digits_value}
 use Rattle.bq_base.specs.declared.fault.EvalFault.{EvalFault}
 use Rattle.bq_base.specs.declared.fault.EvalFault.TheVariants.{WrongType, BadValue}
-use Rattle.bq_builtin_numbers.specs.Integer.{fitted}
+use Rattle.bq_builtin_strings.specs.Integer.{fitted}
 use Rattle.bq_value.specs.Datum as datum
 use Rattle.bq_value.specs.Datum.{Datum, boolean, string, tuple, cell, list_of}
 use Rattle.bq_value.specs.Range.{range_count}
@@ -13,7 +13,7 @@ use Rattle.bq_value.specs.Contents.{Contents, items, pairs}
 use Rattle.bq_value.specs.Cells.{StoreView, content_at}
 use Rattle.bq_builtin_machine.specs.Args.{Passed}
 use Rattle.bq_builtin_machine.specs.Answer.{and_then, as_int}
-use Rattle.bq_builtin_collections.specs.Arguments.{one_to_three, integer}
+use Rattle.bq_builtin_methods.specs.Arguments.{one_to_three, integer}
 use Rattle.bq_builtin.specs.Arguments.{by_place, only_argument}
 
 -- ---- `int(x)`

@@ -1,14 +1,14 @@
 -- The functions `list`, `tuple`, `reversed`, `enumerate` and `zip` (Starlark, "list", "tuple", "reversed", "enumerate", "zip").
 use Rattle.std.specs.Prelude.{ℕ, zero, suc, min, ℤ, pos, ◌+ℤ◌, List, [], ◌∷◌, ◌++◌, map, take, drop, length, reverse, codes, Option, Some, None, Result, Ok}
 use Rattle.bq_base.specs.declared.fault.EvalFault.{EvalFault}
-use Rattle.bq_builtin_numbers.specs.Integer.{fitted}
+use Rattle.bq_builtin_strings.specs.Integer.{fitted}
 use Rattle.bq_value.specs.Datum as datum
 use Rattle.bq_value.specs.Datum.{Datum, end, data_of}
 use Rattle.bq_value.specs.Cells.{StoreView}
 use Rattle.bq_builtin_machine.specs.Args.{Passed}
 use Rattle.bq_builtin_machine.specs.Iteration.{elements_in}
 use Rattle.bq_builtin_machine.specs.Answer.{and_then}
-use Rattle.bq_builtin_collections.specs.Arguments.{integer}
+use Rattle.bq_builtin_methods.specs.Arguments.{integer}
 use Rattle.bq_builtin.specs.Arguments.{by_place, only_argument, only_argument_if_any, one_and_named}
 use Rattle.bq_builtin.specs.Elements.{room_for, listed, listed_if_any}
 

@@ -4,7 +4,7 @@ use Rattle.std.specs.List.{list_all, list_any}
 use Rattle.bq_base.specs.declared.fault.EvalFault.{EvalFault}
 use Rattle.bq_value.specs.Datum.{Datum, boolean}
 use Rattle.bq_value.specs.Cells.{StoreView}
-use Rattle.bq_value_compare.specs.Truth.{truth_of}
+use Rattle.bq_value.specs.Truth.{truth_of}
 use Rattle.bq_builtin_machine.specs.Args.{Passed}
 use Rattle.bq_builtin_machine.specs.Iteration.{elements_in}
 use Rattle.bq_builtin_machine.specs.Answer.{and_then}

@@ -3,7 +3,7 @@
 ghost use Rattle.std.specs.Prelude.{option_copied};
 ghost use Rattle.bq_base.specs.Gives.{Gives};
 ghost use Rattle.bq_value.specs.declared.error.EvalErr.TheVariants.{Bad};
-ghost use Rattle.bq_builtin_collections.specs.Arguments.{one_argument, optional_argument, one_or_two, one_to_three, integer};
+ghost use Rattle.bq_builtin_methods.specs.Arguments.{one_argument, optional_argument, one_or_two, one_to_three, integer};
 ghost use Rattle.bq_builtin.specs.Arguments.{by_place, only_argument, only_argument_if_any, only_named, passed_once, one_and_named, flag, text};
 
 use bq_base::{Bytes, EvalFault};
@@ -21,7 +21,7 @@ pub(crate) fn by_place(args: &Args) -> Result<&[Value], EvalErr>
     }
 }
 
-#[tactic(auto, unfolding(bq_builtin_collections::specs::Arguments::one_argument))]
+#[tactic(auto, unfolding(bq_builtin_methods::specs::Arguments::one_argument))]
 fn one_argument(values: &[Value]) -> Result<&Value, EvalErr>
     ensures { Gives (λ v. v.now) Bad result (one_argument values.now) }
 {
@@ -31,7 +31,7 @@ fn one_argument(values: &[Value]) -> Result<&Value, EvalErr>
     }
 }
 
-#[tactic(auto, unfolding(bq_builtin_collections::specs::Arguments::optional_argument))]
+#[tactic(auto, unfolding(bq_builtin_methods::specs::Arguments::optional_argument))]
 fn optional_argument(values: &[Value]) -> Result<Option<&Value>, EvalErr>
     ensures { Gives (λ o. option_copied o) Bad result (optional_argument values.now) }
 {
@@ -42,7 +42,7 @@ fn optional_argument(values: &[Value]) -> Result<Option<&Value>, EvalErr>
     }
 }
 
-#[tactic(auto, unfolding(bq_builtin_collections::specs::Arguments::one_or_two))]
+#[tactic(auto, unfolding(bq_builtin_methods::specs::Arguments::one_or_two))]
 fn one_or_two(values: &[Value]) -> Result<(&Value, Option<&Value>), EvalErr>
     ensures { Gives (λ r. (r.0.now, option_copied r.1)) Bad result (one_or_two values.now) }
 {
@@ -54,7 +54,7 @@ fn one_or_two(values: &[Value]) -> Result<(&Value, Option<&Value>), EvalErr>
 }
 
 /// Returns one to three positional arguments.
-#[tactic(auto, unfolding(bq_builtin_collections::specs::Arguments::one_to_three))]
+#[tactic(auto, unfolding(bq_builtin_methods::specs::Arguments::one_to_three))]
 pub(crate) fn one_to_three(
     values: &[Value],
 ) -> Result<(&Value, Option<&Value>, Option<&Value>), EvalErr>
@@ -134,7 +134,7 @@ pub(crate) fn one_and_named<'a>(
 }
 
 /// Returns an integer (F40).
-#[tactic(auto, unfolding(bq_builtin_collections::specs::Arguments::integer))]
+#[tactic(auto, unfolding(bq_builtin_methods::specs::Arguments::integer))]
 pub(crate) fn integer(value: &Value) -> Result<i64, EvalErr>
     ensures { Gives (λ i. i) Bad result (integer value.now) }
 {

@@ -1,6 +1,6 @@
 //! The call of a built-in function.
 
-ghost use Rattle.bq_resolve_predeclared.specs.declared.predeclared.Predeclared.TheVariants.{BuiltIn};
+ghost use Rattle.bq_predeclared.specs.declared.predeclared.Predeclared.TheVariants.{BuiltIn};
 ghost use Rattle.bq_builtin_machine.specs.Action.{Does};
 ghost use Rattle.bq_builtin.specs.Call.{call_function};
 
@@ -11,9 +11,9 @@ use crate::texts::{fail, print, repr, str, type_of};
 use crate::truths::{all, any, bool};
 use crate::zip::zip;
 use bq_base::EvalFault;
-use bq_builtin_collections::dict::new_dict;
 use bq_builtin_machine::{Args, Machine};
-use bq_resolve_predeclared::Predeclared;
+use bq_builtin_methods::dict::new_dict;
+use bq_predeclared::Predeclared;
 use bq_value::{EvalErr, Value};
 use std::alloc::Global;
 

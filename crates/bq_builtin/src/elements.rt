@@ -2,14 +2,14 @@
 
 ghost use Rattle.std.specs.Prelude.{◌≡◌, ◌≤◌, IfOk, OnOk, option_copied};
 ghost use Rattle.bq_base.specs.Gives.{Gives};
-ghost use Rattle.bq_builtin_numbers.specs.Length.{max_len};
+ghost use Rattle.bq_builtin_strings.specs.Length.{max_len};
 ghost use Rattle.bq_value.specs.declared.error.EvalErr.TheVariants.{Bad};
 ghost use Rattle.bq_builtin.specs.Elements.{room_for, listed, listed_if_any};
 
 use bq_base::EvalFault;
-use bq_builtin_collections::elements_in;
 use bq_builtin_machine::{Elements, Machine};
-use bq_builtin_numbers::MAX_LEN;
+use bq_builtin_methods::elements_in;
+use bq_builtin_strings::MAX_LEN;
 use bq_value::{EvalErr, Value};
 use std::alloc::{AllocError, Global};
 

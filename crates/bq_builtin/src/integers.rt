@@ -4,7 +4,7 @@ ghost use Rattle.std.specs.Prelude.{◌≡◌, true, Some, Ok, pos, option_copie
 ghost use Rattle.std.specs.Str.{all_ascii_digits};
 ghost use Rattle.std.specs.Str.Parse.{without_leading_sign, signed_digits_value};
 ghost use Rattle.bq_base.specs.Gives.{Gives};
-ghost use Rattle.bq_builtin_numbers.specs.Integer.{fitted, Fitted};
+ghost use Rattle.bq_builtin_strings.specs.Integer.{fitted, Fitted};
 ghost use Rattle.bq_value.specs.declared.error.EvalErr.TheVariants.{Bad};
 ghost use Rattle.bq_builtin.specs.Integers.{is_numeral, read_integer, integer_from, int, content_length, length_in, len, step_or_one, range_by, range_from, range};
 

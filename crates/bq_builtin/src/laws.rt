@@ -5,7 +5,7 @@ ghost use Rattle.std.specs.Int.{w64};
 ghost use Rattle.std.specs.Fmt.{signed_decimal};
 ghost use Rattle.std.specs.Ordering.{int_cmp};
 ghost use Rattle.bq_base.specs.declared.fault.EvalFault.TheVariants.{Args};
-ghost use Rattle.bq_resolve_predeclared.specs.Predeclared.{built_in_names};
+ghost use Rattle.bq_predeclared.specs.Predeclared.{built_in_names};
 ghost use Rattle.bq_value.specs.Datum.{Datum, int, tuple, data_of};
 ghost use Rattle.bq_value.specs.Cells.{StoreView};
 ghost use Rattle.bq_builtin_machine.specs.Args.{Passed};

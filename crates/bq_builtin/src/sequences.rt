@@ -2,15 +2,15 @@
 
 ghost use Rattle.std.specs.Prelude.{◌≡◌, ◌≤◌, ◌^◌, ◌+ℤ◌, ◌≤ℤ◌, pos, length, IfOk, OnOk, option_copied};
 ghost use Rattle.bq_base.specs.Gives.{Gives};
-ghost use Rattle.bq_builtin_numbers.specs.Length.{max_len};
+ghost use Rattle.bq_builtin_strings.specs.Length.{max_len};
 ghost use Rattle.bq_value.specs.declared.error.EvalErr.TheVariants.{Bad};
 ghost use Rattle.bq_builtin.specs.Sequences.{tuple, list, reversed, start_or_zero, numbers_fit, numbered_value, numbered, enumerate};
 
 use crate::arguments::{integer, one_and_named, only_argument, only_argument_if_any};
 use crate::elements::{listed, listed_if_any, room_for, values_of};
 use bq_base::EvalFault;
-use bq_builtin_collections::elements_in;
 use bq_builtin_machine::{Args, Machine};
+use bq_builtin_methods::elements_in;
 use bq_value::{EvalErr, Value};
 use std::alloc::{AllocError, Global};
 

@@ -13,9 +13,8 @@ ghost use Rattle.bq_builtin.specs.Truths.{all_true, any_true, counts, one_counts
 use crate::arguments::{only_argument, only_argument_if_any};
 use bq_base::EvalFault;
 use bq_builtin_machine::{Args, Machine};
-use bq_builtin_numbers::range_has;
-use bq_value::{Body, Content, Dict, EvalErr, Node, Range, Store, Value};
-use bq_value_compare::truth;
+use bq_builtin_strings::range_has;
+use bq_value::{Body, Content, Dict, EvalErr, Node, Range, Store, Value, truth};
 
 /// Returns `all(x)`: whether each element counts as true.
 #[tactic(auto, unfolding(crate::specs::Truths::all))]

@@ -1,1 +1,1 @@
-pub use Rattle.bq_builtin_in_place.specs.InPlace
+pub use Rattle.bq_builtin_operators.specs.InPlace

@@ -1,17 +1,17 @@
 //! Augmented assignments (Starlark, "Augmented assignments").
 
 ghost use Rattle.std.specs.Prelude.{◌≡◌, IfOk};
-ghost use Rattle.bq_builtin_in_place.specs.Action.{Does};
-ghost use Rattle.bq_builtin_in_place.specs.InPlace.{augment_sum, augment_union, augment};
+ghost use Rattle.bq_builtin_operators.specs.Action.{Does};
+ghost use Rattle.bq_builtin_operators.specs.InPlace.{augment_sum, augment_union, augment};
 
-use bq_builtin_in_place::{
+use bq_builtin_operators::{
     Dict, EvalErr, Key, Machine, Node, Operator, Value, binary, dict_in, extend, list_in, unite,
 };
 use std::alloc::{AllocError, Global};
 
 /// Carries out `a op= b`: a list by `+=`, and a dict by `|=`, is changed in place. All else is `a op b`.
 #[inline(always)]
-#[tactic(auto, unfolding(bq_builtin_in_place::specs::InPlace::augment))]
+#[tactic(auto, unfolding(bq_builtin_operators::specs::InPlace::augment))]
 pub fn augment(
     alloc: Global,
     machine: &mut Machine,
@@ -29,7 +29,7 @@ pub fn augment(
 }
 
 /// Carries out `a += b`; for a list F40, F47, F48, F54.
-#[tactic(auto, unfolding(bq_builtin_in_place::specs::InPlace::augment_sum, bq_builtin_operators::specs::Operate::binary))]
+#[tactic(auto, unfolding(bq_builtin_operators::specs::InPlace::augment_sum, bq_builtin_operators::specs::Operate::binary))]
 fn augment_sum(alloc: Global, machine: &mut Machine, a: &Value, b: &Value) -> Result<Value, EvalErr>
     ensures { Does (λ value. value) result machine.new (augment_sum a.now b.now machine.old) }
 {
@@ -45,7 +45,7 @@ fn augment_sum(alloc: Global, machine: &mut Machine, a: &Value, b: &Value) -> Re
 }
 
 /// Carries out `a |= b`; for a dict F40, F47, F48, F54.
-#[tactic(auto, unfolding(bq_builtin_in_place::specs::InPlace::augment_union, bq_builtin_operators::specs::Operate::binary))]
+#[tactic(auto, unfolding(bq_builtin_operators::specs::InPlace::augment_union, bq_builtin_operators::specs::Operate::binary))]
 fn augment_union(
     alloc: Global,
     machine: &mut Machine,

@@ -2,7 +2,7 @@
 use Rattle.std.specs.Prelude.{[], ◌∷◌, Bool, Err, List, None, Ok, Option, Result, Some, false, if◌then◌else◌, true, ℕ}
 use Rattle.bq_base.specs.declared.fault.EvalFault.{EvalFault}
 use Rattle.bq_base.specs.declared.fault.EvalFault.TheVariants.{Format}
-use Rattle.bq_value_compare.specs.Looked.{Looked}
+use Rattle.bq_value.specs.Looked.{Looked}
 use Rattle.bq_value_text.specs.Page.{PageView, finished}
 use Rattle.bq_builtin_format.specs.Piece.{Piece, byte, doubled, field, is_brace}
 

@@ -3,7 +3,7 @@ use Rattle.std.proofs.Common.{◌≡◌, ℕ, List, [], ◌∷◌, Option, Some,
 use Rattle.bq_base.specs.declared.fault.EvalFault.{EvalFault}
 use Rattle.bq_value.specs.Datum.{Datum}
 use Rattle.bq_value.specs.Cells.{StoreView}
-use Rattle.bq_value_compare.specs.Looked.{Looked}
+use Rattle.bq_value.specs.Looked.{Looked}
 use Rattle.bq_builtin_format.specs.declared.argument.Numbering.{Numbering}
 use Rattle.bq_builtin_format.specs.Percent.{DraftView, and_then, and_write, blank, spoiled, text_by}
 use Rattle.bq_builtin_format.specs.Piece.{Piece, byte, field, lone, field_of, literal, pieces}

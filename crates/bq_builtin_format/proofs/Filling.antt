@@ -5,9 +5,9 @@ use Rattle.std.specs.Prelude.{codes}
 use Rattle.bq_base.specs.declared.fault.EvalFault.{EvalFault}
 use Rattle.bq_value.specs.Datum.{Datum}
 use Rattle.bq_value.specs.Cells.{StoreView}
-use Rattle.bq_value_compare.specs.Looked.{Looked}
-use Rattle.bq_builtin_string_parts.specs.Search.{find}
-use Rattle.bq_builtin_string_parts.specs.Parts.{partition, around}
+use Rattle.bq_value.specs.Looked.{Looked}
+use Rattle.bq_builtin_strings.specs.Search.{find}
+use Rattle.bq_builtin_strings.specs.Parts.{partition, around}
 use Rattle.bq_builtin_format.specs.Percent.{DraftView, and_then, and_write, converted, ended, filled, filled_by, values_after}
 
 -- what is after a percent sign is shorter

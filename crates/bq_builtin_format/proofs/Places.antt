@@ -4,7 +4,7 @@ use Rattle.std.specs.Cmp.Lexicographic.{nat_list_eq_equiv}
 use Rattle.std.specs.List.{slice_range}
 use Rattle.std.specs.Option.{option_map}
 use Rattle.std.proofs.lemmas.Option.{slice_get_read}
-use Rattle.bq_base_names.proofs.Positions.{position_cons}
+use Rattle.bq_base_texts.proofs.Positions.{position_cons}
 use Rattle.bq_value.specs.Datum.{Datum}
 use Rattle.bq_builtin_format.specs.Argument.{named_value, BeginWith}
 

@@ -5,7 +5,7 @@
 use Rattle.std.specs.Prelude.{ℕ, List, [], ◌∷◌, Option, Some, None, Ok, if◌then◌else◌}
 use Rattle.bq_value.specs.Datum.{Datum}
 use Rattle.bq_value.specs.Cells.{StoreView}
-use Rattle.bq_value_compare.specs.Looked.{Looked}
+use Rattle.bq_value.specs.Looked.{Looked}
 use Rattle.bq_value_text.specs.Shown.{text_shown}
 use Rattle.bq_builtin_format.specs.declared.argument.Numbering.{Numbering}
 use Rattle.bq_builtin_format.specs.Percent.{DraftView, and_then, and_write, blank, onto, spoiled, text_by}

@@ -7,8 +7,8 @@ use Rattle.bq_base.specs.declared.fault.EvalFault.{EvalFault}
 use Rattle.bq_base.specs.declared.fault.EvalFault.TheVariants.{Format}
 use Rattle.bq_value.specs.Datum.{Datum, int, tuple, list_of}
 use Rattle.bq_value.specs.Cells.{StoreView}
-use Rattle.bq_value_compare.specs.Looked.{Looked}
-use Rattle.bq_builtin_string_parts.specs.Parts.{partition}
+use Rattle.bq_value.specs.Looked.{Looked}
+use Rattle.bq_builtin_strings.specs.Parts.{partition}
 use Rattle.bq_value_text.specs.Page.{PageView, written, finished}
 use Rattle.bq_value_text.specs.Shown.{text_shown, repr_shown}
 

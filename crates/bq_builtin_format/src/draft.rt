@@ -3,7 +3,7 @@
 ghost use Rattle.std.specs.Prelude.{◌≡◌, OnOk};
 ghost use Rattle.bq_base.specs.Gives.{Gives};
 ghost use Rattle.bq_value.specs.declared.error.EvalErr.TheVariants.{Bad};
-ghost use Rattle.bq_value_compare.specs.Looked.{Looked};
+ghost use Rattle.bq_value.specs.Looked.{Looked};
 ghost use Rattle.bq_builtin_format.specs.Percent.{blank, and_write, spoiled, finished_draft, decimal, shown};
 
 use bq_base::{Bytes, EvalFault};

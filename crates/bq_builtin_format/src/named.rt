@@ -4,7 +4,7 @@ ghost use Rattle.std.specs.Prelude.{◌≡◌, option_copied, IfOk};
 ghost use Rattle.bq_builtin_format.specs.Argument.{named_value, BeginWith};
 
 use bq_base::Bytes;
-use bq_base_names::NameSet;
+use bq_base_texts::NameSet;
 use bq_value::Value;
 use std::alloc::{AllocError, Global};
 use std::marker::Model;

@@ -7,7 +7,7 @@ ghost use Rattle.bq_builtin_format.specs.Percent.{takes_value, next_shown, conve
 
 use crate::draft::Draft;
 use bq_base::Bytes;
-use bq_builtin_string_parts::partition;
+use bq_builtin_strings::partition;
 use bq_value::{EvalErr, Node, Store, Value};
 use std::alloc::Global;
 use std::slice;

@@ -3,7 +3,7 @@
 ghost use Rattle.std.specs.Prelude.{◌≡◌, ◌≢◌, ◌+◌, ◌++◌, ◌∷◌, [], ℕ, ℤ, pos, List, length, reverse, slice_get, Ok, true, false, codes, Any, All};
 ghost use Rattle.bq_value.specs.Cells.{StoreView};
 ghost use Rattle.bq_value.specs.Datum.{Datum, boolean, int, string, tuple, data_of};
-ghost use Rattle.bq_value_compare.specs.Truth.{truth_of};
+ghost use Rattle.bq_value.specs.Truth.{truth_of};
 ghost use Rattle.bq_builtin_machine.specs.Action.{done};
 ghost use Rattle.bq_builtin_machine.specs.Iteration.{elements_in};
 ghost use Rattle.bq_builtin_machine.specs.State.{State};

@@ -11,21 +11,21 @@
 //! - `operator`, by the definition of `bq_builtin_operators`: of two opposite comparisons one is true where the other is
 //!   false; what is in a list or tuple is equal to one of its elements; what is in a dict is what the dict has a value
 //!   for; and a slice goes by 1 if its step is left out;
-//! - `collection`, by the definitions of `bq_builtin_collections` and `bq_builtin_in_place`: each method that changes a
+//! - `collection`, by the definitions of `bq_builtin_methods` and `bq_builtin_operators`: each method that changes a
 //!   list or dict, and each assignment to an index or key, fails for the first of the reasons that are listed for it
 //!   (`specs/Collections/Orders.antt`, as docs/LANGUAGE.md has a table of them); `+=` keeps a list the same list;
 //!   `popitem` takes the first of a dict's items; what changes lists and dicts refuses a rule because of its type; `get`
 //!   changes nothing; and `index` returns a place of the whole list;
 //! - `format`, by the definition of `bq_builtin_format`: `%` takes exactly as many values as it is given, `%%` takes
 //!   none, and a format for the method `format` doesn't have both fields without text and fields with a number;
-//! - `string_method`, by the definitions of `bq_builtin_string_methods` and `bq_builtin_string_classes`: a tuple of
+//! - `string_method`, by the definitions of `bq_builtin_string_methods` and `bq_builtin_strings`: a tuple of
 //!   affixes stands for one of them; the three parts of a partition are the text, wherever its separator is; no part of
 //!   a text that is split at space begins with space, however few cuts are made; an affix is removed once; what strips
 //!   a string leaves a part of it; and a search of a region returns a place in the whole string;
 //! - `step`: each operator, method and built-in function takes its own number of steps, keeps what was printed, and changes no other module.
 //!   `Takes` (`specs/Steps/Steps.antt`) says so of an action in a state. The proofs go from parts to wholes: it holds of one action after
 //!   another (`proofs/Steps/Owning.antt`), of what a machine does (`Machine`), and of walks over values and texts (`Texts`, `Walks`), which
-//!   are known to take steps of their own (`bq_value_compare`); so it holds of each definition that consists of these, in the order of the
+//!   are known to take steps of their own (`bq_value`); so it holds of each definition that consists of these, in the order of the
 //!   crates that have them.
 #![tactic(auto)]
 

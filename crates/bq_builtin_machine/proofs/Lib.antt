@@ -14,3 +14,5 @@ pub mod Newest
 pub mod Walking
 -- arguments go where they belong
 pub mod Bindings
+-- the first of several checks that finds a fault
+pub mod FirstFault

@@ -16,3 +16,4 @@ pub mod Binding
 pub mod Placed
 pub mod ArgsOf
 pub mod Laws
+pub mod Refusals

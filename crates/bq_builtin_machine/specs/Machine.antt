@@ -4,10 +4,10 @@ use Rattle.std.specs.declared.cmp.Ordering.{Ordering}
 use Rattle.bq_base.specs.declared.fault.EvalFault.TheVariants.{StepLimit, Fail}
 use Rattle.bq_value.specs.Datum.{Datum}
 use Rattle.bq_value.specs.Cells.{StoreView}
-use Rattle.bq_value_compare.specs.Looked.{Looked, max_levels}
-use Rattle.bq_value_compare.specs.Equality.{equal_at}
-use Rattle.bq_value_compare.specs.Order.{ordered_at}
-use Rattle.bq_value_compare.specs.KeyWalk.{walked_at, keyed}
+use Rattle.bq_value.specs.Looked.{Looked, max_levels}
+use Rattle.bq_value.specs.Equality.{equal_at}
+use Rattle.bq_value.specs.Order.{ordered_at}
+use Rattle.bq_value.specs.KeyWalk.{walked_at, keyed}
 use Rattle.bq_value_text.specs.Shown.{repr_of, text_of}
 use Rattle.bq_builtin_machine.specs.State.{State}
 use Rattle.bq_builtin_machine.specs.Action.{Action, done, stop, change}

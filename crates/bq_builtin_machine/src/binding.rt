@@ -11,7 +11,7 @@ use crate::args::Args;
 use crate::parameters::{Signature, SingleParameter, parameter_called, places_by_name};
 use bq_base::{Bytes, EvalFault};
 use bq_value::{Dict, EvalErr, Key, Value};
-use bq_value_seed::Seed;
+use bq_value_datum::Seed;
 use std::alloc::{AllocError, Global};
 use std::collections::BTreeMap;
 use std::marker::Model;

@@ -17,7 +17,9 @@
 //! - `range_walk`, `iteration`, `walk`: the elements of an iterable, and walks over them;
 //! - `calls`: which functions are active;
 //! - `args`, `parameters`, `binding`: what a call passes, what a function takes, and which argument goes to which parameter;
-//! - `laws`: what the definitions say together.
+//! - `laws`: what the definitions say together;
+//! - `refusal_laws`: a list of checks finds the first fault that one of them finds, and no fault if none finds one. Laws
+//!   name the order of faults of each operation by such a list (`specs/Refusals.antt`).
 #![tactic(auto)]
 
 mod args;
@@ -29,6 +31,7 @@ pub mod laws;
 mod machine;
 mod parameters;
 mod range_walk;
+mod refusal_laws;
 mod walk;
 mod walks;
 
@@ -39,4 +42,5 @@ pub use calls::MAX_ACTIVE;
 pub use iteration::{Elements, keys_of, values_of};
 pub use machine::Machine;
 pub use parameters::{Signature, SingleParameter};
+pub use refusal_laws::the_first_fault_is_found;
 pub use walk::{ElementWalk, next_key, next_value};

@@ -56,7 +56,7 @@ impl Machine {
     pub fn key(&mut self, value: &Value) -> Result<Key, EvalErr>
         ensures { Does (λ key. key) result self.new (key value.now self.old) }
     {
-        let (key, left) = bq_value_compare::key_of(self.steps, value)?;
+        let (key, left) = bq_value::key_of(self.steps, value)?;
         self.steps = left;
         Ok(key)
     }
@@ -67,7 +67,7 @@ impl Machine {
 fn looked_equal(store: &Store, steps: u64, a: &Value, b: &Value) -> Result<(bool, u64), EvalFault>
     ensures { result ≡ looked_equal store.now steps a.now b.now }
 {
-    bq_value_compare::equal(store, steps, a, b)
+    bq_value::equal(store, steps, a, b)
 }
 
 #[tactic(auto, unfolding(crate::specs::Machine::looked_order))]
@@ -79,5 +79,5 @@ fn looked_order(
 ) -> Result<(Ordering, u64), EvalFault>
     ensures { result ≡ looked_order store.now steps a.now b.now }
 {
-    bq_value_compare::order(store, steps, a, b)
+    bq_value::order(store, steps, a, b)
 }

@@ -4,21 +4,21 @@ use Rattle.std.proofs.lemmas.Bool.Decides.{nat_tests}
 use Rattle.std.specs.Map.{lookup}
 use Rattle.std.specs.Str.{bytes_eq}
 use Rattle.bq_base.specs.declared.fault.EvalFault.TheVariants.{Args, NoMethod}
-use Rattle.bq_value_rule_class.specs.Class.{Class}
+use Rattle.bq_value_datum.specs.Class.{Class}
 use Rattle.bq_value.specs.Datum.{Datum, none, boolean, int, string, tuple, range, cell, function, built_in, rule_function, attribute}
 use Rattle.bq_value.specs.Contents.{Contents, items, pairs, rule}
 use Rattle.bq_value.specs.Cells.{content_at}
 use Rattle.bq_builtin_machine.specs.State.{State}
 use Rattle.bq_builtin_machine.specs.Action.{following, given}
 use Rattle.bq_builtin_machine.specs.Args.{Passed}
-use Rattle.bq_builtin_collections.specs.Calling.{Calling, called}
+use Rattle.bq_builtin_methods.specs.Calling.{Calling, called}
 use Rattle.bq_builtin_machine.specs.Cells.{content, or_wrong}
 use Rattle.bq_builtin_methods.specs.declared.row.Parameters.{Parameters}
 use Rattle.bq_builtin_methods.specs.declared.row.Parameters.TheVariants.{Positional, Any}
 use Rattle.bq_builtin_methods.specs.Method.{Method, fits}
 use Rattle.bq_builtin_methods.specs.Methods.{string_methods, list_methods, dict_methods}
 use Rattle.bq_builtin_methods.specs.Call.{if_found, called_on, call_in, call_by, call_of_cell, call_method}
-use Rattle.bq_builtin_methods.specs.Laws.{string_method, list_method, dict_method, has_methods, Refused}
+use Rattle.bq_builtin_methods.specs.TableLaws.{string_method, list_method, dict_method, has_methods, Refused}
 
 -- ---- for any table
 

@@ -7,7 +7,7 @@ use Rattle.std.specs.Cmp.Lexicographic.{nat_list_eq_equiv}
 use Rattle.std.proofs.lemmas.Bool.{cases_Bool, false≢true}
 use Rattle.std.proofs.lemmas.Map.Entries.{lookup_from_place}
 use Rattle.bq_builtin_methods.specs.Methods.{string_methods, list_methods, dict_methods}
-use Rattle.bq_builtin_methods.specs.Laws.{NamesItsMethods}
+use Rattle.bq_builtin_methods.specs.TableLaws.{NamesItsMethods}
 
 -- the test of it, which computes
 abbrev are_distinct : List (List ℕ) → Bool

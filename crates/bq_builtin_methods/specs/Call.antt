@@ -8,7 +8,7 @@ use Rattle.bq_value.specs.Contents.{Contents, items, pairs, rule}
 use Rattle.bq_builtin_machine.specs.State.{State}
 use Rattle.bq_builtin_machine.specs.Action.{Action, ◌>>=◌, ◌>>◌, stop, given}
 use Rattle.bq_builtin_machine.specs.Args.{Passed}
-use Rattle.bq_builtin_collections.specs.Calling.{called}
+use Rattle.bq_builtin_methods.specs.Calling.{called}
 use Rattle.bq_builtin_machine.specs.Cells.{content}
 use Rattle.bq_builtin_methods.specs.Method.{Method, fits}
 use Rattle.bq_builtin_methods.specs.Methods.{string_methods, list_methods, dict_methods}

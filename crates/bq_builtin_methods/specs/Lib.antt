@@ -1,5 +1,13 @@
+pub mod Arguments
+pub mod Search
+pub mod List
+pub mod PairsGiven
+pub mod GivenOf
+pub mod Dict
+pub mod Calling
+pub mod CollectionLaws
 pub mod Method
 pub mod Methods
 pub mod Call
 pub mod Row
-pub mod Laws
+pub mod TableLaws

@@ -3,7 +3,7 @@ use Rattle.std.specs.Prelude.{nat_le, ◌&&◌, length, if◌then◌else◌, Res
 use Rattle.bq_base.specs.declared.fault.EvalFault.{EvalFault}
 use Rattle.bq_base.specs.declared.fault.EvalFault.TheVariants.{Args}
 use Rattle.bq_builtin_machine.specs.Args.{Passed}
-use Rattle.bq_builtin_collections.specs.Calling.{Calling}
+use Rattle.bq_builtin_methods.specs.Calling.{Calling}
 use Rattle.bq_builtin_methods.specs.declared.row.Parameters.{Parameters}
 use Rattle.bq_builtin_methods.specs.declared.row.Parameters.TheVariants.{Positional, Any}
 

@@ -4,12 +4,12 @@ use Rattle.std.specs.Prelude.{ℕ, Bool, List, [], ◌∷◌, map, codes, slice_
 use Rattle.std.specs.Char.{to_ascii_lowercase, to_ascii_uppercase}
 use Rattle.bq_base.specs.declared.fault.EvalFault.{EvalFault}
 use Rattle.bq_value.specs.Datum.{Datum, boolean, string}
-use Rattle.bq_builtin_string_classes.specs.Case.{all_are, is_lower, is_upper, elems}
-use Rattle.bq_builtin_string_classes.specs.declared.class.ByteClass.TheVariants.{Alphanumeric, Alphabetic, Digit, Space}
+use Rattle.bq_builtin_strings.specs.Case.{all_are, is_lower, is_upper, elems}
+use Rattle.bq_builtin_strings.specs.declared.class.ByteClass.TheVariants.{Alphanumeric, Alphabetic, Digit, Space}
 use Rattle.bq_builtin_machine.specs.State.{State}
 use Rattle.bq_builtin_machine.specs.Action.{Action}
 use Rattle.bq_builtin_machine.specs.Answer.{and_then, as_string}
-use Rattle.bq_builtin_collections.specs.Calling.{Calling, gives, lists, changes_list, changes_dict, does}
+use Rattle.bq_builtin_methods.specs.Calling.{Calling, gives, lists, changes_list, changes_dict, does}
 use Rattle.bq_builtin_string_methods.specs.Searches.{search}
 use Rattle.bq_builtin_string_methods.specs.Affixes.{ends}
 use Rattle.bq_builtin_string_methods.specs.Strips.{strip}
@@ -20,8 +20,8 @@ use Rattle.bq_builtin_string_methods.specs.declared.searches.SearchMethod.TheVar
 use Rattle.bq_builtin_string_methods.specs.declared.affixes.EndMethod.TheVariants.{Startswith, Endswith}
 use Rattle.bq_builtin_string_methods.specs.declared.strips.StripMethod.TheVariants.{Strip, Lstrip, Rstrip, Removeprefix, Removesuffix}
 use Rattle.bq_builtin_string_methods.specs.declared.cuts.Side.TheVariants.{Left, Right}
-use Rattle.bq_builtin_collections.specs.List as list
-use Rattle.bq_builtin_collections.specs.Dict as dict
+use Rattle.bq_builtin_methods.specs.List as list
+use Rattle.bq_builtin_methods.specs.Dict as dict
 use Rattle.bq_builtin_methods.specs.declared.row.Parameters.TheVariants.{Positional, Any}
 use Rattle.bq_builtin_methods.specs.Method.{Method}
 

@@ -7,7 +7,7 @@ use Rattle.bq_value.specs.Datum.{Datum}
 use Rattle.bq_builtin_machine.specs.State.{State}
 use Rattle.bq_builtin_machine.specs.Action.{Action, ◌>>◌, stop, given}
 use Rattle.bq_builtin_machine.specs.Args.{Passed}
-use Rattle.bq_builtin_collections.specs.Calling.{called}
+use Rattle.bq_builtin_methods.specs.Calling.{called}
 use Rattle.bq_builtin_methods.specs.declared.row.Parameters.{Parameters}
 use Rattle.bq_builtin_methods.specs.Method.{Method, fits}
 use Rattle.bq_builtin_methods.specs.Call.{call_in}

@@ -3,9 +3,9 @@
 ghost use Rattle.bq_builtin_machine.specs.Action.{Does};
 ghost use Rattle.bq_builtin_methods.specs.Call.{call_of_cell, call_method};
 
-use crate::dict_methods::call_of_dict;
-use crate::list_methods::call_of_list;
-use crate::string_methods::call_of_string;
+use crate::dict_table::call_of_dict;
+use crate::list_table::call_of_list;
+use crate::string_table::call_of_string;
 use bq_base::EvalFault;
 use bq_builtin_machine::{Args, Machine};
 use bq_value::{Body, Cell, EvalErr, Node, Value};

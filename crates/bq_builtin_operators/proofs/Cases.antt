@@ -5,7 +5,7 @@ use Rattle.bq_base.specs.declared.fault.EvalFault.TheVariants.{NoKey, WrongType}
 use Rattle.bq_value.specs.Contents.{Contents, items, pairs}
 use Rattle.bq_value.specs.Datum.{Datum}
 use Rattle.bq_value.specs.Pairs.{found}
-use Rattle.bq_value_compare.specs.Looked.{Looked}
+use Rattle.bq_value.specs.Looked.{Looked}
 use Rattle.bq_builtin_operators.specs.Subscript.{at_no_cost, or_fault}
 
 -- a key of a dict; a value that makes no key is refused (F45)

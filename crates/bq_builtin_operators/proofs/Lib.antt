@@ -5,3 +5,5 @@ pub mod Sequences
 pub mod Unions
 -- operators between two integers
 pub mod BothIntegers
+-- a content that is changed as a definition says
+pub mod Changes

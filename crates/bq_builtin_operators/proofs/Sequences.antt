@@ -8,10 +8,10 @@ use Rattle.std.proofs.Math.Dec.{eqb-suc-zero}
 use Rattle.std.proofs.Math.Nat.{mul-suc, add-mul, one-mul}
 use Rattle.bq_base.specs.declared.fault.EvalFault.TheVariants.{TooLong}
 use Rattle.bq_value.specs.Range.{range_count, range_element}
-use Rattle.bq_builtin_numbers.specs.Length.{max_len, within, times_of}
-use Rattle.bq_builtin_numbers.specs.Slice.{slice_start, slice_stop, element_at, taken, taken_by}
-use Rattle.bq_builtin_numbers.proofs.Slices.{places_within}
-use Rattle.bq_builtin_numbers.proofs.Taken.{taken_next, first_element}
+use Rattle.bq_builtin_strings.specs.Length.{max_len, within, times_of}
+use Rattle.bq_builtin_strings.specs.Slice.{slice_start, slice_stop, element_at, taken, taken_by}
+use Rattle.bq_builtin_strings.proofs.Slices.{places_within}
+use Rattle.bq_builtin_strings.proofs.SliceElements.{taken_next, first_element}
 use Rattle.bq_builtin_machine.specs.Answer.{and_then}
 use Rattle.bq_builtin_operators.specs.Sequence.{limited, joined, copies, repeated, AreWithin}
 

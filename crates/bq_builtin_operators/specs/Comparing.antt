@@ -6,7 +6,7 @@ use Rattle.bq_parse_grammar.specs.declared.tree.Comparison.{Comparison}
 use Rattle.bq_parse_grammar.specs.declared.tree.Comparison.TheVariants as comparison
 use Rattle.bq_value.specs.Datum.{Datum}
 use Rattle.bq_value.specs.Cells.{StoreView}
-use Rattle.bq_value_compare.specs.Looked.{Looked}
+use Rattle.bq_value.specs.Looked.{Looked}
 use Rattle.bq_builtin_machine.specs.Machine.{looked_equal, looked_order}
 use Rattle.bq_builtin_operators.specs.Membership.{contained}
 

@@ -8,10 +8,10 @@ use Rattle.bq_parse_grammar.specs.declared.tree.UnaryOperator.{UnaryOperator}
 use Rattle.bq_parse_grammar.specs.declared.tree.UnaryOperator.TheVariants as sign
 use Rattle.bq_value.specs.Datum.{Datum, boolean}
 use Rattle.bq_value.specs.Cells.{StoreView}
-use Rattle.bq_value_compare.specs.Truth.{truth_of}
-use Rattle.bq_builtin_numbers.specs.Integer.{fitted, both, either, one_of}
-use Rattle.bq_builtin_numbers.specs.Division.{divided, remainder}
-use Rattle.bq_builtin_numbers.specs.Shift.{shifted_left, shifted_right}
+use Rattle.bq_value.specs.Truth.{truth_of}
+use Rattle.bq_builtin_strings.specs.Integer.{fitted, both, either, one_of}
+use Rattle.bq_builtin_strings.specs.Division.{divided, remainder}
+use Rattle.bq_builtin_strings.specs.Shift.{shifted_left, shifted_right}
 use Rattle.bq_builtin_operators.specs.Operand.{int_of}
 use Rattle.bq_builtin_machine.specs.Answer.{and_then, as_int}
 

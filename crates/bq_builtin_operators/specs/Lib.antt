@@ -10,3 +10,5 @@ pub mod Product
 pub mod Remainder
 pub mod Union
 pub mod Operate
+pub use Rattle.bq_builtin_machine.specs.Action
+pub mod InPlace

@@ -5,12 +5,12 @@ use Rattle.bq_value.specs.Datum.{Datum, int, string, tuple, range, cell, list_of
 use Rattle.bq_value.specs.Contents.{Contents, items, pairs}
 use Rattle.bq_value.specs.Pairs.{found}
 use Rattle.bq_value.specs.Cells.{StoreView, content_at}
-use Rattle.bq_value_compare.specs.Looked.{Looked, max_levels}
-use Rattle.bq_value_compare.specs.Equality.{Compares}
-use Rattle.bq_value_compare.specs.KeyWalk.{walked_at, keyed}
+use Rattle.bq_value.specs.Looked.{Looked, max_levels}
+use Rattle.bq_value.specs.Equality.{Compares}
+use Rattle.bq_value.specs.KeyWalk.{walked_at, keyed}
 use Rattle.bq_builtin_machine.specs.Machine.{looked_equal}
-use Rattle.bq_builtin_string_parts.specs.Search.{find}
-use Rattle.bq_builtin_numbers.specs.RangeItem.{range_has}
+use Rattle.bq_builtin_strings.specs.Search.{find}
+use Rattle.bq_builtin_strings.specs.RangeItem.{range_has}
 
 -- goes on where the answer is no
 abbrev pub if_not : Looked Bool → (ℕ → Looked Bool) → Looked Bool

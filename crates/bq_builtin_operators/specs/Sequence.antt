@@ -4,7 +4,7 @@ use Rattle.std.specs.Prelude.{ℕ, zero, suc, ◌<◌, nat_le, cond, ℤ, pos, �
 use Rattle.bq_base.specs.declared.fault.EvalFault.{EvalFault}
 use Rattle.bq_base.specs.declared.fault.EvalFault.TheVariants.{TooLong}
 use Rattle.bq_value.specs.Range.{range_count, range_element}
-use Rattle.bq_builtin_numbers.specs.Length.{max_len, times_of}
+use Rattle.bq_builtin_strings.specs.Length.{max_len, times_of}
 
 -- at most `max_len` elements or bytes, else F54
 abbrev pub limited : {A : Type 0} → List A → Result (List A) EvalFault

@@ -4,7 +4,7 @@ use Rattle.std.specs.Ordering.{int_eq}
 use Rattle.bq_base.specs.declared.fault.EvalFault.{EvalFault}
 use Rattle.bq_base.specs.declared.fault.EvalFault.TheVariants.{WrongType, BadValue}
 use Rattle.bq_value.specs.Datum.{Datum, none, int}
-use Rattle.bq_builtin_numbers.specs.Slice.{slice_of}
+use Rattle.bq_builtin_strings.specs.Slice.{slice_of}
 use Rattle.bq_builtin_machine.specs.Answer.{and_then}
 
 -- an integer, or `None` where the bound is left out

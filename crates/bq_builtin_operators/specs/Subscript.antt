@@ -6,10 +6,10 @@ use Rattle.bq_value.specs.Datum.{Datum, string, tuple, range, cell, list_of}
 use Rattle.bq_value.specs.Contents.{Contents, items, pairs}
 use Rattle.bq_value.specs.Pairs.{found}
 use Rattle.bq_value.specs.Cells.{StoreView, content_at}
-use Rattle.bq_value_compare.specs.Looked.{Looked, max_levels}
-use Rattle.bq_value_compare.specs.KeyWalk.{walked_at, keyed}
-use Rattle.bq_builtin_numbers.specs.Place.{indexed}
-use Rattle.bq_builtin_numbers.specs.RangeItem.{range_item}
+use Rattle.bq_value.specs.Looked.{Looked, max_levels}
+use Rattle.bq_value.specs.KeyWalk.{walked_at, keyed}
+use Rattle.bq_builtin_strings.specs.Place.{indexed}
+use Rattle.bq_builtin_strings.specs.RangeItem.{range_item}
 use Rattle.bq_builtin_operators.specs.Operand.{int_of}
 use Rattle.bq_builtin_machine.specs.Answer.{and_then, as_int}
 

@@ -5,13 +5,12 @@ ghost use Rattle.bq_builtin_operators.specs.Integers.{arithmetic, integers, sign
 
 use crate::operand::int_of;
 use bq_base::EvalFault;
-use bq_builtin_numbers::{
+use bq_builtin_strings::{
     add, bit_and, bit_not, bit_or, bit_xor, floor_divide, modulo, multiply, negate, shift_left,
     shift_right, subtract,
 };
 use bq_parse_grammar::{Operator, UnaryOperator};
-use bq_value::{Store, Value};
-use bq_value_compare::truth;
+use bq_value::{Store, Value, truth};
 
 /// Returns `x op y` of two integers.
 #[inline(always)]

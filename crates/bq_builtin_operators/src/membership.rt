@@ -7,10 +7,8 @@ ghost use Rattle.bq_builtin_operators.specs.Membership.{in_string, in_range, in_
 
 use crate::walks::equal;
 use bq_base::EvalFault;
-use bq_builtin_numbers::range_has;
-use bq_builtin_string_parts::find;
-use bq_value::{Body, Content, Dict, EvalErr, Node, Range, Store, Value};
-use bq_value_compare::key_of;
+use bq_builtin_strings::{find, range_has};
+use bq_value::{Body, Content, Dict, EvalErr, Node, Range, Store, Value, key_of};
 
 /// Returns whether a value is in a container, and how many of the steps are left: F40 if nothing can be in it, or no
 /// such value.

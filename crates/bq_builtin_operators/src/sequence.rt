@@ -4,12 +4,12 @@
 ghost use Rattle.std.specs.Prelude.{◌≡◌, ◌≢◌, ◌++◌, OnOk, IfOk, cond, ◌==◌, pos};
 ghost use Rattle.bq_base.specs.Gives.{Gives};
 ghost use Rattle.bq_value.specs.declared.error.EvalErr.TheVariants.{Bad};
-ghost use Rattle.bq_builtin_numbers.specs.Slice.{taken_by, slice_of};
-ghost use Rattle.bq_builtin_numbers.specs.Length.{times_of};
+ghost use Rattle.bq_builtin_strings.specs.Slice.{taken_by, slice_of};
+ghost use Rattle.bq_builtin_strings.specs.Length.{times_of};
 ghost use Rattle.bq_builtin_operators.specs.Sequence.{joined, copies, repeated, AreWithin};
 
 use bq_base::Bytes;
-use bq_builtin_numbers::{element, joined_len, repeated_len, slice_places};
+use bq_builtin_strings::{element, joined_len, repeated_len, slice_places};
 use bq_value::{EvalErr, Range, Value};
 use std::alloc::{AllocError, Global};
 

@@ -7,9 +7,8 @@ ghost use Rattle.bq_builtin_operators.specs.Subscript.{item_in, byte_in, integer
 
 use crate::operand::int_of;
 use bq_base::{Bytes, EvalFault};
-use bq_builtin_numbers::{index, range_item};
-use bq_value::{Body, Content, Dict, EvalErr, Node, Range, Store, Value};
-use bq_value_compare::key_of;
+use bq_builtin_strings::{index, range_item};
+use bq_value::{Body, Content, Dict, EvalErr, Node, Range, Store, Value, key_of};
 use std::alloc::Global;
 
 /// Returns the item of a container at an index or a key, and how many of the steps are left.

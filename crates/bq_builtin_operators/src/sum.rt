@@ -9,7 +9,7 @@ use crate::operand::list_in;
 use crate::sequence::join_values;
 use bq_base::{Bytes, EvalFault};
 use bq_builtin_machine::Machine;
-use bq_builtin_numbers::joined_len;
+use bq_builtin_strings::joined_len;
 use bq_parse_grammar::Operator;
 use bq_value::{Content, EvalErr, Node, Value};
 use std::alloc::Global;

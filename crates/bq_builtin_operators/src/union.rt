@@ -10,10 +10,10 @@ use crate::integers::integers;
 use crate::operand::dict_in;
 use bq_base::EvalFault;
 use bq_builtin_machine::Machine;
-use bq_builtin_numbers::MAX_LEN;
+use bq_builtin_strings::MAX_LEN;
 use bq_parse_grammar::Operator;
 use bq_value::{Content, Dict, EvalErr, Node, Store, Value};
-use bq_value_seed::Seed;
+use bq_value_datum::Seed;
 use std::alloc::{AllocError, Global};
 
 /// Returns `a | b`, of integers or of dicts; F40, F54.

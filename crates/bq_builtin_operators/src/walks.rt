@@ -17,7 +17,7 @@ pub(crate) fn equal(
 ) -> Result<(bool, u64), EvalFault>
     ensures { result ≡ looked_equal store.now steps a.now b.now }
 {
-    bq_value_compare::equal(store, steps, a, b)
+    bq_value::equal(store, steps, a, b)
 }
 
 /// Compares two values. Returns their order and how many of the steps are left.
@@ -30,5 +30,5 @@ pub(crate) fn order(
 ) -> Result<(Ordering, u64), EvalFault>
     ensures { result ≡ looked_order store.now steps a.now b.now }
 {
-    bq_value_compare::order(store, steps, a, b)
+    bq_value::order(store, steps, a, b)
 }

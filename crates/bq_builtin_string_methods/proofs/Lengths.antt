@@ -5,12 +5,12 @@ use Rattle.std.proofs.lemmas.List.{drop_more, drop_all}
 use Rattle.std.specs.Prelude.{slice_get}
 use Rattle.bq_base.specs.declared.fault.EvalFault.{EvalFault}
 use Rattle.bq_base.specs.declared.fault.EvalFault.TheVariants.{TooLong}
-use Rattle.bq_builtin_string_parts.specs.Search.{find}
-use Rattle.bq_builtin_string_parts.specs.Parts as parts
-use Rattle.bq_builtin_string_parts.specs.Parts.{around, cuts, interleave, joined_on, partition, replace_cuts}
-use Rattle.bq_builtin_string_parts.proofs.Places.{found_whole}
-use Rattle.bq_builtin_string_parts.proofs.Cases.{cuts_by, replace_by}
-use Rattle.bq_builtin_numbers.specs.Length.{max_len, within}
+use Rattle.bq_builtin_strings.specs.Search.{find}
+use Rattle.bq_builtin_strings.specs.Parts as parts
+use Rattle.bq_builtin_strings.specs.Parts.{around, cuts, interleave, joined_on, partition, replace_cuts}
+use Rattle.bq_builtin_strings.proofs.Places.{found_whole}
+use Rattle.bq_builtin_strings.proofs.PartCases.{cuts_by, replace_by}
+use Rattle.bq_builtin_strings.specs.Length.{max_len, within}
 use Rattle.bq_value.specs.Datum.{Datum}
 use Rattle.bq_builtin_string_methods.specs.Argument.{most_in, text_in}
 use Rattle.bq_builtin_machine.specs.Answer.{and_then}

@@ -3,8 +3,8 @@ use Rattle.std.specs.Prelude.{◌≡◌, ℕ, ◌+◌, ◌-◌, ℤ, pos, negsuc
 use Rattle.bq_base.specs.declared.fault.EvalFault.{EvalFault}
 use Rattle.bq_base.specs.declared.fault.EvalFault.TheVariants.{Args, WrongType}
 use Rattle.bq_value.specs.Datum.{Datum, none, boolean, int, string}
-use Rattle.bq_builtin_string_parts.specs.Trim.{spaces}
-use Rattle.bq_builtin_numbers.specs.Place.{bound}
+use Rattle.bq_builtin_strings.specs.Trim.{spaces}
+use Rattle.bq_builtin_strings.specs.Place.{bound}
 use Rattle.bq_builtin_machine.specs.Answer.{and_then}
 
 -- What a call returned that takes no memory is what the definition gives.

@@ -4,9 +4,9 @@ use Rattle.std.specs.Prelude.{ℕ, List, [], ◌∷◌, length, map, slice_get, 
 use Rattle.bq_base.specs.declared.fault.EvalFault.{EvalFault}
 use Rattle.bq_base.specs.declared.fault.EvalFault.TheVariants.{BadValue}
 use Rattle.bq_value.specs.Datum.{Datum, string, tuple, data_of}
-use Rattle.bq_builtin_string_parts.specs.Parts as parts
-use Rattle.bq_builtin_string_classes.specs.Word as word
-use Rattle.bq_builtin_string_classes.specs.Line.{lines, part}
+use Rattle.bq_builtin_strings.specs.Parts as parts
+use Rattle.bq_builtin_strings.specs.Word as word
+use Rattle.bq_builtin_strings.specs.Line.{lines, part}
 use Rattle.bq_builtin_string_methods.specs.Argument.{text_in, separator_in, most_in, truth_in}
 use Rattle.bq_builtin_machine.specs.Answer.{and_then}
 use Rattle.bq_builtin_string_methods.specs.declared.cuts.Side.{Side}

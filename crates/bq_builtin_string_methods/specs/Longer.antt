@@ -3,8 +3,8 @@ use Rattle.std.specs.Prelude.{ℕ, ◌+◌, ◌-◌, ◌*◌, nat_le, min, List,
 use Rattle.bq_base.specs.declared.fault.EvalFault.{EvalFault}
 use Rattle.bq_base.specs.declared.fault.EvalFault.TheVariants.{Args, TooLong}
 use Rattle.bq_value.specs.Datum.{Datum}
-use Rattle.bq_builtin_string_parts.specs.Parts as parts
-use Rattle.bq_builtin_numbers.specs.Length.{max_len}
+use Rattle.bq_builtin_strings.specs.Parts as parts
+use Rattle.bq_builtin_strings.specs.Length.{max_len}
 use Rattle.bq_builtin_machine.specs.State.{State}
 use Rattle.bq_builtin_machine.specs.Action.{Action, ◌>>=◌, given}
 use Rattle.bq_builtin_machine.specs.Answer.{and_then, as_string}

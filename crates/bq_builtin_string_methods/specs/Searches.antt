@@ -4,8 +4,8 @@ use Rattle.std.specs.Prelude.{ℕ, ◌+◌, ◌^◌, nat_lt, if◌then◌else◌
 use Rattle.bq_base.specs.declared.fault.EvalFault.{EvalFault}
 use Rattle.bq_base.specs.declared.fault.EvalFault.TheVariants.{BadValue, Overflow}
 use Rattle.bq_value.specs.Datum.{Datum, int}
-use Rattle.bq_builtin_string_parts.specs.Search.{find, rfind}
-use Rattle.bq_builtin_string_parts.specs.Parts.{count}
+use Rattle.bq_builtin_strings.specs.Search.{find, rfind}
+use Rattle.bq_builtin_strings.specs.Parts.{count}
 use Rattle.bq_builtin_string_methods.specs.Argument.{text_in, region}
 use Rattle.bq_builtin_machine.specs.Answer.{and_then}
 use Rattle.bq_builtin_string_methods.specs.declared.searches.SearchMethod.{SearchMethod}

@@ -3,8 +3,8 @@
 use Rattle.std.specs.Prelude.{ℕ, List, slice_get, Result, Ok}
 use Rattle.bq_base.specs.declared.fault.EvalFault.{EvalFault}
 use Rattle.bq_value.specs.Datum.{Datum}
-use Rattle.bq_builtin_string_parts.specs.Trim as trim
-use Rattle.bq_builtin_string_parts.specs.Trim.{remove_prefix, remove_suffix}
+use Rattle.bq_builtin_strings.specs.Trim as trim
+use Rattle.bq_builtin_strings.specs.Trim.{remove_prefix, remove_suffix}
 use Rattle.bq_builtin_string_methods.specs.Argument.{text_in, bytes_in}
 use Rattle.bq_builtin_machine.specs.Answer.{and_then}
 use Rattle.bq_builtin_string_methods.specs.declared.strips.StripMethod.{StripMethod}

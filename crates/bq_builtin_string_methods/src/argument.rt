@@ -4,8 +4,7 @@ ghost use Rattle.std.specs.Prelude.{◌≡◌, ◌≤◌, length, option_copied,
 ghost use Rattle.bq_builtin_string_methods.specs.Argument.{Says, text_in, place_in, bytes_in, separator_in, most_in, truth_in, part_of, region};
 
 use bq_base::{Bytes, EvalFault};
-use bq_builtin_numbers::span;
-use bq_builtin_string_parts::SPACES;
+use bq_builtin_strings::{SPACES, span};
 use bq_value::{Node, Value};
 
 /// Returns the argument at this place, if there is one.

@@ -12,7 +12,7 @@ ghost use Rattle.bq_builtin_string_methods.specs.Cuts.{three, three_parts, cut_o
 use crate::argument::{most_in, separator_in, text_in, truth_in};
 use bq_base::{Bytes, EvalFault};
 use bq_builtin_machine::Machine;
-use bq_builtin_string_classes::{lines, rwords, words};
+use bq_builtin_strings::{lines, rwords, words};
 use bq_value::{EvalErr, Value};
 use std::alloc::{AllocError, Global};
 
@@ -39,8 +39,8 @@ fn cut_once<'t>(side: Side, separator: &[u8], text: &'t [u8]) -> Option<(&'t [u8
     ensures { MatchOption result (cut_once side separator.now text.now ≡ None) (λ p. cut_once side separator.now text.now ≡ Some (p.0.now, p.1.now)) }
 {
     match side {
-        Side::Left => bq_builtin_string_parts::partition(text, separator),
-        Side::Right => bq_builtin_string_parts::rpartition(text, separator),
+        Side::Left => bq_builtin_strings::partition(text, separator),
+        Side::Right => bq_builtin_strings::rpartition(text, separator),
     }
 }
 
@@ -85,8 +85,8 @@ fn split_at(
     ensures { IfOk result (λ parts. parts.items ≡ split_at side separator.now most text.now) }
 {
     match side {
-        Side::Left => bq_builtin_string_parts::split(alloc, text, separator, most),
-        Side::Right => bq_builtin_string_parts::rsplit(alloc, text, separator, most),
+        Side::Left => bq_builtin_strings::split(alloc, text, separator, most),
+        Side::Right => bq_builtin_strings::rsplit(alloc, text, separator, most),
     }
 }
 

@@ -5,9 +5,9 @@ ghost use Rattle.bq_base.specs.Gives.{Gives};
 ghost use Rattle.bq_value.specs.declared.error.EvalErr.TheVariants.{Bad};
 ghost use Rattle.bq_builtin_machine.specs.Action.{Does};
 ghost use Rattle.bq_builtin_machine.specs.Answer.{and_then};
-ghost use Rattle.bq_builtin_numbers.specs.Length.{within};
-ghost use Rattle.bq_builtin_string_parts.specs.Parts as parts;
-ghost use Rattle.bq_builtin_string_parts.specs.Parts.{joined_on};
+ghost use Rattle.bq_builtin_strings.specs.Length.{within};
+ghost use Rattle.bq_builtin_strings.specs.Parts as parts;
+ghost use Rattle.bq_builtin_strings.specs.Parts.{joined_on};
 ghost use Rattle.bq_builtin_string_methods.specs.Affixes.{texts_of};
 ghost use Rattle.bq_builtin_string_methods.specs.Argument.{text_in};
 ghost use Rattle.bq_builtin_string_methods.specs.Longer.{fits, replace, join, joined, times, fit_replaced};
@@ -15,8 +15,7 @@ ghost use Rattle.bq_builtin_string_methods.specs.Longer.{fits, replace, join, jo
 use crate::argument::{argument, most_in, text_in};
 use bq_base::{Bytes, EvalFault};
 use bq_builtin_machine::{Elements, Machine};
-use bq_builtin_numbers::joined_len;
-use bq_builtin_string_parts::cuts;
+use bq_builtin_strings::{cuts, joined_len};
 use bq_value::{EvalErr, Node, Value};
 use std::alloc::Global;
 
@@ -57,7 +56,7 @@ pub fn replace(alloc: Global, text: &[u8], values: &[Value]) -> Result<Bytes, Ev
     fit_replaced(text.len(), times(text, old, most), old.len(), new.len())?;
     Ok(Bytes::from_vec(
         alloc,
-        bq_builtin_string_parts::replace(alloc, text, old, new, most)?,
+        bq_builtin_strings::replace(alloc, text, old, new, most)?,
     )?)
 }
 
@@ -96,7 +95,7 @@ fn join(alloc: Global, text: &[u8], strings: &[Bytes]) -> Result<Bytes, EvalErr>
     ensures { Gives (λ made. made) Bad result (join text.now strings.now) }
 {
     fit_joined(text, strings)?;
-    Ok(Bytes::from_vec(alloc, bq_builtin_string_parts::join(alloc, text, strings)?)?)
+    Ok(Bytes::from_vec(alloc, bq_builtin_strings::join(alloc, text, strings)?)?)
 }
 
 /// Appends a string; F40 for another value.

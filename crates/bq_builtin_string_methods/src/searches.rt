@@ -6,7 +6,7 @@ ghost use Rattle.bq_builtin_string_methods.specs.Searches.{number, place_or_less
 
 use crate::argument::{region, text_in};
 use bq_base::EvalFault;
-use bq_builtin_string_parts::{count, find, rfind};
+use bq_builtin_strings::{count, find, rfind};
 use bq_value::Value;
 
 #[derive(Clone, Copy)]

@@ -10,7 +10,7 @@ ghost use Rattle.bq_builtin_string_methods.specs.Strips.{end_in, without, strip}
 
 use crate::argument::{bytes_in, text_in};
 use bq_base::{Bytes, EvalFault};
-use bq_builtin_string_parts::{lstrip, remove_prefix, remove_suffix, rstrip, strip as strip_both};
+use bq_builtin_strings::{lstrip, remove_prefix, remove_suffix, rstrip, strip as strip_both};
 use bq_value::{EvalErr, Value};
 use std::alloc::Global;
 

@@ -2,8 +2,8 @@
 use Rattle.std.specs.Prelude.{◌≡◌, ◌⊎◌, Some, None, codes}
 use Rattle.clap.specs.Words.{found_of, one_text}
 use Rattle.clap.specs.declared.parser.matches.ArgMatches.{ArgMatches}
-use Rattle.bq_base_limits.specs.Limits.{large_with, standard_with}
-use Rattle.bq_base_limits.specs.declared.limits.Limits.{Limits}
+use Rattle.bq_base.specs.Limits.{large_with, standard_with}
+use Rattle.bq_base.specs.declared.limits.Limits.{Limits}
 
 -- the standard limits, but for those that other options say
 abbrev pub standard_for : Limits → Limits

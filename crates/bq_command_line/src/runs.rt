@@ -1,22 +1,23 @@
 //! Runs over bundles and directories, of one query and of many, and for facts.
 
 ghost use Rattle.std.specs.Prelude.{◌-◌, ◌^◌, ◌<◌};
-ghost use Rattle.bq_base_limits.specs.Limits.{AreBounded};
+ghost use Rattle.bq_base.specs.Limits.{AreBounded};
 ghost use Rattle.bq_run.specs.Run.{IsInRange};
 
 use crate::command::VERSION;
 use crate::messages::announce_input;
 use crate::words::{Wanted, Words, WorkspacePlace};
-use bq_base_limits::Limits;
+use bq_base::Limits;
 use bq_label::Workspace;
 use bq_run::{
     ByteSource, Metered, Options, RunErr, Status, WorkspaceRun, end_run, read_bundle_within, run,
     run_files,
 };
-use bq_run_directory::{DirectoryErr, read_directory};
+use bq_run_device::{DirectoryErr, read_directory};
 use bq_run_facts::run_facts;
-use bq_run_follow::FollowedText;
-use bq_run_session::{SessionOptions, SessionRun, SessionStatus, run_queries, session_code};
+use bq_run_session::{
+    FollowedText, SessionOptions, SessionRun, SessionStatus, run_queries, session_code,
+};
 use std::alloc::Global;
 use std::fs::File;
 use std::io;

@@ -1,14 +1,14 @@
 //! What the words of a command line ask for.
 
 ghost use Rattle.std.specs.Prelude.{◌≡◌, IfOk};
-ghost use Rattle.bq_base_limits.specs.Limits.{AreBounded};
+ghost use Rattle.bq_base.specs.Limits.{AreBounded};
 ghost use Rattle.bq_run.specs.Run.{IsInRange};
 ghost use Rattle.bq_command_line.specs.Words.{AreLimitsFor, AreStandardOrLarge};
 ghost use Rattle.bq_command_line.specs.declared.words.Words.{Words};
 ghost use Rattle.bq_command_line.specs.declared.words.Asked.TheVariants.{Answer};
 
 use crate::command::{MAX_STEPS, command};
-use bq_base_limits::Limits;
+use bq_base::Limits;
 use bq_run::{MAX_JOBS, Options, OutputForm};
 use bq_run_explain::{Explanation, explain};
 use clap::error::ErrorKind;

@@ -2,14 +2,14 @@
 use Rattle.std.specs.Prelude.{Result, Ok, Err}
 use Rattle.std.proofs.Common.{◌≡◌, ◌∙◌, List, Some, ap}
 use Rattle.bq_value.specs.declared.error.EvalErr.{EvalErr}
-use Rattle.bq_eval_meaning_spec.specs.Primitives.{Primitives}
+use Rattle.bq_eval_spec.specs.Primitives.{Primitives}
 use Rattle.bq_eval_rules.specs.Acts.{Acts}
 use Rattle.bq_resolve_scope.specs.declared.file.ResolvedFile.{ResolvedFile}
 use Rattle.bq_value.specs.Cells.{frozen}
 use Rattle.bq_value.specs.Datum.{Datum}
 use Rattle.bq_builtin_machine.specs.Action.{Run, done, stopped, HostDoes}
 use Rattle.bq_builtin_machine.specs.State.{State, Stop, stop_at}
-use Rattle.bq_eval_meaning_spec.specs.Frame.{Frame}
+use Rattle.bq_eval_spec.specs.Frame.{Frame}
 use Rattle.bq_eval.specs.Module.{evaluated, failed, fault_of, frozen_values, ended, kept_after}
 
 pub ended_done : {W : Type 0} (file : ResolvedFile) (imports : List Datum) (run : Run (State × W) Frame) (globals : Frame) (s : State × W) → run ≡ done globals s

@@ -3,8 +3,8 @@ use Rattle.std.proofs.Common.{◌≡◌, List, refl}
 use Rattle.bq_resolve_scope.specs.declared.file.FileLine.{FileLine}
 use Rattle.bq_resolve_scope.specs.declared.loads.LoadStmt.{LoadStmt}
 use Rattle.bq_resolve_scope.specs.declared.file.ResolvedFile.{ResolvedFile}
-use Rattle.bq_eval_language_spec.specs.Slots.{module_meaning, frozen_units}
-use Rattle.bq_eval_meaning_spec.specs.Primitives.{Primitives}
+use Rattle.bq_eval_spec.specs.Slots.{module_meaning, frozen_units}
+use Rattle.bq_eval_spec.specs.Primitives.{Primitives}
 use Rattle.bq_eval_rules.specs.Round.{views_of, lent_files}
 use Rattle.bq_eval_rules.specs.declared.context.Program.{Program}
 use Rattle.bq_eval.specs.Outcomes.{program_run}

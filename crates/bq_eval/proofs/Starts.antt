@@ -4,11 +4,11 @@ use Rattle.bq_resolve_scope.specs.Names.{Name}
 use Rattle.bq_value.specs.Cells.{StoreView}
 use Rattle.bq_builtin_machine.specs.Action.{Run}
 use Rattle.bq_builtin_machine.specs.State.{State, started}
-use Rattle.bq_eval_meaning_spec.specs.Frame.{Frame}
-use Rattle.bq_eval_language_spec.specs.Slots.{module_meaning, frozen_units}
+use Rattle.bq_eval_spec.specs.Frame.{Frame}
+use Rattle.bq_eval_spec.specs.Slots.{module_meaning, frozen_units}
 use Rattle.bq_eval_rules.specs.Round.{views_of, lent_files}
-use Rattle.bq_eval_operations.specs.Calling.{HostCalls}
-use Rattle.bq_eval_operations.specs.Runtime.{primitives}
+use Rattle.bq_eval.specs.Calling.{HostCalls}
+use Rattle.bq_eval.specs.Runtime.{primitives}
 use Rattle.bq_eval.specs.Module.{first_store, module_run}
 use Rattle.bq_eval.specs.Outcomes.{run_of}
 use Rattle.bq_eval.specs.declared.module.ResolvedModule.{ResolvedModule}

@@ -1,6 +1,11 @@
+pub mod Comparing
+pub mod Making
+pub mod Passing
+pub mod Unpacking
+pub mod Calling
+pub mod Runtime
+-- a few arguments, which no limit stops
+pub mod FewArguments
 pub use Rattle.bq_eval_rules.specs.Round
-pub use Rattle.bq_eval_operations.specs.Calling
-pub use Rattle.bq_eval_operations.specs.Runtime
-pub use Rattle.bq_eval_operations.specs.Unpacking
 pub mod Module
 pub mod Outcomes

@@ -11,10 +11,10 @@ use Rattle.bq_value.specs.Cells.{StoreView, FrozenView, frozen, loading}
 use Rattle.bq_value.specs.Datum.{Datum, or_none}
 use Rattle.bq_builtin_machine.specs.Action.{Run, done, stopped}
 use Rattle.bq_builtin_machine.specs.State.{State, Stop, started}
-use Rattle.bq_eval_meaning_spec.specs.Frame.{Frame}
-use Rattle.bq_eval_language_spec.specs.Slots.{module_meaning, frozen_units}
-use Rattle.bq_eval_operations.specs.Calling.{HostCalls}
-use Rattle.bq_eval_operations.specs.Runtime.{primitives}
+use Rattle.bq_eval_spec.specs.Frame.{Frame}
+use Rattle.bq_eval_spec.specs.Slots.{module_meaning, frozen_units}
+use Rattle.bq_eval.specs.Calling.{HostCalls}
+use Rattle.bq_eval.specs.Runtime.{primitives}
 
 -- A file that was evaluated: its frozen module, and what it printed. Or one that failed: why, and what it had printed by then.
 pub data Ended : Type 0 where

@@ -5,13 +5,13 @@ use Rattle.bq_resolve_scope.specs.declared.file.FileLine.{FileLine}
 use Rattle.bq_resolve_scope.specs.declared.loads.LoadStmt.{LoadStmt}
 use Rattle.bq_builtin_machine.specs.Action.{Run, Action}
 use Rattle.bq_builtin_machine.specs.State.{State}
-use Rattle.bq_eval_meaning_spec.specs.Frame.{Frame, empty}
-use Rattle.bq_eval_meaning_spec.specs.Primitives.{Primitives}
-use Rattle.bq_eval_language_spec.specs.Module as language
-use Rattle.bq_eval_language_spec.specs.Slots.{by_slots, first_globals, frozen_units, module_meaning}
+use Rattle.bq_eval_spec.specs.Frame.{Frame, empty}
+use Rattle.bq_eval_spec.specs.Primitives.{Primitives}
+use Rattle.bq_eval_spec.specs.Module as language
+use Rattle.bq_eval_spec.specs.Slots.{by_slots, first_globals, frozen_units, module_meaning}
 use Rattle.bq_eval_rules.specs.Round.{views_of, lent_files, own_of}
 use Rattle.bq_eval_rules.specs.declared.context.Program.{Program}
-use Rattle.bq_eval_operations.specs.Calling.{HostCalls}
+use Rattle.bq_eval.specs.Calling.{HostCalls}
 use Rattle.bq_eval.specs.Module.{Ended, evaluated, failed, module_run}
 use Rattle.bq_eval.specs.declared.module.ResolvedModule.{ResolvedModule}
 use Rattle.bq_eval.specs.declared.outcome.FileOutcome.{FileOutcome}

@@ -3,22 +3,22 @@
 ghost use Rattle.std.specs.Prelude.{◌≡◌, IfOk, OnOk, IfSome};
 ghost use Rattle.bq_builtin_machine.specs.State.{State};
 ghost use Rattle.bq_builtin_machine.specs.Action.{Run, HostDoes};
-ghost use Rattle.bq_eval_meaning_spec.specs.Frame as frames;
+ghost use Rattle.bq_eval_spec.specs.Frame as frames;
 ghost use Rattle.bq_eval_frame.specs.Slots.{slots_of};
 ghost use Rattle.bq_eval.specs.Module.{ended, kept_after, module_run};
 ghost use Rattle.bq_eval.specs.Outcomes.{ended_of, run_of};
 
 use crate::ending::{failed, module_of};
+use crate::evaluation::{Evaluation, RuleNames};
 use crate::loads::first_store;
 use crate::module::ResolvedModule;
 use crate::outcome::{EvaluatedFile, FileOutcome};
 use crate::run::run_module;
 use bq_builtin_machine::Machine;
 use bq_eval_frame::Frame;
-use bq_eval_operations::{Evaluation, RuleNames};
-use bq_package_host::{BuiltIns, Host};
+use bq_package_values::{BuiltIns, Host};
 use bq_value::EvalErr;
-use bq_value_seed::Seed;
+use bq_value_datum::Seed;
 use std::alloc::{AllocError, Global};
 use std::marker::Brand;
 
@@ -42,7 +42,7 @@ fn outcome_of<H: Host>(
 }
 
 /// Evaluates a file, where the rules have the names of `K`.
-#[tactic(auto, using(bq_eval_operations::specs::Runtime::machine_of, crate::proofs::Ends::host_does), unfolding(crate::specs::Module::module_run))]
+#[tactic(auto, using(crate::specs::Runtime::machine_of, crate::proofs::Ends::host_does), unfolding(crate::specs::Module::module_run))]
 fn evaluate<H: Host + Drop, K: RuleNames>(
     alloc: Global,
     built_ins: &BuiltIns,

@@ -3,13 +3,13 @@
 ghost use Rattle.std.specs.Prelude.{◌≡◌, IfOk, OnOk};
 ghost use Rattle.bq_eval_frame.specs.Slots.{slots_of};
 ghost use Rattle.bq_eval_rules.specs.Round.{views_of};
-ghost use Rattle.bq_eval_language_spec.specs.Slots as meaning;
+ghost use Rattle.bq_eval_spec.specs.Slots as meaning;
 ghost use Rattle.bq_eval.specs.Module.{first_store};
 
 use bq_eval_frame::Frame;
 use bq_resolve_scope::{LoadStmt, LoadedSymbol};
 use bq_value::{Frozen, Store, Value};
-use bq_value_seed::Seed;
+use bq_value_datum::Seed;
 use std::alloc::{AllocError, Global};
 use std::sync::Arc;
 
@@ -30,7 +30,7 @@ pub(crate) fn first_store(
 }
 
 /// Returns the first globals: a loaded name that the file binds too is a global whose first value is the loaded one.
-#[tactic(auto, unfolding(bq_eval_language_spec::specs::Slots::first_globals))]
+#[tactic(auto, unfolding(bq_eval_spec::specs::Slots::first_globals))]
 pub(crate) fn first_globals(
     globals: &mut Frame<'_>,
     loads: &[LoadStmt],

@@ -16,7 +16,7 @@ use sqlite_items::Items;
 use std::alloc::Global;
 
 /// Runs statements, and returns their globals as those of one of the modules of a program.
-#[tactic(auto, using(bq_eval_frame::proofs::Slots::none_filled), unfolding(crate::specs::Outcomes::program_run, bq_eval_language_spec::specs::Module::module_meaning, bq_eval_language_spec::specs::Module::eval_top, bq_eval_language_spec::specs::Calls::max_active, bq_eval_rules::specs::Round::evals, bq_eval_rules::specs::Round::outside_functions, bq_eval_rules::specs::Round::units_at))]
+#[tactic(auto, using(bq_eval_frame::proofs::Slots::none_filled), unfolding(crate::specs::Outcomes::program_run, bq_eval_spec::specs::Module::module_meaning, bq_eval_spec::specs::Module::eval_top, bq_eval_spec::specs::Calls::max_active, bq_eval_rules::specs::Round::evals, bq_eval_rules::specs::Round::outside_functions, bq_eval_rules::specs::Round::units_at))]
 fn run_program<'f, R: Runtime>(
     alloc: Global,
     program: &Program<'_>,

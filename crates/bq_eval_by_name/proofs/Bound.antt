@@ -7,13 +7,13 @@ use Rattle.bq_value.specs.Datum.{Datum}
 use Rattle.bq_builtin_machine.specs.Action.{beside, given}
 use Rattle.bq_builtin_machine.specs.Iteration.{elements_in}
 use Rattle.bq_builtin_machine.specs.State.{State, started}
-use Rattle.bq_eval_by_name_module_laws.specs.Ends.{Gives}
-use Rattle.bq_eval_by_name_module_laws.proofs.Bound as bound
+use Rattle.bq_eval_by_name.specs.Ends.{Gives}
+use Rattle.bq_eval_by_name.proofs.GlobalsBound as bound
 use Rattle.bq_eval.specs.Calling.{HostCalls}
 use Rattle.bq_eval.specs.Runtime.{primitives}
 use Rattle.bq_eval.specs.Unpacking.{just, parts}
 use Rattle.bq_eval.specs.Module.{first_store}
-use Rattle.bq_eval_by_name.specs.Agreement.{GlobalsAreBound, UnpackingCounts}
+use Rattle.bq_eval_by_name.specs.EvaluationAgreement.{GlobalsAreBound, UnpackingCounts}
 use Rattle.bq_eval_by_name.specs.Evaluation.{frozen_units, module_run}
 
 module _ {W : Type 0} (count : ℕ) (kept : W) (s : State) where

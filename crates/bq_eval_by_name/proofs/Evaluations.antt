@@ -6,19 +6,19 @@ use Rattle.bq_value.specs.Cells.{FrozenView, frozen}
 use Rattle.bq_value.specs.Datum.{Datum}
 use Rattle.bq_builtin_machine.specs.Action.{Run, done, stopped}
 use Rattle.bq_builtin_machine.specs.State.{State, started}
-use Rattle.bq_eval_meaning_spec.specs.Frame.{Frame}
-use Rattle.bq_eval_language_spec.specs.Slots as slots
-use Rattle.bq_eval_by_name_expression_laws.specs.Alike.{Alike}
-use Rattle.bq_eval_by_name_expression_laws.specs.Shows.{Reads}
-use Rattle.bq_eval_by_name_spec.specs.Names.{Env}
-use Rattle.bq_eval_by_name_module_laws.proofs.Agreement.{module_alike}
+use Rattle.bq_eval_spec.specs.Frame.{Frame}
+use Rattle.bq_eval_spec.specs.Slots as slots
+use Rattle.bq_eval_by_name.specs.Alike.{Alike}
+use Rattle.bq_eval_by_name.specs.Shows.{Reads}
+use Rattle.bq_eval_spec.specs.Names.{Env}
+use Rattle.bq_eval_by_name.proofs.ModuleAgreement.{module_alike}
 use Rattle.bq_eval.specs.Calling.{HostCalls}
 use Rattle.bq_eval.specs.Runtime.{primitives}
 use Rattle.bq_eval.specs.Module as by_slots
 use Rattle.bq_eval.specs.Module.{Ended, evaluated, failed, first_store, fault_of}
-use Rattle.bq_resolve_by_name.specs.Files.{ParsedFile, ResolvesTo}
-use Rattle.bq_resolve_by_name.proofs.Loads.{globals_kept}
-use Rattle.bq_eval_by_name.specs.Agreement.{AllResolveTo, EvaluationsAgree}
+use Rattle.bq_resolve_laws.specs.Files.{ParsedFile, ResolvesTo}
+use Rattle.bq_resolve_laws.proofs.Loads.{globals_kept}
+use Rattle.bq_eval_by_name.specs.EvaluationAgreement.{AllResolveTo, EvaluationsAgree}
 use Rattle.bq_eval_by_name.specs.Evaluation.{frozen_units, frozen_values, ended, kept_after, module_run}
 use Rattle.bq_eval_by_name.proofs.Units.{units_agree}
 use Rattle.bq_eval_by_name.proofs.Values.{frozen_same}

@@ -11,7 +11,7 @@ use Rattle.bq_parse_grammar.specs.declared.tree.TargetExpr.{TargetExpr, out-Targ
 use Rattle.bq_parse_grammar.specs.declared.tree.TopLevel.{TopLevel}
 use Rattle.bq_resolve_scope.specs.Names.{Name, TargetLayer, max_layers, has, place_among, with_name, with_each, with_target_by, with_target_to, with_target, with_small, with_branch, with_stmt_by, with_stmt_to, with_stmt, global_names}
 use Rattle.bq_resolve_scope.proofs.Cases.{with_small_by}
-use Rattle.bq_eval_by_name_module_laws.proofs.Places.{Stays, new_place, name_stays}
+use Rattle.bq_eval_by_name.proofs.Places.{Stays, new_place, name_stays}
 
 -- each name is the first of its own kind
 abbrev pub Once : List Name → Type 0

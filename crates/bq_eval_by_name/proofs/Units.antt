@@ -2,17 +2,17 @@
 use Rattle.std.proofs.Common.{ℕ, zero, suc, List, [], ◌∷◌, length, drop, Option, Some, None, Ok, slice_get, refl, ap, subst}
 use Rattle.bq_resolve_scope.specs.declared.file.ResolvedFile.{ResolvedFile}
 use Rattle.bq_resolve_scope.specs.Names.{global_names}
-use Rattle.bq_resolve_by_name.specs.Resolution.{InOrder, Maybe}
-use Rattle.bq_resolve_by_name.proofs.Loads.{globals_kept}
+use Rattle.bq_resolve_laws.specs.Resolution.{InOrder, Maybe}
+use Rattle.bq_resolve_laws.proofs.Loads.{globals_kept}
 use Rattle.bq_value.specs.Cells.{FrozenView}
 use Rattle.bq_value.specs.Datum.{Datum}
-use Rattle.bq_eval_language_spec.specs.Slots as slots
-use Rattle.bq_eval_language_spec.specs.Slots.{globals_among}
-use Rattle.bq_eval_by_name_spec.specs.Module as names
-use Rattle.bq_eval_by_name_module_laws.specs.Units.{UnitIs, UnitsAgree}
-use Rattle.bq_eval_by_name_module_laws.proofs.Agreement.{frozen_is}
-use Rattle.bq_resolve_by_name.specs.Files.{ParsedFile, ResolvesTo}
-use Rattle.bq_eval_by_name.specs.Agreement.{AllResolveTo}
+use Rattle.bq_eval_spec.specs.Slots as slots
+use Rattle.bq_eval_spec.specs.Slots.{globals_among}
+use Rattle.bq_eval_spec.specs.ModuleByName as names
+use Rattle.bq_eval_by_name.specs.Units.{UnitIs, UnitsAgree}
+use Rattle.bq_eval_by_name.proofs.ModuleAgreement.{frozen_is}
+use Rattle.bq_resolve_laws.specs.Files.{ParsedFile, ResolvesTo}
+use Rattle.bq_eval_by_name.specs.EvaluationAgreement.{AllResolveTo}
 use Rattle.bq_eval_by_name.specs.Evaluation.{values_named, frozen_by, frozen_unit, frozen_units}
 use Rattle.bq_eval_by_name.proofs.Values.{named_reads}
 

@@ -6,13 +6,13 @@ use Rattle.std.proofs.lemmas.Slice.Eq.{bytes_eq-Decides}
 use Rattle.bq_resolve_scope.specs.declared.file.ResolvedFile.{ResolvedFile}
 use Rattle.bq_resolve_scope.specs.Names.{Name, has, place_among, global_names}
 use Rattle.bq_value.specs.Datum.{Datum, or_none}
-use Rattle.bq_eval_meaning_spec.specs.Frame.{Frame}
-use Rattle.bq_eval_by_name_spec.specs.Names.{Env}
-use Rattle.bq_eval_by_name_expression_laws.specs.Shows.{through, Reads}
+use Rattle.bq_eval_spec.specs.Frame.{Frame}
+use Rattle.bq_eval_spec.specs.Names.{Env}
+use Rattle.bq_eval_by_name.specs.Shows.{through, Reads}
 use Rattle.bq_eval.specs.Module as by_slots
 use Rattle.bq_eval.specs.Module.{values_from}
-use Rattle.bq_eval_by_name.specs.Agreement.{FrozenModulesKeepTheirGlobals}
-use Rattle.bq_resolve_by_name.specs.Files.{ParsedFile}
+use Rattle.bq_eval_by_name.specs.EvaluationAgreement.{FrozenModulesKeepTheirGlobals}
+use Rattle.bq_resolve_laws.specs.Files.{ParsedFile}
 use Rattle.bq_eval_by_name.specs.Evaluation.{values_named, frozen_values}
 use Rattle.bq_eval_by_name.proofs.Once.{globals_once}
 use Rattle.bq_eval_by_name.proofs.Cases.{value_of}

@@ -2,15 +2,15 @@
 -- execution", "Freezing a value"). Nothing here speaks of slots.
 use Rattle.std.specs.Prelude.{ℕ, List, [], ◌∷◌, ◌++◌, length, drop, map, Option, Some, None, slice_get, bytes_eq, if◌then◌else◌}
 use Rattle.bq_resolve_scope.specs.Names.{Name, global_names}
-use Rattle.bq_resolve_by_name.specs.Files.{ParsedFile}
+use Rattle.bq_resolve_laws.specs.Files.{ParsedFile}
 use Rattle.bq_value.specs.Cells.{FrozenView, frozen}
 use Rattle.bq_value.specs.Datum.{Datum, none, or_none}
 use Rattle.bq_builtin_machine.specs.Action.{Run, done, stopped}
 use Rattle.bq_builtin_machine.specs.State.{State, started}
-use Rattle.bq_eval_language_spec.specs.Calls.{TreeUnit, Units}
-use Rattle.bq_eval_language_spec.specs.Slots.{globals_among}
-use Rattle.bq_eval_by_name_spec.specs.Module as meaning
-use Rattle.bq_eval_by_name_spec.specs.Names.{Env, Round}
+use Rattle.bq_eval_spec.specs.Calls.{TreeUnit, Units}
+use Rattle.bq_eval_spec.specs.Slots.{globals_among}
+use Rattle.bq_eval_spec.specs.ModuleByName as meaning
+use Rattle.bq_eval_spec.specs.Names.{Env, Round}
 use Rattle.bq_eval.specs.Calling.{HostCalls}
 use Rattle.bq_eval.specs.Runtime.{primitives}
 use Rattle.bq_eval.specs.Module.{Ended, evaluated, failed, first_store, fault_of}

@@ -1,3 +1,10 @@
+pub mod Alike
+pub mod Shows
+pub mod ExpressionAgreement
+pub mod StatementAgreement
+pub mod Units
+pub mod ModuleAgreement
+pub mod Ends
 pub use Rattle.bq_eval.specs.Module
 pub mod Evaluation
-pub mod Agreement
+pub mod EvaluationAgreement

@@ -2,7 +2,7 @@
 use Rattle.std.proofs.Common.{◌≡◌, ℕ, zero, suc, ◌<◌, ◌≤◌, ◌==◌, if◌then◌else◌, List, [], ◌∷◌, ◌++◌, length, set, slice_get, Option, Some, None, refl, sym, ap, ◌∙◌, arith}
 use Rattle.std.proofs.lemmas.Bool.Decides.{nat_tests}
 use Rattle.bq_value.specs.Datum.{Datum}
-use Rattle.bq_eval_meaning_spec.specs.Frame.{Frame, empty, fill}
+use Rattle.bq_eval_spec.specs.Frame.{Frame, empty, fill}
 use Rattle.bq_eval_frame.specs.Sparse.{Pairs, found, Binds}
 use Rattle.bq_eval_frame.specs.declared.inner.Inner.{Inner}
 use Rattle.bq_eval_frame.specs.Slots.{in_slot, layered, layers_of, list_slots, no_slots, or_else, Slots, slots_of}

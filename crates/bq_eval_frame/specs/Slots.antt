@@ -1,7 +1,7 @@
 -- The frame that slots are: a list of them, and what the clauses of comprehensions bind over those of a function.
 use Rattle.std.specs.Prelude.{ℕ, List, [], ◌∷◌, map, Option, Some, None, slice_get}
 use Rattle.bq_value.specs.Datum.{Datum}
-use Rattle.bq_eval_meaning_spec.specs.Frame.{Frame}
+use Rattle.bq_eval_spec.specs.Frame.{Frame}
 use Rattle.bq_eval_frame.specs.Sparse.{Pairs, found}
 use Rattle.bq_eval_frame.specs.declared.inner.Inner.{Inner}
 

@@ -1,7 +1,7 @@
 //! The values of the names of a function, of a file or of a comprehension, by slot.
 
 ghost use Rattle.std.specs.Prelude.{◌≡◌, [], Some, IfOk, OnOk, option_copied};
-ghost use Rattle.bq_eval_meaning_spec.specs.Frame.{fill};
+ghost use Rattle.bq_eval_spec.specs.Frame.{fill};
 ghost use Rattle.bq_eval_frame.specs.Slots.{layered, layers_of, list_slots, no_slots, slots_of};
 
 use crate::inner::Inner;

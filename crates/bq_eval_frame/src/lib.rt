@@ -2,7 +2,7 @@
 //!
 //! Slots and values come in; what is in a slot goes out.
 //!
-//! The promise: a [`Frame`] is one of `bq_eval_meaning_spec`, unless memory runs out (`specs/Slots.antt`). A new one is
+//! The promise: a [`Frame`] is one of `bq_eval_spec`, unless memory runs out (`specs/Slots.antt`). A new one is
 //! empty, [`Frame::fill`] changes one slot alone, and [`Frame::inside`], the frame of a comprehension, begins with the
 //! values of the frame around it, which it only reads.
 //!

@@ -1,7 +1,7 @@
 //! Lists of slots.
 
 ghost use Rattle.std.specs.Prelude.{◌≡◌, IfOk, OnOk, option_copied};
-ghost use Rattle.bq_eval_meaning_spec.specs.Frame.{fill};
+ghost use Rattle.bq_eval_spec.specs.Frame.{fill};
 ghost use Rattle.bq_eval_frame.specs.Slots.{list_slots};
 
 use bq_value::Value;

@@ -4,3 +4,9 @@ pub mod Evaluations
 pub mod Calls
 -- unpacking
 pub mod Parts
+-- calls of build functions
+pub mod BuildFunctions
+-- calls of rules
+pub mod RuleCalls
+-- the evaluation of BUILD files
+pub mod BuildFiles

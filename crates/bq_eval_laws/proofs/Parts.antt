@@ -9,7 +9,7 @@ use Rattle.bq_value.specs.Datum.{Datum}
 use Rattle.bq_builtin_machine.specs.Action.{done, stopped}
 use Rattle.bq_builtin_machine.specs.Iteration.{elements_in}
 use Rattle.bq_builtin_machine.specs.State.{State, stop_at}
-use Rattle.bq_eval_operations.specs.Unpacking.{parts}
+use Rattle.bq_eval.specs.Unpacking.{parts}
 
 pub parts_taken : (count : ℕ) (v : Datum) (vs : List Datum) (s : State) → elements_in s.store v ≡ Ok vs → length vs ≡ count → parts count v s ≡ done vs s
 unfolding parts

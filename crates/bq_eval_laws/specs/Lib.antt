@@ -2,3 +2,7 @@
 pub mod Evaluations
 -- calls
 pub mod Calls
+-- calls of build functions
+pub mod BuildFunctions
+-- calls of rules
+pub mod RuleCalls

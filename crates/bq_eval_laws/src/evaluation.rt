@@ -5,7 +5,7 @@ ghost use Rattle.bq_resolve_scope.specs.Names.{Name};
 ghost use Rattle.bq_eval_laws.specs.Evaluations.Files.{HostTakes, FilesTakeTheirSteps, FilesFailAtTheirStatements, OtherModulesStay, CallsKeepRules};
 ghost use Rattle.bq_eval_laws.specs.Evaluations.Callable.{FunctionsStayCallable};
 
-use bq_package_host::Host;
+use bq_package_values::Host;
 
 /// A file has a number of steps and an outcome of its own: under every limit of at least that many steps it has its
 /// outcome, and under a lower one it is F53 after a beginning of the same prints.

@@ -7,7 +7,7 @@ ghost use Rattle.bq_value.specs.Datum.{Datum};
 ghost use Rattle.bq_builtin_machine.specs.Action.{done, stopped};
 ghost use Rattle.bq_builtin_machine.specs.Iteration.{elements_in};
 ghost use Rattle.bq_builtin_machine.specs.State.{State, stop_at};
-ghost use Rattle.bq_eval_operations.specs.Unpacking.{parts};
+ghost use Rattle.bq_eval.specs.Unpacking.{parts};
 
 /// A number of targets take the elements of an iterable that has exactly as many: one that has more or fewer is F57, and so is a value
 /// that isn't iterable.

@@ -10,8 +10,8 @@ use Rattle.bq_parse_grammar.specs.declared.tree.Stmt.TheOpen.{Stmt-F}
 use Rattle.bq_parse_grammar.specs.declared.tree.Suffix.{out-Suffix, Suffix}
 use Rattle.bq_parse_grammar.specs.Targets.{ExprLayer, SuffixLayer}
 use Rattle.bq_resolve_scope.specs.Names.{ClauseLayer, TargetLayer}
-use Rattle.bq_eval_language_spec.specs.Trees.{ArgumentLayer, StmtLayer}
-use Rattle.bq_eval_language_spec.specs.Environment.{NamespaceCall}
+use Rattle.bq_eval_spec.specs.Trees.{ArgumentLayer, StmtLayer}
+use Rattle.bq_eval_spec.specs.Environment.{NamespaceCall}
 use Rattle.bq_eval_meaning_laws.specs.Layers.{MemberParts, PairParts, OperationParts, ChoiceParts, ArgumentLayerParts, ArgumentParts, OptionalParts, SuffixLayerParts, SuffixParts, ClauseLayerParts, ClauseParts, ExprParts, TargetParts, BranchParts, StmtParts}
 
 -- it holds

@@ -7,10 +7,10 @@ use Rattle.bq_resolve_scope.specs.Names.{max_layers, TargetLayer}
 use Rattle.bq_value.specs.Datum.{Datum}
 use Rattle.bq_builtin_machine.specs.Action.{Action, ◌>>=◌, pure, Run, done, stopped, following}
 use Rattle.bq_builtin_machine.specs.State.{Stop}
-use Rattle.bq_eval_meaning_spec.specs.Primitives.{Primitives}
-use Rattle.bq_eval_language_spec.specs.Environment.{Scoping}
-use Rattle.bq_eval_language_spec.specs.Targets.{Places, bind_place, bind_each, unpack, bind_by, bind_target, bind_to, bind_variables, place, places_each, places_by, places_of, places_to, assign}
-use Rattle.bq_eval_language_spec.specs.Trees.{Eval}
+use Rattle.bq_eval_spec.specs.Primitives.{Primitives}
+use Rattle.bq_eval_spec.specs.Environment.{Scoping}
+use Rattle.bq_eval_spec.specs.Targets.{Places, bind_place, bind_each, unpack, bind_by, bind_target, bind_to, bind_variables, place, places_each, places_by, places_of, places_to, assign}
+use Rattle.bq_eval_spec.specs.Trees.{Eval}
 use Rattle.bq_eval_meaning_laws.specs.Layers.{TargetParts, TargetIsWithin}
 use Rattle.bq_eval_meaning_laws.specs.Order.{Evaluates, none_left, and_then, Stops, here, later}
 use Rattle.bq_eval_meaning_laws.specs.Targets.{HasParts, EvaluatesPlaces, no_target, name_has_none, index_is_one, parts_have_theirs, PlacesStop, operand_stops, operand_of_part_stops, later_operand_stops, TakeValues, no_value, name_takes, place_takes, parts_take, TakingStops, place_stops, parts_stop, part_stops, later_target_stops, AssignmentsInOrder, VariablesInOrder}

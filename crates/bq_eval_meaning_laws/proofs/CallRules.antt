@@ -13,12 +13,12 @@ use Rattle.bq_value.specs.Datum.{Datum, none, tuple, cell, function, function_of
 use Rattle.bq_builtin_machine.specs.Action.{Action}
 use Rattle.bq_builtin_machine.specs.Args.{Passed}
 use Rattle.bq_builtin_machine.specs.Binding.{BoundView, bind}
-use Rattle.bq_eval_meaning_spec.specs.Primitives.{Primitives, given_by}
-use Rattle.bq_eval_language_spec.specs.Expressions.{eval_in}
-use Rattle.bq_eval_language_spec.specs.Statements.{run_in}
-use Rattle.bq_eval_language_spec.specs.Calls.{TreeUnit, Units, has_star_star, signature, Filling, answered, with_value, with_default, fill_by, fill_parameter, fill_parameters, keywords_of, entry, body_of, run_body, call_function, known, call_at, apply_by, apply, calls}
-use Rattle.bq_eval_language_spec.specs.Trees.{Eval, Calls}
-use Rattle.bq_eval_language_spec.specs.Environment.{Scoping}
+use Rattle.bq_eval_spec.specs.Primitives.{Primitives, given_by}
+use Rattle.bq_eval_spec.specs.Expressions.{eval_in}
+use Rattle.bq_eval_spec.specs.Statements.{run_in}
+use Rattle.bq_eval_spec.specs.Calls.{TreeUnit, Units, has_star_star, signature, Filling, answered, with_value, with_default, fill_by, fill_parameter, fill_parameters, keywords_of, entry, body_of, run_body, call_function, known, call_at, apply_by, apply, calls}
+use Rattle.bq_eval_spec.specs.Trees.{Eval, Calls}
+use Rattle.bq_eval_spec.specs.Environment.{Scoping}
 use Rattle.bq_eval_meaning_laws.proofs.Anything.{Holds, each}
 use Rattle.bq_eval_meaning_laws.proofs.Respects.{Relation, Respects}
 use Rattle.bq_eval_meaning_laws.proofs.ExpressionRules.{eval_rule}

@@ -6,10 +6,10 @@ use Rattle.bq_value.specs.Contents.{Contents}
 use Rattle.bq_value.specs.Datum.{Datum}
 use Rattle.bq_builtin_machine.specs.Action.{Action, ◌>>=◌, pure, done, stopped, following}
 use Rattle.bq_builtin_machine.specs.State.{Stop}
-use Rattle.bq_eval_meaning_spec.specs.Primitives.{Primitives, change}
-use Rattle.bq_eval_language_spec.specs.Comprehensions.{Turn, turn, turns, for_clause, clause_by, clauses}
-use Rattle.bq_eval_language_spec.specs.Environment.{Scoping}
-use Rattle.bq_eval_language_spec.specs.Trees.{Eval}
+use Rattle.bq_eval_spec.specs.Primitives.{Primitives, change}
+use Rattle.bq_eval_spec.specs.Comprehensions.{Turn, turn, turns, for_clause, clause_by, clauses}
+use Rattle.bq_eval_spec.specs.Environment.{Scoping}
+use Rattle.bq_eval_spec.specs.Trees.{Eval}
 use Rattle.bq_eval_meaning_laws.specs.Turns.{Collects, no_element, first_element, CollectingStops, at_element, after_element, ElementsInOrder, ClausesNest}
 use Rattle.bq_eval_meaning_laws.proofs.InOrder.{goes, ends}
 

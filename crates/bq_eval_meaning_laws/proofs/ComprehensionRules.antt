@@ -10,10 +10,10 @@ use Rattle.bq_parse_grammar.specs.declared.tree.ComprehensionFrame.{Comprehensio
 use Rattle.bq_resolve_scope.specs.Names.{ClauseLayer}
 use Rattle.bq_value.specs.Contents.{Contents}
 use Rattle.bq_value.specs.Datum.{Datum}
-use Rattle.bq_eval_meaning_spec.specs.Primitives.{Primitives}
-use Rattle.bq_eval_language_spec.specs.Comprehensions.{Turn, element, pair_element, turn, turns, for_clause, if_clause, clause_by, clauses, first_clauses, comprehension}
-use Rattle.bq_eval_language_spec.specs.Trees.{Eval}
-use Rattle.bq_eval_language_spec.specs.Environment.{Scoping}
+use Rattle.bq_eval_spec.specs.Primitives.{Primitives}
+use Rattle.bq_eval_spec.specs.Comprehensions.{Turn, element, pair_element, turn, turns, for_clause, if_clause, clause_by, clauses, first_clauses, comprehension}
+use Rattle.bq_eval_spec.specs.Trees.{Eval}
+use Rattle.bq_eval_spec.specs.Environment.{Scoping}
 use Rattle.bq_eval_meaning_laws.specs.Layers.{PairParts, ClauseLayerParts, ClauseParts}
 use Rattle.bq_eval_meaning_laws.proofs.Respects.{Relation, Respects}
 use Rattle.bq_eval_meaning_laws.proofs.TargetRules.{variables_rule}

@@ -6,11 +6,11 @@ use Rattle.bq_parse_grammar.specs.declared.tree.Clause.{out-Clause}
 use Rattle.bq_value.specs.Datum.{Datum}
 use Rattle.bq_value.specs.Contents.{Contents}
 use Rattle.bq_builtin_machine.specs.Action.{Action, ◌>>=◌, pure}
-use Rattle.bq_eval_meaning_spec.specs.Primitives.{Primitives}
-use Rattle.bq_eval_language_spec.specs.Targets.{bind_variables}
-use Rattle.bq_eval_language_spec.specs.Comprehensions.{turn, if_clause, clause_by, clauses, first_clauses, comprehension}
-use Rattle.bq_eval_language_spec.specs.Statements.{Flow, block, branches}
-use Rattle.bq_eval_language_spec.specs.Environment.{Scoping}
+use Rattle.bq_eval_spec.specs.Primitives.{Primitives}
+use Rattle.bq_eval_spec.specs.Targets.{bind_variables}
+use Rattle.bq_eval_spec.specs.Comprehensions.{turn, if_clause, clause_by, clauses, first_clauses, comprehension}
+use Rattle.bq_eval_spec.specs.Statements.{Flow, block, branches}
+use Rattle.bq_eval_spec.specs.Environment.{Scoping}
 use Rattle.bq_eval_meaning_laws.specs.Decides.{LeftSidesDecide, BranchConditionsFirst, FiltersFirst, VariablesFirst, ClausesFirst}
 use Rattle.bq_eval_meaning_laws.proofs.InOrder.{goes, ends}
 

@@ -8,13 +8,13 @@ use Rattle.bq_parse_grammar.specs.Targets.{SuffixLayer}
 use Rattle.bq_parse_grammar.specs.declared.tree.Argument.{Argument}
 use Rattle.bq_parse_grammar.specs.declared.tree.Identifier.{Identifier}
 use Rattle.bq_parse_grammar.specs.declared.tree.Suffix.TheVariants as suffix
-use Rattle.bq_resolve_predeclared.specs.declared.predeclared.Predeclared.{Predeclared}
+use Rattle.bq_predeclared.specs.declared.predeclared.Predeclared.{Predeclared}
 use Rattle.bq_builtin_machine.specs.Action.{Action, Run, done, stopped, following}
-use Rattle.bq_eval_meaning_spec.specs.Primitives.{Primitives}
-use Rattle.bq_eval_language_spec.specs.Environment.{NamespaceCall, Scoping}
-use Rattle.bq_eval_language_spec.specs.Slots.{member_at, called_by, called, by_slots}
-use Rattle.bq_eval_by_name_spec.specs.Names as names
-use Rattle.bq_eval_by_name_spec.specs.Names.{Round, namespace_at, by_names}
+use Rattle.bq_eval_spec.specs.Primitives.{Primitives}
+use Rattle.bq_eval_spec.specs.Environment.{NamespaceCall, Scoping}
+use Rattle.bq_eval_spec.specs.Slots.{member_at, called_by, called, by_slots}
+use Rattle.bq_eval_spec.specs.Names as names
+use Rattle.bq_eval_spec.specs.Names.{Round, namespace_at, by_names}
 use Rattle.bq_resolve_scope.specs.Expressions.{NamedSpace, member_by, member_call}
 use Rattle.bq_resolve_scope.specs.Universe.{member_named}
 use Rattle.bq_eval_meaning_laws.specs.Depth.{MembersAreSuffixes, ExpressionDepth, StatementDepth, BindingDepth, PlaceDepth}

@@ -15,16 +15,16 @@ use Rattle.bq_parse_grammar.specs.Targets.{ExprLayer, SuffixLayer}
 use Rattle.bq_parse_grammar.specs.declared.tree.Identifier.{Identifier}
 use Rattle.bq_parse_grammar.specs.declared.tree.Operator.TheVariants as operator
 use Rattle.bq_parse_grammar.specs.declared.tree.Suffix.TheVariants as suffix
-use Rattle.bq_resolve_predeclared.specs.declared.predeclared.Predeclared.{Predeclared}
+use Rattle.bq_predeclared.specs.declared.predeclared.Predeclared.{Predeclared}
 use Rattle.bq_value.specs.Contents.{Contents, items, pairs}
 use Rattle.bq_value.specs.Datum.{Datum, none, int, string, tuple, data_of}
 use Rattle.bq_builtin_machine.specs.Action.{Action}
 use Rattle.bq_builtin_machine.specs.Args.{Passed, nothing_passed}
-use Rattle.bq_eval_meaning_spec.specs.Primitives.{Primitives, stuck_fault}
-use Rattle.bq_eval_language_spec.specs.Expressions.{value_by, member_by, use_of, literal, unary_each, values, list_display, tuple_display, pair, pairs_each, dict_display, unary, operation_by, operation, operations, binary, compare, choice, chosen, conditional, index, part, slice, argument_by, argument, arguments, method, call_of, suffix_by, suffix, suffixes, operand, call_member, primary_by, primary, expr_by, expr, expr_to}
-use Rattle.bq_eval_language_spec.specs.Comprehensions.{element, pair_element}
-use Rattle.bq_eval_language_spec.specs.Environment.{NameValue, variable, predeclared, NamespaceCall, Scoping}
-use Rattle.bq_eval_language_spec.specs.Trees.{Eval, Calls, ArgumentLayer}
+use Rattle.bq_eval_spec.specs.Primitives.{Primitives, stuck_fault}
+use Rattle.bq_eval_spec.specs.Expressions.{value_by, member_by, use_of, literal, unary_each, values, list_display, tuple_display, pair, pairs_each, dict_display, unary, operation_by, operation, operations, binary, compare, choice, chosen, conditional, index, part, slice, argument_by, argument, arguments, method, call_of, suffix_by, suffix, suffixes, operand, call_member, primary_by, primary, expr_by, expr, expr_to}
+use Rattle.bq_eval_spec.specs.Comprehensions.{element, pair_element}
+use Rattle.bq_eval_spec.specs.Environment.{NameValue, variable, predeclared, NamespaceCall, Scoping}
+use Rattle.bq_eval_spec.specs.Trees.{Eval, Calls, ArgumentLayer}
 use Rattle.bq_eval_meaning_laws.specs.Depth.{MembersAreSuffixes}
 use Rattle.bq_eval_meaning_laws.specs.Layers.{MemberParts, PairParts, OperationParts, ChoiceParts, ArgumentLayerParts, ArgumentParts, OptionalParts, SuffixLayerParts, SuffixParts, ExprParts, IsWithin}
 use Rattle.bq_eval_meaning_laws.proofs.Anything.{Holds, member}

@@ -7,14 +7,14 @@ use Rattle.bq_resolve_scope.specs.declared.file.Outside.{Outside}
 use Rattle.bq_value.specs.Datum.{Datum, function, data_of}
 use Rattle.bq_builtin_machine.specs.Action.{Action, Run, done, stopped, following, ◌>>=◌, pure}
 use Rattle.bq_builtin_machine.specs.State.{Stop}
-use Rattle.bq_eval_meaning_spec.specs.Primitives.{Primitives, change}
-use Rattle.bq_eval_language_spec.specs.Calls.{answered, body_of}
-use Rattle.bq_eval_language_spec.specs.Environment.{Scoping}
-use Rattle.bq_eval_language_spec.specs.Expressions.{values, eval_in}
-use Rattle.bq_eval_language_spec.specs.Module.{def_stmt, outside_by, top_level, top_levels}
-use Rattle.bq_eval_language_spec.specs.Statements.{Flow, next, leave, again, answer, Exec, go_on, turn_on, steps_of, expr_stmt, assign_stmt, return_stmt, small_by, small_stmt, line, block, branches, turn, turns, for_loop, stmt_by, stmt, run_in}
-use Rattle.bq_eval_language_spec.specs.Targets.{bind_variables, assign, augment}
-use Rattle.bq_eval_language_spec.specs.Trees.{Eval, StmtLayer}
+use Rattle.bq_eval_spec.specs.Primitives.{Primitives, change}
+use Rattle.bq_eval_spec.specs.Calls.{answered, body_of}
+use Rattle.bq_eval_spec.specs.Environment.{Scoping}
+use Rattle.bq_eval_spec.specs.Expressions.{values, eval_in}
+use Rattle.bq_eval_spec.specs.Module.{def_stmt, outside_by, top_level, top_levels}
+use Rattle.bq_eval_spec.specs.Statements.{Flow, next, leave, again, answer, Exec, go_on, turn_on, steps_of, expr_stmt, assign_stmt, return_stmt, small_by, small_stmt, line, block, branches, turn, turns, for_loop, stmt_by, stmt, run_in}
+use Rattle.bq_eval_spec.specs.Targets.{bind_variables, assign, augment}
+use Rattle.bq_eval_spec.specs.Trees.{Eval, StmtLayer}
 use Rattle.bq_eval_meaning_laws.specs.Flows.{RunsTo, ran_all, ran_one, ended_by, RunStops, stops_first, stops_after, TurnsTo, turned_all, turned_one, continued, broken, returned, EndsNoLoop, Does, breaks, continues, passes, loads, returns_none, returns, evaluates, assigns, augments, SmallStatementsDo, LinesRunInOrder, BlocksRunInOrder, FilesRunInOrder, TurnsRunTheBody, LoopsTurn, LoopsEndNoOther, IfsRunABranch, ForsRunALoop, FunctionsGiveWhatTheyReturn, DefaultsFirst, FileLinesRunThere}
 use Rattle.bq_eval_meaning_laws.proofs.InOrder.{goes, ends, values_in_order}
 use Rattle.bq_eval_meaning_laws.proofs.Stepping.{same_steps}

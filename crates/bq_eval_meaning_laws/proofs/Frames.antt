@@ -12,13 +12,13 @@ use Rattle.bq_value.specs.Datum.{Datum, tuple, data_of}
 use Rattle.bq_builtin_machine.specs.Action.{Action, Run, done, stopped, following, pure}
 use Rattle.bq_builtin_machine.specs.Args.{Passed}
 use Rattle.bq_builtin_machine.specs.Binding.{bind}
-use Rattle.bq_eval_meaning_spec.specs.Frame.{Frame, empty, fill}
-use Rattle.bq_eval_meaning_spec.specs.Primitives.{Primitives, given_by}
-use Rattle.bq_eval_language_spec.specs.Calls.{Filling, has_star_star, signature, with_value, with_default, fill_by, fill_parameter, fill_parameters, keywords_of, entry}
-use Rattle.bq_eval_language_spec.specs.Slots.{slot_of, by_slots}
-use Rattle.bq_eval_language_spec.specs.Statements.{Flow, next, steps_of, expr_stmt, small_stmt}
-use Rattle.bq_eval_language_spec.specs.Trees.{Eval}
-use Rattle.bq_eval_language_spec.specs.Environment.{Scoping}
+use Rattle.bq_eval_spec.specs.Frame.{Frame, empty, fill}
+use Rattle.bq_eval_spec.specs.Primitives.{Primitives, given_by}
+use Rattle.bq_eval_spec.specs.Calls.{Filling, has_star_star, signature, with_value, with_default, fill_by, fill_parameter, fill_parameters, keywords_of, entry}
+use Rattle.bq_eval_spec.specs.Slots.{slot_of, by_slots}
+use Rattle.bq_eval_spec.specs.Statements.{Flow, next, steps_of, expr_stmt, small_stmt}
+use Rattle.bq_eval_spec.specs.Trees.{Eval}
+use Rattle.bq_eval_spec.specs.Environment.{Scoping}
 use Rattle.bq_eval_meaning_laws.specs.Frames.{goes_into, ExpressionsBindNothing, FunctionsBeginWithParameters}
 
 -- runs that end well with a value of which this holds

@@ -9,13 +9,13 @@ use Rattle.bq_value.specs.Contents.{items}
 use Rattle.bq_value.specs.Datum.{Datum, tuple, data_of}
 use Rattle.bq_builtin_machine.specs.Action.{Action, Run, done, stopped, following, ◌>>=◌, pure}
 use Rattle.bq_builtin_machine.specs.State.{Stop}
-use Rattle.bq_eval_meaning_spec.specs.Primitives.{Primitives}
-use Rattle.bq_eval_language_spec.specs.Targets.{place}
-use Rattle.bq_eval_language_spec.specs.Comprehensions.{pair_element, for_clause}
-use Rattle.bq_eval_language_spec.specs.Expressions.{values, list_display, tuple_display, pair, pairs_each, operation, operations, binary, compare, choice, chosen, conditional, index, part, slice}
-use Rattle.bq_eval_language_spec.specs.Statements.{assign_stmt}
-use Rattle.bq_eval_language_spec.specs.Trees.{Eval}
-use Rattle.bq_eval_language_spec.specs.Environment.{Scoping}
+use Rattle.bq_eval_spec.specs.Primitives.{Primitives}
+use Rattle.bq_eval_spec.specs.Targets.{place}
+use Rattle.bq_eval_spec.specs.Comprehensions.{pair_element, for_clause}
+use Rattle.bq_eval_spec.specs.Expressions.{values, list_display, tuple_display, pair, pairs_each, operation, operations, binary, compare, choice, chosen, conditional, index, part, slice}
+use Rattle.bq_eval_spec.specs.Statements.{assign_stmt}
+use Rattle.bq_eval_spec.specs.Trees.{Eval}
+use Rattle.bq_eval_spec.specs.Environment.{Scoping}
 use Rattle.bq_eval_meaning_laws.specs.Order.{Evaluates, none_left, and_then, Stops, here, later, DisplaysInOrder, DisplaysStop, PairsInOrder, DictDisplaysInOrder, ChainsInOrder, OperatorsInOrder, MadePairsInOrder, OperandsInOrder, ComparesInOrder, IndexedInOrder, SlicedInOrder, ConditionsFirst, RightSidesFirst, PlacesInOrder, IterablesFirst}
 
 -- what follows a run that is known

@@ -6,9 +6,9 @@ use Rattle.std.proofs.lemmas.Bool.Decides.{Decides-eqb}
 use Rattle.bq_resolve_scope.specs.declared.loads.LoadStmt.{LoadStmt}
 use Rattle.bq_resolve_scope.specs.declared.loads.LoadedSymbol.{LoadedSymbol}
 use Rattle.bq_value.specs.Datum.{Datum}
-use Rattle.bq_eval_meaning_spec.specs.Frame.{Frame, empty, fill}
-use Rattle.bq_eval_meaning_spec.specs.Primitives.{Primitives}
-use Rattle.bq_eval_language_spec.specs.Slots.{with_first, first_of_clauses, first_globals, module_meaning}
+use Rattle.bq_eval_spec.specs.Frame.{Frame, empty, fill}
+use Rattle.bq_eval_spec.specs.Primitives.{Primitives}
+use Rattle.bq_eval_spec.specs.Slots.{with_first, first_of_clauses, first_globals, module_meaning}
 use Rattle.bq_eval_meaning_laws.specs.LoadedGlobals.{is_at, is_global, loaded_names, LoadedGlobalsBegin}
 
 -- ---- all clauses as those of one load

@@ -8,15 +8,15 @@ use Rattle.bq_resolve_scope.specs.declared.file.ResolvedFile.{ResolvedFile}
 use Rattle.bq_resolve_scope.specs.Names.{max_layers}
 use Rattle.bq_resolve_scope.specs.declared.file.Outside.TheVariants as outside
 use Rattle.bq_value.specs.Datum.{Datum, function, data_of}
-use Rattle.bq_eval_meaning_spec.specs.Frame.{Frame, empty, Surroundings}
-use Rattle.bq_eval_meaning_spec.specs.Primitives.{Primitives}
-use Rattle.bq_eval_language_spec.specs.Statements.{Flow, next}
-use Rattle.bq_eval_language_spec.specs.Calls.{Units, calls, max_active}
-use Rattle.bq_eval_language_spec.specs.Module.{Own, with_own, def_stmt, outside_by, top_level, top_levels, eval_top, module_meaning}
-use Rattle.bq_eval_language_spec.specs.Slots.{by_slots, own_of, first_globals}
-use Rattle.bq_eval_language_spec.specs.Trees.{Eval}
-use Rattle.bq_eval_language_spec.specs.Environment.{Scoping}
-use Rattle.bq_eval_language_spec.specs.Slots as slots
+use Rattle.bq_eval_spec.specs.Frame.{Frame, empty, Surroundings}
+use Rattle.bq_eval_spec.specs.Primitives.{Primitives}
+use Rattle.bq_eval_spec.specs.Statements.{Flow, next}
+use Rattle.bq_eval_spec.specs.Calls.{Units, calls, max_active}
+use Rattle.bq_eval_spec.specs.Module.{Own, with_own, def_stmt, outside_by, top_level, top_levels, eval_top, module_meaning}
+use Rattle.bq_eval_spec.specs.Slots.{by_slots, own_of, first_globals}
+use Rattle.bq_eval_spec.specs.Trees.{Eval}
+use Rattle.bq_eval_spec.specs.Environment.{Scoping}
+use Rattle.bq_eval_spec.specs.Slots as slots
 use Rattle.bq_eval_meaning_laws.proofs.Anything.{Holds, each}
 use Rattle.bq_eval_meaning_laws.proofs.Respects.{Relation, Respects, OfLines}
 use Rattle.bq_eval_meaning_laws.proofs.ExpressionRules.{eval_rule, values_rule}

@@ -5,10 +5,10 @@ use Rattle.bq_parse_grammar.specs.declared.tree.Argument.{Argument, out-Argument
 use Rattle.bq_builtin_machine.specs.Action.{done, stopped, ◌>>=◌}
 use Rattle.bq_builtin_machine.specs.Args.{Passed, nothing_passed}
 use Rattle.bq_builtin_machine.specs.State.{Stop}
-use Rattle.bq_eval_meaning_spec.specs.Primitives.{Primitives}
-use Rattle.bq_eval_language_spec.specs.Expressions.{argument_by, argument, arguments, method, call_of, suffix, suffixes, operand, call_member, primary_by, primary}
-use Rattle.bq_eval_language_spec.specs.Trees.{Eval, ArgumentLayer}
-use Rattle.bq_eval_language_spec.specs.Environment.{Scoping}
+use Rattle.bq_eval_spec.specs.Primitives.{Primitives}
+use Rattle.bq_eval_spec.specs.Expressions.{argument_by, argument, arguments, method, call_of, suffix, suffixes, operand, call_member, primary_by, primary}
+use Rattle.bq_eval_spec.specs.Trees.{Eval, ArgumentLayer}
+use Rattle.bq_eval_spec.specs.Environment.{Scoping}
 use Rattle.bq_eval_meaning_laws.specs.Arguments.{operand_of, passing, Passes, all_passed, passed_first, PassingStops, operand_stops, value_stops, stops_later, ArgumentsInOrder, ArgumentsStop, OperandsOfSuffixesFirst, MembersInOrder, SuffixesInOrder}
 use Rattle.bq_eval_meaning_laws.proofs.InOrder.{goes, ends}
 

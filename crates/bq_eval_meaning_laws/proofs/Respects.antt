@@ -7,13 +7,13 @@ use Rattle.bq_base.specs.declared.fault.EvalFault.{EvalFault}
 use Rattle.bq_parse_grammar.specs.declared.tree.Comparison.{Comparison}
 use Rattle.bq_parse_grammar.specs.declared.tree.Operator.{Operator}
 use Rattle.bq_parse_grammar.specs.declared.tree.UnaryOperator.{UnaryOperator}
-use Rattle.bq_resolve_predeclared.specs.declared.predeclared.Predeclared.{Predeclared}
-use Rattle.bq_resolve_predeclared.specs.declared.rule_function.RuleFunction.{RuleFunction}
+use Rattle.bq_predeclared.specs.declared.predeclared.Predeclared.{Predeclared}
+use Rattle.bq_predeclared.specs.declared.rule_function.RuleFunction.{RuleFunction}
 use Rattle.bq_value.specs.Contents.{Contents}
 use Rattle.bq_value.specs.Datum.{Datum}
 use Rattle.bq_builtin_machine.specs.Action.{Action, ◌>>=◌, pure}
 use Rattle.bq_builtin_machine.specs.Args.{Passed}
-use Rattle.bq_eval_meaning_spec.specs.Primitives.{Primitives, stop, change}
+use Rattle.bq_eval_spec.specs.Primitives.{Primitives, stop, change}
 
 abbrev pub Relation : Type 0 → Type 1
 Relation S = (A : Type 0) → Action S A → Action S A → Type 0

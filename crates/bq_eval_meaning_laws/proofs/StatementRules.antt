@@ -10,10 +10,10 @@ use Rattle.bq_parse_grammar.specs.declared.tree.TargetExpr.{TargetExpr}
 use Rattle.bq_parse_grammar.specs.declared.tree.SmallStmt.{SmallStmt}
 use Rattle.bq_parse_grammar.specs.declared.tree.SmallKind.TheVariants as small
 use Rattle.bq_value.specs.Datum.{Datum, none}
-use Rattle.bq_eval_meaning_spec.specs.Primitives.{Primitives, stuck_fault}
-use Rattle.bq_eval_language_spec.specs.Statements.{Flow, next, leave, again, answer, Exec, go_on, turn_on, steps_of, expr_stmt, assign_stmt, return_stmt, small_by, small_stmt, line, block, branches, turn, turns, for_loop, stmt_by, stmt, run_to}
-use Rattle.bq_eval_language_spec.specs.Trees.{Eval, StmtLayer}
-use Rattle.bq_eval_language_spec.specs.Environment.{Scoping}
+use Rattle.bq_eval_spec.specs.Primitives.{Primitives, stuck_fault}
+use Rattle.bq_eval_spec.specs.Statements.{Flow, next, leave, again, answer, Exec, go_on, turn_on, steps_of, expr_stmt, assign_stmt, return_stmt, small_by, small_stmt, line, block, branches, turn, turns, for_loop, stmt_by, stmt, run_to}
+use Rattle.bq_eval_spec.specs.Trees.{Eval, StmtLayer}
+use Rattle.bq_eval_spec.specs.Environment.{Scoping}
 use Rattle.bq_eval_meaning_laws.specs.Layers.{BranchParts, StmtParts, StmtIsWithin}
 use Rattle.bq_eval_meaning_laws.proofs.Anything.{Holds}
 use Rattle.bq_eval_meaning_laws.proofs.Respects.{Relation, Respects}

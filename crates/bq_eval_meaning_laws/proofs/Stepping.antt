@@ -11,15 +11,15 @@ use Rattle.bq_parse_grammar.specs.Targets.{ExprLayer}
 use Rattle.bq_value.specs.Datum.{Datum, int, string}
 use Rattle.bq_builtin_machine.specs.Action.{Action, done, stopped}
 use Rattle.bq_builtin_machine.specs.State.{Stop}
-use Rattle.bq_eval_meaning_spec.specs.Primitives.{Primitives}
-use Rattle.bq_eval_language_spec.specs.Comprehensions as comprehensions
-use Rattle.bq_eval_language_spec.specs.Comprehensions.{comprehension}
-use Rattle.bq_eval_language_spec.specs.Environment.{NameValue, variable, predeclared, NamespaceCall, Scoping}
-use Rattle.bq_eval_language_spec.specs.Expressions.{value_by, use_of, literal, list_display, tuple_display, dict_display, unary, binary, compare, choice, chosen, conditional, operand, call_member, primary_by, primary, expr_by, expr}
-use Rattle.bq_eval_language_spec.specs.Module.{def_stmt}
-use Rattle.bq_eval_language_spec.specs.Statements.{Exec, steps_of, small_stmt, branches, turn, for_loop, stmt_by, stmt}
-use Rattle.bq_eval_language_spec.specs.Targets.{bound}
-use Rattle.bq_eval_language_spec.specs.Trees.{Eval, Calls, StmtLayer}
+use Rattle.bq_eval_spec.specs.Primitives.{Primitives}
+use Rattle.bq_eval_spec.specs.Comprehensions as comprehensions
+use Rattle.bq_eval_spec.specs.Comprehensions.{comprehension}
+use Rattle.bq_eval_spec.specs.Environment.{NameValue, variable, predeclared, NamespaceCall, Scoping}
+use Rattle.bq_eval_spec.specs.Expressions.{value_by, use_of, literal, list_display, tuple_display, dict_display, unary, binary, compare, choice, chosen, conditional, operand, call_member, primary_by, primary, expr_by, expr}
+use Rattle.bq_eval_spec.specs.Module.{def_stmt}
+use Rattle.bq_eval_spec.specs.Statements.{Exec, steps_of, small_stmt, branches, turn, for_loop, stmt_by, stmt}
+use Rattle.bq_eval_spec.specs.Targets.{bound}
+use Rattle.bq_eval_spec.specs.Trees.{Eval, Calls, StmtLayer}
 use Rattle.bq_eval_meaning_laws.specs.Depth.{MembersAreSuffixes}
 use Rattle.bq_eval_meaning_laws.specs.Steps.{expr_steps, small_steps, stmt_steps, literal_value, used, ExpressionsStepFirst, SmallStatementsStepFirst, StatementsStepFirst, TurnsStepFirst, DefsStepFirst, NamesAreRead, LiteralsAreValues}
 use Rattle.bq_eval_meaning_laws.proofs.InOrder.{goes, ends}

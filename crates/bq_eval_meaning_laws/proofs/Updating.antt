@@ -2,9 +2,9 @@
 use Rattle.std.proofs.Common.{◌≡◌, ◌∙◌, Option, Some, ap}
 use Rattle.bq_value.specs.Datum.{Datum}
 use Rattle.bq_builtin_machine.specs.Action.{done, ◌>>=◌, pure}
-use Rattle.bq_eval_meaning_spec.specs.Primitives.{Primitives}
-use Rattle.bq_eval_language_spec.specs.Targets.{bound, augment_name, augment_index}
-use Rattle.bq_eval_language_spec.specs.Environment.{Scoping}
+use Rattle.bq_eval_spec.specs.Primitives.{Primitives}
+use Rattle.bq_eval_spec.specs.Targets.{bound, augment_name, augment_index}
+use Rattle.bq_eval_spec.specs.Environment.{Scoping}
 use Rattle.bq_eval_meaning_laws.specs.Order.{none_left, and_then}
 use Rattle.bq_eval_meaning_laws.specs.Updates.{NamesAugmentedInOrder, PlacesAugmentedInOrder}
 use Rattle.bq_eval_meaning_laws.proofs.InOrder.{goes}

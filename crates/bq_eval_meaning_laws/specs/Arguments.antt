@@ -5,15 +5,15 @@ use Rattle.bq_parse_grammar.specs.declared.tree.Expr.{Expr}
 use Rattle.bq_parse_grammar.specs.declared.tree.Argument.TheOpen.{Argument-F}
 use Rattle.bq_parse_grammar.specs.declared.tree.Argument.{Argument, out-Argument}
 use Rattle.bq_parse_grammar.specs.declared.tree.Suffix.{Suffix}
-use Rattle.bq_resolve_predeclared.specs.declared.predeclared.Predeclared.{Predeclared}
+use Rattle.bq_predeclared.specs.declared.predeclared.Predeclared.{Predeclared}
 use Rattle.bq_value.specs.Datum.{Datum}
 use Rattle.bq_builtin_machine.specs.Action.{Action, done, stopped}
 use Rattle.bq_builtin_machine.specs.Args.{Passed, nothing_passed}
 use Rattle.bq_builtin_machine.specs.State.{Stop}
-use Rattle.bq_eval_meaning_spec.specs.Primitives.{Primitives}
-use Rattle.bq_eval_language_spec.specs.Expressions.{call_of, method, suffix, suffixes, primary}
-use Rattle.bq_eval_language_spec.specs.Trees.{Eval, Calls, ArgumentLayer}
-use Rattle.bq_eval_language_spec.specs.Environment.{Scoping}
+use Rattle.bq_eval_spec.specs.Primitives.{Primitives}
+use Rattle.bq_eval_spec.specs.Expressions.{call_of, method, suffix, suffixes, primary}
+use Rattle.bq_eval_spec.specs.Trees.{Eval, Calls, ArgumentLayer}
+use Rattle.bq_eval_spec.specs.Environment.{Scoping}
 
 -- the expression of an argument
 abbrev pub operand_of : ArgumentLayer → Expr

@@ -12,13 +12,13 @@ use Rattle.bq_value.specs.Contents.{Contents}
 use Rattle.bq_value.specs.Datum.{Datum}
 use Rattle.bq_builtin_machine.specs.Action.{Action, done, stopped, ◌>>=◌}
 use Rattle.bq_builtin_machine.specs.State.{Stop}
-use Rattle.bq_eval_meaning_spec.specs.Primitives.{Primitives}
-use Rattle.bq_eval_language_spec.specs.Targets.{bind_variables}
-use Rattle.bq_eval_language_spec.specs.Comprehensions.{Turn, turn, if_clause, clause_by, clauses, comprehension}
-use Rattle.bq_eval_language_spec.specs.Expressions.{operation_by}
-use Rattle.bq_eval_language_spec.specs.Statements.{Exec, block, branches}
-use Rattle.bq_eval_language_spec.specs.Trees.{Eval}
-use Rattle.bq_eval_language_spec.specs.Environment.{Scoping}
+use Rattle.bq_eval_spec.specs.Primitives.{Primitives}
+use Rattle.bq_eval_spec.specs.Targets.{bind_variables}
+use Rattle.bq_eval_spec.specs.Comprehensions.{Turn, turn, if_clause, clause_by, clauses, comprehension}
+use Rattle.bq_eval_spec.specs.Expressions.{operation_by}
+use Rattle.bq_eval_spec.specs.Statements.{Exec, block, branches}
+use Rattle.bq_eval_spec.specs.Trees.{Eval}
+use Rattle.bq_eval_spec.specs.Environment.{Scoping}
 
 module _ {S R V : Type 0} (m : Primitives S) (scoping : Scoping R V) where
   -- The left operand has the value `v` in this state: where it decides, the right one is not evaluated, and the result is `v`.

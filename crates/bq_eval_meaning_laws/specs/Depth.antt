@@ -8,14 +8,14 @@ use Rattle.bq_parse_grammar.specs.declared.tree.Argument.{Argument}
 use Rattle.bq_parse_grammar.specs.declared.tree.Suffix.{Suffix}
 use Rattle.bq_parse_grammar.specs.declared.tree.Identifier.{Identifier}
 use Rattle.bq_parse_grammar.specs.declared.tree.Suffix.TheVariants as suffix
-use Rattle.bq_resolve_predeclared.specs.declared.predeclared.Predeclared.{Predeclared}
+use Rattle.bq_predeclared.specs.declared.predeclared.Predeclared.{Predeclared}
 use Rattle.bq_value.specs.Datum.{Datum}
-use Rattle.bq_eval_meaning_spec.specs.Primitives.{Primitives}
-use Rattle.bq_eval_language_spec.specs.Targets.{Places, bind_to, places_to}
-use Rattle.bq_eval_language_spec.specs.Expressions.{expr_to}
-use Rattle.bq_eval_language_spec.specs.Statements.{run_to}
-use Rattle.bq_eval_language_spec.specs.Trees.{Eval, Calls}
-use Rattle.bq_eval_language_spec.specs.Environment.{Scoping}
+use Rattle.bq_eval_spec.specs.Primitives.{Primitives}
+use Rattle.bq_eval_spec.specs.Targets.{Places, bind_to, places_to}
+use Rattle.bq_eval_spec.specs.Expressions.{expr_to}
+use Rattle.bq_eval_spec.specs.Statements.{run_to}
+use Rattle.bq_eval_spec.specs.Trees.{Eval, Calls}
+use Rattle.bq_eval_spec.specs.Environment.{Scoping}
 use Rattle.bq_eval_meaning_laws.specs.Layers.{IsWithin, TargetIsWithin, StmtIsWithin}
 
 -- the call of a namespace's member is the first suffix of its operand, and what is done to the result is all after it

@@ -19,14 +19,14 @@ use Rattle.bq_resolve_scope.specs.declared.file.Outside.TheVariants as outside
 use Rattle.bq_value.specs.Datum.{Datum, none, function, data_of}
 use Rattle.bq_builtin_machine.specs.Action.{done, stopped}
 use Rattle.bq_builtin_machine.specs.State.{Stop}
-use Rattle.bq_eval_meaning_spec.specs.Primitives.{Primitives}
-use Rattle.bq_eval_language_spec.specs.Calls.{TreeUnit, body_of}
-use Rattle.bq_eval_language_spec.specs.Environment.{Scoping}
-use Rattle.bq_eval_language_spec.specs.Expressions.{eval_in}
-use Rattle.bq_eval_language_spec.specs.Module.{Own, def_stmt, top_level, top_levels}
-use Rattle.bq_eval_language_spec.specs.Statements.{Flow, next, leave, again, answer, Exec, small_stmt, line, block, branches, turn, for_loop, stmt, run_in}
-use Rattle.bq_eval_language_spec.specs.Targets.{bind_variables, assign, augment}
-use Rattle.bq_eval_language_spec.specs.Trees.{Eval, Calls}
+use Rattle.bq_eval_spec.specs.Primitives.{Primitives}
+use Rattle.bq_eval_spec.specs.Calls.{TreeUnit, body_of}
+use Rattle.bq_eval_spec.specs.Environment.{Scoping}
+use Rattle.bq_eval_spec.specs.Expressions.{eval_in}
+use Rattle.bq_eval_spec.specs.Module.{Own, def_stmt, top_level, top_levels}
+use Rattle.bq_eval_spec.specs.Statements.{Flow, next, leave, again, answer, Exec, small_stmt, line, block, branches, turn, for_loop, stmt, run_in}
+use Rattle.bq_eval_spec.specs.Targets.{bind_variables, assign, augment}
+use Rattle.bq_eval_spec.specs.Trees.{Eval, Calls}
 use Rattle.bq_eval_meaning_laws.specs.Order.{Evaluates}
 use Rattle.bq_eval_meaning_laws.specs.Steps.{small_steps}
 

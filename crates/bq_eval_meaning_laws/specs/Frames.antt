@@ -9,13 +9,13 @@ use Rattle.bq_resolve_scope.specs.declared.file.Formal.TheVariants as formal
 use Rattle.bq_value.specs.Datum.{Datum}
 use Rattle.bq_builtin_machine.specs.Action.{done}
 use Rattle.bq_builtin_machine.specs.Args.{Passed}
-use Rattle.bq_eval_meaning_spec.specs.Frame.{Frame}
-use Rattle.bq_eval_meaning_spec.specs.Primitives.{Primitives}
-use Rattle.bq_eval_language_spec.specs.Calls.{entry}
-use Rattle.bq_eval_language_spec.specs.Slots.{slot_of, by_slots}
-use Rattle.bq_eval_language_spec.specs.Statements.{Flow, next, small_stmt}
-use Rattle.bq_eval_language_spec.specs.Trees.{Eval}
-use Rattle.bq_eval_language_spec.specs.Environment.{Scoping}
+use Rattle.bq_eval_spec.specs.Frame.{Frame}
+use Rattle.bq_eval_spec.specs.Primitives.{Primitives}
+use Rattle.bq_eval_spec.specs.Calls.{entry}
+use Rattle.bq_eval_spec.specs.Slots.{slot_of, by_slots}
+use Rattle.bq_eval_spec.specs.Statements.{Flow, next, small_stmt}
+use Rattle.bq_eval_spec.specs.Trees.{Eval}
+use Rattle.bq_eval_spec.specs.Environment.{Scoping}
 
 -- whether the value of a parameter goes into that slot, to which its name refers
 abbrev pub goes_into : ℕ → Formal → Bool

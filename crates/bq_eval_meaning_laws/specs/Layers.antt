@@ -16,8 +16,8 @@ use Rattle.bq_parse_grammar.specs.declared.tree.Suffix.{Suffix, out-Suffix}
 use Rattle.bq_parse_grammar.specs.declared.tree.TargetExpr.{TargetExpr, out-TargetExpr}
 use Rattle.bq_parse_grammar.specs.Targets.{ExprLayer, SuffixLayer}
 use Rattle.bq_resolve_scope.specs.Names.{ClauseLayer, TargetLayer}
-use Rattle.bq_eval_language_spec.specs.Environment.{NamespaceCall}
-use Rattle.bq_eval_language_spec.specs.Trees.{ArgumentLayer, StmtLayer}
+use Rattle.bq_eval_spec.specs.Environment.{NamespaceCall}
+use Rattle.bq_eval_spec.specs.Trees.{ArgumentLayer, StmtLayer}
 
 -- ---- expressions: `P` holds of each expression that is a part
 

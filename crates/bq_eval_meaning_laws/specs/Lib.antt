@@ -10,3 +10,9 @@ pub mod Updates
 pub mod Steps
 pub mod Flows
 pub mod LoadedGlobals
+pub mod Referents
+pub mod Fits
+pub mod FileDepth
+pub mod Sound
+pub mod Stuck
+pub mod FileSoundness

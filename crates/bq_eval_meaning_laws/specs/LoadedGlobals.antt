@@ -6,11 +6,11 @@ use Rattle.bq_resolve_scope.specs.declared.file.ResolvedFile.{ResolvedFile}
 use Rattle.bq_resolve_scope.specs.declared.loads.LoadStmt.{LoadStmt}
 use Rattle.bq_resolve_scope.specs.declared.loads.LoadedSymbol.{LoadedSymbol}
 use Rattle.bq_value.specs.Datum.{Datum}
-use Rattle.bq_eval_meaning_spec.specs.Frame.{Frame, Surroundings}
-use Rattle.bq_eval_meaning_spec.specs.Primitives.{Primitives}
-use Rattle.bq_eval_language_spec.specs.Calls.{Units}
-use Rattle.bq_eval_language_spec.specs.Module as meaning
-use Rattle.bq_eval_language_spec.specs.Slots.{by_slots, own_of, module_meaning}
+use Rattle.bq_eval_spec.specs.Frame.{Frame, Surroundings}
+use Rattle.bq_eval_spec.specs.Primitives.{Primitives}
+use Rattle.bq_eval_spec.specs.Calls.{Units}
+use Rattle.bq_eval_spec.specs.Module as meaning
+use Rattle.bq_eval_spec.specs.Slots.{by_slots, own_of, module_meaning}
 
 -- the names that a file loads, in order
 abbrev pub loaded_names : ResolvedFile → List LoadedSymbol

@@ -13,13 +13,13 @@ use Rattle.bq_value.specs.Contents.{Contents, items}
 use Rattle.bq_value.specs.Datum.{Datum, tuple, data_of}
 use Rattle.bq_builtin_machine.specs.Action.{done, stopped, ◌>>=◌, pure}
 use Rattle.bq_builtin_machine.specs.State.{Stop}
-use Rattle.bq_eval_meaning_spec.specs.Primitives.{Primitives, change}
-use Rattle.bq_eval_language_spec.specs.Targets.{place, assign}
-use Rattle.bq_eval_language_spec.specs.Comprehensions.{Turn, turns, for_clause, pair_element}
-use Rattle.bq_eval_language_spec.specs.Expressions.{list_display, tuple_display, pair, pairs_each, operation_by, operation, operations, binary, compare, conditional, index, slice}
-use Rattle.bq_eval_language_spec.specs.Statements.{next, assign_stmt}
-use Rattle.bq_eval_language_spec.specs.Trees.{Eval}
-use Rattle.bq_eval_language_spec.specs.Environment.{Scoping}
+use Rattle.bq_eval_spec.specs.Primitives.{Primitives, change}
+use Rattle.bq_eval_spec.specs.Targets.{place, assign}
+use Rattle.bq_eval_spec.specs.Comprehensions.{Turn, turns, for_clause, pair_element}
+use Rattle.bq_eval_spec.specs.Expressions.{list_display, tuple_display, pair, pairs_each, operation_by, operation, operations, binary, compare, conditional, index, slice}
+use Rattle.bq_eval_spec.specs.Statements.{next, assign_stmt}
+use Rattle.bq_eval_spec.specs.Trees.{Eval}
+use Rattle.bq_eval_spec.specs.Environment.{Scoping}
 
 module _ {S V : Type 0} (eval : Eval S V) (env : V) where
   -- these expressions, evaluated one after another from the first of these states on, have these values, and leave the second state

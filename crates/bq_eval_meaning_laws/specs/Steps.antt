@@ -17,14 +17,14 @@ use Rattle.bq_value.specs.Contents.{Contents}
 use Rattle.bq_value.specs.Datum.{Datum, int, string}
 use Rattle.bq_builtin_machine.specs.Action.{Run, done, stopped}
 use Rattle.bq_builtin_machine.specs.State.{Stop, stop_at}
-use Rattle.bq_eval_meaning_spec.specs.Primitives.{Primitives, stuck}
-use Rattle.bq_eval_language_spec.specs.Comprehensions as comprehensions
-use Rattle.bq_eval_language_spec.specs.Comprehensions.{Turn}
-use Rattle.bq_eval_language_spec.specs.Environment.{NameValue, variable, predeclared, Scoping}
-use Rattle.bq_eval_language_spec.specs.Expressions.{expr}
-use Rattle.bq_eval_language_spec.specs.Module.{Own, def_stmt}
-use Rattle.bq_eval_language_spec.specs.Statements.{Exec, small_stmt, turn, stmt}
-use Rattle.bq_eval_language_spec.specs.Trees.{Eval, Calls, StmtLayer}
+use Rattle.bq_eval_spec.specs.Primitives.{Primitives, stuck}
+use Rattle.bq_eval_spec.specs.Comprehensions as comprehensions
+use Rattle.bq_eval_spec.specs.Comprehensions.{Turn}
+use Rattle.bq_eval_spec.specs.Environment.{NameValue, variable, predeclared, Scoping}
+use Rattle.bq_eval_spec.specs.Expressions.{expr}
+use Rattle.bq_eval_spec.specs.Module.{Own, def_stmt}
+use Rattle.bq_eval_spec.specs.Statements.{Exec, small_stmt, turn, stmt}
+use Rattle.bq_eval_spec.specs.Trees.{Eval, Calls, StmtLayer}
 use Rattle.bq_eval_meaning_laws.specs.Depth.{MembersAreSuffixes}
 
 -- The steps that an expression takes before anything in it is evaluated: one, but one for each suffix of an operand and for each operator

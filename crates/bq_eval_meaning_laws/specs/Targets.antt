@@ -9,10 +9,10 @@ use Rattle.bq_resolve_scope.specs.Names.{max_layers}
 use Rattle.bq_value.specs.Datum.{Datum}
 use Rattle.bq_builtin_machine.specs.Action.{done, stopped}
 use Rattle.bq_builtin_machine.specs.State.{Stop}
-use Rattle.bq_eval_meaning_spec.specs.Primitives.{Primitives}
-use Rattle.bq_eval_language_spec.specs.Environment.{Scoping}
-use Rattle.bq_eval_language_spec.specs.Targets.{Places, bind_variables, assign}
-use Rattle.bq_eval_language_spec.specs.Trees.{Eval}
+use Rattle.bq_eval_spec.specs.Primitives.{Primitives}
+use Rattle.bq_eval_spec.specs.Environment.{Scoping}
+use Rattle.bq_eval_spec.specs.Targets.{Places, bind_variables, assign}
+use Rattle.bq_eval_spec.specs.Trees.{Eval}
 use Rattle.bq_eval_meaning_laws.specs.Layers.{TargetIsWithin}
 use Rattle.bq_eval_meaning_laws.specs.Order.{Evaluates, Stops}
 

@@ -8,10 +8,10 @@ use Rattle.bq_value.specs.Contents.{Contents}
 use Rattle.bq_value.specs.Datum.{Datum}
 use Rattle.bq_builtin_machine.specs.Action.{done, stopped}
 use Rattle.bq_builtin_machine.specs.State.{Stop}
-use Rattle.bq_eval_meaning_spec.specs.Primitives.{Primitives}
-use Rattle.bq_eval_language_spec.specs.Comprehensions.{Turn, turn, for_clause, clause_by, clauses}
-use Rattle.bq_eval_language_spec.specs.Environment.{Scoping}
-use Rattle.bq_eval_language_spec.specs.Trees.{Eval}
+use Rattle.bq_eval_spec.specs.Primitives.{Primitives}
+use Rattle.bq_eval_spec.specs.Comprehensions.{Turn, turn, for_clause, clause_by, clauses}
+use Rattle.bq_eval_spec.specs.Environment.{Scoping}
+use Rattle.bq_eval_spec.specs.Trees.{Eval}
 
 module _ {S V : Type 0} (once : Datum → Turn S V) where
   -- These elements have their turns, one after another: from the first environment, list or dict, and state on, they end with the second

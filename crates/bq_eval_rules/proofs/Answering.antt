@@ -3,7 +3,7 @@ use Rattle.std.proofs.Common.{◌≡◌, Option, Some, None, IfSome, Result, Ok,
 use Rattle.bq_value.specs.declared.error.EvalErr.{EvalErr}
 use Rattle.bq_value.specs.Datum.{Datum}
 use Rattle.bq_builtin_machine.specs.Action.{Action, Run, following, pure}
-use Rattle.bq_eval_meaning_spec.specs.Primitives.{Primitives}
+use Rattle.bq_eval_spec.specs.Primitives.{Primitives}
 use Rattle.bq_eval_rules.specs.Acts.{Acts, ActsOn}
 use Rattle.bq_eval_rules.specs.Answers.{AnswerPlace, reason_of}
 use Rattle.bq_eval_rules.proofs.Following.{following_twice}

@@ -9,11 +9,11 @@ use Rattle.bq_parse_grammar.specs.declared.tree.TargetExpr.TheVariants as target
 use Rattle.bq_resolve_scope.specs.Names.{TargetLayer, max_layers}
 use Rattle.bq_value.specs.Datum.{Datum}
 use Rattle.bq_builtin_machine.specs.Action.{Action, done, following, pure}
-use Rattle.bq_eval_meaning_spec.specs.Frame.{Frame, fill}
-use Rattle.bq_eval_meaning_spec.specs.Primitives.{Primitives, stuck}
-use Rattle.bq_eval_language_spec.specs.Slots.{by_slots, slot_of}
-use Rattle.bq_eval_language_spec.specs.Targets.{assign, augment, augment_by, augment_index, augment_name, bind_by, bind_place, bind_target, bind_to, bind_variables, Binds, bound, Places, place, places_by, places_each, places_of, places_to, unpack}
-use Rattle.bq_eval_language_spec.specs.Trees.{Eval}
+use Rattle.bq_eval_spec.specs.Frame.{Frame, fill}
+use Rattle.bq_eval_spec.specs.Primitives.{Primitives, stuck}
+use Rattle.bq_eval_spec.specs.Slots.{by_slots, slot_of}
+use Rattle.bq_eval_spec.specs.Targets.{assign, augment, augment_by, augment_index, augment_name, bind_by, bind_place, bind_target, bind_to, bind_variables, Binds, bound, Places, place, places_by, places_each, places_of, places_to, unpack}
+use Rattle.bq_eval_spec.specs.Trees.{Eval}
 use Rattle.bq_eval_rules.proofs.Following.{following_twice}
 
 module _ {S : Type 0} (m : Primitives S) (eval : Eval S Frame) where

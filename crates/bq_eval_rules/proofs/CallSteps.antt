@@ -13,19 +13,19 @@ use Rattle.bq_parse_grammar.specs.declared.tree.Stmt.{Stmt}
 use Rattle.bq_builtin_machine.specs.Action.{Run, stopped, following, pure}
 use Rattle.bq_builtin_machine.specs.Args.{Passed}
 use Rattle.bq_builtin_machine.specs.State.{stop_at}
-use Rattle.bq_eval_meaning_spec.specs.Frame.{Frame, Surroundings}
-use Rattle.bq_eval_meaning_spec.specs.Primitives.{Primitives, given_by}
-use Rattle.bq_eval_language_spec.specs.Expressions.{eval_in}
-use Rattle.bq_eval_language_spec.specs.Statements.{block, run_in}
-use Rattle.bq_eval_language_spec.specs.Slots.{by_slots}
-use Rattle.bq_eval_language_spec.specs.Trees.{Calls}
-use Rattle.bq_eval_language_spec.specs.Calls.{TreeUnit, Units, answered, apply, body_of, call_at, call_function, calls, inner_calls, known, run_body}
+use Rattle.bq_eval_spec.specs.Frame.{Frame, Surroundings}
+use Rattle.bq_eval_spec.specs.Primitives.{Primitives, given_by}
+use Rattle.bq_eval_spec.specs.Expressions.{eval_in}
+use Rattle.bq_eval_spec.specs.Statements.{block, run_in}
+use Rattle.bq_eval_spec.specs.Slots.{by_slots}
+use Rattle.bq_eval_spec.specs.Trees.{Calls}
+use Rattle.bq_eval_spec.specs.Calls.{TreeUnit, Units, answered, apply, body_of, call_at, call_function, calls, inner_calls, known, run_body}
 use Rattle.bq_value_datum.specs.declared.value.FunctionValue.{FunctionValue}
 use Rattle.bq_eval_rules.specs.Acts.{Acts}
 use Rattle.bq_eval_rules.specs.Called.{HasFunction, IsCallee, LacksFunction, entered}
 use Rattle.bq_eval_rules.specs.ContextCalls.{call_place}
 use Rattle.bq_eval_rules.specs.Round.{globals_of, inside, units_at}
-use Rattle.bq_eval_rules.specs.declared.called.Callee.{Callee}
+use Rattle.bq_eval_rules.specs.declared.called.ProgramFunction.{ProgramFunction}
 use Rattle.bq_eval_rules.specs.declared.context.Context.{Context}
 
 pub calls_step : {S : Type 0} (left : ℕ) (m : Primitives S) (units : Units Surroundings) (v : Datum) (p : Passed) (s : S) → calls left m by_slots units v p s ≡ apply m by_slots units (inner_calls left m by_slots units) v p s
@@ -88,7 +88,7 @@ module _ {S : Type 0} (m : Primitives S) (c : Context) (v : Datum) (f : Function
   abbrev callee_value : FunctionValue → Datum
   callee_value x = function x.«module» x.place x.name (data_of x.defaults.items)
 
-  one_called : (k : Callee) → v ≡ callee_value k.called.now → HasFunction m c k → IsCallee m c v k
+  one_called : (k : ProgramFunction) → v ≡ callee_value k.called.now → HasFunction m c k → IsCallee m c v k
   unfolding inside apply entered call_function
   one_called k is has p s =
       let x = k.called.now in
@@ -97,7 +97,7 @@ module _ {S : Type 0} (m : Primitives S) (c : Context) (v : Datum) (f : Function
       ∙ (calls_step c.left m units (callee_value x) p s
       ∙ (ap (λ ds. call_place m c x.«module» x.place ds p s) (list_of_data_of x.defaults.items) ∙ has x.defaults.items p s))
 
-  pub value_called : (o : Option Callee) → v ≡ callee_value f → MatchOption o (LacksFunction m c f) (λ k. (k.called.now ≡ f) × HasFunction m c k) → IfSome o (IsCallee m c v)
+  pub value_called : (o : Option ProgramFunction) → v ≡ callee_value f → MatchOption o (LacksFunction m c f) (λ k. (k.called.now ≡ f) × HasFunction m c k) → IfSome o (IsCallee m c v)
   value_called None is h = tt
   value_called (Some k) is h = one_called k (is ∙ ap callee_value (sym h.0)) h.1
 

@@ -12,11 +12,11 @@ use Rattle.bq_value.specs.Contents.{Contents}
 use Rattle.bq_value.specs.Datum.{Datum}
 use Rattle.bq_builtin_machine.specs.State.{Stop}
 use Rattle.bq_builtin_machine.specs.Action.{done, stopped, following, pure}
-use Rattle.bq_eval_meaning_spec.specs.Frame.{Frame}
-use Rattle.bq_eval_meaning_spec.specs.Primitives.{Primitives}
-use Rattle.bq_eval_language_spec.specs.Slots.{by_slots, opened}
-use Rattle.bq_eval_language_spec.specs.Trees.{Eval}
-use Rattle.bq_eval_language_spec.specs.Comprehensions.{Turn, clause_by, clauses, comprehension, first_clauses, for_clause}
+use Rattle.bq_eval_spec.specs.Frame.{Frame}
+use Rattle.bq_eval_spec.specs.Primitives.{Primitives}
+use Rattle.bq_eval_spec.specs.Slots.{by_slots, opened}
+use Rattle.bq_eval_spec.specs.Trees.{Eval}
+use Rattle.bq_eval_spec.specs.Comprehensions.{Turn, clause_by, clauses, comprehension, first_clauses, for_clause}
 use Rattle.bq_eval_rules.specs.declared.open_loop.ForClause.{ForClause}
 use Rattle.bq_eval_rules.specs.OpenLoops.{Count, clause_count_by, clauses_count, counted, Loop, loop_count, loop_left, opening, reached_count, reached_left, turns_count}
 use Rattle.bq_eval_rules.proofs.Deciding.{if_decides}

@@ -7,12 +7,12 @@ use Rattle.bq_value.specs.Contents.{Contents}
 use Rattle.bq_value.specs.Datum.{Datum}
 use Rattle.bq_builtin_machine.specs.Action.{Action, Run, done, stopped, following, ◌>>=◌, pure}
 use Rattle.bq_builtin_machine.specs.State.{Stop}
-use Rattle.bq_eval_language_spec.specs.Comprehensions.{Turn, if_clause}
-use Rattle.bq_eval_language_spec.specs.Expressions.{choice, chosen, conditional}
-use Rattle.bq_eval_meaning_spec.specs.Frame.{Frame}
-use Rattle.bq_eval_meaning_spec.specs.Primitives.{Primitives}
-use Rattle.bq_eval_language_spec.specs.Slots.{by_slots}
-use Rattle.bq_eval_language_spec.specs.Trees.{Eval}
+use Rattle.bq_eval_spec.specs.Comprehensions.{Turn, if_clause}
+use Rattle.bq_eval_spec.specs.Expressions.{choice, chosen, conditional}
+use Rattle.bq_eval_spec.specs.Frame.{Frame}
+use Rattle.bq_eval_spec.specs.Primitives.{Primitives}
+use Rattle.bq_eval_spec.specs.Slots.{by_slots}
+use Rattle.bq_eval_spec.specs.Trees.{Eval}
 use Rattle.bq_eval_rules.specs.Conditions.{chooses, truth_of}
 use Rattle.bq_eval_rules.proofs.Following.{following_twice}
 

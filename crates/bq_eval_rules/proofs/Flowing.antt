@@ -6,12 +6,12 @@ use Rattle.bq_parse_grammar.specs.declared.tree.TargetExpr.{TargetExpr}
 use Rattle.bq_value.specs.declared.error.EvalErr.{EvalErr}
 use Rattle.bq_value.specs.Datum.{Datum}
 use Rattle.bq_builtin_machine.specs.Action.{Run, done, following, pure}
-use Rattle.bq_eval_meaning_spec.specs.Frame.{Frame}
-use Rattle.bq_eval_meaning_spec.specs.Primitives.{Primitives}
-use Rattle.bq_eval_language_spec.specs.Calls.{answered}
-use Rattle.bq_eval_language_spec.specs.Statements.{Exec, Flow, answer, block, go_on, line, small_stmt, turn, turn_on, turns}
-use Rattle.bq_eval_language_spec.specs.Slots.{by_slots}
-use Rattle.bq_eval_language_spec.specs.Trees.{Eval}
+use Rattle.bq_eval_spec.specs.Frame.{Frame}
+use Rattle.bq_eval_spec.specs.Primitives.{Primitives}
+use Rattle.bq_eval_spec.specs.Calls.{answered}
+use Rattle.bq_eval_spec.specs.Statements.{Exec, Flow, answer, block, go_on, line, small_stmt, turn, turn_on, turns}
+use Rattle.bq_eval_spec.specs.Slots.{by_slots}
+use Rattle.bq_eval_spec.specs.Trees.{Eval}
 use Rattle.bq_eval_rules.specs.declared.flow.Ending.{Ending}
 use Rattle.bq_eval_rules.specs.declared.flow.Flow.TheVariants as variants
 use Rattle.bq_eval_rules.specs.Acts.{Acts}

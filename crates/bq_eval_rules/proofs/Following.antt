@@ -2,7 +2,7 @@
 use Rattle.std.proofs.Common.{◌≡◌, ℕ, Result, Ok, Err, refl, ap}
 use Rattle.bq_value.specs.declared.error.EvalErr.{EvalErr}
 use Rattle.bq_builtin_machine.specs.Action.{Action, Run, done, stopped, following, pure}
-use Rattle.bq_eval_meaning_spec.specs.Primitives.{Primitives}
+use Rattle.bq_eval_spec.specs.Primitives.{Primitives}
 use Rattle.bq_eval_rules.specs.Acts.{Acts}
 use Rattle.bq_eval_rules.specs.OpenLoops.{counted}
 

@@ -20,17 +20,17 @@ use Rattle.bq_parse_grammar.specs.declared.tree.Suffix.{Suffix, out-Suffix}
 use Rattle.bq_parse_grammar.specs.declared.tree.Suffix.TheVariants as suffix_form
 use Rattle.bq_parse_grammar.specs.declared.tree.TargetExpr.{TargetExpr}
 use Rattle.bq_parse_grammar.specs.declared.tree.UnaryOperator.{UnaryOperator}
-use Rattle.bq_resolve_predeclared.specs.declared.predeclared.Predeclared.{Predeclared}
+use Rattle.bq_predeclared.specs.declared.predeclared.Predeclared.{Predeclared}
 use Rattle.bq_value.specs.Contents.{items, pairs}
 use Rattle.bq_value.specs.Datum.{Datum, int, string}
 use Rattle.bq_builtin_machine.specs.Action.{◌>>=◌}
 use Rattle.bq_builtin_machine.specs.Args.{Passed}
-use Rattle.bq_eval_meaning_spec.specs.Frame.{Frame, Surroundings}
-use Rattle.bq_eval_meaning_spec.specs.Primitives.{Primitives}
-use Rattle.bq_eval_language_spec.specs.Comprehensions.{comprehension, element, pair_element}
-use Rattle.bq_eval_language_spec.specs.Expressions.{argument, argument_by, binary, call_member, call_of, compare, conditional, dict_display, expr, expr_by, index, list_display, literal, method, operation, operations, primary, primary_by as primary_form, slice, suffix, suffix_by, tuple_display, unary, use_of}
-use Rattle.bq_eval_language_spec.specs.Slots.{by_slots, called, called_by, member_at, member_named}
-use Rattle.bq_eval_language_spec.specs.Trees.{ArgumentLayer, Calls, Eval}
+use Rattle.bq_eval_spec.specs.Frame.{Frame, Surroundings}
+use Rattle.bq_eval_spec.specs.Primitives.{Primitives}
+use Rattle.bq_eval_spec.specs.Comprehensions.{comprehension, element, pair_element}
+use Rattle.bq_eval_spec.specs.Expressions.{argument, argument_by, binary, call_member, call_of, compare, conditional, dict_display, expr, expr_by, index, list_display, literal, method, operation, operations, primary, primary_by as primary_form, slice, suffix, suffix_by, tuple_display, unary, use_of}
+use Rattle.bq_eval_spec.specs.Slots.{by_slots, called, called_by, member_at, member_named}
+use Rattle.bq_eval_spec.specs.Trees.{ArgumentLayer, Calls, Eval}
 
 -- ---- clauses
 

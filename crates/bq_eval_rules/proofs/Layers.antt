@@ -8,12 +8,12 @@ use Rattle.bq_parse_grammar.specs.declared.tree.Referent.{Referent}
 use Rattle.bq_parse_grammar.specs.declared.tree.Referent.TheVariants as referent
 use Rattle.bq_value.specs.Datum.{Datum, int, string}
 use Rattle.bq_builtin_machine.specs.Action.{following}
-use Rattle.bq_eval_meaning_spec.specs.Frame.{Frame, Surroundings}
-use Rattle.bq_eval_meaning_spec.specs.Primitives.{Primitives}
-use Rattle.bq_eval_language_spec.specs.Expressions.{compare, expr_to, literal, use_of, value_by}
-use Rattle.bq_eval_language_spec.specs.Slots.{by_slots, value_at}
-use Rattle.bq_eval_language_spec.specs.Targets.{bound}
-use Rattle.bq_eval_language_spec.specs.Trees.{Calls}
+use Rattle.bq_eval_spec.specs.Frame.{Frame, Surroundings}
+use Rattle.bq_eval_spec.specs.Primitives.{Primitives}
+use Rattle.bq_eval_spec.specs.Expressions.{compare, expr_to, literal, use_of, value_by}
+use Rattle.bq_eval_spec.specs.Slots.{by_slots, value_at}
+use Rattle.bq_eval_spec.specs.Targets.{bound}
+use Rattle.bq_eval_spec.specs.Trees.{Calls}
 use Rattle.bq_eval_rules.specs.Operands.{local_use}
 use Rattle.bq_eval_rules.proofs.Forms.{name_by, int_by, string_by, compare_by}
 

@@ -5,7 +5,7 @@ use Rattle.bq_resolve_scope.specs.declared.file.Formal.{Formal}
 use Rattle.bq_resolve_scope.specs.declared.file.Formal.TheVariants as formal
 use Rattle.bq_builtin_machine.specs.declared.parameters.SingleParameter.{SingleParameter}
 use Rattle.bq_builtin_machine.specs.Parameters.{parameter_of}
-use Rattle.bq_eval_language_spec.specs.Calls.{singles}
+use Rattle.bq_eval_spec.specs.Calls.{singles}
 
 pub one_more : (all : List SingleParameter) (p : SingleParameter) → map parameter_of (all ++ p ∷ []) ≡ map parameter_of all ++ parameter_of p ∷ []
 one_more all p = map_push parameter_of all p

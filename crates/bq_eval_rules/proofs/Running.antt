@@ -10,11 +10,11 @@ use Rattle.bq_parse_grammar.specs.declared.tree.Stmt.TheOpen.{Stmt-F}
 use Rattle.bq_parse_grammar.specs.declared.tree.Stmt.TheVariants as forms
 use Rattle.bq_parse_grammar.specs.declared.tree.TargetExpr.{TargetExpr}
 use Rattle.bq_builtin_machine.specs.Action.{following}
-use Rattle.bq_eval_meaning_spec.specs.Frame.{Frame}
-use Rattle.bq_eval_meaning_spec.specs.Primitives.{Primitives, stuck}
-use Rattle.bq_eval_language_spec.specs.Statements.{Exec, branches, for_loop, line, stmt, stmt_by}
-use Rattle.bq_eval_language_spec.specs.Slots.{by_slots}
-use Rattle.bq_eval_language_spec.specs.Trees.{Eval, StmtLayer}
+use Rattle.bq_eval_spec.specs.Frame.{Frame}
+use Rattle.bq_eval_spec.specs.Primitives.{Primitives, stuck}
+use Rattle.bq_eval_spec.specs.Statements.{Exec, branches, for_loop, line, stmt, stmt_by}
+use Rattle.bq_eval_spec.specs.Slots.{by_slots}
+use Rattle.bq_eval_spec.specs.Trees.{Eval, StmtLayer}
 
 module _ {S : Type 0} (m : Primitives S) (eval : Eval S Frame) (run : Stmt → Exec S Frame) (x : Stmt) (env : Frame) (s : S) where
   run_in : (l : StmtLayer) → out-Stmt x ≡ l → stmt m by_slots eval run x env s ≡ stmt_by m by_slots eval run l env s

@@ -14,12 +14,12 @@ use Rattle.bq_builtin_machine.specs.Binding.{BoundView, Binding, and_bind, bind,
 use Rattle.bq_builtin_machine.specs.State.{stop_at}
 use Rattle.bq_base.specs.declared.fault.EvalFault.{EvalFault}
 use Rattle.bq_base.specs.declared.fault.EvalFault.TheVariants as f
-use Rattle.bq_eval_meaning_spec.specs.Frame.{Frame, empty, fill as put}
-use Rattle.bq_eval_meaning_spec.specs.Primitives.{Primitives, given_by}
+use Rattle.bq_eval_spec.specs.Frame.{Frame, empty, fill as put}
+use Rattle.bq_eval_spec.specs.Primitives.{Primitives, given_by}
 use Rattle.bq_eval_frame.specs.Slots.{list_slots}
 use Rattle.bq_eval_frame.proofs.Slots.{list_filled, padded as one_empty}
-use Rattle.bq_eval_language_spec.specs.Calls.{entry, fill_parameter, fill_parameters, has_star_star, keywords_of, signature, singles}
-use Rattle.bq_eval_language_spec.specs.Slots.{by_slots, slot_of}
+use Rattle.bq_eval_spec.specs.Calls.{entry, fill_parameter, fill_parameters, has_star_star, keywords_of, signature, singles}
+use Rattle.bq_eval_spec.specs.Slots.{by_slots, slot_of}
 use Rattle.bq_eval_rules.specs.Taking.{framed}
 use Rattle.bq_eval_rules.specs.Direct.{Values, and_values, are_direct, defaulted, direct_signature, direct_values, placed_all, value_or, with_defaults}
 

@@ -19,14 +19,14 @@ use Rattle.bq_builtin_machine.specs.Args.{Passed, nothing_passed}
 use Rattle.bq_builtin_machine.specs.Parameters.{is_called}
 use Rattle.bq_builtin_machine.specs.Binding.{BoundView, Binding, and_bind, fill, fill_by, placed_values, take_all_named, take_keyword, take_named, take_named_by}
 use Rattle.bq_builtin_machine.specs.State.{stop_at}
-use Rattle.bq_eval_meaning_spec.specs.Frame.{Frame}
-use Rattle.bq_eval_meaning_spec.specs.Primitives.{Primitives, given_by, stuck}
+use Rattle.bq_eval_spec.specs.Frame.{Frame}
+use Rattle.bq_eval_spec.specs.Primitives.{Primitives, given_by, stuck}
 use Rattle.bq_eval_frame.specs.Slots.{list_slots}
-use Rattle.bq_eval_language_spec.specs.Calls.{entry, singles}
-use Rattle.bq_eval_language_spec.specs.Expressions.{argument, argument_by, arguments, call_of}
-use Rattle.bq_eval_language_spec.specs.Slots.{by_slots}
-use Rattle.bq_eval_language_spec.specs.Trees.{ArgumentLayer, Eval}
-use Rattle.bq_eval_rules.specs.declared.called.Callee.{Callee}
+use Rattle.bq_eval_spec.specs.Calls.{entry, singles}
+use Rattle.bq_eval_spec.specs.Expressions.{argument, argument_by, arguments, call_of}
+use Rattle.bq_eval_spec.specs.Slots.{by_slots}
+use Rattle.bq_eval_spec.specs.Trees.{ArgumentLayer, Eval}
+use Rattle.bq_eval_rules.specs.declared.called.ProgramFunction.{ProgramFunction}
 use Rattle.bq_eval_rules.specs.declared.context.Context.{Context}
 use Rattle.bq_eval_rules.specs.Called.{IsCallee, entered}
 use Rattle.bq_eval_rules.specs.Direct.{Values, and_values, are_direct, defaulted, direct_signature, direct_values, placed_all, with_defaults}
@@ -299,7 +299,7 @@ module _ {S : Type 0} (m : Primitives S) (passes : PassesFew m) (eval : Eval S F
 
 -- ---- a call
 
-module _ {S : Type 0} (m : Primitives S) (passes : PassesFew m) (c : Context) (eval : Eval S Frame) (xs : List Argument) (env : Frame) (v : Datum) (k : Callee) where
+module _ {S : Type 0} (m : Primitives S) (passes : PassesFew m) (c : Context) (eval : Eval S Frame) (xs : List Argument) (env : Frame) (v : Datum) (k : ProgramFunction) where
   begins_each : (run : Run S Passed) → IsCallee m c v k → following run (inside m c v) ≡ following (following run (entry m by_slots k.function.now k.called.now.defaults.items)) (entered m c k)
   begins_each (done p s) is = is p s
   begins_each (stopped why) is = refl

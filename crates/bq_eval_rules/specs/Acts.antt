@@ -6,7 +6,7 @@ use Rattle.bq_value.specs.declared.error.EvalErr.TheVariants.{Bad}
 use Rattle.bq_value.specs.Datum.{Datum}
 use Rattle.bq_builtin_machine.specs.Action.{Run, Ends, stopped}
 use Rattle.bq_builtin_machine.specs.State.{stop_at}
-use Rattle.bq_eval_meaning_spec.specs.Primitives.{Primitives}
+use Rattle.bq_eval_spec.specs.Primitives.{Primitives}
 use Rattle.bq_eval_rules.specs.Answers.{AnswerPlace}
 
 abbrev pub Acts : {S A B : Type 0} → Primitives S → (A → B) → Result A EvalErr → S → Run S B → Type 0

@@ -8,10 +8,10 @@ use Rattle.bq_value.specs.declared.error.EvalErr.{EvalErr}
 use Rattle.bq_value.specs.Contents.{Contents, items, pairs}
 use Rattle.bq_value.specs.Datum.{Datum}
 use Rattle.bq_builtin_machine.specs.Action.{Action}
-use Rattle.bq_eval_meaning_spec.specs.Frame.{Frame}
-use Rattle.bq_eval_meaning_spec.specs.Primitives.{Primitives}
-use Rattle.bq_eval_language_spec.specs.Comprehensions.{Turn, element, pair_element, turn, clauses, first_clauses, comprehension}
-use Rattle.bq_eval_language_spec.specs.Slots.{by_slots}
+use Rattle.bq_eval_spec.specs.Frame.{Frame}
+use Rattle.bq_eval_spec.specs.Primitives.{Primitives}
+use Rattle.bq_eval_spec.specs.Comprehensions.{Turn, element, pair_element, turn, clauses, first_clauses, comprehension}
+use Rattle.bq_eval_spec.specs.Slots.{by_slots}
 use Rattle.bq_eval_rules.specs.declared.comprehensions.ElementExpr.{ElementExpr}
 use Rattle.bq_eval_rules.specs.declared.comprehensions.ElementExpr.TheVariants as elements
 use Rattle.bq_eval_rules.specs.declared.evaluator.Evaluator.{Evaluator}

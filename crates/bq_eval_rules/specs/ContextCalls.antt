@@ -4,11 +4,11 @@ use Rattle.bq_resolve_scope.specs.declared.file.Function.{Function}
 use Rattle.bq_value.specs.Datum.{Datum}
 use Rattle.bq_builtin_machine.specs.Action.{Action}
 use Rattle.bq_builtin_machine.specs.Args.{Passed}
-use Rattle.bq_eval_language_spec.specs.Calls.{TreeUnit, Units, inner_calls, run_body, call_function, call_at}
-use Rattle.bq_eval_meaning_spec.specs.Frame.{Frame, Surroundings}
-use Rattle.bq_eval_meaning_spec.specs.Primitives.{Primitives}
-use Rattle.bq_eval_language_spec.specs.Slots.{by_slots}
-use Rattle.bq_eval_language_spec.specs.Trees.{Calls}
+use Rattle.bq_eval_spec.specs.Calls.{TreeUnit, Units, inner_calls, run_body, call_function, call_at}
+use Rattle.bq_eval_spec.specs.Frame.{Frame, Surroundings}
+use Rattle.bq_eval_spec.specs.Primitives.{Primitives}
+use Rattle.bq_eval_spec.specs.Slots.{by_slots}
+use Rattle.bq_eval_spec.specs.Trees.{Calls}
 use Rattle.bq_eval_rules.specs.declared.context.Context.{Context}
 use Rattle.bq_eval_rules.specs.Round.{units_at, globals_of}
 

@@ -8,8 +8,8 @@ use Rattle.bq_resolve_scope.specs.declared.file.Formal.TheVariants as formal
 use Rattle.bq_builtin_machine.specs.Args.{Passed}
 use Rattle.bq_builtin_machine.specs.Parameters.{SignatureView}
 use Rattle.bq_builtin_machine.specs.Binding.{BoundView, Binding, has_value, placed_values, take_all_named}
-use Rattle.bq_eval_language_spec.specs.Calls.{singles}
-use Rattle.bq_eval_language_spec.specs.Slots.{slot_of}
+use Rattle.bq_eval_spec.specs.Calls.{singles}
+use Rattle.bq_eval_spec.specs.Slots.{slot_of}
 
 -- each parameter takes one argument, by place or by name, and has the slot of its place; the first of these is of that place
 abbrev pub are_direct : ℕ → List Formal → Bool

@@ -6,11 +6,11 @@ use Rattle.bq_value.specs.declared.error.EvalErr.{EvalErr}
 use Rattle.bq_value.specs.Contents.{Contents}
 use Rattle.bq_value.specs.Datum.{Datum}
 use Rattle.bq_builtin_machine.specs.Action.{Action, ◌>>=◌, pure}
-use Rattle.bq_eval_language_spec.specs.Comprehensions.{Turn}
-use Rattle.bq_eval_meaning_spec.specs.Frame.{Frame}
-use Rattle.bq_eval_meaning_spec.specs.Primitives.{Primitives}
-use Rattle.bq_eval_language_spec.specs.Statements.{Exec, Flow, next}
-use Rattle.bq_eval_language_spec.specs.Targets.{Places}
+use Rattle.bq_eval_spec.specs.Comprehensions.{Turn}
+use Rattle.bq_eval_spec.specs.Frame.{Frame}
+use Rattle.bq_eval_spec.specs.Primitives.{Primitives}
+use Rattle.bq_eval_spec.specs.Statements.{Exec, Flow, next}
+use Rattle.bq_eval_spec.specs.Targets.{Places}
 use Rattle.bq_eval_frame.specs.Slots.{Slots, slots_of}
 use Rattle.bq_eval_rules.specs.declared.flow.Ending.{Ending}
 use Rattle.bq_eval_rules.specs.Acts.{Acts, ActsOn}

@@ -3,9 +3,9 @@ use Rattle.std.specs.Prelude.{Result}
 use Rattle.bq_value.specs.declared.error.EvalErr.{EvalErr}
 use Rattle.bq_value.specs.Datum.{tuple, data_of}
 use Rattle.bq_builtin_machine.specs.Action.{Action}
-use Rattle.bq_eval_meaning_spec.specs.Frame.{Frame}
-use Rattle.bq_eval_language_spec.specs.Calls.{Filling}
-use Rattle.bq_eval_meaning_spec.specs.Primitives.{Primitives}
+use Rattle.bq_eval_spec.specs.Frame.{Frame}
+use Rattle.bq_eval_spec.specs.Calls.{Filling}
+use Rattle.bq_eval_spec.specs.Primitives.{Primitives}
 use Rattle.bq_eval_frame.specs.Slots.{Slots, slots_of}
 use Rattle.bq_eval_rules.specs.declared.filling.Filling as code
 use Rattle.bq_eval_rules.specs.Acts.{Acts}

@@ -1,8 +1,8 @@
 -- What comes after a statement of the code, and after those of a file.
 use Rattle.std.specs.Prelude.{Result, Ok, Err}
 use Rattle.bq_value.specs.declared.error.EvalErr.{EvalErr}
-use Rattle.bq_eval_language_spec.specs.Calls.{answered}
-use Rattle.bq_eval_language_spec.specs.Statements.{Flow, next, leave, again, answer}
+use Rattle.bq_eval_spec.specs.Calls.{answered}
+use Rattle.bq_eval_spec.specs.Statements.{Flow, next, leave, again, answer}
 use Rattle.bq_eval_rules.specs.declared.flow.Ending.{Ending}
 use Rattle.bq_eval_rules.specs.declared.flow.Ending.TheVariants as endings
 use Rattle.bq_eval_rules.specs.declared.flow.Flow as flows

@@ -1,5 +1,5 @@
 -- The open loops of a comprehension: what they still do, by the definition (`Comprehensions` of
--- `bq_eval_language_spec`), and how many turns and ends of loops that takes. `body` is what is before the clauses.
+-- `bq_eval_spec`), and how many turns and ends of loops that takes. `body` is what is before the clauses.
 use Rattle.std.specs.Prelude.{ℕ, suc, ◌+◌, List, [], ◌∷◌, Option, Some, None, Result, Ok, Err, map, reverse, if◌then◌else◌}
 use Rattle.bq_parse_grammar.specs.declared.tree.Argument.TheOpen.{Clause-F}
 use Rattle.bq_parse_grammar.specs.declared.tree.Clause.{Clause, out-Clause}
@@ -9,12 +9,12 @@ use Rattle.bq_value.specs.declared.error.EvalErr.{EvalErr}
 use Rattle.bq_value.specs.Contents.{Contents}
 use Rattle.bq_value.specs.Datum.{Datum}
 use Rattle.bq_builtin_machine.specs.Action.{Action, Run, done, stopped, following, ◌>>=◌, pure}
-use Rattle.bq_eval_meaning_spec.specs.Frame.{Frame}
-use Rattle.bq_eval_meaning_spec.specs.Primitives.{Primitives, change}
-use Rattle.bq_eval_language_spec.specs.Comprehensions.{Turn, clauses, turn, turns}
-use Rattle.bq_eval_language_spec.specs.Slots.{by_slots}
-use Rattle.bq_eval_language_spec.specs.Targets.{bind_variables}
-use Rattle.bq_eval_language_spec.specs.Trees.{Eval}
+use Rattle.bq_eval_spec.specs.Frame.{Frame}
+use Rattle.bq_eval_spec.specs.Primitives.{Primitives, change}
+use Rattle.bq_eval_spec.specs.Comprehensions.{Turn, clauses, turn, turns}
+use Rattle.bq_eval_spec.specs.Slots.{by_slots}
+use Rattle.bq_eval_spec.specs.Targets.{bind_variables}
+use Rattle.bq_eval_spec.specs.Trees.{Eval}
 use Rattle.bq_eval_rules.specs.declared.open_loop.ForClause.{ForClause}
 use Rattle.bq_eval_rules.specs.declared.open_loop.OpenLoop.{OpenLoop}
 use Rattle.bq_eval_rules.specs.declared.open_loop.Reached.{Reached}

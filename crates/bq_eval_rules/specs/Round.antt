@@ -7,14 +7,14 @@ use Rattle.bq_parse_grammar.specs.declared.tree.Stmt.{Stmt}
 use Rattle.bq_resolve_scope.specs.Names.{max_layers}
 use Rattle.bq_resolve_scope.specs.declared.file.ResolvedFile.{ResolvedFile}
 use Rattle.bq_value.specs.Cells.{FrozenView}
-use Rattle.bq_eval_meaning_spec.specs.Frame.{Frame, Surroundings, empty}
-use Rattle.bq_eval_meaning_spec.specs.Primitives.{Primitives}
-use Rattle.bq_eval_language_spec.specs.Trees.{Eval, Calls}
-use Rattle.bq_eval_language_spec.specs.Expressions.{expr_to}
-use Rattle.bq_eval_language_spec.specs.Calls.{Units, calls}
-use Rattle.bq_eval_language_spec.specs.Statements.{Exec, run_in}
-use Rattle.bq_eval_language_spec.specs.Module.{Own, with_own}
-use Rattle.bq_eval_language_spec.specs.Slots.{by_slots, frozen_units, surroundings_of}
+use Rattle.bq_eval_spec.specs.Frame.{Frame, Surroundings, empty}
+use Rattle.bq_eval_spec.specs.Primitives.{Primitives}
+use Rattle.bq_eval_spec.specs.Trees.{Eval, Calls}
+use Rattle.bq_eval_spec.specs.Expressions.{expr_to}
+use Rattle.bq_eval_spec.specs.Calls.{Units, calls}
+use Rattle.bq_eval_spec.specs.Statements.{Exec, run_in}
+use Rattle.bq_eval_spec.specs.Module.{Own, with_own}
+use Rattle.bq_eval_spec.specs.Slots.{by_slots, frozen_units, surroundings_of}
 use Rattle.bq_eval_frame.specs.Slots.{slots_of}
 use Rattle.bq_eval_rules.specs.declared.context.Globals.{Globals}
 use Rattle.bq_eval_rules.specs.declared.context.Globals.TheVariants as g

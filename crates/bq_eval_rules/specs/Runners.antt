@@ -6,12 +6,12 @@ use Rattle.bq_parse_grammar.specs.declared.tree.TargetExpr.{TargetExpr}
 use Rattle.bq_value.specs.declared.error.EvalErr.{EvalErr}
 use Rattle.bq_value.specs.Datum.{Datum}
 use Rattle.bq_builtin_machine.specs.Action.{done, ◌>>=◌}
-use Rattle.bq_eval_meaning_spec.specs.Frame.{Frame, Surroundings}
-use Rattle.bq_eval_meaning_spec.specs.Primitives.{Primitives}
-use Rattle.bq_eval_language_spec.specs.Environment.{Scoping}
-use Rattle.bq_eval_language_spec.specs.Slots.{by_slots}
-use Rattle.bq_eval_language_spec.specs.Statements.{Exec, Flow, run_to, turns}
-use Rattle.bq_eval_language_spec.specs.Trees.{Eval}
+use Rattle.bq_eval_spec.specs.Frame.{Frame, Surroundings}
+use Rattle.bq_eval_spec.specs.Primitives.{Primitives}
+use Rattle.bq_eval_spec.specs.Environment.{Scoping}
+use Rattle.bq_eval_spec.specs.Slots.{by_slots}
+use Rattle.bq_eval_spec.specs.Statements.{Exec, Flow, run_to, turns}
+use Rattle.bq_eval_spec.specs.Trees.{Eval}
 use Rattle.bq_eval_frame.specs.Slots.{Slots}
 use Rattle.bq_eval_rules.specs.declared.context.Context.{Context}
 use Rattle.bq_eval_rules.specs.declared.flow.Flow as flows

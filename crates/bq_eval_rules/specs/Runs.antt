@@ -2,9 +2,9 @@
 use Rattle.std.specs.Prelude.{ℕ, ◌≤◌}
 use denote.Ref.{Bor, MutBor}
 use Rattle.bq_parse_grammar.specs.declared.tree.Stmt.{Stmt}
-use Rattle.bq_eval_meaning_spec.specs.Primitives.{Primitives}
-use Rattle.bq_eval_language_spec.specs.Statements.{run_to}
-use Rattle.bq_eval_language_spec.specs.Slots.{by_slots}
+use Rattle.bq_eval_spec.specs.Primitives.{Primitives}
+use Rattle.bq_eval_spec.specs.Statements.{run_to}
+use Rattle.bq_eval_spec.specs.Slots.{by_slots}
 use Rattle.bq_eval_frame.specs.Slots.{Slots, slots_of}
 use Rattle.bq_eval_rules.specs.declared.context.Context.{Context}
 use Rattle.bq_eval_rules.specs.declared.flow.Flow as flows

@@ -11,12 +11,12 @@ use Rattle.bq_resolve_scope.specs.declared.file.Formal.{Formal}
 use Rattle.bq_resolve_scope.specs.declared.file.Function.{Function}
 use Rattle.bq_builtin_machine.specs.Action.{Action, ◌>>=◌, pure}
 use Rattle.bq_builtin_machine.specs.Parameters.{is_called}
-use Rattle.bq_eval_meaning_spec.specs.Frame.{Frame}
-use Rattle.bq_eval_meaning_spec.specs.Primitives.{Primitives, given_by, stuck}
-use Rattle.bq_eval_language_spec.specs.Calls.{singles}
-use Rattle.bq_eval_language_spec.specs.Trees.{ArgumentLayer, Eval}
+use Rattle.bq_eval_spec.specs.Frame.{Frame}
+use Rattle.bq_eval_spec.specs.Primitives.{Primitives, given_by, stuck}
+use Rattle.bq_eval_spec.specs.Calls.{singles}
+use Rattle.bq_eval_spec.specs.Trees.{ArgumentLayer, Eval}
 use Rattle.bq_eval_frame.specs.Slots.{list_slots}
-use Rattle.bq_eval_rules.specs.declared.taking.Given.{Given}
+use Rattle.bq_eval_rules.specs.declared.taking.ParameterValues.{ParameterValues}
 use Rattle.bq_eval_rules.specs.Few.{few}
 use Rattle.bq_eval_rules.specs.Direct.{Values, and_values, are_direct, with_defaults}
 
@@ -90,7 +90,7 @@ module _ {S : Type 0} (m : Primitives S) (ps : List Formal) where
   straight_entry eval ds xs env = all_taken eval xs env 0 (Ok (replicate (length ps) None)) >>= begun ds
 
 -- what code has of the values
-abbrev pub values_of : Given → Values
+abbrev pub values_of : ParameterValues → Values
 values_of x = fitting x.fits x.values.items
 
 -- ---- which calls

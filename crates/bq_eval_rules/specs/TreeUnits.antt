@@ -1,7 +1,7 @@
 -- The modules of a program.
-use Rattle.bq_eval_meaning_spec.specs.Frame.{Surroundings}
-use Rattle.bq_eval_language_spec.specs.Calls as language
-use Rattle.bq_eval_language_spec.specs.Slots.{surroundings_of}
+use Rattle.bq_eval_spec.specs.Frame.{Surroundings}
+use Rattle.bq_eval_spec.specs.Calls as language
+use Rattle.bq_eval_spec.specs.Slots.{surroundings_of}
 use Rattle.bq_eval_rules.specs.declared.units.TreeUnit.{TreeUnit}
 use Rattle.bq_eval_rules.specs.Round.{globals_of}
 

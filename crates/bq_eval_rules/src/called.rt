@@ -13,7 +13,7 @@ use bq_value::{FunctionValue, Node, Value};
 
 /// A function of the program, as a value has it.
 #[derive(Clone, Copy)]
-pub struct Callee<'a> {
+pub struct ProgramFunction<'a> {
     pub called: &'a FunctionValue,
     pub unit: TreeUnit<'a>,
     pub function: &'a Function,
@@ -25,7 +25,7 @@ pub enum Called<'a> {
     /// A value, with these arguments.
     Value(&'a Value, Args),
     /// A function of the program, in the frame with which it begins.
-    Entered(Callee<'a>, Frame<'a>),
+    Entered(ProgramFunction<'a>, Frame<'a>),
 }
 
 /// Returns the function of the program that a function value is, if it is there.
@@ -33,16 +33,16 @@ pub fn callee_at<'a, R: Runtime>(
     context: &'a Context<'a>,
     runtime: &R,
     called: &'a FunctionValue,
-) -> Option<Callee<'a>>
+) -> Option<ProgramFunction<'a>>
     ensures { MatchOption result (LacksFunction R.means context.now called.now) (λ callee. (callee.called.now ≡ called.now) × HasFunction R.means context.now callee) }
 {
-    // for the proof: knows the runtime that the contract speaks of.
+    // The contract speaks of the runtime, so this has it.
     let _ = runtime;
     match unit_at(context.program, context.own, called.module) {
         None => None,
         Some(unit) => match unit.functions.get(called.place as usize) {
             None => None,
-            Some(function) => Some(Callee {
+            Some(function) => Some(ProgramFunction {
                 called,
                 unit,
                 function,
@@ -56,7 +56,7 @@ pub fn callee_of<'a, R: Runtime>(
     context: &'a Context<'a>,
     runtime: &R,
     value: &'a Value,
-) -> Option<Callee<'a>>
+) -> Option<ProgramFunction<'a>>
     ensures { IfSome result (IsCallee R.means context.now value.now) }
 {
     match &value.node {

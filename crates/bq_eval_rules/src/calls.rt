@@ -1,8 +1,8 @@
 //! Calls.
 
 ghost use Rattle.std.specs.Prelude.{◌≡◌};
-ghost use Rattle.bq_eval_language_spec.specs.Calls as meaning;
-ghost use Rattle.bq_eval_language_spec.specs.Slots.{by_slots};
+ghost use Rattle.bq_eval_spec.specs.Calls as meaning;
+ghost use Rattle.bq_eval_spec.specs.Slots.{by_slots};
 ghost use Rattle.bq_eval_frame.specs.Slots.{slots_of};
 ghost use Rattle.bq_eval_rules.specs.Acts.{Acts};
 ghost use Rattle.bq_eval_rules.specs.Called.{called_in, entered};
@@ -12,7 +12,7 @@ ghost use Rattle.bq_eval_rules.specs.Effects.{Returns};
 ghost use Rattle.bq_eval_rules.specs.ContextCalls.{body_here, call_here, call_place};
 
 use crate::answer::new_place;
-use crate::called::{Called, Callee, callee_at};
+use crate::called::{Called, ProgramFunction, callee_at};
 use crate::context::Context;
 use crate::direct::{are_direct, direct_values};
 use crate::filling::{Filling, fill_parameters};
@@ -24,7 +24,7 @@ use crate::units::TreeUnit;
 use bq_base::EvalFault;
 use bq_builtin_machine::{Args, Bound, MAX_SEARCHED};
 use bq_eval_frame::Frame;
-use bq_resolve_predeclared::{HostFunction, Predeclared, RuleFunction};
+use bq_predeclared::{HostFunction, Predeclared, RuleFunction};
 use bq_resolve_scope::Function;
 use bq_value::{EvalErr, FunctionValue, Node, Value};
 use std::alloc::Global;
@@ -50,7 +50,7 @@ pub fn entry<'f, R: Runtime>(
 }
 
 /// Returns the frame with which a function begins, by binding the arguments to its parameters.
-#[tactic(auto, using(crate::proofs::CallSteps::given_acts, bq_eval_frame::proofs::Slots::none_filled), unfolding(bq_eval_language_spec::specs::Calls::entry))]
+#[tactic(auto, using(crate::proofs::CallSteps::given_acts, bq_eval_frame::proofs::Slots::none_filled), unfolding(bq_eval_spec::specs::Calls::entry))]
 fn bound_entry<'f, R: Runtime>(
     alloc: Global,
     runtime: &mut R,
@@ -81,7 +81,7 @@ fn bound_entry<'f, R: Runtime>(
 
 /// Runs the body of a function.
 #[cycle(calls)]
-#[tactic(auto, using(crate::proofs::CallSteps::inner_left), unfolding(bq_eval_language_spec::specs::Calls::run_body, bq_eval_language_spec::specs::Calls::body_of, crate::specs::Round::evals, crate::specs::Round::in_function, crate::specs::Round::inside, crate::specs::Round::round_of))]
+#[tactic(auto, using(crate::proofs::CallSteps::inner_left), unfolding(bq_eval_spec::specs::Calls::run_body, bq_eval_spec::specs::Calls::body_of, crate::specs::Round::evals, crate::specs::Round::in_function, crate::specs::Round::inside, crate::specs::Round::round_of))]
 pub fn run_body<R: Runtime>(
     context: &Context<'_>,
     runtime: &mut R,
@@ -121,7 +121,7 @@ pub fn run_body<R: Runtime>(
 fn run_entered<R: Runtime>(
     context: &Context<'_>,
     runtime: &mut R,
-    callee: &Callee<'_>,
+    callee: &ProgramFunction<'_>,
     first: Frame<'_>,
 ) -> Result<Value, EvalErr>
     ensures { Returns R.means R.seen (entered R.means context.now callee.now (slots_of first.entry)) runtime.old result runtime.new }
@@ -135,11 +135,11 @@ fn run_entered<R: Runtime>(
 
 /// Calls a function of the program.
 #[cycle(calls)]
-#[tactic(auto, unfolding(bq_eval_language_spec::specs::Calls::call_function, crate::specs::Called::entered))]
+#[tactic(auto, unfolding(bq_eval_spec::specs::Calls::call_function, crate::specs::Called::entered))]
 fn call_function<R: Runtime>(
     context: &Context<'_>,
     runtime: &mut R,
-    callee: &Callee<'_>,
+    callee: &ProgramFunction<'_>,
     args: Args,
 ) -> Result<Value, EvalErr>
     ensures { Returns R.means R.seen (call_here R.means context.now callee.now.called.now.«module» callee.now.called.now.place (unit_of callee.now.unit) callee.now.function.now callee.now.called.now.defaults.items args) runtime.old result runtime.new }
@@ -172,7 +172,7 @@ fn call_at<R: Runtime>(
 
 /// Calls a value with arguments.
 #[cycle(calls)]
-#[tactic(auto, using(crate::proofs::CallSteps::calls_step, bq_value_datum::specs::Datum::list_of_data_of), unfolding(crate::specs::Round::inside, bq_eval_language_spec::specs::Calls::apply))]
+#[tactic(auto, using(crate::proofs::CallSteps::calls_step, bq_value_datum::specs::Datum::list_of_data_of), unfolding(crate::specs::Round::inside, bq_eval_spec::specs::Calls::apply))]
 fn call_value<R: Runtime>(
     context: &Context<'_>,
     runtime: &mut R,

@@ -2,8 +2,8 @@
 
 ghost use Rattle.std.specs.Prelude.{◌≡◌, IfOk};
 ghost use Rattle.bq_builtin_machine.specs.Action.{pure, ◌>>=◌ as and_then};
-ghost use Rattle.bq_eval_language_spec.specs.Comprehensions as meaning;
-ghost use Rattle.bq_eval_language_spec.specs.Slots.{opened};
+ghost use Rattle.bq_eval_spec.specs.Comprehensions as meaning;
+ghost use Rattle.bq_eval_spec.specs.Slots.{opened};
 ghost use Rattle.bq_eval_frame.specs.Slots.{slots_of};
 ghost use Rattle.bq_eval_rules.specs.Acts.{Acts, ActsOn};
 ghost use Rattle.bq_eval_rules.specs.OpenLoops.{loop_of, loop_reached, opening};
@@ -63,7 +63,7 @@ impl<
 > Evaluator<'a, R, C, F> {
     /// Evaluates what is before the clauses of a comprehension, and adds it to a list.
     #[inline(always)]
-    #[tactic(auto, unfolding(bq_eval_language_spec::specs::Comprehensions::element))]
+    #[tactic(auto, unfolding(bq_eval_spec::specs::Comprehensions::element))]
     fn add_item(
         &self,
         runtime: &mut R,
@@ -82,7 +82,7 @@ impl<
 
     /// Evaluates a pair that is before the clauses of a comprehension, and sets the value of its key.
     #[inline(never)]
-    #[tactic(auto, unfolding(bq_eval_language_spec::specs::Comprehensions::pair_element))]
+    #[tactic(auto, unfolding(bq_eval_spec::specs::Comprehensions::pair_element))]
     fn put_pair(&self, runtime: &mut R, content: &mut Content, pair: &Pair) -> Result<(), EvalErr>
         requires { EvaluatesInside R.means R.seen self.now F.pre F.post }
         ensures { Collects R.means R.seen (meaning.pair_element R.means (evals_in R.means self.now) pair.now) (frame_of self.now) content.old runtime.old result (frame_of self.now) content.new runtime.new }
@@ -232,7 +232,7 @@ impl<
 
     /// Begins a turn of a loop, and runs it up to the first loop inside it.
     #[inline(always)]
-    #[tactic(auto, unfolding(bq_eval_language_spec::specs::Comprehensions::turn, crate::specs::OpenLoops::turn_count))]
+    #[tactic(auto, unfolding(bq_eval_spec::specs::Comprehensions::turn, crate::specs::OpenLoops::turn_count))]
     fn turn<'c>(
         &self,
         frame: &mut Frame<'_>,
@@ -375,7 +375,7 @@ impl<
     }
 
     /// Evaluates a comprehension, from an empty list or dict on.
-    #[tactic(auto, unfolding(bq_eval_language_spec::specs::Comprehensions::comprehension))]
+    #[tactic(auto, unfolding(bq_eval_spec::specs::Comprehensions::comprehension))]
     fn comprehension(
         &self,
         runtime: &mut R,

@@ -3,7 +3,7 @@
 ghost use Rattle.std.specs.Prelude.{◌≡◌};
 ghost use Rattle.bq_value.specs.Datum.{int};
 ghost use Rattle.bq_builtin_machine.specs.Action.{◌>>=◌ as and_then};
-ghost use Rattle.bq_eval_language_spec.specs.Expressions as meaning;
+ghost use Rattle.bq_eval_spec.specs.Expressions as meaning;
 ghost use Rattle.bq_eval_rules.specs.Answers.{or_reason};
 ghost use Rattle.bq_eval_rules.specs.Conditions.{decision, truth_of};
 ghost use Rattle.bq_eval_rules.specs.Effects.{Returns, ReturnsOn};
@@ -20,7 +20,7 @@ use std::marker::PhantomData;
 
 /// Says whether a value that is lent counts as true. Its use takes a step.
 #[inline(never)]
-#[tactic(auto, unfolding(bq_eval_language_spec::specs::Expressions::literal))]
+#[tactic(auto, unfolding(bq_eval_spec::specs::Expressions::literal))]
 fn lent_holds<R: Runtime>(runtime: &mut R, value: &Value, out: &mut AnswerPlace) -> Option<bool>
     ensures { Returns R.means R.seen (decision R.means (meaning.literal R.means value.now)) runtime.old (or_reason result out.new) runtime.new }
 {
@@ -130,7 +130,7 @@ impl<
 
     /// Says whether a value that is lent and that of the right side compare so. Its use takes a step.
     #[inline(never)]
-    #[tactic(auto, unfolding(bq_eval_language_spec::specs::Expressions::literal))]
+    #[tactic(auto, unfolding(bq_eval_spec::specs::Expressions::literal))]
     fn lent_compared_to(
         &self,
         runtime: &mut R,
@@ -209,7 +209,7 @@ impl<
 
     /// Evaluates a comparison, as a condition.
     #[inline(always)]
-    #[tactic(auto, unfolding(bq_eval_language_spec::specs::Expressions::compare))]
+    #[tactic(auto, unfolding(bq_eval_spec::specs::Expressions::compare))]
     fn compare_holds(
         &self,
         runtime: &mut R,

@@ -21,7 +21,7 @@ pub enum Globals<'a> {
 }
 
 impl<'a> Globals<'a> {
-    #[tactic(auto, unfolding(crate::specs::Round::globals_of, bq_eval_meaning_spec::specs::Frame::empty))]
+    #[tactic(auto, unfolding(crate::specs::Round::globals_of, bq_eval_spec::specs::Frame::empty))]
     #[inline(always)]
     pub fn get(self, k: usize) -> Option<&'a Value>
         ensures { option_copied result ≡ globals_of self.entry k }

@@ -6,7 +6,7 @@ ghost use Rattle.bq_base.specs.Gives.{Gives};
 ghost use Rattle.bq_value.specs.declared.error.EvalErr.TheVariants.{Bad};
 ghost use Rattle.bq_builtin_machine.specs.Binding.{take_all_named};
 ghost use Rattle.bq_builtin_machine.specs.Parameters.{is_called};
-ghost use Rattle.bq_eval_language_spec.specs.Calls.{singles};
+ghost use Rattle.bq_eval_spec.specs.Calls.{singles};
 ghost use Rattle.bq_eval_rules.specs.Direct.{are_direct, direct_signature, direct_values, value_or, with_defaults};
 
 use crate::targets::slot_of;
@@ -14,7 +14,7 @@ use bq_base::{Bytes, EvalFault};
 use bq_builtin_machine::{Args, Bound, has_value};
 use bq_resolve_scope::Formal;
 use bq_value::{EvalErr, Value};
-use bq_value_seed::Seed;
+use bq_value_datum::Seed;
 use std::alloc::Global;
 
 /// Returns whether each parameter takes one argument, by place or by name, and has the slot of its place.

@@ -1,7 +1,7 @@
 //! Displays of lists, tuples and dicts.
 
 ghost use Rattle.std.specs.Prelude.{◌≡◌, []};
-ghost use Rattle.bq_eval_language_spec.specs.Expressions as meaning;
+ghost use Rattle.bq_eval_spec.specs.Expressions as meaning;
 ghost use Rattle.bq_eval_rules.specs.Acts.{Acts};
 ghost use Rattle.bq_eval_rules.specs.Effects.{Returns, Produces};
 ghost use Rattle.bq_eval_rules.specs.Evaluators.{EvaluatesInside, evals_in, frame_of};
@@ -22,7 +22,7 @@ impl<
         + Fn(&Context<'_>, usize, C, &Frame<'_>, &mut R, &Expr, &mut AnswerPlace) -> Option<i64>,
 > Evaluator<'a, R, C, F> {
     /// Evaluates expressions, one after another.
-    #[tactic(auto, unfolding(bq_eval_language_spec::specs::Expressions::values))]
+    #[tactic(auto, unfolding(bq_eval_spec::specs::Expressions::values))]
     pub fn values(&self, runtime: &mut R, codes: &[Expr]) -> Result<Vec<Value>, EvalErr>
         requires { EvaluatesInside R.means R.seen self.now F.pre F.post }
         ensures { Acts R.means (λ vs. vs.items) result (R.seen runtime.new) (meaning.values R.means (evals_in R.means self.now) codes.now (frame_of self.now) [] (R.seen runtime.old)) }
@@ -36,7 +36,7 @@ impl<
 
     /// Evaluates `[x, ..]`.
     #[inline(never)]
-    #[tactic(auto, unfolding(bq_eval_language_spec::specs::Expressions::list_display))]
+    #[tactic(auto, unfolding(bq_eval_spec::specs::Expressions::list_display))]
     pub fn list_display(&self, runtime: &mut R, codes: &[Expr]) -> Result<Value, EvalErr>
         requires { EvaluatesInside R.means R.seen self.now F.pre F.post }
         ensures { Returns R.means R.seen (meaning.list_display R.means (evals_in R.means self.now) codes.now (frame_of self.now)) runtime.old result runtime.new }
@@ -48,7 +48,7 @@ impl<
 
     /// Evaluates `(x, ..)`.
     #[inline(never)]
-    #[tactic(auto, unfolding(bq_eval_language_spec::specs::Expressions::tuple_display))]
+    #[tactic(auto, unfolding(bq_eval_spec::specs::Expressions::tuple_display))]
     pub fn tuple_display(&self, runtime: &mut R, codes: &[Expr]) -> Result<Value, EvalErr>
         requires { EvaluatesInside R.means R.seen self.now F.pre F.post }
         ensures { Returns R.means R.seen (meaning.tuple_display R.means (evals_in R.means self.now) codes.now (frame_of self.now)) runtime.old result runtime.new }
@@ -59,7 +59,7 @@ impl<
     }
 
     /// Evaluates `key: value` of a display, and adds it.
-    #[tactic(auto, unfolding(bq_eval_language_spec::specs::Expressions::pair))]
+    #[tactic(auto, unfolding(bq_eval_spec::specs::Expressions::pair))]
     fn pair(&self, runtime: &mut R, content: &mut Content, pair: &Pair) -> Result<(), EvalErr>
         requires { EvaluatesInside R.means R.seen self.now F.pre F.post }
         ensures { Produces R.means R.seen content.new (meaning.pair R.means (evals_in R.means self.now) pair.now (frame_of self.now) content.old) runtime.old result runtime.new }
@@ -69,7 +69,7 @@ impl<
         runtime.add_pair(content, &key, value)
     }
 
-    #[tactic(auto, unfolding(bq_eval_language_spec::specs::Expressions::pairs_each))]
+    #[tactic(auto, unfolding(bq_eval_spec::specs::Expressions::pairs_each))]
     fn pairs_each(
         &self,
         runtime: &mut R,
@@ -87,7 +87,7 @@ impl<
 
     /// Evaluates `{key: value, ..}`.
     #[inline(never)]
-    #[tactic(auto, unfolding(bq_eval_language_spec::specs::Expressions::dict_display))]
+    #[tactic(auto, unfolding(bq_eval_spec::specs::Expressions::dict_display))]
     pub fn dict_display(&self, runtime: &mut R, pairs: &[Pair]) -> Result<Value, EvalErr>
         requires { EvaluatesInside R.means R.seen self.now F.pre F.post }
         ensures { Returns R.means R.seen (meaning.dict_display R.means (evals_in R.means self.now) pairs.now (frame_of self.now)) runtime.old result runtime.new }

@@ -2,7 +2,7 @@
 
 ghost use Rattle.std.specs.Prelude.{◌≡◌, IfSome};
 ghost use Rattle.bq_value.specs.Datum.{int};
-ghost use Rattle.bq_eval_language_spec.specs.Expressions.{literal};
+ghost use Rattle.bq_eval_spec.specs.Expressions.{literal};
 ghost use Rattle.bq_eval_rules.specs.Acts.{Acts};
 ghost use Rattle.bq_eval_rules.specs.Answers.{answer_of};
 ghost use Rattle.bq_eval_rules.specs.Operands.{read_of};
@@ -43,7 +43,7 @@ impl<
     fn int_leaf(&self, runtime: &R, code: &Expr) -> Option<i64>
         ensures { IfSome result (λ n. value_inside R.means self.now code.now (R.seen runtime.now) ≡ literal R.means (int n) (R.seen runtime.now)) }
     {
-        // for the proof: reads the state that the contract speaks of.
+        // The contract speaks of the state, so this reads it.
         let _ = runtime;
         if self.depth == 0 {
             return None;
@@ -63,7 +63,7 @@ impl<
     pub fn lent_leaf(&self, runtime: &R, code: &Expr) -> Option<&'a Value>
         ensures { IfSome result (λ v. value_inside R.means self.now code.now (R.seen runtime.now) ≡ literal R.means v.now (R.seen runtime.now)) }
     {
-        // for the proof: reads the state that the contract speaks of.
+        // The contract speaks of the state, so this reads it.
         let _ = runtime;
         if self.depth == 0 {
             return None;

@@ -1,8 +1,8 @@
 //! Expressions.
 
 ghost use Rattle.std.specs.Prelude.{◌≡◌};
-ghost use Rattle.bq_eval_language_spec.specs.Expressions as meaning;
-ghost use Rattle.bq_eval_language_spec.specs.Slots.{by_slots};
+ghost use Rattle.bq_eval_spec.specs.Expressions as meaning;
+ghost use Rattle.bq_eval_spec.specs.Slots.{by_slots};
 ghost use Rattle.bq_eval_frame.specs.Slots.{slots_of};
 ghost use Rattle.bq_eval_rules.specs.Answers.{answer_of};
 ghost use Rattle.bq_eval_rules.specs.Nests.{nested, AnswersCalls};
@@ -24,7 +24,7 @@ use std::marker::PhantomData;
 
 /// Evaluates an expression that is at most `depth` layers deep.
 #[inline(always)]
-#[tactic(auto, unfolding(bq_eval_language_spec::specs::Expressions::expr_to))]
+#[tactic(auto, unfolding(bq_eval_spec::specs::Expressions::expr_to))]
 pub fn expr_to<
     R: Runtime,
     C: Copy + Fn(&Context<'_>, &mut R, Called<'_>) -> Result<Value, EvalErr>,
@@ -63,7 +63,7 @@ impl<
         + Fn(&Context<'_>, usize, C, &Frame<'_>, &mut R, &Expr, &mut AnswerPlace) -> Option<i64>,
 > Evaluator<'a, R, C, F> {
     /// Evaluates an expression of another form than those that `expr` looks for, and returns its value whole.
-    #[tactic(auto, unfolding(bq_eval_language_spec::specs::Expressions::expr))]
+    #[tactic(auto, unfolding(bq_eval_spec::specs::Expressions::expr))]
     fn whole(&self, runtime: &mut R, code: &Expr) -> Result<Value, EvalErr>
         requires no_chain { IsNoChain code.now }
         requires no_suffix { HasNoSuffix code.now }

@@ -1,10 +1,10 @@
 //! The statements of a file.
 
 ghost use Rattle.std.specs.Prelude.{◌≡◌, []};
-ghost use Rattle.bq_eval_language_spec.specs.Expressions as expressions;
-ghost use Rattle.bq_eval_language_spec.specs.Module as meaning;
-ghost use Rattle.bq_eval_language_spec.specs.Statements as statements;
-ghost use Rattle.bq_eval_language_spec.specs.Slots.{by_slots};
+ghost use Rattle.bq_eval_spec.specs.Expressions as expressions;
+ghost use Rattle.bq_eval_spec.specs.Module as meaning;
+ghost use Rattle.bq_eval_spec.specs.Statements as statements;
+ghost use Rattle.bq_eval_spec.specs.Slots.{by_slots};
 ghost use Rattle.bq_eval_frame.specs.Slots.{slots_of};
 ghost use Rattle.bq_eval_rules.specs.Acts.{Acts};
 ghost use Rattle.bq_eval_rules.specs.Nests.{AnswersCalls};
@@ -32,7 +32,7 @@ impl<
     C: Copy + Fn(&Context<'_>, &mut R, Called<'_>) -> Result<Value, EvalErr>,
 > Reader<'a, R, C> {
     /// Evaluates expressions, one after another.
-    #[tactic(auto, unfolding(bq_eval_language_spec::specs::Expressions::values))]
+    #[tactic(auto, unfolding(bq_eval_spec::specs::Expressions::values))]
     fn values(
         &self,
         frame: &Frame<'_>,
@@ -50,7 +50,7 @@ impl<
     }
 
     /// Carries out a `def`.
-    #[tactic(auto, unfolding(bq_eval_language_spec::specs::Module::def_stmt))]
+    #[tactic(auto, unfolding(bq_eval_spec::specs::Module::def_stmt))]
     fn def_stmt(&self, frame: &mut Frame<'_>, runtime: &mut R, def: &Def) -> Result<Ending, EvalErr>
         requires { AnswersCalls R.means R.seen self.now.context.now self.now.call C.pre C.post }
         ensures { ExecutesLines R.means R.seen (meaning.def_stmt R.means by_slots (own_of self.now.context.now.program.now) (evals_of R.means self.now) def.now) frame.old runtime.old result frame.new runtime.new }
@@ -90,7 +90,7 @@ impl<
     }
 
     /// Carries out a top-level statement, whose line a fault names.
-    #[tactic(auto, unfolding(bq_eval_language_spec::specs::Module::top_level))]
+    #[tactic(auto, unfolding(bq_eval_spec::specs::Module::top_level))]
     fn top_level(
         &self,
         frame: &mut Frame<'_>,
@@ -108,7 +108,7 @@ impl<
     }
 
     /// Carries out the statements of a file.
-    #[tactic(auto, unfolding(bq_eval_language_spec::specs::Module::top_levels))]
+    #[tactic(auto, unfolding(bq_eval_spec::specs::Module::top_levels))]
     pub fn top_levels(
         &self,
         frame: &mut Frame<'_>,

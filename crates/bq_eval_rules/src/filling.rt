@@ -1,8 +1,8 @@
 //! Filling the frame of a function with its parameters.
 
 ghost use Rattle.std.specs.Prelude.{◌≡◌};
-ghost use Rattle.bq_eval_language_spec.specs.Calls as meaning;
-ghost use Rattle.bq_eval_language_spec.specs.Slots.{by_slots};
+ghost use Rattle.bq_eval_spec.specs.Calls as meaning;
+ghost use Rattle.bq_eval_spec.specs.Slots.{by_slots};
 ghost use Rattle.bq_eval_frame.specs.Slots.{slots_of};
 ghost use Rattle.bq_eval_rules.specs.Fillings.{filling_of, FillsFrame};
 
@@ -81,7 +81,7 @@ fn fill_default<'a, R: Runtime>(
 }
 
 /// Fills the slot of one parameter.
-#[tactic(auto, unfolding(bq_eval_language_spec::specs::Calls::fill_parameter))]
+#[tactic(auto, unfolding(bq_eval_spec::specs::Calls::fill_parameter))]
 fn fill_parameter<'a, R: Runtime>(
     alloc: Global,
     runtime: &R,
@@ -108,7 +108,7 @@ fn fill_parameter<'a, R: Runtime>(
 }
 
 /// Fills the slots of these parameters.
-#[tactic(auto, unfolding(bq_eval_language_spec::specs::Calls::fill_parameters))]
+#[tactic(auto, unfolding(bq_eval_spec::specs::Calls::fill_parameters))]
 pub fn fill_parameters<'a, R: Runtime>(
     alloc: Global,
     runtime: &R,

@@ -1,7 +1,7 @@
 //! What comes after a statement, and after the statements of a file.
 
 ghost use Rattle.std.specs.Prelude.{◌≡◌, Ok, Err};
-ghost use Rattle.bq_eval_language_spec.specs.Statements.{answer};
+ghost use Rattle.bq_eval_spec.specs.Statements.{answer};
 ghost use Rattle.bq_eval_rules.specs.Answers.{reason_of};
 ghost use Rattle.bq_eval_rules.specs.Flows.{ending_in, flow_of, result_of};
 

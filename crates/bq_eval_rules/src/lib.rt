@@ -1,4 +1,4 @@
-//! The evaluator: resolved trees to values, by the meaning of `bq_eval_language_spec`, at slots.
+//! The evaluator: resolved trees to values, by the meaning of `bq_eval_spec`, at slots.
 //!
 //! The promise: each rule does exactly what the definition of its name means (`specs/Acts.antt`): the value, and the
 //! state after it, or the fault where the definition has it, unless memory runs out. What is run is the tree that was
@@ -60,7 +60,7 @@ mod targets;
 mod units;
 
 pub use answer::AnswerPlace;
-pub use called::{Called, Callee};
+pub use called::{Called, ProgramFunction};
 pub use calls::call;
 pub use context::{Context, Globals, Program};
 pub use evaluator::Evaluator;

@@ -2,7 +2,7 @@
 
 ghost use Rattle.std.specs.Prelude.{◌≡◌, IfSome, Some};
 ghost use Rattle.bq_value.specs.Datum.{int};
-ghost use Rattle.bq_eval_language_spec.specs.Targets.{bound};
+ghost use Rattle.bq_eval_spec.specs.Targets.{bound};
 ghost use Rattle.bq_eval_frame.specs.Slots.{slots_of};
 ghost use Rattle.bq_eval_rules.specs.Acts.{Acts};
 ghost use Rattle.bq_eval_rules.specs.Operands.{local_use};
@@ -41,7 +41,7 @@ pub fn lent_in<'f>(frame: &'f Frame<'_>, slot: usize) -> Option<&'f Value>
 }
 
 /// Lends the value of a name, or fails with F49.
-#[tactic(auto, unfolding(bq_eval_language_spec::specs::Targets::bound))]
+#[tactic(auto, unfolding(bq_eval_spec::specs::Targets::bound))]
 #[inline(always)]
 pub fn bound<'f, R: Runtime>(
     frame: &'f Frame<'_>,

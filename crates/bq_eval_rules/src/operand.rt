@@ -2,8 +2,8 @@
 
 ghost use Rattle.std.specs.Prelude.{◌≡◌, IfOk};
 ghost use Rattle.bq_value.specs.Datum.{int, string};
-ghost use Rattle.bq_eval_language_spec.specs.Expressions as meaning;
-ghost use Rattle.bq_eval_language_spec.specs.Slots.{by_slots};
+ghost use Rattle.bq_eval_spec.specs.Expressions as meaning;
+ghost use Rattle.bq_eval_spec.specs.Slots.{by_slots};
 ghost use Rattle.bq_eval_frame.specs.Slots.{slots_of};
 ghost use Rattle.bq_eval_rules.specs.Acts.{Acts};
 ghost use Rattle.bq_eval_rules.specs.Answers.{answer_of};
@@ -51,7 +51,7 @@ impl<'f> Operand<'f> {
 }
 
 /// Evaluates the use of a name: lends its value, or fails with F49.
-#[tactic(auto, unfolding(bq_eval_language_spec::specs::Expressions::use_of, bq_eval_language_spec::specs::Targets::bound, crate::specs::Round::round_of))]
+#[tactic(auto, unfolding(bq_eval_spec::specs::Expressions::use_of, bq_eval_spec::specs::Targets::bound, crate::specs::Round::round_of))]
 #[inline(always)]
 pub fn use_of<'f, R: Runtime>(
     context: &'f Context<'_>,
@@ -77,7 +77,7 @@ pub fn use_of<'f, R: Runtime>(
 }
 
 /// Evaluates a literal.
-#[tactic(auto, unfolding(bq_eval_language_spec::specs::Expressions::literal))]
+#[tactic(auto, unfolding(bq_eval_spec::specs::Expressions::literal))]
 #[inline(always)]
 pub fn literal<R: Runtime>(runtime: &mut R, value: Value) -> Result<Value, EvalErr>
     ensures { Returns R.means R.seen (meaning.literal R.means value) runtime.old result runtime.new }
@@ -95,7 +95,7 @@ pub fn string_leaf<R: Runtime>(runtime: &mut R, text: &Bytes) -> Result<Value, E
 }
 
 /// Evaluates a name whose value is lent.
-#[tactic(auto, unfolding(bq_eval_language_spec::specs::Expressions::literal))]
+#[tactic(auto, unfolding(bq_eval_spec::specs::Expressions::literal))]
 #[inline(never)]
 pub fn shared_leaf<R: Runtime>(runtime: &mut R, value: &Value) -> Result<Value, EvalErr>
     ensures { Returns R.means R.seen (meaning.literal R.means value.now) runtime.old result runtime.new }
@@ -105,7 +105,7 @@ pub fn shared_leaf<R: Runtime>(runtime: &mut R, value: &Value) -> Result<Value, 
 }
 
 /// Evaluates an integer literal, or a name whose value is an integer.
-#[tactic(auto, unfolding(bq_eval_language_spec::specs::Expressions::literal))]
+#[tactic(auto, unfolding(bq_eval_spec::specs::Expressions::literal))]
 #[inline(always)]
 pub fn int_answer<R: Runtime>(runtime: &mut R, n: i64, out: &mut AnswerPlace) -> Option<i64>
     ensures { Returns R.means R.seen (meaning.literal R.means (int n)) runtime.old (answer_of result out.new) runtime.new }

@@ -3,7 +3,7 @@
 ghost use Rattle.std.specs.Prelude.{◌≡◌, reverse};
 ghost use Rattle.bq_value.specs.Datum.{int};
 ghost use Rattle.bq_builtin_machine.specs.Action.{◌>>=◌ as and_then};
-ghost use Rattle.bq_eval_language_spec.specs.Expressions as meaning;
+ghost use Rattle.bq_eval_spec.specs.Expressions as meaning;
 ghost use Rattle.bq_eval_rules.specs.Answers.{answer_of, or_reason};
 ghost use Rattle.bq_eval_rules.specs.Conditions.{chooses};
 ghost use Rattle.bq_eval_rules.specs.Effects.{Returns, ReturnsOn};
@@ -20,7 +20,7 @@ use bq_parse_grammar::{Choice, Comparison, Expr, Operation, Operator, Referent, 
 use bq_value::{EvalErr, Value};
 
 /// Applies these operators to a value, the last one first.
-#[tactic(auto, unfolding(bq_eval_language_spec::specs::Expressions::unary_each))]
+#[tactic(auto, unfolding(bq_eval_spec::specs::Expressions::unary_each))]
 fn unary_each<R: Runtime>(
     runtime: &mut R,
     operators: &[UnaryOperator],
@@ -97,7 +97,7 @@ impl<
 > Evaluator<'a, R, C, F> {
     /// Evaluates operators before an operand.
     #[inline(never)]
-    #[tactic(auto, unfolding(bq_eval_language_spec::specs::Expressions::unary))]
+    #[tactic(auto, unfolding(bq_eval_spec::specs::Expressions::unary))]
     pub fn unary(
         &self,
         runtime: &mut R,
@@ -114,7 +114,7 @@ impl<
 
     /// Applies one operation to the value so far.
     #[inline(always)]
-    #[tactic(auto, unfolding(bq_eval_language_spec::specs::Expressions::operation))]
+    #[tactic(auto, unfolding(bq_eval_spec::specs::Expressions::operation))]
     fn operation(
         &self,
         runtime: &mut R,
@@ -168,7 +168,7 @@ impl<
         runtime.binary(operator, left, &right)
     }
 
-    #[tactic(auto, unfolding(bq_eval_language_spec::specs::Expressions::operations))]
+    #[tactic(auto, unfolding(bq_eval_spec::specs::Expressions::operations))]
     fn operations(
         &self,
         runtime: &mut R,
@@ -186,7 +186,7 @@ impl<
     }
 
     /// Applies the operations of a chain to its first operand. Most often it is one.
-    #[tactic(auto, unfolding(bq_eval_language_spec::specs::Expressions::operations))]
+    #[tactic(auto, unfolding(bq_eval_spec::specs::Expressions::operations))]
     #[inline(always)]
     fn chain(
         &self,
@@ -204,7 +204,7 @@ impl<
     }
 
     /// Applies any number of operations.
-    #[tactic(auto, unfolding(bq_eval_language_spec::specs::Expressions::operations))]
+    #[tactic(auto, unfolding(bq_eval_spec::specs::Expressions::operations))]
     #[inline(never)]
     fn long_chain(
         &self,
@@ -264,7 +264,7 @@ impl<
 
     /// Applies one operation to an integer.
     #[inline(always)]
-    #[tactic(auto, unfolding(bq_eval_language_spec::specs::Expressions::operation))]
+    #[tactic(auto, unfolding(bq_eval_spec::specs::Expressions::operation))]
     fn int_operation(
         &self,
         runtime: &mut R,
@@ -304,7 +304,7 @@ impl<
 
     /// Applies any number of operations to an integer: the rest of them to what lies there, once that is none.
     #[inline(never)]
-    #[tactic(auto, unfolding(bq_eval_language_spec::specs::Expressions::operations))]
+    #[tactic(auto, unfolding(bq_eval_spec::specs::Expressions::operations))]
     fn int_operations(
         &self,
         runtime: &mut R,
@@ -329,7 +329,7 @@ impl<
 
     /// Applies the operations of a chain to an integer. Most often it is one.
     #[inline(always)]
-    #[tactic(auto, unfolding(bq_eval_language_spec::specs::Expressions::operations))]
+    #[tactic(auto, unfolding(bq_eval_spec::specs::Expressions::operations))]
     fn int_chain(
         &self,
         runtime: &mut R,
@@ -350,7 +350,7 @@ impl<
 
     /// Applies the operations of a chain to a value that is lent. Its use takes a step.
     #[inline(never)]
-    #[tactic(auto, unfolding(bq_eval_language_spec::specs::Expressions::literal))]
+    #[tactic(auto, unfolding(bq_eval_spec::specs::Expressions::literal))]
     fn lent_chain(
         &self,
         runtime: &mut R,
@@ -393,7 +393,7 @@ impl<
 
     /// Evaluates a chain of operators.
     #[inline(always)]
-    #[tactic(auto, unfolding(bq_eval_language_spec::specs::Expressions::binary))]
+    #[tactic(auto, unfolding(bq_eval_spec::specs::Expressions::binary))]
     pub fn binary(
         &self,
         runtime: &mut R,
@@ -410,7 +410,7 @@ impl<
         }
     }
 
-    #[tactic(auto, unfolding(bq_eval_language_spec::specs::Expressions::compare))]
+    #[tactic(auto, unfolding(bq_eval_spec::specs::Expressions::compare))]
     pub fn compare(
         &self,
         runtime: &mut R,
@@ -441,7 +441,7 @@ impl<
 
     /// Evaluates `x if y else ..`: the value of the first choice whose condition holds.
     #[inline(never)]
-    #[tactic(auto, unfolding(bq_eval_language_spec::specs::Expressions::conditional))]
+    #[tactic(auto, unfolding(bq_eval_spec::specs::Expressions::conditional))]
     pub fn conditional(
         &self,
         runtime: &mut R,

@@ -5,14 +5,14 @@ ghost use Rattle.bq_base.specs.Gives.{Gives};
 ghost use Rattle.bq_value.specs.declared.error.EvalErr.TheVariants.{Bad};
 ghost use Rattle.bq_builtin_machine.specs.Binding as binding;
 ghost use Rattle.bq_builtin_machine.specs.Parameters.{parameter_of};
-ghost use Rattle.bq_eval_language_spec.specs.Calls as meaning;
+ghost use Rattle.bq_eval_spec.specs.Calls as meaning;
 ghost use Rattle.bq_eval_rules.specs.Effects.{Returns};
 
 use crate::runtime::Runtime;
 use bq_builtin_machine::{Args, Bound, Signature, SingleParameter, bind};
 use bq_resolve_scope::Formal;
 use bq_value::{Content, Dict, EvalErr, Value};
-use bq_value_seed::Seed;
+use bq_value_datum::Seed;
 use std::alloc::{AllocError, Global};
 
 /// Appends the parameter, if it takes one argument.
@@ -100,7 +100,7 @@ pub fn has_star_star(parameters: &[Formal]) -> bool
 }
 
 /// Binds the arguments of a call, or fails with F52.
-#[tactic(auto, unfolding(bq_eval_language_spec::specs::Calls::signature))]
+#[tactic(auto, unfolding(bq_eval_spec::specs::Calls::signature))]
 pub fn bind_args(
     alloc: Global,
     seed: Seed,
@@ -120,7 +120,7 @@ pub fn bind_args(
 }
 
 /// Returns the dict for `**`, or `None` if there is no `**`.
-#[tactic(auto, unfolding(bq_eval_language_spec::specs::Calls::keywords_of))]
+#[tactic(auto, unfolding(bq_eval_spec::specs::Calls::keywords_of))]
 pub fn keywords_of<R: Runtime>(
     runtime: &mut R,
     takes: bool,

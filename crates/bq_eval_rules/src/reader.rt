@@ -3,9 +3,9 @@
 ghost use Rattle.std.specs.Prelude.{◌≡◌};
 ghost use Rattle.bq_value.specs.Datum.{int};
 ghost use Rattle.bq_builtin_machine.specs.Action.{pure, ◌>>=◌ as and_then};
-ghost use Rattle.bq_eval_language_spec.specs.Targets as meaning;
-ghost use Rattle.bq_eval_language_spec.specs.Slots.{by_slots};
-ghost use Rattle.bq_eval_meaning_spec.specs.Frame.{fill};
+ghost use Rattle.bq_eval_spec.specs.Targets as meaning;
+ghost use Rattle.bq_eval_spec.specs.Slots.{by_slots};
+ghost use Rattle.bq_eval_spec.specs.Frame.{fill};
 ghost use Rattle.bq_eval_frame.specs.Slots.{slots_of};
 ghost use Rattle.bq_eval_rules.specs.Answers.{answer_of, or_reason};
 ghost use Rattle.bq_eval_rules.specs.Conditions.{decision};
@@ -91,7 +91,7 @@ fn fill_slot<R: Runtime>(
 ) -> Flow
     ensures { Changes R.means R.seen (λ env. pure (fill env slot value)) frame.old runtime.now (flow_of result out.new) frame.new runtime.now }
 {
-    // for the proof: reads the state that the contract speaks of.
+    // The contract speaks of the state, so this reads it.
     let _ = runtime;
     match frame.fill(slot, value) {
         Err(_) => ended(out, EvalErr::Memory),
@@ -301,7 +301,7 @@ impl<
     // ---- the places of a target
 
     /// Evaluates the operand and the index of `x[i]`, and appends them.
-    #[tactic(auto, unfolding(bq_eval_language_spec::specs::Targets::place))]
+    #[tactic(auto, unfolding(bq_eval_spec::specs::Targets::place))]
     fn place(
         &self,
         frame: &Frame<'_>,
@@ -320,7 +320,7 @@ impl<
     }
 
     #[cycle(places)]
-    #[tactic(auto, unfolding(bq_eval_language_spec::specs::Targets::places_each))]
+    #[tactic(auto, unfolding(bq_eval_spec::specs::Targets::places_each))]
     fn places_each(
         &self,
         frame: &Frame<'_>,
@@ -339,7 +339,7 @@ impl<
     }
 
     #[cycle(places)]
-    #[tactic(auto, unfolding(bq_eval_language_spec::specs::Targets::places_of))]
+    #[tactic(auto, unfolding(bq_eval_spec::specs::Targets::places_of))]
     fn places_of(
         &self,
         frame: &Frame<'_>,
@@ -367,7 +367,7 @@ impl<
 
     /// Appends the places of a target that is at most `depth` layers deep.
     #[cycle(places)]
-    #[tactic(auto, unfolding(bq_eval_language_spec::specs::Targets::places_to))]
+    #[tactic(auto, unfolding(bq_eval_spec::specs::Targets::places_to))]
     fn places_to(
         &self,
         frame: &Frame<'_>,
@@ -429,7 +429,7 @@ impl<
 
     /// Carries out `target = value` for any target: its operands and indices are evaluated first.
     #[inline(never)]
-    #[tactic(auto, unfolding(bq_eval_language_spec::specs::Targets::assign, bq_resolve_scope::specs::Names::max_layers))]
+    #[tactic(auto, unfolding(bq_eval_spec::specs::Targets::assign, bq_resolve_scope::specs::Names::max_layers))]
     fn assign_parts(
         &self,
         frame: &mut Frame<'_>,
@@ -502,7 +502,7 @@ impl<
     }
 
     /// Carries out `name op= x`.
-    #[tactic(auto, unfolding(bq_eval_language_spec::specs::Targets::augment_name))]
+    #[tactic(auto, unfolding(bq_eval_spec::specs::Targets::augment_name))]
     fn augment_name(
         &self,
         frame: &mut Frame<'_>,
@@ -539,7 +539,7 @@ impl<
 
     /// Carries out `y[i] op= x`.
     #[inline(never)]
-    #[tactic(auto, unfolding(bq_eval_language_spec::specs::Targets::augment_index))]
+    #[tactic(auto, unfolding(bq_eval_spec::specs::Targets::augment_index))]
     fn augment_index(
         &self,
         frame: &mut Frame<'_>,

@@ -1,16 +1,16 @@
 //! What the evaluator asks for.
 
 ghost use Rattle.std.specs.Prelude.{◌≡◌, IfOk};
-ghost use Rattle.bq_eval_meaning_spec.specs.Primitives.{Primitives};
+ghost use Rattle.bq_eval_spec.specs.Primitives.{Primitives};
 ghost use Rattle.bq_eval_rules.specs.Acts.{Acts};
 ghost use Rattle.bq_eval_rules.specs.Few.{PassesFew};
 
 use bq_base::Bytes;
 use bq_builtin_machine::{Args, ElementWalk, Elements};
 use bq_parse_grammar::{Comparison, Operator, UnaryOperator};
-use bq_resolve_predeclared::{Predeclared, RuleFunction};
+use bq_predeclared::{Predeclared, RuleFunction};
 use bq_value::{Cell, Content, EvalErr, Value};
-use bq_value_seed::Seed;
+use bq_value_datum::Seed;
 use std::alloc::{AllocError, Global};
 
 /// The operations of the language, on a state. A call that runs out of memory may leave any state.

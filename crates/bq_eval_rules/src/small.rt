@@ -2,8 +2,8 @@
 
 ghost use Rattle.std.specs.Prelude.{◌≡◌};
 ghost use Rattle.bq_builtin_machine.specs.Action.{pure};
-ghost use Rattle.bq_eval_language_spec.specs.Statements as meaning;
-ghost use Rattle.bq_eval_language_spec.specs.Slots.{by_slots};
+ghost use Rattle.bq_eval_spec.specs.Statements as meaning;
+ghost use Rattle.bq_eval_spec.specs.Slots.{by_slots};
 ghost use Rattle.bq_eval_rules.specs.Nests.{AnswersCalls};
 ghost use Rattle.bq_eval_rules.specs.Effects.{Executes, ExecutesOn};
 ghost use Rattle.bq_eval_rules.specs.Flows.{flow_of};
@@ -20,7 +20,7 @@ use bq_parse_grammar::{Expr, SmallKind, SmallStmt, TargetExpr};
 use bq_value::{EvalErr, Value};
 
 /// Returns how many steps a small statement takes itself.
-#[tactic(auto, unfolding(bq_eval_language_spec::specs::Statements::steps_of))]
+#[tactic(auto, unfolding(bq_eval_spec::specs::Statements::steps_of))]
 fn steps_of(stmt: &SmallStmt) -> u64
     ensures { result ≡ meaning.steps_of stmt.now.kind }
 {
@@ -41,7 +41,7 @@ fn steps_of(stmt: &SmallStmt) -> u64
 fn next_there<R: Runtime>(runtime: &R, frame: &Frame<'_>, out: &mut AnswerPlace) -> Flow
     ensures { ExecutesOn R.means R.seen out.old (λ _ env. pure (meaning.next, env)) frame.now runtime.now (flow_of result out.new) frame.now runtime.now }
 {
-    // for the proof: reads the state and the frame that the contract speaks of.
+    // The contract speaks of the state and the frame, so this reads them.
     let _ = runtime;
     let _ = frame;
     match taken(out) {
@@ -57,7 +57,7 @@ impl<
 > Reader<'a, R, C> {
     /// Carries out an expression as a statement.
     #[inline(always)]
-    #[tactic(auto, unfolding(bq_eval_language_spec::specs::Statements::expr_stmt))]
+    #[tactic(auto, unfolding(bq_eval_spec::specs::Statements::expr_stmt))]
     fn expr_stmt(
         &self,
         frame: &Frame<'_>,
@@ -76,7 +76,7 @@ impl<
 
     /// Carries out `target = x`: the right side first.
     #[inline(always)]
-    #[tactic(auto, unfolding(bq_eval_language_spec::specs::Statements::assign_stmt))]
+    #[tactic(auto, unfolding(bq_eval_spec::specs::Statements::assign_stmt))]
     fn assign_stmt(
         &self,
         frame: &mut Frame<'_>,
@@ -96,7 +96,7 @@ impl<
 
     /// Carries out `return x`.
     #[inline(always)]
-    #[tactic(auto, unfolding(bq_eval_language_spec::specs::Statements::return_stmt))]
+    #[tactic(auto, unfolding(bq_eval_spec::specs::Statements::return_stmt))]
     fn return_stmt(
         &self,
         frame: &Frame<'_>,
@@ -118,7 +118,7 @@ impl<
 
     /// Carries out a small statement: all but a load take a step.
     #[inline(always)]
-    #[tactic(auto, unfolding(bq_eval_language_spec::specs::Statements::small_stmt))]
+    #[tactic(auto, unfolding(bq_eval_spec::specs::Statements::small_stmt))]
     fn small_stmt(
         &self,
         frame: &mut Frame<'_>,
@@ -154,7 +154,7 @@ impl<
 
     /// Carries out the statements of one line.
     #[inline(never)]
-    #[tactic(auto, unfolding(bq_eval_language_spec::specs::Statements::line))]
+    #[tactic(auto, unfolding(bq_eval_spec::specs::Statements::line))]
     pub fn line(
         &self,
         frame: &mut Frame<'_>,

@@ -2,8 +2,8 @@
 
 ghost use Rattle.std.specs.Prelude.{◌≡◌};
 ghost use Rattle.bq_builtin_machine.specs.Action.{◌>>=◌ as and_then};
-ghost use Rattle.bq_eval_language_spec.specs.Statements as meaning;
-ghost use Rattle.bq_eval_language_spec.specs.Slots.{by_slots};
+ghost use Rattle.bq_eval_spec.specs.Statements as meaning;
+ghost use Rattle.bq_eval_spec.specs.Slots.{by_slots};
 ghost use Rattle.bq_eval_rules.specs.Nests.{AnswersCalls};
 ghost use Rattle.bq_eval_rules.specs.Round.{evals, execs};
 ghost use Rattle.bq_eval_rules.specs.Effects.{Executes};
@@ -41,7 +41,7 @@ struct ForBody<'c> {
 
 /// Runs a statement that is at most `depth` layers deep.
 #[inline(always)]
-#[tactic(auto, unfolding(bq_eval_language_spec::specs::Statements::run_to))]
+#[tactic(auto, unfolding(bq_eval_spec::specs::Statements::run_to))]
 fn run_to<R: Runtime, C: Copy + Fn(&Context<'_>, &mut R, Called<'_>) -> Result<Value, EvalErr>>(
     context: &Context<'_>,
     depth: usize,
@@ -123,7 +123,7 @@ impl<
 > Runner<'a, R, C, G> {
     /// Runs statements in order.
     #[inline(never)]
-    #[tactic(auto, unfolding(bq_eval_language_spec::specs::Statements::block))]
+    #[tactic(auto, unfolding(bq_eval_spec::specs::Statements::block))]
     fn block(
         &self,
         frame: &mut Frame<'_>,
@@ -148,7 +148,7 @@ impl<
 
     /// Runs the block of the first branch whose condition holds.
     #[inline(always)]
-    #[tactic(auto, unfolding(bq_eval_language_spec::specs::Statements::branches))]
+    #[tactic(auto, unfolding(bq_eval_spec::specs::Statements::branches))]
     fn branches(
         &self,
         frame: &mut Frame<'_>,
@@ -172,7 +172,7 @@ impl<
     }
 
     #[inline(always)]
-    #[tactic(auto, unfolding(bq_eval_language_spec::specs::Statements::turn))]
+    #[tactic(auto, unfolding(bq_eval_spec::specs::Statements::turn))]
     fn turn(
         &self,
         frame: &mut Frame<'_>,
@@ -197,7 +197,7 @@ impl<
     }
 
     #[inline(never)]
-    #[tactic(auto, unfolding(bq_eval_language_spec::specs::Statements::turns))]
+    #[tactic(auto, unfolding(bq_eval_spec::specs::Statements::turns))]
     fn turns(
         &self,
         frame: &mut Frame<'_>,
@@ -250,7 +250,7 @@ impl<
 
     /// Carries out `for target in iterable`.
     #[inline(never)]
-    #[tactic(auto, unfolding(bq_eval_language_spec::specs::Statements::for_loop))]
+    #[tactic(auto, unfolding(bq_eval_spec::specs::Statements::for_loop))]
     fn for_loop(
         &self,
         frame: &mut Frame<'_>,

@@ -2,7 +2,7 @@
 
 ghost use Rattle.std.specs.Prelude.{◌≡◌};
 ghost use Rattle.bq_value.specs.declared.error.EvalErr.TheVariants.{Bad};
-ghost use Rattle.bq_eval_meaning_spec.specs.Primitives.{stuck_fault};
+ghost use Rattle.bq_eval_spec.specs.Primitives.{stuck_fault};
 
 use bq_base::EvalFault;
 use bq_value::EvalErr;

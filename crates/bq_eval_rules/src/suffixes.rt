@@ -2,8 +2,8 @@
 
 ghost use Rattle.std.specs.Prelude.{◌≡◌, Some};
 ghost use Rattle.bq_builtin_machine.specs.Action.{◌>>=◌ as and_then};
-ghost use Rattle.bq_eval_language_spec.specs.Expressions as meaning;
-ghost use Rattle.bq_eval_language_spec.specs.Slots.{by_slots};
+ghost use Rattle.bq_eval_spec.specs.Expressions as meaning;
+ghost use Rattle.bq_eval_spec.specs.Slots.{by_slots};
 ghost use Rattle.bq_eval_rules.specs.Answers.{answer_of};
 ghost use Rattle.bq_eval_rules.specs.Called.{IsCallee};
 ghost use Rattle.bq_eval_rules.specs.Nests.{AnswersCalls};
@@ -12,7 +12,7 @@ ghost use Rattle.bq_eval_rules.specs.Taking.{GoesStraight};
 ghost use Rattle.bq_eval_rules.specs.Evaluators.{EvaluatesInside, evals_in, calls_in, round_in, frame_of, value_inside};
 
 use crate::answer::{AnswerPlace, failed, new_place, placed, settled, unboxed};
-use crate::called::{Called, Callee};
+use crate::called::{Called, ProgramFunction};
 use crate::context::Context;
 use crate::evaluator::Evaluator;
 use crate::runtime::Runtime;
@@ -21,9 +21,8 @@ use crate::taking::straight_callee;
 use bq_base::Bytes;
 use bq_builtin_machine::Args;
 use bq_eval_frame::Frame;
-use bq_parse_grammar::{Argument, Expr, Referent, Suffix};
-use bq_resolve_predeclared::Predeclared;
-use bq_tree_items::Boxed;
+use bq_parse_grammar::{Argument, Boxed, Expr, Referent, Suffix};
+use bq_predeclared::Predeclared;
 use bq_value::{EvalErr, Value};
 
 impl<
@@ -35,7 +34,7 @@ impl<
 > Evaluator<'a, R, C, F> {
     /// Applies `value[index]`. The index is only read.
     #[inline(never)]
-    #[tactic(auto, unfolding(bq_eval_language_spec::specs::Expressions::index))]
+    #[tactic(auto, unfolding(bq_eval_spec::specs::Expressions::index))]
     fn index(
         &self,
         runtime: &mut R,
@@ -56,7 +55,7 @@ impl<
     }
 
     /// Evaluates a part of a slice.
-    #[tactic(auto, unfolding(bq_eval_language_spec::specs::Expressions::part))]
+    #[tactic(auto, unfolding(bq_eval_spec::specs::Expressions::part))]
     fn part(&self, runtime: &mut R, part: &Option<Boxed<Expr>>) -> Result<Value, EvalErr>
         requires { EvaluatesInside R.means R.seen self.now F.pre F.post }
         ensures { Returns R.means R.seen (meaning.part R.means (evals_in R.means self.now) part.now (frame_of self.now)) runtime.old result runtime.new }
@@ -69,7 +68,7 @@ impl<
 
     /// Applies `value[start:stop:step]`.
     #[inline(never)]
-    #[tactic(auto, unfolding(bq_eval_language_spec::specs::Expressions::slice))]
+    #[tactic(auto, unfolding(bq_eval_spec::specs::Expressions::slice))]
     fn slice(
         &self,
         runtime: &mut R,
@@ -88,7 +87,7 @@ impl<
     }
 
     /// Evaluates and passes an argument.
-    #[tactic(auto, unfolding(bq_eval_language_spec::specs::Expressions::argument))]
+    #[tactic(auto, unfolding(bq_eval_spec::specs::Expressions::argument))]
     fn argument(&self, runtime: &mut R, args: &mut Args, argument: &Argument) -> Result<(), EvalErr>
         requires { EvaluatesInside R.means R.seen self.now F.pre F.post }
         ensures { Produces R.means R.seen args.new (meaning.argument R.means (evals_in R.means self.now) argument.now (frame_of self.now) args.old) runtime.old result runtime.new }
@@ -114,7 +113,7 @@ impl<
     }
 
     /// Evaluates and passes all these arguments, after those so far.
-    #[tactic(auto, unfolding(bq_eval_language_spec::specs::Expressions::arguments))]
+    #[tactic(auto, unfolding(bq_eval_spec::specs::Expressions::arguments))]
     fn arguments(
         &self,
         runtime: &mut R,
@@ -132,7 +131,7 @@ impl<
 
     /// Applies `value.name(..)`.
     #[inline(never)]
-    #[tactic(auto, unfolding(bq_eval_language_spec::specs::Expressions::method))]
+    #[tactic(auto, unfolding(bq_eval_spec::specs::Expressions::method))]
     fn method(
         &self,
         runtime: &mut R,
@@ -164,7 +163,7 @@ impl<
 > Evaluator<'a, R, C, F> {
     /// Applies `value(..)`, where the arguments are passed one after another.
     #[inline(always)]
-    #[tactic(auto, unfolding(bq_eval_language_spec::specs::Expressions::call_of))]
+    #[tactic(auto, unfolding(bq_eval_spec::specs::Expressions::call_of))]
     fn call_listed(
         &self,
         runtime: &mut R,
@@ -193,7 +192,7 @@ impl<
         runtime: &mut R,
         arguments: &[Argument],
         value: &Value,
-        callee: Callee<'_>,
+        callee: ProgramFunction<'_>,
         out: &mut AnswerPlace,
     ) -> Option<i64>
         requires nests { EvaluatesInside R.means R.seen self.now F.pre F.post }
@@ -202,7 +201,7 @@ impl<
         requires straight { GoesStraight callee.function.now arguments.now }
         ensures { Returns R.means R.seen (meaning.call_of R.means (evals_in R.means self.now) (calls_in R.means self.now) arguments.now (frame_of self.now) value.now) runtime.old (answer_of result out.new) runtime.new }
     {
-        // for the proof: knows the value that the contract speaks of.
+        // The contract speaks of the value, so this has it.
         let _ = value;
         match self.straight_frame(runtime, &callee, arguments) {
             Err(why) => failed(out, why),
@@ -234,7 +233,7 @@ impl<
 
     /// Applies a suffix to a value.
     #[inline(always)]
-    #[tactic(auto, unfolding(bq_eval_language_spec::specs::Expressions::suffix))]
+    #[tactic(auto, unfolding(bq_eval_spec::specs::Expressions::suffix))]
     fn suffix(
         &self,
         runtime: &mut R,
@@ -277,7 +276,7 @@ impl<
         settled(given, out)
     }
 
-    #[tactic(auto, unfolding(bq_eval_language_spec::specs::Expressions::suffixes))]
+    #[tactic(auto, unfolding(bq_eval_spec::specs::Expressions::suffixes))]
     fn suffixes(&self, runtime: &mut R, suffixes: &[Suffix], first: Value) -> Result<Value, EvalErr>
         requires nests { EvaluatesInside R.means R.seen self.now F.pre F.post }
         requires answers { AnswersCalls R.means R.seen self.now.context.now self.now.call C.pre C.post }
@@ -292,7 +291,7 @@ impl<
 
     /// Applies any number of suffixes to an operand.
     #[inline(never)]
-    #[tactic(auto, unfolding(bq_eval_language_spec::specs::Expressions::suffixes))]
+    #[tactic(auto, unfolding(bq_eval_spec::specs::Expressions::suffixes))]
     fn long_suffixed(
         &self,
         runtime: &mut R,
@@ -314,7 +313,7 @@ impl<
 
     /// Applies suffixes to an operand. Most often it is one.
     #[inline(always)]
-    #[tactic(auto, unfolding(bq_eval_language_spec::specs::Expressions::suffixes))]
+    #[tactic(auto, unfolding(bq_eval_spec::specs::Expressions::suffixes))]
     fn all_suffixes(
         &self,
         runtime: &mut R,
@@ -356,7 +355,7 @@ impl<
 
     /// Takes the steps of suffixes, and evaluates their operand and them.
     #[inline(always)]
-    #[tactic(auto, unfolding(bq_eval_language_spec::specs::Expressions::operand))]
+    #[tactic(auto, unfolding(bq_eval_spec::specs::Expressions::operand))]
     fn suffixed(
         &self,
         runtime: &mut R,
@@ -376,7 +375,7 @@ impl<
 
     /// Calls a member of a namespace, and applies these suffixes to the result.
     #[inline(never)]
-    #[tactic(auto, unfolding(bq_eval_language_spec::specs::Expressions::call_member))]
+    #[tactic(auto, unfolding(bq_eval_spec::specs::Expressions::call_member))]
     fn call_member(
         &self,
         runtime: &mut R,
@@ -398,7 +397,7 @@ impl<
 
     /// Evaluates an operand with suffixes: a call of a namespace's member is one.
     #[inline(always)]
-    #[tactic(auto, unfolding(bq_eval_language_spec::specs::Expressions::primary))]
+    #[tactic(auto, unfolding(bq_eval_spec::specs::Expressions::primary))]
     pub fn primary(
         &self,
         runtime: &mut R,

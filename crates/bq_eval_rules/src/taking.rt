@@ -12,7 +12,7 @@ ghost use Rattle.bq_eval_rules.specs.Evaluators.{EvaluatesInside, evals_in, fram
 ghost use Rattle.bq_eval_rules.specs.Taking.{GoesStraight, all_taken, are_plain, begun, plain_next, put_at, straight_entry, taken, values_of};
 
 use crate::answer::AnswerPlace;
-use crate::called::{Callee, callee_of};
+use crate::called::{ProgramFunction, callee_of};
 use crate::context::Context;
 use crate::direct::{are_direct, parameter_called, take_defaults};
 use crate::evaluator::Evaluator;
@@ -87,7 +87,7 @@ pub fn straight_callee<'a, R: Runtime>(
     runtime: &R,
     value: &'a Value,
     arguments: &[Argument],
-) -> Option<Callee<'a>>
+) -> Option<ProgramFunction<'a>>
     ensures called { IfSome result (IsCallee R.means context.now value.now) }
     ensures straight { IfSome result (λ callee. GoesStraight callee.function.now arguments.now) }
 {
@@ -106,7 +106,7 @@ pub fn straight_callee<'a, R: Runtime>(
 
 /// The values of parameters, as far as arguments gave them.
 #[derive(Drop)]
-pub struct Given {
+pub struct ParameterValues {
     values: Vec<Option<Value>>,
     /// Whether each argument went to a parameter, which had none before.
     fits: bool,
@@ -124,12 +124,12 @@ fn no_values(alloc: Global, slots: usize, count: usize) -> Result<Vec<Option<Val
     Ok(values)
 }
 
-impl Given {
+impl ParameterValues {
     /// Makes the values of `count` parameters without arguments, with room for `slots` slots.
-    fn new(alloc: Global, slots: usize, count: usize) -> Result<Given, AllocError>
+    fn new(alloc: Global, slots: usize, count: usize) -> Result<ParameterValues, AllocError>
         ensures { IfOk result (λ given. values_of given ≡ Ok (replicate count None)) }
     {
-        Ok(Given {
+        Ok(ParameterValues {
             values: no_values(alloc, slots, count)?,
             fits: true,
         })
@@ -162,7 +162,7 @@ impl Given {
     ) -> Result<Vec<Option<Value>>, EvalErr>
         ensures { Gives (λ vs. vs.items) Bad result (and_values (values_of self) (with_defaults 0 parameters.now defaults.now)) }
     {
-        let Given { mut values, fits } = self;
+        let ParameterValues { mut values, fits } = self;
         if !fits {
             return Err(EvalErr::Bad(EvalFault::Args));
         }
@@ -177,11 +177,11 @@ fn begun<'f, R: Runtime>(
     runtime: &R,
     parameters: &[Formal],
     defaults: &[Value],
-    given: Given,
+    given: ParameterValues,
 ) -> Result<Frame<'f>, EvalErr>
     ensures { Acts R.means slots_of result (R.seen runtime.now) (begun R.means parameters.now defaults.now (values_of given) (R.seen runtime.now)) }
 {
-    // for the proof: reads the state that the contract speaks of.
+    // The contract speaks of the state, so this reads it.
     let _ = runtime;
     let values = given.complete(parameters, defaults)?;
     Ok(Frame::of_values(values))
@@ -202,7 +202,7 @@ impl<
         parameters: &[Formal],
         argument: &Argument,
         place: usize,
-        given: &mut Given,
+        given: &mut ParameterValues,
     ) -> Result<(), EvalErr>
         requires { EvaluatesInside R.means R.seen self.now F.pre F.post }
         ensures { Produces R.means R.seen (values_of given.new) (taken R.means parameters.now (evals_in R.means self.now) argument.now (frame_of self.now) place (values_of given.old)) runtime.old result runtime.new }
@@ -231,7 +231,7 @@ impl<
         runtime: &mut R,
         parameters: &[Formal],
         arguments: &[Argument],
-        given: &mut Given,
+        given: &mut ParameterValues,
     ) -> Result<(), EvalErr>
         requires { EvaluatesInside R.means R.seen self.now F.pre F.post }
         ensures { Produces R.means R.seen (values_of given.new) (all_taken R.means parameters.now (evals_in R.means self.now) arguments.now (frame_of self.now) 0 (values_of given.old)) runtime.old result runtime.new }
@@ -248,14 +248,18 @@ impl<
     pub fn straight_frame<'f>(
         &self,
         runtime: &mut R,
-        callee: &Callee<'_>,
+        callee: &ProgramFunction<'_>,
         arguments: &[Argument],
     ) -> Result<Frame<'f>, EvalErr>
         requires { EvaluatesInside R.means R.seen self.now F.pre F.post }
         ensures { Acts R.means slots_of result (R.seen runtime.new) (straight_entry R.means callee.now.function.now.parameters (evals_in R.means self.now) callee.now.called.now.defaults.items arguments.now (frame_of self.now) (R.seen runtime.old)) }
     {
         let parameters = callee.function.parameters.as_slice();
-        let mut given = Given::new(self.context.alloc, callee.function.slots, parameters.len())?;
+        let mut given = ParameterValues::new(
+            self.context.alloc,
+            callee.function.slots,
+            parameters.len(),
+        )?;
         self.take_all(runtime, parameters, arguments, &mut given)?;
         begun(
             &*runtime,

@@ -2,8 +2,8 @@
 
 ghost use Rattle.std.specs.Prelude.{◌≡◌};
 ghost use Rattle.bq_builtin_machine.specs.Action.{◌>>=◌ as and_then};
-ghost use Rattle.bq_eval_language_spec.specs.Targets as meaning;
-ghost use Rattle.bq_eval_language_spec.specs.Slots.{by_slots, slot_of};
+ghost use Rattle.bq_eval_spec.specs.Targets as meaning;
+ghost use Rattle.bq_eval_spec.specs.Slots.{by_slots, slot_of};
 ghost use Rattle.bq_eval_frame.specs.Slots.{slots_of};
 ghost use Rattle.bq_eval_rules.specs.Effects.{Produces, Rebinds, BindsParts};
 
@@ -35,7 +35,7 @@ pub fn slot_of(name: &Identifier) -> usize
 }
 
 /// Carries out `x[i] = value`.
-#[tactic(auto, unfolding(bq_eval_language_spec::specs::Targets::bind_place))]
+#[tactic(auto, unfolding(bq_eval_spec::specs::Targets::bind_place))]
 fn bind_place<R: Runtime>(
     runtime: &mut R,
     frame: &Frame<'_>,
@@ -52,7 +52,7 @@ fn bind_place<R: Runtime>(
 
 /// Binds each of these targets to one of the elements.
 #[cycle(targets)]
-#[tactic(auto, unfolding(bq_eval_language_spec::specs::Targets::bind_each))]
+#[tactic(auto, unfolding(bq_eval_spec::specs::Targets::bind_each))]
 fn bind_each<R: Runtime>(
     runtime: &mut R,
     frame: &mut Frame<'_>,
@@ -75,7 +75,7 @@ fn bind_each<R: Runtime>(
 /// Unpacks a value.
 #[cycle(targets)]
 #[inline(never)]
-#[tactic(auto, unfolding(bq_eval_language_spec::specs::Targets::unpack))]
+#[tactic(auto, unfolding(bq_eval_spec::specs::Targets::unpack))]
 fn unpack<R: Runtime>(
     runtime: &mut R,
     frame: &mut Frame<'_>,
@@ -115,7 +115,7 @@ fn bind_target<R: Runtime>(
 
 /// Binds the parts of a target that is at most `depth` layers deep.
 #[cycle(targets)]
-#[tactic(auto, unfolding(bq_eval_language_spec::specs::Targets::bind_to))]
+#[tactic(auto, unfolding(bq_eval_spec::specs::Targets::bind_to))]
 pub fn bind_to<R: Runtime>(
     runtime: &mut R,
     frame: &mut Frame<'_>,
@@ -151,7 +151,7 @@ pub fn bind_variables<R: Runtime>(
 
 /// Binds the variables of a `for`, whatever target they are.
 #[inline(never)]
-#[tactic(auto, unfolding(bq_eval_language_spec::specs::Targets::bind_variables, bq_resolve_scope::specs::Names::max_layers))]
+#[tactic(auto, unfolding(bq_eval_spec::specs::Targets::bind_variables, bq_resolve_scope::specs::Names::max_layers))]
 fn bind_parts<R: Runtime>(
     alloc: Global,
     runtime: &mut R,

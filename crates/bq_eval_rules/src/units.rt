@@ -1,7 +1,7 @@
 //! The modules of a program.
 
 ghost use Rattle.std.specs.Prelude.{◌≡◌, None, Some, MatchOption};
-ghost use Rattle.bq_eval_language_spec.specs.Slots.{frozen_unit, globals_among};
+ghost use Rattle.bq_eval_spec.specs.Slots.{frozen_unit, globals_among};
 ghost use Rattle.bq_eval_rules.specs.TreeUnits.{unit_of};
 ghost use Rattle.bq_eval_rules.specs.Round.{units_at, globals_of, views_of};
 
@@ -19,7 +19,7 @@ pub struct TreeUnit<'a> {
 }
 
 /// Returns the module of this number, where `own` are the globals of the one that is evaluated.
-#[tactic(auto, unfolding(crate::specs::Round::units_at, bq_eval_language_spec::specs::Slots::frozen_units, crate::specs::Round::globals_of))]
+#[tactic(auto, unfolding(crate::specs::Round::units_at, bq_eval_spec::specs::Slots::frozen_units, crate::specs::Round::globals_of))]
 pub fn unit_at<'a>(program: &'a Program<'a>, own: Globals<'a>, home: u32) -> Option<TreeUnit<'a>>
     ensures { MatchOption result (units_at program.now (globals_of own.entry) home ≡ None) (λ u. units_at program.now (globals_of own.entry) home ≡ Some (unit_of u)) }
 {
@@ -41,7 +41,7 @@ pub fn unit_at<'a>(program: &'a Program<'a>, own: Globals<'a>, home: u32) -> Opt
 }
 
 /// Returns the globals and loaded values of module `home`, if one of `frozen` is that module or reaches it.
-#[tactic(auto, unfolding(bq_eval_language_spec::specs::Slots::globals_among))]
+#[tactic(auto, unfolding(bq_eval_spec::specs::Slots::globals_among))]
 fn globals_among<'a>(mut frozen: &'a [Arc<Frozen>], home: u32) -> Option<&'a [Value]>
     ensures { MatchOption result (globals_among home (views_of frozen.entry.now) ≡ None) (λ values. globals_among home (views_of frozen.entry.now) ≡ Some values.now) }
 {

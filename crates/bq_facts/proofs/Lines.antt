@@ -3,18 +3,18 @@ use Rattle.std.proofs.Common.{◌≡◌, ◌∙◌, ℕ, List, [], ◌∷◌, �
 use Rattle.std.specs.Prelude.{codes}
 use Rattle.std.specs.List.{zip}
 use Rattle.std.specs.Fmt.{decimal}
-use Rattle.bq_base_limits.specs.declared.limits.Limits.{Limits}
+use Rattle.bq_base.specs.declared.limits.Limits.{Limits}
 use Rattle.bq_label.specs.Label.{LabelParts}
-use Rattle.bq_facts_json.specs.Json.{Json, Named, fields_of, member_of, object, value_text}
-use Rattle.bq_facts_json.specs.Values.{Member, json_object}
-use Rattle.bq_facts_json.proofs.Texts.{array_text, object_text}
+use Rattle.bq_package_values.specs.JsonValue.{Json, Named, fields_of, member_of, object, value_text}
+use Rattle.bq_package_values.specs.JsonParts.{Member, json_object}
+use Rattle.bq_package_values.proofs.JsonTexts.{array_text, object_text}
 use Rattle.bq_package_target.specs.declared.target.Target.{Target}
 use Rattle.bq_package_target.specs.declared.target.TargetKind.{TargetKind}
 use Rattle.bq_package_target.specs.declared.target.TargetKind.TheVariants as k
 use Rattle.bq_package_target.specs.declared.value.GivenAttribute.{GivenAttribute}
 use Rattle.bq_resolve_scope.specs.declared.loads.LoadStmt.{LoadStmt}
 use Rattle.bq_resolve_scope.specs.declared.loads.LoadedSymbol.{LoadedSymbol}
-use Rattle.bq_package_typed_value.specs.Json.{json_labels}
+use Rattle.bq_package_values.specs.Json.{json_labels}
 use Rattle.bq_facts.specs.Attributes.{attribute_member, json_attributes}
 use Rattle.bq_facts.specs.declared.header.Counts.{Counts}
 use Rattle.bq_facts.specs.declared.header.Origin.{Origin}

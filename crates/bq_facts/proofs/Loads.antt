@@ -7,7 +7,7 @@ use Rattle.std.proofs.lemmas.Option.{get_or_from_slice_get, slice_get_within}
 use Rattle.std.proofs.Math.ListN.{drop_of_length-le}
 use Rattle.bq_label.specs.Label.{LabelParts}
 use Rattle.bq_resolve_scope.specs.declared.loads.LoadStmt.{LoadStmt}
-use Rattle.bq_facts_json.specs.Values.{comma}
+use Rattle.bq_package_values.specs.JsonParts.{comma}
 use Rattle.bq_facts.specs.ModuleLine.{comma_before, load_object}
 
 -- the loads that are left after so many

@@ -2,7 +2,7 @@
 use Rattle.std.proofs.Common.{◌≡◌, ℕ, ◌<◌, List, [], ◌∷◌, ◌++◌, length, sym, ap, ◌∙◌, append_assoc, arith}
 use Rattle.std.specs.List.{join_by}
 use Rattle.std.proofs.lemmas.Grind.{flat_map-append}
-use Rattle.bq_facts_json.specs.Values.{Member, comma, member_text, json_object}
+use Rattle.bq_package_values.specs.JsonParts.{Member, comma, member_text, json_object}
 use Rattle.bq_facts.specs.Members.{further_members}
 
 joined_more : (m : Member) (ms ns : List Member) → join_by member_text comma (m ∷ (ms ++ ns)) ≡ join_by member_text comma (m ∷ ms) ++ further_members ns

@@ -1,8 +1,8 @@
 -- The attributes that a target keeps, as an object.
 use Rattle.std.specs.Prelude.{ℕ, List, map}
-use Rattle.bq_facts_json.specs.Values.{Member, json_object}
+use Rattle.bq_package_values.specs.JsonParts.{Member, json_object}
 use Rattle.bq_package_target.specs.declared.value.GivenAttribute.{GivenAttribute}
-use Rattle.bq_package_typed_value.specs.Types.{json_value}
+use Rattle.bq_package_values.specs.Types.{json_value}
 
 abbrev pub attribute_member : GivenAttribute → Member
 attribute_member a = record { key = a.name; value = json_value a.value }

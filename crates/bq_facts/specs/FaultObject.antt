@@ -5,8 +5,8 @@ use Rattle.bq_base.specs.Fault.{fault_number, fault_name}
 use Rattle.bq_label.specs.Label.{LabelParts, package_at}
 use Rattle.bq_label.specs.Packages.{label_path}
 use Rattle.bq_label.specs.Reading.{label_of}
-use Rattle.bq_base_fault_line.specs.declared.fault_line.FaultLine.{FaultLine}
-use Rattle.bq_facts_json.specs.Values.{Member, json_object}
+use Rattle.bq_base_texts.specs.declared.fault_line.FaultLine.{FaultLine}
+use Rattle.bq_package_values.specs.JsonParts.{Member, json_object}
 use Rattle.bq_facts.specs.Members.{string_member}
 
 abbrev pub path_by : Option LabelParts → List ℕ

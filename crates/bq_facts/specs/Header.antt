@@ -1,7 +1,7 @@
 -- The first line of facts (`--facts`): the version of the format, that of the program, its limits, and how many lines of each kind follow.
 use Rattle.std.specs.Prelude.{ℕ, List, [], ◌∷◌, ◌++◌, codes}
-use Rattle.bq_base_limits.specs.declared.limits.Limits.{Limits}
-use Rattle.bq_facts_json.specs.Values.{Member, json_object}
+use Rattle.bq_base.specs.declared.limits.Limits.{Limits}
+use Rattle.bq_package_values.specs.JsonParts.{Member, json_object}
 use Rattle.bq_facts.specs.declared.header.Counts.{Counts}
 use Rattle.bq_facts.specs.declared.header.Origin.{Origin}
 use Rattle.bq_facts.specs.Members.{number_member, string_member}

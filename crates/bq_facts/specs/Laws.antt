@@ -5,8 +5,8 @@ use Rattle.std.specs.List.Sorted.{IsStrictlySortedBy}
 use Rattle.bq_query_graph.specs.Paths.{row, DepsWithin}
 use Rattle.bq_label.specs.Label.{IsLabel, LabelParts, full_form}
 use Rattle.bq_label.specs.Packages.{label_path}
-use Rattle.bq_base_fault_line.specs.declared.fault_line.FaultLine.{FaultLine}
-use Rattle.bq_facts_json.specs.Json.{value_text}
+use Rattle.bq_base_texts.specs.declared.fault_line.FaultLine.{FaultLine}
+use Rattle.bq_package_values.specs.JsonValue.{value_text}
 use Rattle.bq_package_target.specs.declared.target.Target.{Target}
 use Rattle.bq_package_target.specs.Target.{dependencies}
 use Rattle.bq_resolve_scope.specs.declared.loads.LoadStmt.{LoadStmt}
@@ -36,7 +36,7 @@ NamesAscend = (t : Target) → All IsLabel (dependencies t) → IsStrictlySorted
 abbrev pub PathsOfLabels : Type 0
 PathsOfLabels = (l : LabelParts) → IsLabel l → file_labelled (full_form l) ≡ label_path l
 
--- each line is the text of its object and a newline, and the text of a value reads as that value alone (bq_facts_json)
+-- each line is the text of its object and a newline, and the text of a value reads as that value alone (bq_package_values)
 abbrev pub HeadersAreObjects : Type 0
 HeadersAreObjects = (o : Origin) (c : Counts) → header_line o c ≡ value_text (header_value o c) ++ 10 ∷ []
 

@@ -2,8 +2,8 @@
 use Rattle.std.specs.Prelude.{ℕ, List, ◌++◌}
 use Rattle.std.specs.Fmt.{decimal}
 use Rattle.std.specs.List.{flat_map}
-use Rattle.bq_facts_json.specs.JsonString.{json_string}
-use Rattle.bq_facts_json.specs.Values.{Member, comma, member_text}
+use Rattle.bq_package_values.specs.JsonString.{json_string}
+use Rattle.bq_package_values.specs.JsonParts.{Member, comma, member_text}
 
 -- a member whose value is a string
 abbrev pub string_member : List ℕ → List ℕ → Member

@@ -3,7 +3,7 @@
 use Rattle.std.specs.Prelude.{◌==◌, ℕ, List, [], ◌∷◌, ◌++◌, map, codes, if◌then◌else◌}
 use Rattle.std.specs.Fmt.{decimal}
 use Rattle.std.specs.List.{zip}
-use Rattle.bq_facts_json.specs.Values.{Member, comma, json_array, json_object}
+use Rattle.bq_package_values.specs.JsonParts.{Member, comma, json_array, json_object}
 use Rattle.bq_label.specs.Label.{LabelParts, full_form}
 use Rattle.bq_label.specs.Packages.{label_path}
 use Rattle.bq_resolve_scope.specs.declared.loads.LoadStmt.{LoadStmt}

@@ -2,18 +2,18 @@
 use Rattle.std.specs.Prelude.{ℕ, pos, List, [], ◌∷◌, ◌++◌, map, codes}
 use Rattle.std.specs.List.{zip}
 use Rattle.bq_base.specs.Fault.{fault_name}
-use Rattle.bq_base_limits.specs.declared.limits.Limits.{Limits}
+use Rattle.bq_base.specs.declared.limits.Limits.{Limits}
 use Rattle.bq_label.specs.Label.{LabelParts, full_form}
 use Rattle.bq_label.specs.Packages.{label_path}
-use Rattle.bq_base_fault_line.specs.declared.fault_line.FaultLine.{FaultLine}
-use Rattle.bq_facts_json.specs.Json.{Json, string, number, array, object, items_of, Named, fields_of}
+use Rattle.bq_base_texts.specs.declared.fault_line.FaultLine.{FaultLine}
+use Rattle.bq_package_values.specs.JsonValue.{Json, string, number, array, object, items_of, Named, fields_of}
 use Rattle.bq_package_target.specs.declared.target.Target.{Target}
 use Rattle.bq_package_target.specs.declared.target.TargetKind.{TargetKind}
 use Rattle.bq_package_target.specs.declared.target.TargetKind.TheVariants as k
 use Rattle.bq_package_target.specs.declared.value.GivenAttribute.{GivenAttribute}
-use Rattle.bq_package_typed_value.specs.Json.{labels_json}
-use Rattle.bq_package_typed_value.specs.Types.{value_json}
-use Rattle.bq_query_target_sets.specs.Texts.{kind_text}
+use Rattle.bq_package_values.specs.Json.{labels_json}
+use Rattle.bq_package_values.specs.Types.{value_json}
+use Rattle.bq_query_function.specs.Texts.{kind_text}
 use Rattle.bq_resolve_scope.specs.declared.loads.LoadStmt.{LoadStmt}
 use Rattle.bq_resolve_scope.specs.declared.loads.LoadedSymbol.{LoadedSymbol}
 use Rattle.bq_facts.specs.declared.header.Counts.{Counts}

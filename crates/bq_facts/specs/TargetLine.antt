@@ -5,13 +5,13 @@ use Rattle.std.specs.Fmt.{decimal}
 use Rattle.bq_label.specs.declared.packages.BuildFile.{BuildFile}
 use Rattle.bq_label.specs.Label.{LabelParts, full_form, package_of}
 use Rattle.bq_label.specs.Packages.{label_path, package_named}
-use Rattle.bq_facts_json.specs.Values.{Member, json_object}
+use Rattle.bq_package_values.specs.JsonParts.{Member, json_object}
 use Rattle.bq_package_target.specs.declared.target.TargetKind.{TargetKind}
 use Rattle.bq_package_target.specs.declared.target.TargetKind.TheVariants as k
 use Rattle.bq_package_target.specs.declared.target.Target.{Target}
 use Rattle.bq_package_target.specs.Target.{is_source}
-use Rattle.bq_package_typed_value.specs.Json.{json_labels}
-use Rattle.bq_query_target_sets.specs.Texts.{kind_text}
+use Rattle.bq_package_values.specs.Json.{json_labels}
+use Rattle.bq_query_function.specs.Texts.{kind_text}
 use Rattle.bq_facts.specs.Attributes.{json_attributes}
 use Rattle.bq_facts.specs.Members.{string_member}
 use Rattle.bq_facts.specs.Names.{named_labels}

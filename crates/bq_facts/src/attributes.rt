@@ -2,7 +2,7 @@
 
 ghost use Rattle.std.specs.Prelude.{◌≡◌, ◌++◌, map, OnOk};
 ghost use Rattle.std.specs.List.{join_by};
-ghost use Rattle.bq_facts_json.specs.Values.{comma, member_text};
+ghost use Rattle.bq_package_values.specs.JsonParts.{comma, member_text};
 ghost use Rattle.bq_facts.specs.Attributes.{attribute_member, json_attributes};
 ghost use Rattle.bq_facts.specs.Members.{further_members};
 
@@ -57,7 +57,7 @@ fn push_members(
 }
 
 /// Appends attributes as an object.
-#[tactic(auto, unfolding(bq_facts_json::specs::Values::json_object))]
+#[tactic(auto, unfolding(bq_package_values::specs::JsonParts::json_object))]
 pub(crate) fn push_attributes(
     alloc: Global,
     text: &mut SharedText,

@@ -2,14 +2,14 @@
 
 ghost use Rattle.std.specs.Prelude.{◌≡◌, ◌++◌, ◌∷◌, IfOk, OnOk};
 ghost use Rattle.std.specs.List.{join_by};
-ghost use Rattle.bq_facts_json.specs.Values.{comma, member_text};
+ghost use Rattle.bq_package_values.specs.JsonParts.{comma, member_text};
 ghost use Rattle.bq_facts.specs.Members.{further_members};
 ghost use Rattle.bq_facts.specs.FaultObject.{file_labelled, what_members, where_members, fault_object};
 
 use crate::members::{next_number, next_string, open_with_string};
 use crate::shared_text::SharedText;
 use bq_base::SourceErr;
-use bq_base_fault_line::FaultLine;
+use bq_base_texts::FaultLine;
 use bq_label::{PackageId, label_path, read_label};
 use std::alloc::{AllocError, Global};
 

@@ -2,15 +2,14 @@
 
 ghost use Rattle.std.specs.Prelude.{◌≡◌, ◌++◌, ◌∷◌, OnOk};
 ghost use Rattle.std.specs.List.{join_by};
-ghost use Rattle.bq_facts_json.specs.Values.{comma, member_text};
+ghost use Rattle.bq_package_values.specs.JsonParts.{comma, member_text};
 ghost use Rattle.bq_facts.specs.Members.{further_members};
 ghost use Rattle.bq_facts.specs.Header.{workspace_limits, further_limits, json_limits, origin_members, count_members, header_line};
 
 use crate::json_text::next_key;
 use crate::members::{next_number, next_string, open_with_number};
 use crate::shared_text::SharedText;
-use bq_base::Bytes;
-use bq_base_limits::Limits;
+use bq_base::{Bytes, Limits};
 use std::alloc::{AllocError, Global};
 
 /// The version of the format. It goes up when a reader of facts has to change.

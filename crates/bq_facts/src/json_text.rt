@@ -2,13 +2,13 @@
 
 ghost use Rattle.std.specs.Prelude.{◌≡◌, ◌++◌, ◌∷◌, OnOk};
 ghost use Rattle.std.specs.Fmt.{decimal};
-ghost use Rattle.bq_facts_json.specs.JsonString.{json_string};
-ghost use Rattle.bq_facts_json.specs.Values.{json_key};
-ghost use Rattle.bq_package_typed_value.specs.Json.{json_label};
+ghost use Rattle.bq_package_values.specs.JsonString.{json_string};
+ghost use Rattle.bq_package_values.specs.JsonParts.{json_key};
+ghost use Rattle.bq_package_values.specs.Json.{json_label};
 
 use crate::shared_text::{LONG, SharedText};
-use bq_facts_json as json;
 use bq_label::{Label, print_label};
+use bq_package_values as json;
 use itoa::Buffer;
 use std::alloc::{AllocError, Global};
 

@@ -23,7 +23,7 @@ pub fn paths_of_labels()
 /// Each line is the text of an object, and a newline: the first, of the format, the program, its limits and how many lines follow; of a target
 /// its label, its kind, its file, and where a call declares it, the line, the attributes, the names and the direct dependencies; of a module its label, its file and its loads, each with the names that it binds before the symbols
 /// that they stand for; of a fault its number, its name, its label, file and line, and what it is about. By `values_read_back` and `one_reading`
-/// of bq_facts_json a reader finds that object in it, and no other.
+/// of bq_package_values a reader finds that object in it, and no other.
 pub fn lines_are_of_objects()
     ensures headers { HeadersAreObjects }
     ensures targets { TargetLinesAreObjects }

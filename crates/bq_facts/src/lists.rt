@@ -2,17 +2,17 @@
 
 ghost use Rattle.std.specs.Prelude.{◌≡◌, ◌++◌, OnOk};
 ghost use Rattle.std.specs.List.{flat_map, join_by};
-ghost use Rattle.bq_facts_json.specs.JsonString.{json_string};
-ghost use Rattle.bq_facts_json.specs.Values.{comma, json_array};
-ghost use Rattle.bq_package_typed_value.specs.Json.{json_label, json_labels, json_strings};
-ghost use Rattle.bq_package_typed_value.specs.Types.{json_value};
+ghost use Rattle.bq_package_values.specs.JsonString.{json_string};
+ghost use Rattle.bq_package_values.specs.JsonParts.{comma, json_array};
+ghost use Rattle.bq_package_values.specs.Json.{json_label, json_labels, json_strings};
+ghost use Rattle.bq_package_values.specs.Types.{json_value};
 
 use crate::json_text::{push_label, push_string};
 use crate::shared_text::SharedText;
 use bq_base::Bytes;
 use bq_label::Label;
-use bq_package_typed_value as typed;
-use bq_value_rule_class::AttributeValue;
+use bq_package_values as typed;
+use bq_value_datum::AttributeValue;
 use std::alloc::{AllocError, Global};
 
 /// Appends further labels of a list, each after a comma.
@@ -48,7 +48,7 @@ fn push_label_items(
 }
 
 /// Appends a list of labels between brackets.
-#[tactic(auto, unfolding(bq_facts_json::specs::Values::json_array))]
+#[tactic(auto, unfolding(bq_package_values::specs::JsonParts::json_array))]
 fn push_label_array(
     alloc: Global,
     text: &mut SharedText,
@@ -108,7 +108,7 @@ fn push_string_items(
 }
 
 /// Appends a list of strings between brackets.
-#[tactic(auto, unfolding(bq_facts_json::specs::Values::json_array))]
+#[tactic(auto, unfolding(bq_package_values::specs::JsonParts::json_array))]
 fn push_string_array(
     alloc: Global,
     text: &mut SharedText,

@@ -1,7 +1,7 @@
 //! Members of objects whose values are strings, labels or numbers.
 
 ghost use Rattle.std.specs.Prelude.{◌≡◌, ◌++◌, ◌∷◌, OnOk};
-ghost use Rattle.bq_facts_json.specs.Values.{comma, member_text};
+ghost use Rattle.bq_package_values.specs.JsonParts.{comma, member_text};
 ghost use Rattle.bq_label.specs.Label.{full_form};
 ghost use Rattle.bq_facts.specs.Members.{number_member, string_member};
 

@@ -2,7 +2,7 @@
 
 ghost use Rattle.std.specs.Prelude.{◌≡◌, ◌++◌, ◌∷◌, OnOk};
 ghost use Rattle.std.specs.List.{join_by, zip};
-ghost use Rattle.bq_facts_json.specs.Values.{comma, member_text};
+ghost use Rattle.bq_package_values.specs.JsonParts.{comma, member_text};
 ghost use Rattle.bq_facts.specs.Members.{further_members};
 ghost use Rattle.bq_facts.specs.ModuleLine.{comma_before, file_members, clause_members, load_object, json_loads, load_members, module_line};
 
@@ -84,7 +84,7 @@ fn push_items(
 }
 
 /// Appends a list of loads, which name these files.
-#[tactic(auto, unfolding(bq_facts_json::specs::Values::json_array))]
+#[tactic(auto, unfolding(bq_package_values::specs::JsonParts::json_array))]
 fn push_loads(
     alloc: Global,
     text: &mut SharedText,

@@ -4,8 +4,7 @@ ghost use Rattle.std.specs.Prelude.{◌≡◌, ◌≤◌, ◌++◌, ◌∷◌, [
 ghost use Rattle.std.specs.List.{concat};
 
 use bq_base::Bytes;
-use bq_base_names::NameSet;
-use bq_base_rope::{Parts, Rope};
+use bq_base_texts::{NameSet, Parts, Rope};
 use std::alloc::{AllocError, Global};
 use std::marker::Model;
 use std::mem;

@@ -2,7 +2,7 @@
 
 ghost use Rattle.std.specs.Prelude.{◌≡◌, ◌++◌, map, OnOk};
 ghost use Rattle.std.specs.List.{join_by};
-ghost use Rattle.bq_facts_json.specs.Values.{comma, member_text};
+ghost use Rattle.bq_package_values.specs.JsonParts.{comma, member_text};
 ghost use Rattle.bq_facts.specs.Members.{further_members};
 ghost use Rattle.bq_facts.specs.ModuleLine.{symbol_member, json_symbols};
 
@@ -56,7 +56,7 @@ fn push_members(
 }
 
 /// Appends the names that a load binds as an object.
-#[tactic(auto, unfolding(bq_facts_json::specs::Values::json_object))]
+#[tactic(auto, unfolding(bq_package_values::specs::JsonParts::json_object))]
 pub(crate) fn push_symbols(
     alloc: Global,
     text: &mut SharedText,

@@ -3,7 +3,7 @@
 ghost use Rattle.std.specs.Prelude.{◌≡◌, ◌++◌, ◌∷◌, IfOk, OnOk};
 ghost use Rattle.std.specs.List.{join_by};
 ghost use Rattle.std.specs.Option.{option_copied};
-ghost use Rattle.bq_facts_json.specs.Values.{comma, member_text};
+ghost use Rattle.bq_package_values.specs.JsonParts.{comma, member_text};
 ghost use Rattle.bq_facts.specs.Members.{further_members};
 ghost use Rattle.bq_facts.specs.TargetLine.{build_path, file_of, named, names_member, declared_members, declared_by, target_line};
 
@@ -15,7 +15,7 @@ use crate::names::named_labels;
 use crate::shared_text::SharedText;
 use bq_label::{BuildFile, Label, Packages, label_path};
 use bq_package_target::{Target, TargetKind};
-use bq_query_target_sets::write_kind;
+use bq_query_function::write_kind;
 use std::alloc::{AllocError, Global};
 
 /// Returns the path of a package's BUILD file.

@@ -16,8 +16,8 @@ use Rattle.std.proofs.lemmas.List.Sorted.{list_any-IsPermutation, IsPermutation-
 use Rattle.std.proofs.lemmas.Cmp.{nat_list_cmp_total, nat_list_eq_equiv}
 use Rattle.std.proofs.lemmas.Map.Text.{is_eq-slice_cmp}
 use Rattle.std.proofs.lemmas.Map.Keys.{sorted_head, sorted_tail, sorted_from_all_adjacent, IsDistinct-IsPermutation}
-use Rattle.bq_base_limits.specs.declared.limits.Limits.{Limits}
-use Rattle.bq_base_limits.specs.Limits.{AreBounded}
+use Rattle.bq_base.specs.declared.limits.Limits.{Limits}
+use Rattle.bq_base.specs.Limits.{AreBounded}
 use Rattle.bq_label.specs.declared.workspace.File.{File}
 use Rattle.bq_label.specs.Paths.{is_path}
 use Rattle.bq_label.specs.Order.{in_order}

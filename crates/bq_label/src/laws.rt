@@ -4,8 +4,8 @@
 ghost use Rattle.std.specs.Prelude.{◌≡◌, ◌↔◌, List, ℕ, Some, []};
 ghost use Rattle.std.specs.List.{Contains};
 ghost use Rattle.std.specs.List.Sorted.{IsStrictlySortedBy};
-ghost use Rattle.bq_base_limits.specs.declared.limits.Limits.{Limits};
-ghost use Rattle.bq_base_limits.specs.Limits.{AreBounded};
+ghost use Rattle.bq_base.specs.declared.limits.Limits.{Limits};
+ghost use Rattle.bq_base.specs.Limits.{AreBounded};
 ghost use Rattle.bq_label.specs.declared.workspace.File.{File};
 ghost use Rattle.bq_label.specs.declared.packages.BuildFile.{BuildFile};
 ghost use Rattle.bq_label.specs.Workspace.{paths_of, workspace_within, IsWorkspace, IsWorkspaceOf};

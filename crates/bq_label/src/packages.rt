@@ -7,8 +7,7 @@ ghost use Rattle.std.specs.Option.{option_copied};
 ghost use Rattle.bq_label.specs.Paths.{is_path};
 ghost use Rattle.bq_label.specs.Label.{package_at, last_segment};
 ghost use Rattle.bq_label.specs.Workspace.{paths_of};
-ghost use Rattle.bq_label.specs.Packages.{is_build_file, directory_of, package_of_file, packages_of, build_label};
-ghost use Rattle.bq_label.specs.Packages.{package_cmp, id_cmp, package_named, owner_of, nearest_over, comes_before, common_in, HasNoneLonger};
+ghost use Rattle.bq_label.specs.Packages.{is_build_file, directory_of, package_of_file, packages_of, build_label, package_cmp, id_cmp, package_named, owner_of, nearest_over, comes_before, common_in, HasNoneLonger};
 
 use crate::label::Label;
 use crate::package_id::PackageId;

@@ -3,15 +3,14 @@
 ghost use Rattle.std.specs.Prelude.{◌≡◌, List, Some, None, IfOk, MatchResult};
 ghost use Rattle.std.specs.List.{list_all};
 ghost use Rattle.std.specs.List.Sorted.{IsPermutation, IsSorted, IsStrictlySortedBy};
-ghost use Rattle.bq_base_limits.specs.Limits.{AreBounded};
+ghost use Rattle.bq_base.specs.Limits.{AreBounded};
 ghost use Rattle.bq_label.specs.Paths.{is_path, common_len};
 ghost use Rattle.bq_label.specs.Workspace.{paths_of, path_cmp, file_at, are_apart, are_distinct, parts_at_file, are_paths, workspace_of, workspace_within, IsWorkspace};
 ghost use Rattle.std.specs.Option.{option_copied};
 ghost use Rattle.std.specs.Bool.{OnTrue};
 
 use crate::path::is_path;
-use bq_base::Bytes;
-use bq_base_limits::Limits;
+use bq_base::{Bytes, Limits};
 use std::alloc::AllocError;
 use std::marker::Model;
 use thiserror::Error;

@@ -4,7 +4,7 @@ use Rattle.std.proofs.lemmas.Bool.{cases_Bool}
 use Rattle.std.specs.List.{filter, list_any}
 use Rattle.bq_label.specs.declared.packages.BuildFile.{BuildFile}
 use Rattle.bq_label.specs.Label.{PackageParts}
-use Rattle.bq_label_glob_pattern.specs.Matching.{matches, is_nothing}
+use Rattle.bq_label_glob.specs.Matching.{matches, is_nothing}
 use Rattle.bq_label_glob.specs.Names.{names_in, is_wanted, glob}
 
 or_true : (a : Bool) → (a || true) ≡ true

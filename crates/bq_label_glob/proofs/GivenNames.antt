@@ -20,10 +20,10 @@ use Rattle.bq_label.proofs.Orders.{head_or_tail, at_head, in_tail}
 use Rattle.bq_label.proofs.Owners.{owner_at}
 use Rattle.bq_label.proofs.Readings.{first_of_two, second_of_two}
 use Rattle.bq_label.proofs.Repositories.{in_repository}
-use Rattle.bq_label_glob_pattern.specs.Matching.{matches}
+use Rattle.bq_label_glob.specs.Matching.{matches}
 use Rattle.bq_label_glob.specs.Names.{directory, is_beneath, is_package, is_owned, name_in, is_wanted, glob, IsOwned, IsMatched, IsGiven, HasName}
 use Rattle.bq_label_glob.proofs.Beneath.{beneath_whole, beneath_joined}
-use Rattle.bq_label_glob_pattern.proofs.Cuttings.{cuttings}
+use Rattle.bq_label_glob.proofs.Cuttings.{cuttings}
 use Rattle.bq_label_glob.proofs.Listing.{none_given, unnamed, unwanted, wanted}
 
 none_in : {X : Type 0} (z : X) → Contains [] z → ⊥

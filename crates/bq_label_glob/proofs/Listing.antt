@@ -7,9 +7,9 @@ use Rattle.bq_label.specs.declared.workspace.File.{File}
 use Rattle.bq_label.specs.declared.packages.BuildFile.{BuildFile}
 use Rattle.bq_label.specs.Label.{PackageParts}
 use Rattle.bq_label.specs.Workspace.{paths_of}
-use Rattle.bq_label_glob_pattern.specs.Matching.{matches}
-use Rattle.bq_label_glob_pattern.specs.PatternSet.{is_match}
-use Rattle.bq_label_glob_pattern.specs.declared.pattern_set.PatternSet.{PatternSet}
+use Rattle.bq_label_glob.specs.Matching.{matches}
+use Rattle.bq_label_glob.specs.PatternSet.{is_match}
+use Rattle.bq_label_glob.specs.declared.pattern_set.PatternSet.{PatternSet}
 use Rattle.bq_label_glob.specs.Names.{directory, is_beneath, is_owned, name_in, names_in, is_wanted, glob}
 
 next_file : (files : List File) (i : ℕ) (f : File) → i < length files → f ≡ get_or files i f → drop i files ≡ f ∷ drop (i + 1) files

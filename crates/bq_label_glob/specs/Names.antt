@@ -9,7 +9,7 @@ use Rattle.bq_label.specs.declared.workspace.File.{File}
 use Rattle.bq_label.specs.declared.packages.BuildFile.{BuildFile}
 use Rattle.bq_label.specs.Label.{PackageParts, label_in}
 use Rattle.bq_label.specs.Packages.{label_path, owner_of, is_package_id}
-use Rattle.bq_label_glob_pattern.specs.Matching.{matches, Matches}
+use Rattle.bq_label_glob.specs.Matching.{matches, Matches}
 
 -- ---- as a function
 

@@ -4,11 +4,12 @@ ghost use Rattle.std.specs.Prelude.{◌≡◌, [], ◌∷◌, IfOk};
 ghost use Rattle.std.specs.List.{list_any};
 ghost use Rattle.bq_label.specs.Workspace.{paths_of};
 ghost use Rattle.bq_label_glob.specs.Names.{glob};
-ghost use Rattle.bq_label_glob_pattern.specs.Matching.{is_nothing};
+ghost use Rattle.bq_label_glob.specs.Matching.{is_nothing};
 
 use crate::names::glob;
+use crate::pattern::Pattern;
+use crate::unmatched::any_matches_none;
 use bq_label::{PackageId, Packages, Workspace};
-use bq_label_glob_pattern::{Pattern, any_matches_none};
 use std::alloc::{AllocError, Global};
 
 /// Returns whether one of the patterns, by itself, matches no file of the package. The files are looked through once, for

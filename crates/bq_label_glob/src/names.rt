@@ -5,11 +5,12 @@ ghost use Rattle.std.specs.List.{filter};
 ghost use Rattle.std.specs.List.Sorted.{IsPartitionPoint};
 ghost use Rattle.bq_label.specs.Workspace.{paths_of};
 ghost use Rattle.bq_label_glob.specs.Names.{directory, is_before, is_beneath, is_package, glob};
-ghost use Rattle.bq_label_glob_pattern.specs.PatternSet.{is_match};
+ghost use Rattle.bq_label_glob.specs.PatternSet.{is_match};
 
+use crate::pattern::Pattern;
+use crate::pattern_set::PatternSet;
 use bq_base::Bytes;
 use bq_label::{BuildFile, File, PackageId, Packages, Workspace};
-use bq_label_glob_pattern::{Pattern, PatternSet};
 use std::alloc::{AllocError, Global};
 
 /// Returns what precedes the names of a package's files: `external/NAME/` outside the main repository, then the

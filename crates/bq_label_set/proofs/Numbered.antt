@@ -4,7 +4,7 @@ use Rattle.std.specs.Prelude.{IfSome, IfNone}
 use Rattle.std.specs.BTreeMap.{BTreeMap}
 use Rattle.std.proofs.lemmas.List.Quantifiers.{position-Some}
 use Rattle.std.proofs.lemmas.Option.{slice_get_within}
-use Rattle.bq_base_names.proofs.Positions.{true_false, some_is, none_some, pushed_cases, position_at, position_nowhere, absent_at, one_more_differs, has_place}
+use Rattle.bq_base_texts.proofs.Positions.{true_false, some_is, none_some, pushed_cases, position_at, position_nowhere, absent_at, one_more_differs, has_place}
 use Rattle.bq_label.specs.Label.{LabelParts}
 use Rattle.bq_label_set.specs.Labels.{same_label, same_label-Decides, has_label}
 use Rattle.bq_label_set.specs.Numbering.{first_number, colliding_number, HasNumber, AreNumbered}

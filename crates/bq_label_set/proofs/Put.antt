@@ -9,8 +9,8 @@ use Rattle.std.specs.declared.cmp.Ordering.TheVariants.{Less, Equal, Greater}
 use Rattle.std.proofs.lemmas.Bool.{cases_Bool}
 use Rattle.std.proofs.lemmas.Map.Lookups.{exact_unsigned}
 use Rattle.std.proofs.lemmas.Map.Text.{is_eq-slice_cmp}
-use Rattle.bq_base_names.proofs.Positions.{true_false, none_some}
-use Rattle.bq_base_names.proofs.Put.{equal_by, left}
+use Rattle.bq_base_texts.proofs.Positions.{true_false, none_some}
+use Rattle.bq_base_texts.proofs.PlacePut.{equal_by, left}
 use Rattle.bq_label.specs.Label.{LabelParts}
 use Rattle.bq_label_set.specs.Labels.{same_label, same_label-Decides}
 use Rattle.bq_label_set.specs.Numbering.{label_cmp, hash_of, first_number, colliding_number, HasNumber}

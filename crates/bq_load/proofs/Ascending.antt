@@ -8,7 +8,7 @@ use Rattle.std.specs.Cmp.Lexicographic.{bytes_decides}
 use Rattle.std.specs.declared.cmp.Ordering.TheVariants.{Less}
 use Rattle.std.proofs.lemmas.Bool.{cases_Bool}
 use Rattle.std.proofs.lemmas.List.Elements.{recursion_from_All}
-use Rattle.bq_base_names.proofs.Positions.{position_cons}
+use Rattle.bq_base_texts.proofs.Positions.{position_cons}
 use Rattle.bq_label.specs.declared.packages.BuildFile.{BuildFile}
 use Rattle.bq_label.specs.Label.{PackageParts, LabelParts, package_of, label_in, last_segment}
 use Rattle.bq_label.specs.Paths.{is_path}
@@ -17,7 +17,7 @@ use Rattle.bq_label_set.specs.Labels.{same_label}
 use Rattle.bq_package_target.specs.Target.{is_of}
 use Rattle.bq_package_target.specs.Package.{PackageTargets}
 use Rattle.bq_load.specs.Views.{OutcomeView}
-use Rattle.bq_package_list.specs.Order.{id_of, PackagesAscend}
+use Rattle.bq_package_target.specs.PackageOrder.{id_of, PackagesAscend}
 use Rattle.bq_load.specs.Loaded.{package_by, package_in, packages_in}
 use Rattle.bq_load.specs.Packages.{labels_of, IsIn, AreOwn}
 

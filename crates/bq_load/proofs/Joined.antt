@@ -7,7 +7,7 @@ use Rattle.bq_label.specs.Packages.{packages_of}
 use Rattle.bq_label.specs.Workspace.{paths_of}
 use Rattle.bq_resolve_scope.specs.Names.{Name}
 use Rattle.bq_package_schema.specs.Schema.{Rules}
-use Rattle.bq_base_limits.specs.declared.limits.Limits.{Limits}
+use Rattle.bq_base.specs.declared.limits.Limits.{Limits}
 use Rattle.bq_board.specs.Graph.{Loads, Fits}
 use Rattle.bq_load_discover.specs.declared.modules.Module.{Module}
 use Rattle.bq_load_discover.specs.LoadGraph.{GraphParts, IsNumbered, IsReadGraph, inputs_of}

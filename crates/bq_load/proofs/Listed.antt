@@ -4,9 +4,9 @@ use Rattle.std.specs.declared.alloc.Global.{Global}
 use Rattle.std.specs.declared.sync.Arc.{Arc}
 use Rattle.std.proofs.lemmas.List.{drop_more, map-append, length-map, get_or-map}
 use Rattle.bq_board.specs.Graph.{Loads}
-use Rattle.bq_load_outcome_spec.specs.Outcome.{outcome}
-use Rattle.bq_load_outcome_spec.specs.declared.outcome.Outcome.{Outcome}
-use Rattle.bq_load_order.specs.Shown.{shown}
+use Rattle.bq_load_order.specs.Outcome.{outcome}
+use Rattle.bq_load_order.specs.declared.outcome.Outcome.{Outcome}
+use Rattle.bq_load_order.specs.SharedOutcomes.{shown}
 use Rattle.bq_load_order.specs.Slots.{Tabulates}
 use Rattle.bq_load_module.specs.declared.outcome.LoadedModule.{LoadedModule}
 use Rattle.bq_load_module.specs.declared.outcome.FailedModule.{FailedModule}

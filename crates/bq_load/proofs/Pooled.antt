@@ -4,8 +4,8 @@ use Rattle.std.specs.Prelude.{slice_get}
 use Rattle.std.proofs.lemmas.List.{map_push, take_more}
 use Rattle.std.proofs.lemmas.Option.{slice_get_read}
 use Rattle.bq_board.specs.Graph.{Loads}
-use Rattle.bq_load_outcome_spec.specs.Outcome.{outcome}
-use Rattle.bq_load_outcome_spec.specs.declared.outcome.Outcome.{Outcome}
+use Rattle.bq_load_order.specs.Outcome.{outcome}
+use Rattle.bq_load_order.specs.declared.outcome.Outcome.{Outcome}
 use Rattle.bq_load_workers.specs.declared.pool.FinishedModule.{FinishedModule as Brought}
 use Rattle.bq_load_module.specs.declared.outcome.LoadedModule.{LoadedModule}
 use Rattle.bq_load_module.specs.declared.outcome.FailedModule.{FailedModule}

@@ -3,8 +3,8 @@ use Rattle.std.proofs.Common.{◌≡◌, ◌∙◌, ◌+◌, ◌<◌, ◌≤◌,
 use Rattle.std.proofs.lemmas.List.{drop_more}
 use Rattle.std.proofs.Math.ListN.{drop_of_length-le}
 use Rattle.std.specs.BTreeSet.{insert_key}
-use Rattle.bq_base_fault_line.specs.declared.fault_line.FaultLine.{FaultLine}
-use Rattle.bq_base_fault_line.specs.FaultLine.{line_cmp, put_lines}
+use Rattle.bq_base_texts.specs.declared.fault_line.FaultLine.{FaultLine}
+use Rattle.bq_base_texts.specs.FaultLine.{line_cmp, put_lines}
 use Rattle.bq_load.specs.declared.outcome.ModuleOutcome.{ModuleOutcome}
 use Rattle.bq_load.specs.Views.{result_view, outcome_view}
 use Rattle.bq_load.specs.Loaded.{lines_by, fault_lines}

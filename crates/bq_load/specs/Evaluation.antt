@@ -14,7 +14,7 @@ use Rattle.bq_resolve_scope.specs.declared.file.ResolvedFile.{ResolvedFile}
 use Rattle.bq_value.specs.Datum.{Datum}
 use Rattle.bq_builtin_machine.specs.Action.{Run}
 use Rattle.bq_builtin_machine.specs.State.{State}
-use Rattle.bq_eval_meaning_spec.specs.Frame.{Frame}
+use Rattle.bq_eval_spec.specs.Frame.{Frame}
 use Rattle.bq_load_module.specs.ResolvedModule.{ResolvedModule}
 use Rattle.bq_load_module.specs.Outcomes.{run_of}
 use Rattle.bq_load_module.specs.Module.{module_run}

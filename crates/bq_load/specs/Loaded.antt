@@ -1,8 +1,8 @@
 -- What loading a workspace gives: its modules with their outcomes, the packages, the fault lines and the print lines.
 use Rattle.std.specs.Prelude.{◌≡◌, ℕ, ◌++◌, List, [], ◌∷◌, map, Option, Some, Result, Ok, Err, codes, option_and_then}
 use Rattle.std.specs.List.{find, flat_map, filter_map}
-use Rattle.bq_base_fault_line.specs.declared.fault_line.FaultLine.{FaultLine}
-use Rattle.bq_base_fault_line.specs.FaultLine.{sorted_lines}
+use Rattle.bq_base_texts.specs.declared.fault_line.FaultLine.{FaultLine}
+use Rattle.bq_base_texts.specs.FaultLine.{sorted_lines}
 use Rattle.bq_label.specs.declared.workspace.File.{File}
 use Rattle.bq_label.specs.declared.packages.BuildFile.{BuildFile}
 use Rattle.bq_label.specs.Label.{LabelParts, full_form}
@@ -14,8 +14,8 @@ use Rattle.bq_board.specs.Graph.{Loads, Fits}
 use Rattle.bq_load_front.specs.Reading.{parsed_of}
 use Rattle.bq_load_discover.specs.declared.load_err.LoadErr.{LoadErr}
 use Rattle.bq_load_discover.specs.declared.load_err.LoadErr.TheVariants as e
-use Rattle.bq_base_limits.specs.declared.limits.Limits.{Limits}
-use Rattle.bq_base_limits.specs.Limits.{standard_with}
+use Rattle.bq_base.specs.declared.limits.Limits.{Limits}
+use Rattle.bq_base.specs.Limits.{standard_with}
 use Rattle.bq_load_discover.specs.Modules.{AreTooMany}
 use Rattle.bq_load_discover.specs.LoadGraph.{GraphParts, IsReadGraph, inputs_of}
 use Rattle.bq_load.specs.declared.loaded.Loaded.{Loaded}

@@ -3,7 +3,7 @@ use Rattle.std.specs.Prelude.{◌≡◌, List, map, Option, IfSome}
 use Rattle.std.specs.List.{All}
 use Rattle.bq_label.specs.declared.packages.BuildFile.{BuildFile}
 use Rattle.bq_label.specs.Label.{PackageParts, LabelParts}
-use Rattle.bq_package_list.specs.Order.{id_of}
+use Rattle.bq_package_target.specs.PackageOrder.{id_of}
 use Rattle.bq_package_target.specs.Package.{PackageTargets}
 use Rattle.bq_load.specs.Views.{OutcomeView}
 use Rattle.bq_load.specs.Loaded.{package_in}

@@ -6,7 +6,7 @@ ghost use Rattle.bq_load_module.specs.Round.{views_of, lent_files};
 ghost use Rattle.bq_base.specs.Gives.{Gives};
 ghost use Rattle.bq_base.specs.declared.fault.SourceErr.TheVariants.{Bad};
 ghost use Rattle.bq_load_front.specs.Resolved.{items};
-ghost use Rattle.bq_load_order.specs.Shown.{told};
+ghost use Rattle.bq_load_order.specs.SharedOutcomes.{told};
 ghost use Rattle.bq_load.specs.Views.{module_view, failed_view, module_views};
 ghost use Rattle.bq_load.specs.ResolvedFiles.{resolved_files};
 ghost use Rattle.bq_load.specs.Loading.{loading_of};

@@ -2,7 +2,7 @@
 
 ghost use Rattle.std.specs.Prelude.{◌≡◌, map, IfOk};
 ghost use Rattle.bq_base.specs.Fault.{fault_as, kind_of_load};
-ghost use Rattle.bq_load_order.specs.Shown.{told};
+ghost use Rattle.bq_load_order.specs.SharedOutcomes.{told};
 ghost use Rattle.bq_load.specs.Views.{ModuleView, FailedView, module_view, failed_view, module_views, not_evaluated};
 ghost use Rattle.bq_load.specs.Loading.{loading_of};
 ghost use Rattle.bq_load.specs.Evaluation.{file_means, by_front, means};

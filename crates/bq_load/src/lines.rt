@@ -2,15 +2,14 @@
 
 ghost use Rattle.std.specs.Prelude.{◌≡◌, ◌++◌, map, IfOk, OnOk};
 ghost use Rattle.std.specs.List.{flat_map};
-ghost use Rattle.bq_base_fault_line.specs.FaultLine.{put_lines, sorted_lines};
+ghost use Rattle.bq_base_texts.specs.FaultLine.{put_lines, sorted_lines};
 ghost use Rattle.bq_load.specs.Views.{failed_view, result_view, outcome_view};
 ghost use Rattle.bq_load.specs.Loaded.{line_of, lines_by, fault_lines, print_line, prints_by, prints_of, print_lines};
 
 use crate::outcome::ModuleOutcome;
 use crate::results::shown;
 use bq_base::Bytes;
-use bq_base_fault_line::{FaultLine, FaultLines};
-use bq_base_rope::Rope;
+use bq_base_texts::{FaultLine, FaultLines, Rope};
 use bq_label::Label;
 use bq_load_module::FailedModule;
 use std::alloc::{AllocError, Global};
@@ -28,7 +27,7 @@ fn line_of(alloc: Global, label: &Label, failed: &FailedModule) -> Result<FaultL
 }
 
 /// Adds the line of a module that failed.
-#[tactic(auto, unfolding(bq_base_fault_line::specs::FaultLine::put_lines))]
+#[tactic(auto, unfolding(bq_base_texts::specs::FaultLine::put_lines))]
 fn add_line(alloc: Global, module: &ModuleOutcome, lines: &mut FaultLines) -> Result<(), AllocError>
     ensures { OnOk result (lines.new ≡ put_lines lines.old (lines_by «module».now.label (result_view «module».now.result))) }
 {

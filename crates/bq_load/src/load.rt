@@ -1,7 +1,7 @@
 //! The loading of a workspace.
 
 ghost use Rattle.std.specs.Prelude.{◌≡◌, ◌<◌, ◌≤◌, map, All, IfOk};
-ghost use Rattle.bq_base_limits.specs.Limits.{AreBounded};
+ghost use Rattle.bq_base.specs.Limits.{AreBounded};
 ghost use Rattle.bq_board.specs.Seats.{IsSeatOf};
 ghost use Rattle.bq_load_discover.specs.LoadGraph.{IsReadGraph, inputs_of};
 ghost use Rattle.bq_load.specs.Views.{outcome_view};
@@ -16,13 +16,13 @@ use crate::loading::Loading;
 use crate::outcome::ModuleOutcome;
 use crate::pool::Pool;
 use crate::sources::Sources;
-use bq_base_limits::Limits;
+use bq_base::Limits;
 use bq_label::Workspace;
 use bq_load_discover::{LoadErr, LoadGraph, discover_by_workers, discover_within};
 use bq_load_order::{Unwatched, outcomes_one_thread};
 use bq_load_workers::MAX_WORKERS;
 use bq_package_schema::Schema;
-use bq_value_seed::Seed;
+use bq_value_datum::Seed;
 use std::alloc::{AllocError, Global};
 use std::marker::Sync;
 use std::sync::Wait;

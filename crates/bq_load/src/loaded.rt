@@ -8,11 +8,10 @@ ghost use Rattle.bq_load.specs.Packages.{labels_of};
 use crate::lines::{fault_lines, print_lines};
 use crate::outcome::ModuleOutcome;
 use crate::packages::packages_in;
-use bq_base_fault_line::FaultLines;
-use bq_base_rope::Rope;
+use bq_base_texts::{FaultLines, Rope};
 use bq_label::Packages;
 use bq_label_set::LabelSet;
-use bq_package_list::PackageList;
+use bq_package_target::PackageList;
 use std::alloc::{AllocError, Global};
 
 /// A workspace that was loaded.

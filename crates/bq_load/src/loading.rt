@@ -9,11 +9,11 @@ use bq_base::{Fault, FaultKind};
 use bq_label::{Packages, Workspace};
 use bq_load_discover::{LoadGraph, Module};
 use bq_load_front::{Front, kind_of};
-use bq_package_host::BuiltIns;
 use bq_package_schema::Schema;
+use bq_package_values::BuiltIns;
 use bq_parse_grammar::FileKind;
 use bq_resolve_scope::ResolvedFile;
-use bq_value_seed::Seed;
+use bq_value_datum::Seed;
 use std::alloc::{AllocError, Global};
 
 /// The modules of a workspace before their evaluation, by their numbers. Threads may share it.

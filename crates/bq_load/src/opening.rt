@@ -4,7 +4,7 @@ ghost use Rattle.std.specs.Prelude.{◌≡◌, ◌<◌, ◌≤◌, length, All, 
 ghost use Rattle.bq_board.specs.Board.{blank};
 ghost use Rattle.bq_board.specs.Seats.{IsSeatOf, base_of, view_of};
 ghost use Rattle.bq_load_discover.specs.LoadGraph.{IsReadGraph, inputs_of};
-ghost use Rattle.bq_load_outcome_spec.specs.Outcome.{outcome};
+ghost use Rattle.bq_load_order.specs.Outcome.{outcome};
 ghost use Rattle.bq_load_workers.specs.Closing.{ClosesWith};
 ghost use Rattle.bq_load_workers.specs.Work.{IsImport};
 ghost use Rattle.bq_load.specs.Views.{module_view};
@@ -18,7 +18,7 @@ use bq_board::{Graph, MAX_SEATS};
 use bq_label::Workspace;
 use bq_load_discover::LoadGraph;
 use bq_package_schema::Schema;
-use bq_value_seed::Seed;
+use bq_value_datum::Seed;
 use std::alloc::{AllocError, Global};
 
 impl<'a> Pool<'a> {

@@ -5,7 +5,7 @@ ghost use Rattle.std.specs.List.Sorted.{IsStrictlySortedBy};
 ghost use Rattle.bq_label.specs.Label.{package_of};
 ghost use Rattle.bq_label.specs.Packages.{package_cmp};
 ghost use Rattle.bq_label_set.specs.Labels.{same_label};
-ghost use Rattle.bq_package_list.specs.Order.{id_of};
+ghost use Rattle.bq_package_target.specs.PackageOrder.{id_of};
 ghost use Rattle.bq_load.specs.Views.{result_view, outcome_view};
 ghost use Rattle.bq_load.specs.Loaded.{package_by, package_in, packages_in};
 ghost use Rattle.bq_load.specs.Packages.{labels_of, IsIn, AreOwn};

@@ -2,8 +2,8 @@
 
 ghost use Rattle.std.specs.Prelude.{◌≡◌, ◌<◌, length, map, IfOk};
 ghost use Rattle.bq_label.specs.Label.{full_form};
-ghost use Rattle.bq_load_outcome_spec.specs.Outcome.{outcome};
-ghost use Rattle.bq_load_order.specs.Shown.{shown as shown_outcome};
+ghost use Rattle.bq_load_order.specs.Outcome.{outcome};
+ghost use Rattle.bq_load_order.specs.SharedOutcomes.{shown as shown_outcome};
 ghost use Rattle.bq_load_order.specs.Slots.{Tabulates};
 ghost use Rattle.bq_load.specs.Views.{module_view, failed_view, result_view, outcome_view, not_evaluated};
 ghost use Rattle.bq_load.specs.Loading.{loading_of};
@@ -18,8 +18,7 @@ use bq_label::{Label, print_label};
 use bq_load_discover::Module;
 use bq_load_front::{Front, NamedFiles};
 use bq_load_module::{FailedModule, LoadedModule};
-use bq_load_order::SharedOutcome;
-use bq_load_outcome_spec::Outcome;
+use bq_load_order::{Outcome, SharedOutcome};
 use bq_resolve_scope::LoadStmt;
 use std::alloc::{AllocError, Global};
 use std::sync::Arc;

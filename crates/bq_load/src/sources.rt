@@ -2,7 +2,7 @@
 
 use bq_label::Workspace;
 use bq_package_schema::Schema;
-use bq_value_seed::Seed;
+use bq_value_datum::Seed;
 
 /// A workspace with the schema of its rules, and what the dicts of its modules hash their keys by, on which no answer
 /// depends.

@@ -9,8 +9,8 @@ use Rattle.bq_parse_grammar.specs.declared.tree.FileKind.{FileKind}
 use Rattle.bq_parse_grammar.specs.declared.tree.FileKind.TheVariants as kinds
 use Rattle.bq_label.specs.Label.{LabelParts, package_of, full_form}
 use Rattle.bq_resolve_scope.specs.Names.{Name, global_names}
-use Rattle.bq_resolve_by_name.specs.Files.{ParsedFile}
-use Rattle.bq_resolve_by_name.specs.Loads.{file_loads}
+use Rattle.bq_resolve_laws.specs.Files.{ParsedFile}
+use Rattle.bq_resolve_laws.specs.Loads.{file_loads}
 use Rattle.bq_value.specs.Datum.{Datum}
 use Rattle.bq_package_target.specs.Package.{no_targets}
 use Rattle.bq_package.specs.Calls.{HeldPackage, outside, declaring}

@@ -7,16 +7,16 @@ use Rattle.bq_resolve_scope.specs.Names.{Name}
 use Rattle.bq_resolve_scope.specs.declared.loads.LoadStmt.{LoadStmt}
 use Rattle.bq_resolve_scope.specs.declared.loads.LoadedSymbol.{LoadedSymbol}
 use Rattle.bq_resolve_scope.specs.declared.file.ResolvedFile.{ResolvedFile}
-use Rattle.bq_resolve_by_name.specs.Files.{ParsedFile, ResolvesTo}
-use Rattle.bq_resolve_by_name.specs.Loads.{written_load}
-use Rattle.bq_resolve_by_name.specs.Resolution.{Maybe}
-use Rattle.bq_resolve_by_name.proofs.Loads.{globals_kept}
+use Rattle.bq_resolve_laws.specs.Files.{ParsedFile, ResolvesTo}
+use Rattle.bq_resolve_laws.specs.Loads.{written_load}
+use Rattle.bq_resolve_laws.specs.Resolution.{Maybe}
+use Rattle.bq_resolve_laws.proofs.Loads.{globals_kept}
 use Rattle.bq_value.specs.Datum.{Datum}
 use Rattle.bq_load_front.specs.Resolved.{◌>>=◌}
 use Rattle.bq_load.specs.Imports as slots
 use Rattle.bq_load.specs.Imports.{value_named, is_private, or_no_symbol, at_symbol}
 use Rattle.bq_load.specs.Views.{ModuleView}
-use Rattle.bq_eval_by_name.specs.Agreement.{AllResolveTo}
+use Rattle.bq_eval_by_name.specs.EvaluationAgreement.{AllResolveTo}
 use Rattle.bq_eval_by_name.proofs.Units.{in_place}
 use Rattle.bq_load_by_name.specs.Imports.{LoadedParts, module_named, global_by, exported, symbol_values, imports}
 use Rattle.bq_load_by_name.proofs.Cases.{globals_by}

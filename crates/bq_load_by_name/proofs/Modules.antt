@@ -8,9 +8,9 @@ use Rattle.bq_parse_grammar.specs.declared.tree.FileKind.TheVariants as kinds
 use Rattle.bq_label.specs.Label.{LabelParts}
 use Rattle.bq_label_set.specs.Labels.{with_labels}
 use Rattle.bq_resolve_scope.specs.declared.file.ResolvedFile.{ResolvedFile}
-use Rattle.bq_resolve_by_name.specs.Files.{ResolvesTo}
-use Rattle.bq_resolve_by_name.specs.Resolution.{Maybe}
-use Rattle.bq_resolve_by_name.proofs.Loads.{loads_kept}
+use Rattle.bq_resolve_laws.specs.Files.{ResolvesTo}
+use Rattle.bq_resolve_laws.specs.Resolution.{Maybe}
+use Rattle.bq_resolve_laws.proofs.Loads.{loads_kept}
 use Rattle.bq_value.specs.Datum.{Datum}
 use Rattle.bq_package.specs.Calls.{meaning, package_in}
 use Rattle.bq_load_front.specs.Agreement.{IsFrontOf}

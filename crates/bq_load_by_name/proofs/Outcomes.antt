@@ -10,9 +10,9 @@ use Rattle.bq_label.specs.declared.workspace.File.{File}
 use Rattle.bq_label.specs.Label.{LabelParts, full_form}
 use Rattle.bq_label.specs.Packages.{packages_of}
 use Rattle.bq_resolve_scope.specs.declared.loads.LoadStmt.{LoadStmt}
-use Rattle.bq_resolve_by_name.specs.Loads.{written_load}
-use Rattle.bq_resolve_by_name.specs.Resolution.{Maybe}
-use Rattle.bq_resolve_by_name.proofs.Loads.{loads_kept}
+use Rattle.bq_resolve_laws.specs.Loads.{written_load}
+use Rattle.bq_resolve_laws.specs.Resolution.{Maybe}
+use Rattle.bq_resolve_laws.proofs.Loads.{loads_kept}
 use Rattle.bq_package_schema.specs.Schema.{Rules}
 use Rattle.bq_board.specs.Graph.{Loads, Fits}
 use Rattle.bq_eval_by_name.proofs.Units.{in_place}
@@ -26,12 +26,12 @@ use Rattle.bq_load_discover.specs.LoadGraph.{GraphParts, IsLoadGraph, IsReadGrap
 use Rattle.bq_load_discover.specs.Module.{module_of}
 use Rattle.bq_load_discover.specs.Modules.{AreTooMany}
 use Rattle.bq_load_discover.specs.declared.modules.Module.{Module}
-use Rattle.bq_load_outcome_spec.specs.Outcome.{outcome}
-use Rattle.bq_load_outcome_spec.specs.declared.outcome.Outcome.{Outcome}
-use Rattle.bq_load_outcome_spec.specs.declared.outcome.Outcome.TheVariants as o
+use Rattle.bq_load_order.specs.Outcome.{outcome}
+use Rattle.bq_load_order.specs.declared.outcome.Outcome.{Outcome}
+use Rattle.bq_load_order.specs.declared.outcome.Outcome.TheVariants as o
 use Rattle.bq_load.specs.Evaluation as evaluation
 use Rattle.bq_load.specs.Loaded.{IsGathered, LoadsWithin}
-use Rattle.bq_base_limits.specs.declared.limits.Limits.{Limits}
+use Rattle.bq_base.specs.declared.limits.Limits.{Limits}
 use Rattle.bq_load.specs.declared.loaded.Loaded.{Loaded}
 use Rattle.bq_load.specs.Results as slots
 use Rattle.bq_load.specs.Loading.{LoadingParts, loading_in}

@@ -5,8 +5,8 @@ use Rattle.bq_base.specs.declared.fault.Fault.{Fault}
 use Rattle.bq_parse_grammar.specs.declared.tree.FileKind.{FileKind}
 use Rattle.bq_parse_grammar.specs.declared.tree.FileKind.TheVariants as kinds
 use Rattle.bq_label.specs.Label.{LabelParts}
-use Rattle.bq_resolve_by_name.specs.Files.{ResolvesTo}
-use Rattle.bq_resolve_by_name.specs.Resolution.{Maybe}
+use Rattle.bq_resolve_laws.specs.Files.{ResolvesTo}
+use Rattle.bq_resolve_laws.specs.Resolution.{Maybe}
 use Rattle.bq_load_front.specs.Agreement.{IsFrontOf}
 use Rattle.bq_load_front.specs.Inputs.{InputParts}
 use Rattle.bq_load_front.specs.Parsed.{ParsedFront, kind_of}
@@ -18,7 +18,7 @@ use Rattle.bq_load_discover.specs.Module.{module_of}
 use Rattle.bq_load_discover.specs.declared.modules.Module.{Module}
 use Rattle.bq_load.specs.ResolvedFiles.{front_file, resolved_files}
 use Rattle.bq_load.specs.ResolvedFiles as slots
-use Rattle.bq_eval_by_name.specs.Agreement.{AllResolveTo}
+use Rattle.bq_eval_by_name.specs.EvaluationAgreement.{AllResolveTo}
 use Rattle.bq_load_by_name.specs.Agreement.{AreReadAs, ModulesAreRead}
 use Rattle.bq_load_by_name.specs.Parsed.{ParsedModule, loaded_file, parsed_files, parsed_module}
 use Rattle.bq_load_by_name.proofs.Cases.{file_by, file_by_kind}

@@ -6,8 +6,8 @@ use Rattle.bq_base.specs.Fault.{fault_as, fault_at, kind_of_load}
 use Rattle.bq_parse_grammar.specs.declared.tree.FileKind.TheVariants as kinds
 use Rattle.bq_label.specs.Label.{LabelParts, package_of}
 use Rattle.bq_label_set.specs.Labels.{with_labels}
-use Rattle.bq_resolve_by_name.specs.Files.{ParsedFile}
-use Rattle.bq_resolve_by_name.specs.Loads.{file_loads}
+use Rattle.bq_resolve_laws.specs.Files.{ParsedFile}
+use Rattle.bq_resolve_laws.specs.Loads.{file_loads}
 use Rattle.bq_value.specs.Datum.{Datum}
 use Rattle.bq_builtin_machine.specs.Action.{Run}
 use Rattle.bq_builtin_machine.specs.State.{State}
@@ -16,7 +16,7 @@ use Rattle.bq_package.specs.Calls.{HeldPackage, outside, declaring, meaning, pac
 use Rattle.bq_load_front.specs.Parsed.{ParsedFront, kind_of}
 use Rattle.bq_load.specs.Views.{ModuleView, FailedView, not_evaluated}
 use Rattle.bq_load.specs.Evaluation.{module_by}
-use Rattle.bq_eval_by_name_spec.specs.Names.{Env}
+use Rattle.bq_eval_spec.specs.Names.{Env}
 use Rattle.bq_eval_by_name.specs.Evaluation.{ended, kept_after, module_run}
 use Rattle.bq_load_by_name.specs.Imports.{LoadedParts, imports}
 use Rattle.bq_load_by_name.specs.Parsed.{ParsedParts, parsed_files}

@@ -6,8 +6,8 @@ use Rattle.bq_base.specs.declared.fault.LoadFault.{LoadFault}
 use Rattle.bq_base.specs.declared.fault.LoadFault.TheVariants as f
 use Rattle.bq_label.specs.Label.{LabelParts}
 use Rattle.bq_resolve_scope.specs.Names.{Name, global_names}
-use Rattle.bq_resolve_by_name.specs.Files.{ParsedFile}
-use Rattle.bq_resolve_by_name.specs.Loads.{WrittenLoad}
+use Rattle.bq_resolve_laws.specs.Files.{ParsedFile}
+use Rattle.bq_resolve_laws.specs.Loads.{WrittenLoad}
 use Rattle.bq_value.specs.Datum.{Datum}
 use Rattle.bq_load_front.specs.Resolved.{◌>>=◌}
 use Rattle.bq_load_discover.specs.Edges.{number_in}

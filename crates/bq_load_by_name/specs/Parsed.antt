@@ -8,7 +8,7 @@ use Rattle.bq_label.specs.Label.{LabelParts}
 use Rattle.bq_label.specs.Packages.{packages_of}
 use Rattle.bq_label.specs.Workspace.{paths_of}
 use Rattle.bq_resolve_scope.specs.Names.{Name}
-use Rattle.bq_resolve_by_name.specs.Files.{ParsedFile}
+use Rattle.bq_resolve_laws.specs.Files.{ParsedFile}
 use Rattle.bq_package_schema.specs.Schema.{Rules}
 use Rattle.bq_parse_grammar.specs.declared.tree.FileKind.TheVariants as kinds
 use Rattle.bq_load_front.specs.Parsed.{ParsedFront, kind_of}

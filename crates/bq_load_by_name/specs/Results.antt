@@ -10,18 +10,18 @@ use Rattle.bq_base.specs.Fault.{fault_at, kind_of_load}
 use Rattle.bq_label.specs.declared.workspace.File.{File}
 use Rattle.bq_label.specs.Label.{LabelParts, full_form}
 use Rattle.bq_label.specs.Packages.{packages_of}
-use Rattle.bq_resolve_by_name.specs.Loads.{WrittenLoad, file_loads}
+use Rattle.bq_resolve_laws.specs.Loads.{WrittenLoad, file_loads}
 use Rattle.bq_package_schema.specs.Schema.{Rules}
 use Rattle.bq_board.specs.Graph.{Loads, Fits}
 use Rattle.bq_load_front.specs.Parsed.{ParsedFront, Fronts, AreFronts}
 use Rattle.bq_load_discover.specs.LoadGraph.{IsLoadGraph, inputs_of}
-use Rattle.bq_base_limits.specs.declared.limits.Limits.{Limits}
+use Rattle.bq_base.specs.declared.limits.Limits.{Limits}
 use Rattle.bq_load_discover.specs.Modules.{AreTooMany}
 use Rattle.bq_load_discover.specs.declared.load_err.LoadErr.{LoadErr}
 use Rattle.bq_load_discover.specs.declared.load_err.LoadErr.TheVariants as e
-use Rattle.bq_load_outcome_spec.specs.Outcome.{outcome}
-use Rattle.bq_load_outcome_spec.specs.declared.outcome.Outcome.{Outcome}
-use Rattle.bq_load_outcome_spec.specs.declared.outcome.Outcome.TheVariants as o
+use Rattle.bq_load_order.specs.Outcome.{outcome}
+use Rattle.bq_load_order.specs.declared.outcome.Outcome.{Outcome}
+use Rattle.bq_load_order.specs.declared.outcome.Outcome.TheVariants as o
 pub use Rattle.bq_load.specs.declared.loaded.Loaded.{Loaded}
 use Rattle.bq_load.specs.Loaded.{IsGathered}
 use Rattle.bq_load.specs.Views.{ModuleView, FailedView, OutcomeView, not_evaluated}

@@ -9,8 +9,8 @@ use Rattle.bq_label.specs.Packages.{build_label, packages_of, joined, IsPathOf, 
 use Rattle.bq_label.specs.Workspace.{IsWorkspace}
 use Rattle.bq_label.proofs.BuildFiles.{package_words, file_of_path}
 use Rattle.bq_label.proofs.LabelFiles.{path_in_words}
-use Rattle.bq_load_label.proofs.Loads.{named}
-use Rattle.bq_load_label.proofs.Tests.{file_is_there}
+use Rattle.bq_load_front.proofs.LoadNames.{named}
+use Rattle.bq_load_front.proofs.Tests.{file_is_there}
 use Rattle.bq_load_front.specs.Inputs.{InputParts}
 use Rattle.bq_load_front.specs.Parsed.{Fronts}
 use Rattle.bq_load_front.specs.Reading.{parsed_of}

@@ -10,8 +10,8 @@ use Rattle.bq_label.specs.Label.{LabelParts}
 use Rattle.bq_label_set.specs.Labels.{same_label, with_labels}
 use Rattle.bq_label_set.proofs.Added.{those_that_differ}
 use Rattle.bq_board_plan.specs.Graph.{Loads, edges, Fits, IsGraph}
-use Rattle.bq_base_limits.specs.declared.limits.Limits.{Limits}
-use Rattle.bq_base_limits.specs.Limits.{number_bound}
+use Rattle.bq_base.specs.declared.limits.Limits.{Limits}
+use Rattle.bq_base.specs.Limits.{number_bound}
 use Rattle.bq_load_front.specs.Inputs.{InputParts}
 use Rattle.bq_load_front.specs.Front.{loads_by}
 use Rattle.bq_load_front.specs.Reading.{parsed_of, loads_of}

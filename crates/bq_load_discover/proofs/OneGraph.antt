@@ -10,7 +10,7 @@ use Rattle.bq_label.proofs.Orders.{same_ascending}
 use Rattle.bq_label_set.specs.Labels.{same_label, same_label-Decides, same_label-equiv}
 use Rattle.bq_label_set.proofs.Numbers.{the_number}
 use Rattle.bq_board_plan.specs.Graph.{Loads, edges, Fits}
-use Rattle.bq_base_limits.specs.declared.limits.Limits.{Limits}
+use Rattle.bq_base.specs.declared.limits.Limits.{Limits}
 use Rattle.bq_load_front.specs.Parsed.{Fronts}
 use Rattle.bq_load_front.proofs.Fronts.{same_fronts}
 use Rattle.bq_load_discover.specs.Module.{label_cmp, label_cmp_total}

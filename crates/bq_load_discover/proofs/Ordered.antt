@@ -20,7 +20,7 @@ use Rattle.bq_load_front.specs.Reading.{parsed_of}
 use Rattle.bq_load_discover.specs.declared.modules.Module.{Module}
 use Rattle.bq_load_discover.specs.Module.{module_of, IsRead, labels_of, AreValid, label_cmp, label_cmp_total, module_cmp, module_cmp_total}
 use Rattle.bq_load_discover.specs.Modules.{AreModules}
-use Rattle.bq_base_limits.specs.declared.limits.Limits.{Limits}
+use Rattle.bq_base.specs.declared.limits.Limits.{Limits}
 use Rattle.bq_load_discover.specs.Exploring.{AreFound}
 
 not_equal : (b : Bool) → (b ≡ true → ⊥) → b ≡ false

@@ -3,7 +3,7 @@ use Rattle.std.specs.Prelude.{◌≡◌, ℕ, List, [], map, Option, position}
 use Rattle.std.specs.List.{filter_map}
 use Rattle.bq_label.specs.Label.{LabelParts}
 use Rattle.bq_label_set.specs.Labels.{same_label, with_labels}
-use Rattle.bq_base_limits.specs.declared.limits.Limits.{Limits}
+use Rattle.bq_base.specs.declared.limits.Limits.{Limits}
 use Rattle.bq_board_plan.specs.Graph.{Loads, Fits}
 use Rattle.bq_load_front.specs.Front.{loads_by}
 use Rattle.bq_load_discover.specs.declared.modules.Module.{Module}

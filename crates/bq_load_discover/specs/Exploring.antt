@@ -1,12 +1,11 @@
 -- Modules that are found along loads.
-use Rattle.std.specs.Prelude.{◌≡◌, ◌+◌, ◌≤◌, ℕ, Bool, true, false, List, length, map, take, Option, None, Some, slice_get}
+use Rattle.std.specs.Prelude.{◌≡◌, ◌+◌, ◌≤◌, ℕ, Bool, true, false, List, length, map, take, Option, None, Some, slice_get, Vec}
 use Rattle.std.specs.List.{All, Contains, IsDistinct}
 use Rattle.bq_label.specs.declared.packages.BuildFile.{BuildFile}
 use Rattle.bq_label.specs.Label.{LabelParts}
 use Rattle.bq_label.specs.Packages.{build_label}
 use Rattle.bq_label_set.specs.Labels.{same_label}
-use Rattle.bq_base_limits.specs.declared.limits.Limits.{Limits}
-use Rattle.std.specs.Prelude.{Vec}
+use Rattle.bq_base.specs.declared.limits.Limits.{Limits}
 use Rattle.std.specs.Global.{Global}
 use Rattle.bq_load_front.specs.Inputs.{InputParts}
 use Rattle.bq_load_front.specs.Reading.{parsed_of, loads_of}

@@ -4,7 +4,7 @@ use Rattle.bq_label.specs.declared.workspace.File.{File}
 use Rattle.bq_label.specs.Label.{LabelParts}
 use Rattle.bq_label.specs.Workspace.{IsWorkspace}
 use Rattle.bq_package_schema.specs.Schema.{Rules}
-use Rattle.bq_base_limits.specs.declared.limits.Limits.{Limits}
+use Rattle.bq_base.specs.declared.limits.Limits.{Limits}
 use Rattle.bq_board_plan.specs.Graph.{Loads, Fits}
 use Rattle.bq_label.specs.Packages.{packages_of, IsFileOf}
 use Rattle.bq_load_front.specs.Inputs.{InputParts}

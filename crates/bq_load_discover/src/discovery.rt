@@ -2,7 +2,7 @@
 
 ghost use Rattle.std.specs.Prelude.{◌≡◌, ◌<◌, ◌≤◌, length, IfOk};
 ghost use Rattle.std.specs.List.{IsDistinct};
-ghost use Rattle.bq_base_limits.specs.Limits.{AreBounded};
+ghost use Rattle.bq_base.specs.Limits.{AreBounded};
 ghost use Rattle.bq_label.specs.Packages.{packages_of};
 ghost use Rattle.bq_load_front.specs.Inputs.{InputParts};
 ghost use Rattle.bq_label_set.specs.Labels.{same_label};
@@ -17,7 +17,7 @@ use crate::load_graph::LoadGraph;
 use crate::modules::Module;
 use crate::order::{labels, sorted};
 use crate::waves::explore_by_workers;
-use bq_base_limits::Limits;
+use bq_base::Limits;
 use bq_label::{Packages, Workspace};
 use bq_load_front::Inputs;
 use bq_package_schema::Schema;

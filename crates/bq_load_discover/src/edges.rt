@@ -1,14 +1,14 @@
 //! Which module loads which, by their numbers.
 
 ghost use Rattle.std.specs.Prelude.{◌≡◌, ◌<◌, ◌++◌, length, option_to_list, IfOk, IfErr, OnOk};
-ghost use Rattle.bq_base_limits.specs.Limits.{AreBounded, number_bound};
+ghost use Rattle.bq_base.specs.Limits.{AreBounded, number_bound};
 ghost use Rattle.bq_board_plan.specs.Graph.{Fits, lists, IsGraph};
 ghost use Rattle.std.specs.List.{filter_map};
 ghost use Rattle.bq_load_discover.specs.Edges.{number_in, rows_of, RefusesEdges};
 
 use crate::load_err::LoadErr;
 use crate::modules::Module;
-use bq_base_limits::Limits;
+use bq_base::Limits;
 use bq_board_plan::Graph;
 use bq_label::Label;
 use bq_label_set::LabelSet;

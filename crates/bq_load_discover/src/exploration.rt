@@ -1,7 +1,7 @@
 //! The modules of a workspace, found along loads.
 
 ghost use Rattle.std.specs.Prelude.{◌≡◌, ◌+◌, [], ◌++◌, length, Option, IfOk, OnOk, option_to_list};
-ghost use Rattle.bq_base_limits.specs.Limits.{AreBounded};
+ghost use Rattle.bq_base.specs.Limits.{AreBounded};
 ghost use Rattle.bq_label.specs.Packages.{build_label};
 ghost use Rattle.bq_label_set.specs.Labels.{with_labels};
 ghost use Rattle.bq_load_front.specs.Front.{loads_by};
@@ -10,7 +10,7 @@ ghost use Rattle.bq_load_discover.specs.Modules.{build_labels};
 ghost use Rattle.bq_load_discover.specs.Exploring.{Explores, IsNextIn, AfterReading, Finds};
 
 use crate::modules::Module;
-use bq_base_limits::Limits;
+use bq_base::Limits;
 use bq_label::{BuildFile, Packages};
 use bq_label_set::LabelSet;
 use bq_load_front::Inputs;

@@ -1,14 +1,14 @@
 //! The modules of a workspace, found along loads by several threads.
 
 ghost use Rattle.std.specs.Prelude.{◌<◌, All, IfOk, IfSome, OnOk};
-ghost use Rattle.bq_base_limits.specs.Limits.{AreBounded, number_bound};
+ghost use Rattle.bq_base.specs.Limits.{AreBounded, number_bound};
 ghost use Rattle.bq_load_front.specs.Inputs.{InputParts};
 ghost use Rattle.bq_load_discover.specs.Exploring.{Explores, IsModuleAt, Finds};
 ghost use Rattle.bq_load_discover.specs.Waves.{IsReading, Grows};
 
 use crate::exploration::{Exploration, read_rest};
 use crate::modules::Module;
-use bq_base_limits::Limits;
+use bq_base::Limits;
 use bq_label_set::LabelSet;
 use bq_load_front::Inputs;
 use std::alloc::{AllocError, Global};

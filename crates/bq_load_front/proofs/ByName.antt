@@ -12,16 +12,16 @@ use Rattle.bq_source_lexer.specs.Tokens.{tokens_of}
 use Rattle.bq_parse_grammar.specs.declared.tree.TopLevel.{TopLevel}
 use Rattle.bq_parse_grammar.specs.Lexeme.{Lexeme, lexemes}
 use Rattle.bq_parse_grammar.specs.Parses.{Parses, statements_of}
-use Rattle.bq_parse_statement_laws.proofs.Verdicts.{file_reads}
+use Rattle.bq_parse_laws.proofs.Verdicts.{file_reads}
 use Rattle.bq_resolve_scope.specs.Files.{resolved}
 use Rattle.bq_resolve_scope.specs.Universe.{UniverseParts}
 use Rattle.bq_resolve_scope.specs.declared.loads.LoadStmt.{LoadStmt}
 use Rattle.bq_resolve_scope.specs.declared.file.ResolvedFile.{ResolvedFile}
-use Rattle.bq_resolve_by_name.specs.Files.{ParsedFile, ResolvesTo}
-use Rattle.bq_resolve_by_name.specs.Loads.{written_load, file_loads}
-use Rattle.bq_resolve_by_name.specs.Violations.{first, violations}
-use Rattle.bq_resolve_by_name.proofs.FaultyFiles.{first_violation, without_violations}
-use Rattle.bq_resolve_by_name.proofs.Loads.{loads_kept}
+use Rattle.bq_resolve_laws.specs.Files.{ParsedFile, ResolvesTo}
+use Rattle.bq_resolve_laws.specs.Loads.{written_load, file_loads}
+use Rattle.bq_resolve_laws.specs.Violations.{first, violations}
+use Rattle.bq_resolve_laws.proofs.FaultyFiles.{first_violation, without_violations}
+use Rattle.bq_resolve_laws.proofs.Loads.{loads_kept}
 use Rattle.bq_label.specs.declared.workspace.File.{File}
 use Rattle.bq_label.specs.Label.{PackageParts, LabelParts, package_of}
 use Rattle.bq_label.specs.Packages.{label_file}

@@ -7,7 +7,7 @@ use Rattle.bq_base.specs.declared.fault.NameFault.{NameFault}
 use Rattle.bq_base.specs.Fault.{fault_as, fault_at, kind_of_name}
 use Rattle.bq_label.specs.declared.workspace.File.{File}
 use Rattle.bq_label.specs.Label.{LabelParts}
-use Rattle.bq_resolve_by_name.specs.Files.{ParsedFile}
+use Rattle.bq_resolve_laws.specs.Files.{ParsedFile}
 use Rattle.bq_load_front.specs.Resolved.{◌>>=◌}
 use Rattle.bq_load_front.specs.Inputs.{InputParts, universe_of}
 use Rattle.bq_load_front.specs.Parsed.{ParsedFront, kind_of, front_from}

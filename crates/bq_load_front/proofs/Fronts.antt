@@ -6,10 +6,10 @@ use Rattle.bq_label.specs.declared.workspace.File.{File}
 use Rattle.bq_label.specs.Label.{LabelParts}
 use Rattle.bq_label.specs.Packages.{label_file}
 use Rattle.bq_resolve_scope.specs.Universe.{UniverseParts}
-use Rattle.bq_resolve_by_name.specs.Files.{ParsedFile}
+use Rattle.bq_resolve_laws.specs.Files.{ParsedFile}
 use Rattle.bq_load_front.specs.Resolved.{◌>>=◌}
 use Rattle.bq_load_front.specs.Inputs.{InputParts, universe_of}
-use Rattle.bq_load_front.specs.Laws.{FrontsOfLabels}
+use Rattle.bq_load_front.specs.FileLaws.{FrontsOfLabels}
 use Rattle.bq_load_front.specs.Parsed.{ParsedFront, Fronts, AreFronts, IsFront, kind_of, front_from}
 use Rattle.bq_load_front.specs.Reading.{file_of_text, parsed_of}
 use Rattle.bq_load_front.proofs.Cases.{parsed_at}

@@ -1,3 +1,6 @@
+pub mod Tests
+pub mod UnreadLabels
+pub mod LoadNames
 pub mod Tokens
 pub mod ResolvedFiles
 pub mod Cases

@@ -9,14 +9,14 @@ use Rattle.bq_label.specs.declared.workspace.File.{File}
 use Rattle.bq_label.specs.Label.{PackageParts, LabelParts, package_of}
 use Rattle.bq_label.specs.Packages.{label_file}
 use Rattle.bq_label.proofs.Orders.{head_or_tail}
-use Rattle.bq_resolve_by_name.specs.Files.{ParsedFile}
-use Rattle.bq_resolve_by_name.specs.Loads.{WrittenLoad, file_loads}
+use Rattle.bq_resolve_laws.specs.Files.{ParsedFile}
+use Rattle.bq_resolve_laws.specs.Loads.{WrittenLoad, file_loads}
 use Rattle.bq_load_front.specs.Resolved.{◌>>=◌}
 use Rattle.bq_load_front.specs.Inputs.{InputParts, universe_of}
 use Rattle.bq_load_front.specs.Parsed.{ParsedFront, file_named, labels_of, kind_of, front_from, loads_in}
 use Rattle.bq_load_front.specs.Reading.{file_of_text, parsed_of}
 use Rattle.bq_load_front.proofs.Cases.{parsed_at}
-use Rattle.bq_load_front.specs.Laws.{named, IsFirstBadLoad, IsNamed, AreRead, LoadedFiles, LoadsOfFiles}
+use Rattle.bq_load_front.specs.FileLaws.{named, IsFirstBadLoad, IsNamed, AreRead, LoadedFiles, LoadsOfFiles}
 
 no_head : {X : Type 0} (x : X) (xs : List X) → [] ≡ x ∷ xs → ⊥
 no_head x xs e = cc

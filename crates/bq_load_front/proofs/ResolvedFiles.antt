@@ -17,9 +17,9 @@ use Rattle.bq_parse_grammar.specs.Parses.{Parses, statements_of}
 use Rattle.bq_resolve_scope.specs.declared.file.ResolvedFile.{ResolvedFile}
 use Rattle.bq_resolve_scope.specs.Universe.{UniverseParts}
 use Rattle.bq_resolve_scope.specs.Files.{resolved}
-use Rattle.bq_parse_statement_laws.proofs.Verdicts.{file_reads, file_only}
+use Rattle.bq_parse_laws.proofs.Verdicts.{file_reads, file_only}
 use Rattle.bq_load_front.specs.Resolved.{resolved_file, ◌>>=◌}
-use Rattle.bq_load_front.specs.Laws.{TextResolvesTo, HasFault, ResolvedFilesOfTexts, FaultsOfFiles}
+use Rattle.bq_load_front.specs.FileLaws.{TextResolvesTo, HasFault, ResolvedFilesOfTexts, FaultsOfFiles}
 
 not_resolved : (why : Fault FaultKind) (file : ResolvedFile) → Err why ≡ Ok file → ⊥
 not_resolved why file e = cc

@@ -14,12 +14,12 @@ use Rattle.bq_source_lexer.proofs.Unique.{one_reading}
 use Rattle.bq_parse_grammar.specs.declared.tree.TopLevel.{TopLevel}
 use Rattle.bq_parse_grammar.specs.Lexeme.{lexemes}
 use Rattle.bq_parse_grammar.specs.Parses.{Parses, statements_of}
-use Rattle.bq_parse_statement_laws.proofs.Verdicts.{file_reads, file_only}
+use Rattle.bq_parse_laws.proofs.Verdicts.{file_reads, file_only}
 use Rattle.bq_resolve_scope.specs.Universe.{UniverseParts}
-use Rattle.bq_resolve_by_name.specs.Files.{ParsedFile}
-use Rattle.bq_resolve_by_name.specs.Violations.{first, violations}
+use Rattle.bq_resolve_laws.specs.Files.{ParsedFile}
+use Rattle.bq_resolve_laws.specs.Violations.{first, violations}
 use Rattle.bq_load_front.specs.Resolved.{◌>>=◌}
-use Rattle.bq_load_front.specs.Laws.{FilesOfTexts}
+use Rattle.bq_load_front.specs.FileLaws.{FilesOfTexts}
 use Rattle.bq_load_front.specs.Parsed.{ReadsAsFile}
 use Rattle.bq_load_front.specs.Reading.{trees_of, file_from, file_of_text}
 use Rattle.bq_load_front.proofs.Cases.{unless_broken}

@@ -3,7 +3,7 @@ use Rattle.std.specs.Prelude.{◌≡◌, Result, Ok, Err}
 use Rattle.bq_base.specs.declared.fault.FaultKind.{FaultKind}
 use Rattle.bq_base.specs.declared.fault.Fault.{Fault}
 use Rattle.bq_label.specs.Label.{LabelParts}
-use Rattle.bq_resolve_by_name.specs.Files.{ResolvesTo}
+use Rattle.bq_resolve_laws.specs.Files.{ResolvesTo}
 use Rattle.bq_load_front.specs.declared.front.Front.{Front}
 use Rattle.bq_load_front.specs.Front.{front_of, loads_by}
 use Rattle.bq_load_front.specs.Inputs.{InputParts}

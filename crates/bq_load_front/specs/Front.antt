@@ -9,7 +9,7 @@ use Rattle.bq_base.specs.Fault.{fault_at, kind_of_load, or_fault_as}
 use Rattle.bq_label.specs.declared.workspace.File.{File}
 use Rattle.bq_label.specs.Label.{PackageParts, LabelParts, package_of}
 use Rattle.bq_label.specs.Packages.{label_file}
-use Rattle.bq_resolve_by_name.specs.Loads.{written_load}
+use Rattle.bq_resolve_laws.specs.Loads.{written_load}
 use Rattle.bq_resolve_scope.specs.declared.loads.LoadStmt.{LoadStmt}
 use Rattle.bq_load_front.specs.declared.front.Front.{Front}
 use Rattle.bq_load_front.specs.Resolved.{resolved_file, ◌>>=◌}

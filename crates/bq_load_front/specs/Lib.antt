@@ -1,3 +1,6 @@
+pub mod Crossing
+pub mod NamedFile
+pub mod LabelLaws
 pub mod Resolved
 pub mod Inputs
 pub mod NamedFiles
@@ -5,4 +8,4 @@ pub mod Parsed
 pub mod Reading
 pub mod Front
 pub mod Agreement
-pub mod Laws
+pub mod FileLaws

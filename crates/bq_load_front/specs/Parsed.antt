@@ -18,13 +18,13 @@ use Rattle.bq_parse_grammar.specs.declared.tree.FileKind.{FileKind}
 use Rattle.bq_parse_grammar.specs.declared.tree.FileKind.TheVariants as kinds
 use Rattle.bq_parse_grammar.specs.declared.tree.TopLevel.{TopLevel}
 use Rattle.bq_resolve_scope.specs.Universe.{UniverseParts}
-use Rattle.bq_resolve_by_name.specs.Files.{ParsedFile}
-use Rattle.bq_resolve_by_name.specs.Loads.{WrittenLoad, file_loads}
-use Rattle.bq_resolve_by_name.specs.Violations.{first, violations}
+use Rattle.bq_resolve_laws.specs.Files.{ParsedFile}
+use Rattle.bq_resolve_laws.specs.Loads.{WrittenLoad, file_loads}
+use Rattle.bq_resolve_laws.specs.Violations.{first, violations}
 use Rattle.bq_label.specs.declared.workspace.File.{File}
 use Rattle.bq_label.specs.Label.{PackageParts, LabelParts, package_of}
 use Rattle.bq_label.specs.Packages.{label_file}
-use Rattle.bq_load_label.specs.NamedFile.{load_label}
+use Rattle.bq_load_front.specs.NamedFile.{load_label}
 use Rattle.bq_load_front.specs.Resolved.{◌>>=◌}
 use Rattle.bq_load_front.specs.Inputs.{InputParts, universe_of}
 

@@ -9,11 +9,11 @@ ghost use Rattle.bq_load_front.specs.Front.{front_of, load_of};
 ghost use Rattle.bq_load_front.specs.Parsed.{labels_of, kind_of};
 
 use crate::inputs::Inputs;
+use crate::named_file::load_label;
 use crate::named_files::NamedFiles;
 use crate::resolved::resolved_file;
 use bq_base::{Fault, FaultKind, LoadFault, SourceErr};
 use bq_label::{Label, PackageId, label_file};
-use bq_load_label::load_label;
 use bq_parse_grammar::FileKind;
 use bq_resolve_scope::{LoadStmt, ResolvedFile};
 use sqlite_items::Items;

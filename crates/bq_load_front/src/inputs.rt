@@ -3,7 +3,7 @@
 ghost use Rattle.std.specs.Prelude.{◌≡◌, IfOk};
 ghost use Rattle.bq_load_front.specs.Inputs.{universe_of};
 
-use bq_base_names::NameSet;
+use bq_base_texts::NameSet;
 use bq_label::{Packages, Workspace};
 use bq_parse_grammar::FileKind;
 use bq_resolve_scope::Universe;

@@ -1,3 +1,4 @@
+pub mod Lines
 -- load graphs
 pub mod Graphs
 -- outcomes of modules
@@ -8,3 +9,6 @@ pub mod Packages
 pub mod Faults
 -- calls along loads
 pub mod Calls
+pub mod FileReadings
+pub mod Evaluations
+pub mod ChangedOutcomes

@@ -9,7 +9,7 @@ ghost use Rattle.bq_label.specs.Label.{LabelParts, PackageParts};
 ghost use Rattle.bq_load_front.specs.Front.{front_of};
 ghost use Rattle.bq_load_front.specs.Inputs.{InputParts};
 ghost use Rattle.bq_load_discover.specs.LoadGraph.{GraphParts, IsReadGraph};
-ghost use Rattle.bq_load_label.specs.NamedFile.{load_label};
+ghost use Rattle.bq_load_front.specs.NamedFile.{load_label};
 ghost use Rattle.bq_load_laws.specs.Graphs.Orders.{LoadFailsForFirst, loading};
 
 /// A load is refused for the first of the reasons that are listed, and for nothing else: F30, F32, F37, F31.

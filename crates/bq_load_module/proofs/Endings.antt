@@ -4,7 +4,7 @@ use Rattle.bq_resolve_scope.specs.declared.file.ResolvedFile.{ResolvedFile}
 use Rattle.bq_value.specs.Datum.{Datum}
 use Rattle.bq_builtin_machine.specs.Action.{Run, done, stopped}
 use Rattle.bq_builtin_machine.specs.State.{State}
-use Rattle.bq_eval_meaning_spec.specs.Frame.{Frame}
+use Rattle.bq_eval_spec.specs.Frame.{Frame}
 use Rattle.bq_eval.specs.Module.{Ended, ended, kept_after}
 use Rattle.bq_package.specs.Calls.{HeldPackage, package_in}
 use Rattle.bq_load_module.specs.Run.{module_by, module_after}

@@ -7,7 +7,7 @@ use Rattle.bq_value.specs.Cells.{FrozenView, frozen}
 use Rattle.bq_value.specs.Datum.{Datum}
 use Rattle.bq_builtin_machine.specs.Action.{Run}
 use Rattle.bq_builtin_machine.specs.State.{State}
-use Rattle.bq_eval_meaning_spec.specs.Frame.{Frame}
+use Rattle.bq_eval_spec.specs.Frame.{Frame}
 use Rattle.bq_eval.specs.Module.{Ended, evaluated, failed, ended, kept_after}
 use Rattle.bq_package_target.specs.Package.{PackageTargets, finished}
 use Rattle.bq_package.specs.Calls.{HeldPackage, package_in}

@@ -5,7 +5,7 @@ ghost use Rattle.bq_base.specs.Fault.{fault_as, kind_of_eval};
 ghost use Rattle.bq_eval.specs.Outcomes.{ended_of, run_of};
 ghost use Rattle.bq_package.specs.Calls.{held_by, meaning, package_in};
 ghost use Rattle.bq_package_target.specs.Package.{finished};
-ghost use Rattle.bq_load_order.specs.Shown.{told};
+ghost use Rattle.bq_load_order.specs.SharedOutcomes.{told};
 ghost use Rattle.bq_load_module.specs.Views.{module_view, failed_view};
 ghost use Rattle.bq_load_module.specs.Run.{without_cells, module_with, module_by, module_after};
 
@@ -13,10 +13,10 @@ use crate::outcome::{FailedModule, LoadedModule};
 use bq_base::{Bytes, EvalFault, Fault};
 use bq_eval::{EvaluatedFile, FileOutcome, ResolvedModule, eval_module};
 use bq_package::BuildHost;
-use bq_package_host::BuiltIns;
 use bq_package_target::PackageState;
+use bq_package_values::BuiltIns;
 use bq_value::{Frozen, Store, freeze};
-use bq_value_seed::Seed;
+use bq_value_datum::Seed;
 use std::alloc::{AllocError, Global};
 use std::sync::Arc;
 

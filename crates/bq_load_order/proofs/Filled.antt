@@ -11,11 +11,11 @@ use Rattle.bq_board_plan.specs.Cycles.{is_cyclic, starts_path}
 use Rattle.bq_board_plan.specs.Depth.{max_load_depth, is_too_deep}
 use Rattle.bq_board_plan.specs.Topological.{IsTopologicalOrder, MarksCycles}
 use Rattle.bq_board_plan.proofs.Lemmas.{Has_snoc, Has-get_or, at_zero, zero_from, bool_cases}
-use Rattle.bq_load_outcome_spec.specs.Outcome.{first, load_values, evaluated, outcome}
-use Rattle.bq_load_outcome_spec.specs.declared.outcome.Outcome.{Outcome}
-use Rattle.bq_load_outcome_spec.specs.declared.outcome.Outcome.TheVariants.{Cyclic, TooDeep}
-use Rattle.bq_load_outcome_spec.proofs.Solution.{values_same, cyclic_is, deep_is, evaluated_is, outcome_is}
-use Rattle.bq_load_order.specs.Shown.{shown, slot}
+use Rattle.bq_load_order.specs.Outcome.{first, load_values, evaluated, outcome}
+use Rattle.bq_load_order.specs.declared.outcome.Outcome.{Outcome}
+use Rattle.bq_load_order.specs.declared.outcome.Outcome.TheVariants.{Cyclic, TooDeep}
+use Rattle.bq_load_order.proofs.Solution.{values_same, cyclic_is, deep_is, evaluated_is, outcome_is}
+use Rattle.bq_load_order.specs.SharedOutcomes.{shown, slot}
 use Rattle.bq_load_order.specs.Slots.{IsLoadOrder, Tabulates, or_failed, found_at, or_else, or_cyclic, Filling, Ready, Puts}
 
 -- a topological order is an order for loading

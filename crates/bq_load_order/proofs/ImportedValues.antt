@@ -3,9 +3,9 @@ use Rattle.std.proofs.Common.{◌≡◌, ℕ, ◌+◌, ◌<◌, ◌≤◌, List,
 use Rattle.std.specs.declared.sync.Arc.{Arc}
 use Rattle.std.specs.declared.alloc.Global.{Global}
 use Rattle.std.proofs.lemmas.List.{map_push}
-use Rattle.bq_load_outcome_spec.specs.declared.outcome.Outcome.{Outcome}
-use Rattle.bq_load_outcome_spec.specs.Outcome.{load_values}
-use Rattle.bq_load_order.specs.Shown.{seen_value, slot, value_in}
+use Rattle.bq_load_order.specs.declared.outcome.Outcome.{Outcome}
+use Rattle.bq_load_order.specs.Outcome.{load_values}
+use Rattle.bq_load_order.specs.SharedOutcomes.{seen_value, slot, value_in}
 use Rattle.bq_load_order.specs.Slots.{found_at, or_failed}
 use Rattle.bq_load_order.proofs.Values.{before, values_begin, values_next, values_stop, values_end}
 use Rattle.bq_load_order.proofs.Filled.{slot_read}

@@ -1,11 +1,11 @@
 -- The values of loads, and the first number that passes a test: one after another.
 use Rattle.std.proofs.Common.{◌≡◌, ℕ, ◌+◌, Bool, true, false, ◌<◌, ◌≤◌, List, [], ◌∷◌, ◌++◌, length, drop, get_or, Some, None, Result, Ok, Err, sym, refl, ap, ◌∙◌}
 use Rattle.std.proofs.lemmas.List.{drop_more, drop_all, append_assoc, append-nil}
-use Rattle.bq_load_outcome_spec.specs.Outcome.{first, with_load_value, load_values}
-use Rattle.bq_load_outcome_spec.proofs.Solution.{cond_true, cond_false}
-use Rattle.bq_load_outcome_spec.specs.declared.outcome.Outcome.{Outcome}
-use Rattle.bq_load_outcome_spec.specs.declared.outcome.Outcome.TheVariants.{Loaded, Faulty, Cyclic, TooDeep, LoadFailed}
-use Rattle.bq_load_order.specs.Shown.{value_in}
+use Rattle.bq_load_order.specs.Outcome.{first, with_load_value, load_values}
+use Rattle.bq_load_order.proofs.Solution.{cond_true, cond_false}
+use Rattle.bq_load_order.specs.declared.outcome.Outcome.{Outcome}
+use Rattle.bq_load_order.specs.declared.outcome.Outcome.TheVariants.{Loaded, Faulty, Cyclic, TooDeep, LoadFailed}
+use Rattle.bq_load_order.specs.SharedOutcomes.{value_in}
 
 -- these values, and then those of the other loads
 abbrev pub before : {V : Type 0} → List V → Result (List V) ℕ → Result (List V) ℕ

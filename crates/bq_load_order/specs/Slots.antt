@@ -5,9 +5,9 @@ use mathlib.Core.Logic.{◌⊎◌}
 use Rattle.bq_board_plan.specs.Counts.{Has}
 use Rattle.bq_board_plan.specs.Graph.{Loads, row}
 use Rattle.bq_board_plan.specs.Cycles.{is_cyclic}
-use Rattle.bq_load_outcome_spec.specs.Outcome.{first}
-use Rattle.bq_load_outcome_spec.specs.declared.outcome.Outcome.{Outcome}
-use Rattle.bq_load_outcome_spec.specs.declared.outcome.Outcome.TheVariants.{Cyclic, LoadFailed}
+use Rattle.bq_load_order.specs.Outcome.{first}
+use Rattle.bq_load_order.specs.declared.outcome.Outcome.{Outcome}
+use Rattle.bq_load_order.specs.declared.outcome.Outcome.TheVariants.{Cyclic, LoadFailed}
 
 -- the modules that aren't cyclic, each after all that it loads
 pub record IsLoadOrder (p : Loads) (ms : List ℕ) : Type 0 where

@@ -1,6 +1,6 @@
 //! What evaluates modules.
 ghost use Rattle.std.specs.Prelude.{◌≡◌, ℕ, List, map, Result, IfOk};
-ghost use Rattle.bq_load_order.specs.Shown.{told};
+ghost use Rattle.bq_load_order.specs.SharedOutcomes.{told};
 
 use crate::watch::Watch;
 use std::alloc::{AllocError, Global};

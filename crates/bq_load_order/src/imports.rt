@@ -1,8 +1,8 @@
 //! The values of what a module loads.
 ghost use Rattle.std.specs.Prelude.{◌≡◌, ℕ, ◌<◌, length, map, IfOk};
 ghost use Rattle.bq_board_plan.specs.Counts.{Has};
-ghost use Rattle.bq_load_outcome_spec.specs.Outcome.{load_values};
-ghost use Rattle.bq_load_order.specs.Shown.{seen, seen_value, slot, value_in};
+ghost use Rattle.bq_load_order.specs.Outcome.{load_values};
+ghost use Rattle.bq_load_order.specs.SharedOutcomes.{seen, seen_value, slot, value_in};
 ghost use Rattle.bq_load_order.specs.Slots.{found_at, or_failed};
 
 use crate::evaluate::Evaluate;

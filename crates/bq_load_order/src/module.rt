@@ -1,12 +1,12 @@
 //! The outcome of one module, by what it loads.
 ghost use Rattle.std.specs.Prelude.{◌≡◌, IfOk};
-ghost use Rattle.bq_load_outcome_spec.specs.Outcome.{evaluated};
-ghost use Rattle.bq_load_order.specs.Shown.{seen, shown};
+ghost use Rattle.bq_load_order.specs.Outcome.{evaluated};
+ghost use Rattle.bq_load_order.specs.SharedOutcomes.{seen, shown};
 
 use crate::evaluate::Evaluate;
+use crate::outcome::Outcome;
 use crate::shared::SharedOutcome;
 use crate::watch::Watch;
-use bq_load_outcome_spec::Outcome;
 use std::alloc::{AllocError, Global};
 use std::sync::Arc;
 

@@ -2,18 +2,18 @@
 ghost use Rattle.std.specs.Prelude.{◌≡◌, ℕ, [], length, map, IfOk, OnOk};
 ghost use Rattle.bq_board_plan.specs.Depth.{HasDepths};
 ghost use Rattle.bq_board_plan.specs.Topological.{MarksCycles};
-ghost use Rattle.bq_load_outcome_spec.specs.Outcome.{outcome};
-ghost use Rattle.bq_load_order.specs.Shown.{shown, slot};
+ghost use Rattle.bq_load_order.specs.Outcome.{outcome};
+ghost use Rattle.bq_load_order.specs.SharedOutcomes.{shown, slot};
 ghost use Rattle.bq_load_order.specs.Slots.{Filling, IsLoadOrder, Puts, Ready, Tabulates};
 
 use crate::evaluate::Evaluate;
 use crate::imports::imported;
 use crate::module::outcome_by;
+use crate::outcome::Outcome;
 use crate::shared::SharedOutcome;
 use crate::slots::{all_settled, empty_slots, first_at_limit};
 use crate::watch::Watch;
 use bq_board_plan::{Graph, Order};
-use bq_load_outcome_spec::Outcome;
 use std::alloc::{AllocError, Global};
 
 /// A load graph with its topological order.

@@ -1,9 +1,9 @@
 //! Outcomes whose values and faults are shared.
 ghost use Rattle.std.specs.Prelude.{◌≡◌, IfOk};
-ghost use Rattle.bq_load_order.specs.Shown.{seen_value, shown, value_in};
+ghost use Rattle.bq_load_order.specs.SharedOutcomes.{seen_value, shown, value_in};
 
 use crate::evaluate::Evaluate;
-use bq_load_outcome_spec::Outcome;
+use crate::outcome::Outcome;
 use std::alloc::{AllocError, Global};
 use std::sync::Arc;
 

@@ -4,14 +4,14 @@ ghost use Rattle.bq_board_plan.specs.Counts.{Has};
 ghost use Rattle.bq_board_plan.specs.Cycles.{is_cyclic, starts_path};
 ghost use Rattle.bq_board_plan.specs.Depth.{max_load_depth, HasDepths};
 ghost use Rattle.bq_board_plan.specs.Topological.{MarksCycles};
-ghost use Rattle.bq_load_outcome_spec.specs.Outcome.{first};
-ghost use Rattle.bq_load_order.specs.Shown.{shown, slot};
+ghost use Rattle.bq_load_order.specs.Outcome.{first};
+ghost use Rattle.bq_load_order.specs.SharedOutcomes.{shown, slot};
 ghost use Rattle.bq_load_order.specs.Slots.{Tabulates, or_cyclic};
 
 use crate::evaluate::Evaluate;
+use crate::outcome::Outcome;
 use crate::shared::{SharedOutcome, share};
 use bq_board_plan::{Graph, Order};
-use bq_load_outcome_spec::Outcome;
 use std::alloc::{AllocError, Global};
 
 /// Makes a slot for each of a number of modules, without outcomes.

@@ -21,7 +21,7 @@ use Rattle.bq_load_discover.specs.Module.{labels_of, module_of}
 use Rattle.bq_load_discover.specs.Modules.{AreModules, IsModule, edges_from}
 use Rattle.bq_load_discover.specs.Schema.{schema_in}
 use Rattle.bq_load_discover.proofs.Lists.{none_in}
-use Rattle.bq_load_again.specs.Again.{number_at}
+use Rattle.bq_load_order.specs.Again.{number_at}
 use Rattle.bq_load_reload.specs.Kept.{IsGraphOf}
 use Rattle.bq_load_reload.specs.Renewal.{AreAsRead, all_loaded, have_same_labels, loaded_by_one, modules_in}
 use Rattle.bq_load_reload.specs.Same.{HasSameFrame, HasStayed, HaveStayed}

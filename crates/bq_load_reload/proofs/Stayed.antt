@@ -4,7 +4,7 @@ use Rattle.std.specs.Prelude.{slice_get}
 use Rattle.std.proofs.lemmas.Option.{slice_get_read}
 use Rattle.bq_label.specs.declared.workspace.File.{File}
 use Rattle.bq_label.specs.Label.{LabelParts}
-use Rattle.bq_load_again.specs.Again.{number_at}
+use Rattle.bq_load_order.specs.Again.{number_at}
 use Rattle.bq_label.specs.Packages.{label_file}
 use Rattle.bq_label_set.specs.Labels.{same_label}
 use Rattle.bq_load_reload.specs.Same.{HasStayed, HaveStayed, same_content}

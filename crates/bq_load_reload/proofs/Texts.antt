@@ -13,8 +13,8 @@ use Rattle.bq_load_discover.specs.declared.modules.Module.{Module}
 use Rattle.bq_load_discover.specs.LoadGraph.{GraphParts, IsReadGraph, inputs_of}
 use Rattle.bq_load_discover.specs.Module.{module_of}
 use Rattle.bq_load_discover.specs.Schema.{schema_in}
-use Rattle.bq_load_change_laws.specs.Reading.{text_of}
-use Rattle.bq_load_change_laws.proofs.Fronts.{files_are_there, fronts_are_by_text}
+use Rattle.bq_load_laws.specs.FileReadings.{text_of}
+use Rattle.bq_load_laws.proofs.Fronts.{files_are_there, fronts_are_by_text}
 use Rattle.bq_load_reload.specs.Same.{HasSameFrame, same_content}
 use Rattle.bq_load_reload.proofs.Frames.{contents_same, same_paths, same_rules}
 

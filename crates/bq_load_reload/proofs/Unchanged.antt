@@ -14,12 +14,12 @@ use Rattle.bq_load_front.specs.Parsed.{kind_of}
 use Rattle.bq_load_discover.specs.declared.modules.Module.{Module}
 use Rattle.bq_load_discover.specs.LoadGraph.{GraphParts, IsReadGraph, inputs_of}
 use Rattle.bq_load_discover.specs.Schema.{schema_in}
-use Rattle.bq_load_outcome_spec.specs.declared.outcome.Outcome.{Outcome}
-use Rattle.bq_load_order.specs.Shown.{shown}
-use Rattle.bq_load_again.specs.Again.{had, number_at, ReachesHad, EvaluatesAs, AreUnchanged}
-use Rattle.bq_load_change_laws.specs.Outcome.{IsUnchanged}
-use Rattle.bq_load_change_laws.specs.Reading.{text_of}
-use Rattle.bq_load_change_laws.proofs.Kept.{unchanged_keep}
+use Rattle.bq_load_order.specs.declared.outcome.Outcome.{Outcome}
+use Rattle.bq_load_order.specs.SharedOutcomes.{shown}
+use Rattle.bq_load_order.specs.Again.{had, number_at, ReachesHad, EvaluatesAs, AreUnchanged}
+use Rattle.bq_load_laws.specs.ChangedOutcomes.{IsUnchanged}
+use Rattle.bq_load_laws.specs.FileReadings.{text_of}
+use Rattle.bq_load_laws.proofs.Kept.{unchanged_keep}
 use Rattle.bq_load.specs.Evaluation.{kept_by, kept_first, means}
 use Rattle.bq_load.specs.Loading.{LoadingParts, loading_in}
 use Rattle.bq_load.specs.Views.{ModuleView, FailedView, module_view, failed_view}

@@ -11,9 +11,9 @@ use Rattle.bq_load_discover.specs.LoadGraph.{GraphParts, IsNumbered, IsReadGraph
 use Rattle.bq_load_discover.specs.Schema.{schema_in}
 use Rattle.bq_load_module.specs.declared.outcome.LoadedModule.{LoadedModule}
 use Rattle.bq_load_module.specs.declared.outcome.FailedModule.{FailedModule}
-use Rattle.bq_load_outcome_spec.specs.Outcome.{outcome}
-use Rattle.bq_load_outcome_spec.specs.declared.outcome.Outcome.{Outcome}
-use Rattle.bq_load_order.specs.Shown.{shown}
+use Rattle.bq_load_order.specs.Outcome.{outcome}
+use Rattle.bq_load_order.specs.declared.outcome.Outcome.{Outcome}
+use Rattle.bq_load_order.specs.SharedOutcomes.{shown}
 use Rattle.bq_load_order.specs.Slots.{Tabulates}
 use Rattle.bq_load.specs.declared.loaded.Loaded.{Loaded}
 use Rattle.bq_load.specs.Views.{module_view, failed_view}

@@ -6,7 +6,7 @@ use Rattle.bq_load_front.specs.Front.{loads_by}
 use Rattle.bq_load_front.specs.Inputs.{InputParts}
 use Rattle.bq_load_discover.specs.declared.modules.Module.{Module}
 use Rattle.bq_load_discover.specs.Module.{module_of}
-use Rattle.bq_load_again.specs.Again.{number_at}
+use Rattle.bq_load_order.specs.Again.{number_at}
 
 abbrev pub no_label : List LabelParts → Bool
 no_label [] = true

@@ -5,7 +5,7 @@ use Rattle.bq_label.specs.Label.{LabelParts}
 use Rattle.bq_label.specs.Packages.{label_file}
 use Rattle.bq_label.specs.Workspace.{file_at}
 use Rattle.bq_label_set.specs.Labels.{same_label}
-use Rattle.bq_load_again.specs.Again.{number_at}
+use Rattle.bq_load_order.specs.Again.{number_at}
 
 -- the files have the same bytes in them, or there is none
 abbrev pub same_content : Option File → Option File → Bool

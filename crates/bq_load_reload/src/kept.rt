@@ -1,6 +1,6 @@
 //! What is kept of a workspace that was loaded.
 
-use bq_base_limits::Limits;
+use bq_base::Limits;
 use bq_base_takeable::Takeable;
 use bq_board::Graph;
 use bq_label::{Label, Workspace};

@@ -1,12 +1,12 @@
 //! The loading of a workspace, and what is kept of it.
 
 ghost use Rattle.std.specs.Prelude.{◌≡◌, ◌<◌, ◌≤◌, Ok, [], true, length, map, IfOk, IfSome};
-ghost use Rattle.bq_base_limits.specs.Limits.{AreBounded};
+ghost use Rattle.bq_base.specs.Limits.{AreBounded};
 ghost use Rattle.bq_board.specs.Graph.{Fits};
 ghost use Rattle.bq_load_discover.specs.LoadGraph.{IsReadGraph, inputs_of};
 ghost use Rattle.bq_load_discover.specs.Schema.{schema_in};
-ghost use Rattle.bq_load_outcome_spec.specs.Outcome.{outcome};
-ghost use Rattle.bq_load_order.specs.Shown.{slot};
+ghost use Rattle.bq_load_order.specs.Outcome.{outcome};
+ghost use Rattle.bq_load_order.specs.SharedOutcomes.{slot};
 ghost use Rattle.bq_load_order.specs.Slots.{Filling};
 ghost use Rattle.bq_load.specs.Evaluation.{means};
 ghost use Rattle.bq_load.specs.Views.{failed_view, module_view, outcome_view};
@@ -20,7 +20,7 @@ use crate::kept::{Kept, KeptOutcome, Past, PreviousLoad, Reloaded};
 use crate::outcomes::{all_outcomes, are_few_unknown, kept_after, outcomes_after, outcomes_from};
 use crate::renewal::{Renewal, renewed, with_statements};
 use crate::same::Change;
-use bq_base_limits::Limits;
+use bq_base::Limits;
 use bq_base_takeable::Takeable;
 use bq_label::Workspace;
 use bq_load::{Gate, Loaded, Loading, ModuleOutcome, Sources, Workers};

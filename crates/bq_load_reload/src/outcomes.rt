@@ -4,24 +4,24 @@ ghost use Rattle.std.specs.Prelude.{◌≡◌, ◌<◌, ◌≤◌, Ok, [], lengt
 ghost use Rattle.bq_board.specs.Seats.{IsSeatOf};
 ghost use Rattle.bq_load_discover.specs.LoadGraph.{IsReadGraph, inputs_of};
 ghost use Rattle.bq_load_discover.specs.Schema.{schema_in};
-ghost use Rattle.bq_load_outcome_spec.specs.Outcome.{outcome};
-ghost use Rattle.bq_load_order.specs.Shown.{shown, slot};
+ghost use Rattle.bq_load_order.specs.Outcome.{outcome};
+ghost use Rattle.bq_load_order.specs.SharedOutcomes.{shown, slot};
 ghost use Rattle.bq_load_order.specs.Slots.{Filling, Tabulates};
 ghost use Rattle.bq_load.specs.Views.{module_view, failed_view};
 ghost use Rattle.bq_load.specs.Loading.{loading_in, loading_of};
 ghost use Rattle.bq_load.specs.Evaluation.{means};
-ghost use Rattle.bq_load_again.specs.Again.{had, AreUnchanged};
+ghost use Rattle.bq_load_order.specs.Again.{had, AreUnchanged};
 ghost use Rattle.bq_load_reload.specs.Kept.{AreOutcomes, WereLoaded};
 
 use crate::kept::{KeptOutcome, Past};
 use crate::same::unchanged;
-use bq_base_limits::Limits;
+use bq_base::Limits;
 use bq_board::Graph;
 use bq_load::{Gate, GateWatch, Loading, Sources, Workers};
-use bq_load_again::kept_outcomes;
 use bq_load_discover::LoadGraph;
+use bq_load_order::kept_outcomes;
 use bq_load_workers::{
-    Evaluation, MAX_WORKERS, WorkerPool, WorkerSeat, completed, outcomes_by_workers,
+    GraphEvaluation, MAX_WORKERS, WorkerPool, WorkerSeat, completed, outcomes_by_workers,
 };
 use std::alloc::{AllocError, Global};
 use std::marker::Sync;
@@ -119,7 +119,7 @@ pub(crate) fn kept_after(
         sources.seed,
         graph,
     )?;
-    let old = bq_load_again::PreviousOutcomes {
+    let old = bq_load_order::PreviousOutcomes {
         graph: past.edges,
         outcomes: past.outcomes,
     };
@@ -140,7 +140,7 @@ fn changed_outcomes<R: Threads + Wait + Sync, G: Gate>(
     ensures { IfOk result (λ v. AreOutcomes (loading_of loading.now) edges.now v.items) }
 {
     let order = edges.topological_order(alloc)?;
-    let by = Evaluation {
+    let by = GraphEvaluation {
         evaluator: loading,
         graph: edges,
         order: &order,

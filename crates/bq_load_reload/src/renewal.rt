@@ -2,7 +2,7 @@
 
 ghost use Rattle.std.specs.Prelude.{◌≡◌, Ok, true, is_some, IfOk};
 ghost use Rattle.bq_label.specs.Packages.{packages_of};
-ghost use Rattle.bq_load_again.specs.Again.{number_at};
+ghost use Rattle.bq_load_order.specs.Again.{number_at};
 ghost use Rattle.bq_load_discover.specs.LoadGraph.{IsReadGraph, inputs_of};
 ghost use Rattle.bq_load_discover.specs.Module.{module_of};
 ghost use Rattle.bq_load_discover.specs.Schema.{schema_in};

@@ -2,14 +2,14 @@
 
 ghost use Rattle.std.specs.Prelude.{◌≡◌, ◌<◌, Ok, true, length, map, codes, IfOk, IfSome};
 ghost use Rattle.std.specs.Option.{option_copied};
-ghost use Rattle.bq_base_limits.specs.Limits.{number_bound};
+ghost use Rattle.bq_base.specs.Limits.{number_bound};
 ghost use Rattle.bq_label.specs.Workspace.{file_at};
 ghost use Rattle.bq_label.specs.Packages.{label_file};
 ghost use Rattle.bq_label_set.specs.Labels.{same_label};
 ghost use Rattle.bq_load_discover.specs.LoadGraph.{IsReadGraph, IsNumbered, inputs_of};
 ghost use Rattle.bq_load_discover.specs.Schema.{schema_in};
-ghost use Rattle.bq_load_again.specs.Again.{had, AreUnchanged};
-ghost use Rattle.bq_load_order.specs.Shown.{shown};
+ghost use Rattle.bq_load_order.specs.Again.{had, AreUnchanged};
+ghost use Rattle.bq_load_order.specs.SharedOutcomes.{shown};
 ghost use Rattle.bq_load.specs.Views.{module_view, failed_view};
 ghost use Rattle.bq_load.specs.Loading.{loading_in};
 ghost use Rattle.bq_load.specs.Evaluation.{means};
@@ -17,7 +17,7 @@ ghost use Rattle.bq_load_reload.specs.Kept.{WereLoaded};
 ghost use Rattle.bq_load_reload.specs.Same.{HaveStayed, HasStayed, HasSameFrame, have_same_paths, same_content};
 
 use crate::kept::Past;
-use bq_base_limits::Limits;
+use bq_base::Limits;
 use bq_label::{File, Label, Workspace, label_file};
 use bq_load::Sources;
 use bq_load_discover::LoadGraph;

@@ -7,8 +7,8 @@ use Rattle.bq_board.specs.Counts.{Has}
 use Rattle.bq_board.specs.Steps.{with_count}
 use Rattle.bq_board.specs.declared.view.View.{View}
 use Rattle.bq_board.proofs.Lemmas.{times_same}
-use Rattle.bq_load_outcome_spec.specs.declared.outcome.Outcome.{Outcome}
-use Rattle.bq_load_order.specs.Shown.{shown}
+use Rattle.bq_load_order.specs.declared.outcome.Outcome.{Outcome}
+use Rattle.bq_load_order.specs.SharedOutcomes.{shown}
 use Rattle.bq_load_workers.specs.Brought.{AreRight, Brought}
 use Rattle.bq_load_workers.specs.declared.pool.FinishedModule.{FinishedModule}
 

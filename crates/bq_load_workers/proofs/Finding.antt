@@ -4,10 +4,10 @@ use Rattle.bq_board.specs.Graph.{Loads, row}
 use Rattle.bq_board.specs.Cycles.{is_cyclic}
 use Rattle.bq_board.specs.Depth.{is_too_deep}
 use Rattle.bq_board.specs.Cut.{IsCut}
-use Rattle.bq_load_outcome_spec.specs.Outcome.{first, load_values, evaluated, outcome}
-use Rattle.bq_load_outcome_spec.specs.declared.outcome.Outcome.{Outcome}
-use Rattle.bq_load_outcome_spec.specs.declared.outcome.Outcome.TheVariants.{Cyclic}
-use Rattle.bq_load_outcome_spec.proofs.Solution.{cyclic_is, evaluated_is, outcome_is}
+use Rattle.bq_load_order.specs.Outcome.{first, load_values, evaluated, outcome}
+use Rattle.bq_load_order.specs.declared.outcome.Outcome.{Outcome}
+use Rattle.bq_load_order.specs.declared.outcome.Outcome.TheVariants.{Cyclic}
+use Rattle.bq_load_order.proofs.Solution.{cyclic_is, evaluated_is, outcome_is}
 
 module _ {V F : Type 0} (means : ℕ → List V → Result V F) (p : Loads) (m : ℕ) where
   pub found_cyclic : is_cyclic p m ≡ true → (l : ℕ) (xs : List ℕ) → l ≡ first (is_cyclic p) xs → xs ≡ row p m → Cyclic l ≡ outcome means p m

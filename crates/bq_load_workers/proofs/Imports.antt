@@ -3,9 +3,9 @@ use Rattle.std.proofs.Common.{◌≡◌, ℕ, ◌+◌, ◌-◌, ◌<◌, ◌≤�
 use Rattle.bq_board.specs.Graph.{Loads, row}
 use Rattle.bq_board.specs.Plan.{source, start, Into, EdgesAreLoads}
 use Rattle.bq_board.proofs.Lemmas.{start_next}
-use Rattle.bq_load_outcome_spec.specs.Outcome.{load_values}
-use Rattle.bq_load_outcome_spec.specs.declared.outcome.Outcome.{Outcome}
-use Rattle.bq_load_order.specs.Shown.{value_in}
+use Rattle.bq_load_order.specs.Outcome.{load_values}
+use Rattle.bq_load_order.specs.declared.outcome.Outcome.{Outcome}
+use Rattle.bq_load_order.specs.SharedOutcomes.{value_in}
 use Rattle.bq_load_order.proofs.Values.{before, values_begin, values_next, values_stop, values_end}
 
 pub into_here : (q : Loads) (m e : ℕ) {a b : ℕ} → a ≡ start q m → b ≡ start q (m + 1) → a ≤ e → e < b → Into q m e

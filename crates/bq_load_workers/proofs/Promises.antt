@@ -4,7 +4,7 @@ use Rattle.std.proofs.lemmas.List.{take_more, take_all}
 use Rattle.std.proofs.lemmas.List.Elements.{All-push}
 use Rattle.std.specs.declared.alloc.AllocError.{AllocError}
 use Rattle.bq_board.specs.Graph.{Loads}
-use Rattle.bq_load_outcome_spec.specs.Outcome.{outcome}
+use Rattle.bq_load_order.specs.Outcome.{outcome}
 use Rattle.bq_load_workers.specs.Brought.{IsAnswer}
 use Rattle.bq_load_workers.specs.declared.pool.WorkDone.{WorkDone}
 

@@ -2,9 +2,9 @@
 use Rattle.std.specs.Prelude.{◌≡◌, ℕ, ◌<◌, List, ◌++◌, length, map, All, Result, IfOk, OnOk}
 use Rattle.std.specs.declared.alloc.AllocError.{AllocError}
 use Rattle.bq_board.specs.Graph.{Loads}
-use Rattle.bq_load_outcome_spec.specs.declared.outcome.Outcome.{Outcome}
-use Rattle.bq_load_outcome_spec.specs.Outcome.{outcome}
-use Rattle.bq_load_order.specs.Shown.{shown}
+use Rattle.bq_load_order.specs.declared.outcome.Outcome.{Outcome}
+use Rattle.bq_load_order.specs.Outcome.{outcome}
+use Rattle.bq_load_order.specs.SharedOutcomes.{shown}
 use Rattle.bq_load_workers.specs.declared.pool.FinishedModule.{FinishedModule}
 use Rattle.bq_load_workers.specs.declared.pool.WorkDone.{WorkDone}
 

@@ -2,8 +2,8 @@
 use Rattle.std.specs.Prelude.{◌≡◌, ℕ, Option}
 use Rattle.std.specs.declared.sync.Arc.{Arc}
 use Rattle.std.specs.declared.alloc.Global.{Global}
-use Rattle.bq_load_outcome_spec.specs.declared.outcome.Outcome.{Outcome}
-use Rattle.bq_load_order.specs.Shown.{seen_value, value_in}
+use Rattle.bq_load_order.specs.declared.outcome.Outcome.{Outcome}
+use Rattle.bq_load_order.specs.SharedOutcomes.{seen_value, value_in}
 
 -- the module m, and the value in its outcome, if it has one
 abbrev pub IsImport : {M V F : Type 0} → (M → V) → (ℕ → Outcome V F) → ℕ → ℕ → Option (Arc M Global) → Type 0

@@ -3,8 +3,8 @@ ghost use Rattle.std.specs.Prelude.{◌≡◌, ◌+◌, ◌<◌, ◌++◌, ◌�
 ghost use Rattle.bq_board.specs.Conditions.{Owes};
 ghost use Rattle.bq_board.specs.Plan.{IsOut};
 ghost use Rattle.bq_board.specs.Seats.{IsSeatOf, view_of};
-ghost use Rattle.bq_load_outcome_spec.specs.Outcome.{outcome};
-ghost use Rattle.bq_load_order.specs.Shown.{seen_value, shown, value_in};
+ghost use Rattle.bq_load_order.specs.Outcome.{outcome};
+ghost use Rattle.bq_load_order.specs.SharedOutcomes.{seen_value, shown, value_in};
 ghost use Rattle.bq_load_workers.specs.Brought.{BringsMore};
 ghost use Rattle.bq_load_workers.specs.Work.{IsImport};
 

@@ -1,7 +1,7 @@
 //! The end of a pool.
 ghost use Rattle.std.specs.Prelude.{◌≡◌};
 ghost use Rattle.bq_board.specs.Seats.{IsSeatOf};
-ghost use Rattle.bq_load_outcome_spec.specs.Outcome.{outcome};
+ghost use Rattle.bq_load_order.specs.Outcome.{outcome};
 ghost use Rattle.bq_load_workers.specs.Closing.{ClosesWith};
 ghost use Rattle.bq_load_workers.specs.Work.{IsImport};
 

@@ -3,8 +3,8 @@
 ghost use Rattle.std.specs.Prelude.{◌≡◌, [], length, map, IfOk};
 ghost use Rattle.bq_board.specs.Depth.{HasDepths};
 ghost use Rattle.bq_board.specs.Topological.{MarksCycles};
-ghost use Rattle.bq_load_outcome_spec.specs.Outcome.{outcome};
-ghost use Rattle.bq_load_order.specs.Shown.{shown, slot};
+ghost use Rattle.bq_load_order.specs.Outcome.{outcome};
+ghost use Rattle.bq_load_order.specs.SharedOutcomes.{shown, slot};
 ghost use Rattle.bq_load_order.specs.Slots.{Filling, IsLoadOrder, Tabulates};
 
 use crate::import::Base;
@@ -22,7 +22,7 @@ const LEAST_EVALUATION_STACK: usize = 40 << 20;
 
 /// A load graph in topological order, and what evaluates its modules.
 #[derive(Drop)]
-pub struct Evaluation<'a, E> {
+pub struct GraphEvaluation<'a, E> {
     pub evaluator: &'a E,
     pub graph: &'a Graph,
     pub order: &'a Order,
@@ -59,7 +59,7 @@ fn on_the_least_stack<
 pub fn completed<R: Threads + Wait + Sync, E: Evaluate, W: Watch>(
     rt: &R,
     alloc: Global,
-    by: &Evaluation<'_, E>,
+    by: &GraphEvaluation<'_, E>,
     found: Vec<Option<SharedOutcome<E::Value, E::Fault>>>,
     watch: &W,
 ) -> Result<Vec<SharedOutcome<E::Value, E::Fault>>, AllocError>

@@ -3,14 +3,15 @@ ghost use Rattle.std.specs.Prelude.{◌≡◌, ◌<◌, length, IfOk, OnOk};
 ghost use Rattle.bq_board.specs.Conditions.{Owes, Holds};
 ghost use Rattle.bq_board.specs.Graph.{row};
 ghost use Rattle.bq_board.specs.Seats.{IsSeatOf, view_of};
-ghost use Rattle.bq_load_outcome_spec.specs.Outcome.{outcome, load_values};
-ghost use Rattle.bq_load_order.specs.Shown.{seen, shown};
+ghost use Rattle.bq_load_order.specs.Outcome.{outcome, load_values};
+ghost use Rattle.bq_load_order.specs.SharedOutcomes.{seen, shown};
 
 use crate::import::Import;
 use crate::pool::WorkerPool;
 use bq_board::Seat;
-use bq_load_order::{Evaluate, SharedOutcome, Watch, first_at_limit, first_cyclic, outcome_by};
-use bq_load_outcome_spec::Outcome;
+use bq_load_order::{
+    Evaluate, Outcome, SharedOutcome, Watch, first_at_limit, first_cyclic, outcome_by,
+};
 use std::alloc::{AllocError, Global};
 use std::sync::Arc;
 

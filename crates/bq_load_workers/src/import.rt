@@ -1,6 +1,6 @@
 //! What a module hands to the modules that load it.
 ghost use Rattle.std.specs.Prelude.{◌≡◌};
-ghost use Rattle.bq_load_outcome_spec.specs.Outcome.{outcome};
+ghost use Rattle.bq_load_order.specs.Outcome.{outcome};
 ghost use Rattle.bq_load_workers.specs.Work.{IsImport};
 
 use bq_board::{Graph, Parcel};

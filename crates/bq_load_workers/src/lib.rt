@@ -29,7 +29,7 @@ mod pool;
 mod threads;
 mod work;
 
-pub use evaluation::{Evaluation, completed};
+pub use evaluation::{GraphEvaluation, completed};
 pub use import::{Base, Import};
 pub use load::outcomes_by_workers;
 pub use opening::MAX_WORKERS;

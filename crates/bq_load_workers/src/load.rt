@@ -1,12 +1,12 @@
 //! The outcome of each module, by several workers.
 ghost use Rattle.std.specs.Prelude.{[], map, length, All, IfOk, IsOk, OnOk};
 ghost use Rattle.bq_board.specs.Seats.{IsSeatOf};
-ghost use Rattle.bq_load_outcome_spec.specs.Outcome.{outcome};
-ghost use Rattle.bq_load_order.specs.Shown.{shown, slot};
+ghost use Rattle.bq_load_order.specs.Outcome.{outcome};
+ghost use Rattle.bq_load_order.specs.SharedOutcomes.{shown, slot};
 ghost use Rattle.bq_load_order.specs.Slots.{Filling, Tabulates};
 ghost use Rattle.bq_load_workers.specs.Brought.{AreRight, IsAnswer};
 
-use crate::evaluation::{Evaluation, completed};
+use crate::evaluation::{GraphEvaluation, completed};
 use crate::pool::{FinishedModule, WorkerPool, WorkerSeat};
 use crate::threads::{Answer, brought};
 use bq_load_order::{Evaluate, SharedOutcome, Watch, empty_slots, share};
@@ -28,7 +28,7 @@ pub fn outcomes_by_workers<R: Threads + Wait + Sync, E: Evaluate, W: Watch>(
 {
     let answers = brought(rt, alloc, pool, seats, watch)?;
     let found = found_by(alloc, pool, answers.as_slice())?;
-    let by = Evaluation {
+    let by = GraphEvaluation {
         evaluator: &pool.evaluator,
         graph: &pool.graph,
         order: &pool.order,

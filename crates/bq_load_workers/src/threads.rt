@@ -1,7 +1,7 @@
 //! Workers in threads of their own, each with the stack that evaluation may take.
 ghost use Rattle.std.specs.Prelude.{◌≡◌, length, All, IfOk, IfSome};
 ghost use Rattle.bq_board.specs.Seats.{IsSeatOf};
-ghost use Rattle.bq_load_outcome_spec.specs.Outcome.{outcome};
+ghost use Rattle.bq_load_order.specs.Outcome.{outcome};
 ghost use Rattle.bq_load_workers.specs.Brought.{IsAnswer};
 
 use crate::import::Base;

@@ -2,21 +2,21 @@
 use Rattle.std.proofs.Common.{◌≡◌, ◌∙◌, inl, inr, ℕ, List, [], Option, Some, Ok, refl, ap, subst, slice_get}
 use Rattle.std.specs.List.{AllZip}
 use Rattle.bq_label.specs.Label.{PackageParts, LabelParts, ReadsAs}
-use Rattle.bq_value_rule_class.specs.Class.{Class}
-use Rattle.bq_value_rule_class.specs.declared.value.AttributeValue.TheVariants as a
+use Rattle.bq_value_datum.specs.Class.{Class}
+use Rattle.bq_value_datum.specs.declared.attribute_value.AttributeValue.TheVariants as a
 use Rattle.bq_builtin_machine.specs.Args.{Passed}
 use Rattle.bq_builtin_machine.specs.State.{State}
 use Rattle.bq_package_target.specs.Calls.{declared}
-use Rattle.bq_package_typed_value.specs.declared.label_texts.TextKind.TheVariants as k
-use Rattle.bq_package_typed_value.specs.declared.written.Written.TheVariants as w
-use Rattle.bq_package_typed_value.specs.Steps.{in_turn}
-use Rattle.bq_package_typed_value.specs.LabelTexts.{read, label, labels}
-use Rattle.bq_package_typed_value.specs.Values.{typed}
-use Rattle.bq_package_typed_value.proofs.Own.{label_read, labels_read}
-use Rattle.bq_package_typed_value.proofs.Standing.{stands}
-use Rattle.bq_package_typed_value.proofs.Steps.{both_ok}
-use Rattle.bq_package_typed_value.proofs.Turns.{turned, zip_weaker}
-use Rattle.bq_resolve_predeclared.specs.declared.host_function.HostFunction.TheVariants as b
+use Rattle.bq_package_values.specs.declared.label_texts.TextKind.TheVariants as k
+use Rattle.bq_package_values.specs.declared.written.Written.TheVariants as w
+use Rattle.bq_package_values.specs.Steps.{in_turn}
+use Rattle.bq_package_values.specs.LabelTexts.{read, label, labels}
+use Rattle.bq_package_values.specs.Values.{typed}
+use Rattle.bq_package_values.proofs.Own.{label_read, labels_read}
+use Rattle.bq_package_values.proofs.Standing.{stands}
+use Rattle.bq_package_values.proofs.Steps.{both_ok}
+use Rattle.bq_package_values.proofs.Turns.{turned, zip_weaker}
+use Rattle.bq_predeclared.specs.declared.host_function.HostFunction.TheVariants as b
 use Rattle.bq_package.specs.Rules.{target_by, rule_target}
 use Rattle.bq_package.specs.Calls.{HeldPackage, Declaring, outside, declaring, own_of, packages_of, declares, call_in, call_of, rule_by, rule_call, default_value}
 use Rattle.bq_package.specs.Laws.{RulesDeclareAlike, InBuildIsSaid, DefaultsAreReadInThePackage}

@@ -4,7 +4,7 @@ use Rattle.bq_base.specs.Gives.{Gives}
 use Rattle.bq_base.specs.declared.fault.EvalFault.{EvalFault}
 use Rattle.bq_base.specs.declared.fault.EvalFault.TheVariants as f
 use Rattle.bq_label.specs.Label.{LabelParts}
-use Rattle.bq_value_rule_class.specs.Class.{Class}
+use Rattle.bq_value_datum.specs.Class.{Class}
 use Rattle.bq_value.specs.Datum.{Datum}
 use Rattle.bq_value.specs.declared.error.EvalErr.{EvalErr}
 use Rattle.bq_value.specs.declared.error.EvalErr.TheVariants.{Bad}
@@ -13,8 +13,8 @@ use Rattle.bq_builtin_machine.specs.State.{State, stop_at}
 use Rattle.bq_builtin_machine.specs.Action.{stopped, Does, HostDoes}
 use Rattle.bq_package_target.specs.declared.target.Target.{Target}
 use Rattle.bq_package_target.specs.Calls.{declared, exported}
-use Rattle.bq_resolve_predeclared.specs.declared.host_function.HostFunction.{HostFunction}
-use Rattle.bq_resolve_predeclared.specs.declared.host_function.HostFunction.TheVariants as b
+use Rattle.bq_predeclared.specs.declared.host_function.HostFunction.{HostFunction}
+use Rattle.bq_predeclared.specs.declared.host_function.HostFunction.TheVariants as b
 use Rattle.bq_package.specs.Place.{PlaceView}
 use Rattle.bq_package.specs.Glob.{globbed}
 use Rattle.bq_package.specs.Files.{files_named}

@@ -2,7 +2,7 @@
 use Rattle.std.proofs.Common.{◌≡◌, ℕ, Bool, true, false, cond, List, ◌++◌, Option, Some, None, Ok, refl, sym, subst, slice_get}
 use Rattle.std.specs.List.{list_all, list_any}
 use Rattle.bq_label.specs.Label.{PackageParts, LabelParts, package_of}
-use Rattle.bq_value_rule_class.specs.Class.{Class}
+use Rattle.bq_value_datum.specs.Class.{Class}
 use Rattle.bq_value.specs.Cells.{StoreView}
 use Rattle.bq_builtin_machine.specs.Args.{Passed}
 use Rattle.bq_builtin_machine.specs.Binding.{bind}
@@ -13,14 +13,14 @@ use Rattle.bq_package_target.specs.Target.{is_of, names_of, declares as declares
 use Rattle.bq_package_target.specs.Names.{are_new}
 use Rattle.bq_package_target.specs.Package.{PackageTargets, IsOwnCall, is_taken, files}
 use Rattle.bq_package_target.specs.Calls.{declared, exported}
-use Rattle.bq_package_typed_value.specs.declared.label_texts.TextKind.TheVariants as k
-use Rattle.bq_package_typed_value.specs.Steps.{and_then}
-use Rattle.bq_package_typed_value.specs.LabelTexts.{label, labels}
-use Rattle.bq_package_typed_value.proofs.Steps.{both_ok}
-use Rattle.bq_package_typed_value.proofs.Own.{name_label_own, name_labels_own}
+use Rattle.bq_package_values.specs.declared.label_texts.TextKind.TheVariants as k
+use Rattle.bq_package_values.specs.Steps.{and_then}
+use Rattle.bq_package_values.specs.LabelTexts.{label, labels}
+use Rattle.bq_package_values.proofs.Steps.{both_ok}
+use Rattle.bq_package_values.proofs.Own.{name_label_own, name_labels_own}
 use Rattle.bq_package_attributes.proofs.Declared.{declared_own}
 use Rattle.bq_package.specs.Place.{PlaceView}
-use Rattle.bq_package_typed_value.specs.Parameters.{argument}
+use Rattle.bq_package_values.specs.Parameters.{argument}
 use Rattle.bq_package.specs.Bound.{exports_parameters, group_parameters, text_of, texts_of}
 use Rattle.bq_package.specs.Files.{files_named}
 use Rattle.bq_package.specs.Groups.{names_first, group, group_labels, group_of, group_named}

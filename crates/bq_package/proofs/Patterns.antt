@@ -5,8 +5,8 @@ use Rattle.bq_base.specs.Fault.{fault_at}
 use Rattle.bq_base.specs.declared.fault.Fault.{Fault}
 use Rattle.bq_base.specs.declared.fault.EvalFault.{EvalFault}
 use Rattle.bq_base.specs.declared.fault.EvalFault.TheVariants.{GlobPattern}
-use Rattle.bq_label_glob_pattern.specs.Pattern.{is_pattern, pattern_of}
-use Rattle.bq_package_typed_value.specs.Steps.{and_then, in_turn}
+use Rattle.bq_label_glob.specs.Pattern.{is_pattern, pattern_of}
+use Rattle.bq_package_values.specs.Steps.{and_then, in_turn}
 use Rattle.bq_package.specs.Glob.{pattern}
 
 pub pattern_ok : (text p : List ℕ) → pattern_of text ≡ Ok p → pattern text ≡ Ok p

@@ -10,7 +10,7 @@ use Rattle.bq_value.specs.declared.error.EvalErr.{EvalErr}
 use Rattle.bq_value.specs.declared.error.EvalErr.TheVariants.{Bad, Memory}
 use Rattle.bq_builtin_machine.specs.State.{State, stop_at}
 use Rattle.bq_builtin_machine.specs.Action.{done, stopped, HostDoes}
-use Rattle.bq_package_host.specs.Host.{KeepsIfRefused}
+use Rattle.bq_package_values.specs.Host.{KeepsIfRefused}
 use Rattle.bq_package_target.specs.declared.target.Target.{Target}
 use Rattle.bq_package_target.specs.declared.state.Declared.{Declared}
 use Rattle.bq_package_target.specs.declared.state.Declared.TheVariants.{Accepted, Refused}

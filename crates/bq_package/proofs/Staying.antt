@@ -3,7 +3,7 @@ use Rattle.std.proofs.Common.{◌≡◌, ◌∙◌, ℕ, Bool, true, false, cond
 use Rattle.std.specs.List.{list_any}
 use Rattle.bq_base.specs.declared.fault.EvalFault.{EvalFault}
 use Rattle.bq_label.specs.Label.{LabelParts}
-use Rattle.bq_value_rule_class.specs.Class.{Class}
+use Rattle.bq_value_datum.specs.Class.{Class}
 use Rattle.bq_value.specs.Datum.{Datum}
 use Rattle.bq_builtin_machine.specs.Args.{Passed}
 use Rattle.bq_builtin_machine.specs.State.{State}
@@ -16,8 +16,8 @@ use Rattle.bq_package_target.specs.Target.{names_of, declares as declares_target
 use Rattle.bq_package_target.specs.Names.{are_new}
 use Rattle.bq_package_target.specs.Package.{PackageTargets, is_taken, files}
 use Rattle.bq_package_target.specs.Calls.{declared, exported}
-use Rattle.bq_resolve_predeclared.specs.declared.host_function.HostFunction.{HostFunction}
-use Rattle.bq_resolve_predeclared.specs.declared.host_function.HostFunction.TheVariants as b
+use Rattle.bq_predeclared.specs.declared.host_function.HostFunction.{HostFunction}
+use Rattle.bq_predeclared.specs.declared.host_function.HostFunction.TheVariants as b
 use Rattle.bq_package.specs.Glob.{globbed}
 use Rattle.bq_package.specs.Files.{files_named}
 use Rattle.bq_package.specs.Groups.{group_named}

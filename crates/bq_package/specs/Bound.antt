@@ -5,8 +5,8 @@ use Rattle.bq_base.specs.declared.fault.EvalFault.TheVariants.{AttributeType}
 use Rattle.bq_value.specs.Datum.{Datum}
 use Rattle.bq_value.specs.Cells.{StoreView}
 use Rattle.bq_builtin_machine.specs.Parameters.{SignatureView}
-use Rattle.bq_package_typed_value.specs.Parameters.{required, optional}
-use Rattle.bq_package_typed_value.specs.Texts.{text_in, texts_in}
+use Rattle.bq_package_values.specs.Parameters.{required, optional}
+use Rattle.bq_package_values.specs.Texts.{text_in, texts_in}
 
 -- `(include, exclude = [], exclude_directories = 1, allow_empty = True)`
 abbrev pub glob_parameters : SignatureView

@@ -5,27 +5,27 @@ use Rattle.bq_base.specs.declared.fault.EvalFault.{EvalFault}
 use Rattle.bq_base.specs.declared.fault.EvalFault.TheVariants.{NotInPackage, DoubleTarget}
 use Rattle.bq_label.specs.declared.packages.BuildFile.{BuildFile}
 use Rattle.bq_label.specs.Label.{PackageParts}
-use Rattle.bq_value_rule_class.specs.Class.{Class}
-use Rattle.bq_value_rule_class.specs.declared.value.AttributeValue.{AttributeValue}
+use Rattle.bq_value_datum.specs.Class.{Class}
+use Rattle.bq_value_datum.specs.declared.attribute_value.AttributeValue.{AttributeValue}
 use Rattle.bq_value.specs.Datum.{Datum, none, string}
 use Rattle.bq_builtin_machine.specs.Args.{Passed}
 use Rattle.bq_builtin_machine.specs.State.{State, stop_at}
 use Rattle.bq_builtin_machine.specs.Action.{Run, Action, done, stopped, ◌>>=◌, given, on_machine}
 use Rattle.bq_builtin_machine.specs.Binding.{bind}
 use Rattle.bq_builtin_machine.specs.Cells.{new_list}
-use Rattle.bq_package_host.specs.Host.{HostCalls}
+use Rattle.bq_package_values.specs.Host.{HostCalls}
 use Rattle.bq_package_target.specs.declared.state.Declared.{Declared}
 use Rattle.bq_package_target.specs.declared.state.Declared.TheVariants.{Accepted, Refused}
 use Rattle.bq_package_target.specs.Package.{PackageTargets}
 use Rattle.bq_package_target.specs.Calls.{declared, exported}
-use Rattle.bq_package_typed_value.specs.declared.scope.PackageScope.{PackageScope}
-use Rattle.bq_package_typed_value.specs.declared.written.Written.{Written}
-use Rattle.bq_package_typed_value.specs.Steps.{and_then}
-use Rattle.bq_package_typed_value.specs.Values.{typed}
+use Rattle.bq_package_values.specs.declared.scope.PackageScope.{PackageScope}
+use Rattle.bq_package_values.specs.declared.written.Written.{Written}
+use Rattle.bq_package_values.specs.Steps.{and_then}
+use Rattle.bq_package_values.specs.Values.{typed}
 use Rattle.bq_package.specs.declared.building.BuildHost.{BuildHost}
 use Rattle.bq_package.specs.declared.building.Building.{Building}
-use Rattle.bq_resolve_predeclared.specs.declared.host_function.HostFunction.{HostFunction}
-use Rattle.bq_resolve_predeclared.specs.declared.host_function.HostFunction.TheVariants as b
+use Rattle.bq_predeclared.specs.declared.host_function.HostFunction.{HostFunction}
+use Rattle.bq_predeclared.specs.declared.host_function.HostFunction.TheVariants as b
 use Rattle.bq_package.specs.Place.{PlaceView, place_of}
 use Rattle.bq_package.specs.Glob.{globbed}
 use Rattle.bq_package.specs.Files.{files_named}

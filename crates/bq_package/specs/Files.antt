@@ -5,11 +5,11 @@ use Rattle.bq_label.specs.Label.{LabelParts}
 use Rattle.bq_value.specs.Cells.{StoreView}
 use Rattle.bq_builtin_machine.specs.Args.{Passed}
 use Rattle.bq_builtin_machine.specs.Binding.{bind}
-use Rattle.bq_package_typed_value.specs.declared.label_texts.TextKind.TheVariants as k
-use Rattle.bq_package_typed_value.specs.Steps.{and_then}
-use Rattle.bq_package_typed_value.specs.LabelTexts.{labels}
+use Rattle.bq_package_values.specs.declared.label_texts.TextKind.TheVariants as k
+use Rattle.bq_package_values.specs.Steps.{and_then}
+use Rattle.bq_package_values.specs.LabelTexts.{labels}
 use Rattle.bq_package.specs.Place.{PlaceView}
-use Rattle.bq_package_typed_value.specs.Parameters.{argument}
+use Rattle.bq_package_values.specs.Parameters.{argument}
 use Rattle.bq_package.specs.Bound.{exports_parameters, texts_of}
 
 -- the files that a call names

@@ -6,16 +6,16 @@ use Rattle.bq_base.specs.declared.fault.EvalFault.{EvalFault}
 use Rattle.bq_base.specs.declared.fault.EvalFault.TheVariants.{BadValue, GlobPattern, GlobEmpty}
 use Rattle.bq_value.specs.Datum.{Datum, boolean, int}
 use Rattle.bq_value.specs.Cells.{StoreView}
-use Rattle.bq_value_compare.specs.Truth.{truth_of}
+use Rattle.bq_value.specs.Truth.{truth_of}
 use Rattle.bq_builtin_machine.specs.Args.{Passed}
 use Rattle.bq_builtin_machine.specs.Binding.{bind}
-pub use Rattle.bq_label_glob_pattern.specs.Matching.{is_nothing}
-use Rattle.bq_label_glob_pattern.specs.Pattern.{is_pattern}
+pub use Rattle.bq_label_glob.specs.Matching.{is_nothing}
+use Rattle.bq_label_glob.specs.Pattern.{is_pattern}
 use Rattle.bq_label_glob.specs.Names.{glob}
-use Rattle.bq_package_typed_value.specs.Steps.{and_then, in_turn}
+use Rattle.bq_package_values.specs.Steps.{and_then, in_turn}
 use Rattle.bq_package.specs.declared.glob.GlobRequest.{GlobRequest}
 use Rattle.bq_package.specs.Place.{PlaceView}
-use Rattle.bq_package_typed_value.specs.Parameters.{argument}
+use Rattle.bq_package_values.specs.Parameters.{argument}
 use Rattle.bq_package.specs.Bound.{glob_parameters, texts_of}
 
 -- a pattern, if it is well formed

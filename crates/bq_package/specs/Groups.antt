@@ -6,17 +6,17 @@ use Rattle.bq_base.specs.declared.fault.EvalFault.{EvalFault}
 use Rattle.bq_label.specs.Label.{LabelParts}
 use Rattle.bq_value.specs.Datum.{Datum}
 use Rattle.bq_value.specs.Cells.{StoreView}
-use Rattle.bq_value_compare.specs.Truth.{some_element}
+use Rattle.bq_value.specs.Truth.{some_element}
 use Rattle.bq_builtin_machine.specs.Args.{Passed}
 use Rattle.bq_builtin_machine.specs.Binding.{bind}
 use Rattle.bq_package_target.specs.declared.target.Target.{Target}
 use Rattle.bq_package_target.specs.declared.target.TargetKind.TheVariants as target
-use Rattle.bq_value_rule_class.specs.declared.value.AttributeValue.TheVariants as a
-use Rattle.bq_package_typed_value.specs.declared.label_texts.TextKind.TheVariants as k
-use Rattle.bq_package_typed_value.specs.Steps.{and_then}
-use Rattle.bq_package_typed_value.specs.LabelTexts.{label, labels}
+use Rattle.bq_value_datum.specs.declared.attribute_value.AttributeValue.TheVariants as a
+use Rattle.bq_package_values.specs.declared.label_texts.TextKind.TheVariants as k
+use Rattle.bq_package_values.specs.Steps.{and_then}
+use Rattle.bq_package_values.specs.LabelTexts.{label, labels}
 use Rattle.bq_package.specs.Place.{PlaceView}
-use Rattle.bq_package_typed_value.specs.Parameters.{argument}
+use Rattle.bq_package_values.specs.Parameters.{argument}
 use Rattle.bq_package.specs.Bound.{group_parameters, text_of, texts_of}
 
 -- the name isn't written after the included groups, among named arguments

@@ -4,16 +4,16 @@ use Rattle.std.specs.List.{AllZip}
 use Rattle.bq_base.specs.declared.fault.EvalFault.TheVariants.{NotInPackage}
 use Rattle.bq_label.specs.declared.packages.BuildFile.{BuildFile}
 use Rattle.bq_label.specs.Label.{PackageParts, LabelParts, ReadsAs}
-use Rattle.bq_resolve_predeclared.specs.declared.host_function.HostFunction.{HostFunction}
-use Rattle.bq_resolve_predeclared.specs.declared.host_function.HostFunction.TheVariants as h
-use Rattle.bq_value_rule_class.specs.Class.{Class}
-use Rattle.bq_value_rule_class.specs.declared.value.AttributeValue.TheVariants as a
+use Rattle.bq_predeclared.specs.declared.host_function.HostFunction.{HostFunction}
+use Rattle.bq_predeclared.specs.declared.host_function.HostFunction.TheVariants as h
+use Rattle.bq_value_datum.specs.Class.{Class}
+use Rattle.bq_value_datum.specs.declared.attribute_value.AttributeValue.TheVariants as a
 use Rattle.bq_value.specs.Datum.{Datum}
 use Rattle.bq_builtin_machine.specs.Args.{Passed}
 use Rattle.bq_builtin_machine.specs.State.{State, stop_at}
 use Rattle.bq_builtin_machine.specs.Action.{done, stopped}
 use Rattle.bq_package_target.specs.declared.target.Target.{Target}
-use Rattle.bq_package_typed_value.specs.declared.written.Written.TheVariants as w
+use Rattle.bq_package_values.specs.declared.written.Written.TheVariants as w
 use Rattle.bq_package.specs.Calls.{HeldPackage, outside, declaring, Declaring, own_of, meaning}
 
 -- while no BUILD file is evaluated every call is F70, also of a rule that a .bzl file declares

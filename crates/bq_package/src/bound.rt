@@ -3,11 +3,11 @@
 ghost use Rattle.std.specs.Prelude.{◌≡◌};
 ghost use Rattle.bq_base.specs.Gives.{Gives};
 ghost use Rattle.bq_value.specs.declared.error.EvalErr.TheVariants.{Bad};
-ghost use Rattle.bq_package_typed_value.specs.Parameters.{argument};
+ghost use Rattle.bq_package_values.specs.Parameters.{argument};
 ghost use Rattle.bq_package.specs.Bound.{text_of, texts_of};
 
 use bq_base::{Bytes, EvalFault};
-use bq_package_typed_value::{argument, text_in, texts_in};
+use bq_package_values::{argument, text_in, texts_in};
 use bq_value::{EvalErr, Store, Value};
 use sqlite_items::Items;
 use std::alloc::Global;

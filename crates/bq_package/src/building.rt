@@ -5,7 +5,7 @@ ghost use Rattle.bq_label.specs.Label.{package_of};
 
 use crate::place::Place;
 use bq_package_target::{KeptValues, PackageState};
-use bq_package_typed_value::PackageScope;
+use bq_package_values::PackageScope;
 use std::cell::Cell;
 
 /// Carries out the calls of build functions and of rules, in a BUILD file or outside of one. Contracts see what it keeps by `held_by`.

@@ -12,9 +12,9 @@ use crate::bound::texts_of;
 use crate::place::Place;
 use bq_builtin_machine::{Args, Bound, Signature, SingleParameter, bind};
 use bq_label::Label;
-use bq_package_typed_value::{TextKind, labels};
+use bq_package_values::{TextKind, labels};
 use bq_value::{EvalErr, Store};
-use bq_value_seed::Seed;
+use bq_value_datum::Seed;
 use sqlite_items::Items;
 use std::alloc::Global;
 

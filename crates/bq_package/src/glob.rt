@@ -5,7 +5,7 @@ ghost use Rattle.bq_base.specs.Gives.{Gives};
 ghost use Rattle.bq_value.specs.declared.error.EvalErr.TheVariants.{Bad};
 ghost use Rattle.bq_builtin_machine.specs.Binding.{bind};
 ghost use Rattle.bq_package.specs.Place.{place_of};
-ghost use Rattle.bq_package_typed_value.specs.Parameters.{argument};
+ghost use Rattle.bq_package_values.specs.Parameters.{argument};
 ghost use Rattle.bq_package.specs.Bound.{glob_parameters};
 ghost use Rattle.bq_package.specs.Glob.{patterns, excludes_directories, request_of, is_nothing, found, globbed};
 
@@ -13,12 +13,10 @@ use crate::bound::texts_of;
 use crate::place::Place;
 use bq_base::{Bytes, EvalFault, SourceErr};
 use bq_builtin_machine::{Args, Bound, Signature, SingleParameter, bind};
-use bq_label_glob::{any_is_idle, glob};
-use bq_label_glob_pattern::{Pattern, read_pattern};
-use bq_package_typed_value::argument;
-use bq_value::{EvalErr, Node, Store, Value};
-use bq_value_compare::truth;
-use bq_value_seed::Seed;
+use bq_label_glob::{Pattern, any_is_idle, glob, read_pattern};
+use bq_package_values::argument;
+use bq_value::{EvalErr, Node, Store, Value, truth};
+use bq_value_datum::Seed;
 use sqlite_items::Items;
 use std::alloc::Global;
 
@@ -63,7 +61,7 @@ fn bind_glob(alloc: Global, args: Args) -> Result<Bound, EvalErr>
 }
 
 /// Reads texts as patterns, or fails with F77.
-#[tactic(auto, unfolding(crate::specs::Glob::patterns, bq_package_typed_value::specs::Steps::in_turn))]
+#[tactic(auto, unfolding(crate::specs::Glob::patterns, bq_package_values::specs::Steps::in_turn))]
 fn patterns(alloc: Global, texts: &[Bytes]) -> Result<Items<Pattern>, EvalErr>
     ensures { Gives (λ ps. ps) Bad result (patterns texts.now) }
 {

@@ -2,7 +2,7 @@
 
 use bq_label::Workspace;
 use bq_package_schema::Schema;
-use bq_package_typed_value::PackageScope;
+use bq_package_values::PackageScope;
 
 /// Where a BUILD file is evaluated.
 #[derive(Clone, Copy)]

@@ -13,7 +13,7 @@ use bq_package_attributes::{Callee, declaration};
 use bq_package_schema::rule_names;
 use bq_package_target::Target;
 use bq_value::EvalErr;
-use bq_value_rule_class::RuleClass;
+use bq_value_datum::RuleClass;
 use std::alloc::Global;
 
 impl<'a> Place<'a> {

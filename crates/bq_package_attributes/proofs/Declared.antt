@@ -6,23 +6,23 @@ use Rattle.std.proofs.lemmas.Grind.{flat_map-append}
 use Rattle.bq_base.specs.declared.fault.EvalFault.TheVariants as f
 use Rattle.bq_label.specs.declared.packages.BuildFile.{BuildFile}
 use Rattle.bq_label.specs.Label.{PackageParts, LabelParts}
-use Rattle.bq_value_rule_class.specs.Class.{Class}
-use Rattle.bq_value_rule_class.specs.declared.value.AttributeValue.{AttributeValue}
+use Rattle.bq_value_datum.specs.Class.{Class}
+use Rattle.bq_value_datum.specs.declared.attribute_value.AttributeValue.{AttributeValue}
 use Rattle.bq_value.specs.Datum.{Datum}
 use Rattle.bq_value.specs.Cells.{StoreView}
 use Rattle.bq_builtin_machine.specs.Args.{Passed}
 use Rattle.bq_builtin_machine.specs.Binding.{bind}
 use Rattle.bq_package_target.specs.declared.target.Target.{Target}
 use Rattle.bq_package_target.specs.declared.value.GivenAttribute.{GivenAttribute}
-use Rattle.bq_value_rule_class.specs.Value.{names_outputs, no_outputs_of, outputs_of}
+use Rattle.bq_value_datum.specs.AttributeValue.{names_outputs, no_outputs_of, outputs_of}
 use Rattle.bq_package_target.specs.Value.{outputs_in}
 use Rattle.bq_package_target.specs.Target.{is_of, declares, generated}
 use Rattle.bq_package_target.specs.Package.{IsOwnCall}
 use Rattle.bq_package_attributes.specs.Arguments.{nothing_given, with_arguments}
 use Rattle.bq_package_attributes.specs.Declarations.{keywords_alone, gives, gives_mandatory, default_for, defaults, if_whole, target_of, target, declaration}
-use Rattle.bq_package_typed_value.proofs.Steps.{both_ok, then_ok}
+use Rattle.bq_package_values.proofs.Steps.{both_ok, then_ok}
 use Rattle.bq_package_attributes.proofs.Own.{IsOwnName, arguments_own}
-use Rattle.bq_package_attributes.proofs.Cases.{default_by}
+use Rattle.bq_package_attributes.proofs.DeclarationCases.{default_by}
 
 target_own : (own : PackageParts) (target : Target) → is_of own target.label ≡ true → list_all (is_of own) (outputs_in target.attributes) ≡ true → IsOwnCall own target
 unfolding declares

@@ -9,10 +9,10 @@ use Rattle.bq_value.specs.Datum.{Datum, string}
 use Rattle.bq_value.specs.Pairs.{found, put}
 use Rattle.bq_builtin_machine.specs.Args.{Passed}
 use Rattle.bq_builtin_machine.specs.Binding.{BoundView, take_keyword, take_named, take_all_named, and_bind, if_complete, placed, bind}
-use Rattle.bq_package_typed_value.specs.Steps.{and_then}
+use Rattle.bq_package_values.specs.Steps.{and_then}
 use Rattle.bq_package_attributes.specs.Declarations.{keywords_alone}
-use Rattle.bq_package_attributes.specs.Named.{pair_of, pairs, are_new}
-use Rattle.bq_package_attributes.proofs.Keywords.{put_new}
+use Rattle.bq_package_attributes.specs.KeywordArguments.{pair_of, pairs, are_new}
+use Rattle.bq_package_attributes.proofs.GivenKeywords.{put_new}
 
 abbrev with_pairs : BoundView → List (Datum × Datum) → BoundView
 with_pairs b ps = record b { keywords = ps }

@@ -9,10 +9,10 @@ use Rattle.bq_base.specs.declared.fault.EvalFault.TheVariants as f
 use Rattle.bq_label.specs.declared.packages.BuildFile.{BuildFile}
 use Rattle.bq_label.specs.Label.{PackageParts, LabelParts}
 use Rattle.bq_label.proofs.Orders.{at_head, head_or_tail}
-use Rattle.bq_package_attribute_type.specs.declared.attribute_type.AttributeType.{AttributeType}
-use Rattle.bq_value_rule_class.specs.Class.{Class}
-use Rattle.bq_value_rule_class.specs.Value.{names_outputs}
-use Rattle.bq_value_rule_class.specs.declared.attribute.Attribute.{Attribute}
+use Rattle.bq_predeclared.specs.declared.attribute_type.AttributeType.{AttributeType}
+use Rattle.bq_value_datum.specs.Class.{Class}
+use Rattle.bq_value_datum.specs.AttributeValue.{names_outputs}
+use Rattle.bq_value_datum.specs.declared.attribute.Attribute.{Attribute}
 use Rattle.bq_value.specs.Datum.{Datum, string}
 use Rattle.bq_value.specs.Same.{same}
 use Rattle.bq_value.specs.SameLaws.{same-true}
@@ -21,21 +21,21 @@ use Rattle.bq_value.specs.Cells.{StoreView}
 use Rattle.bq_builtin_machine.specs.Args.{Passed}
 use Rattle.bq_builtin_machine.specs.Binding.{BoundView, Binding, bind}
 use Rattle.bq_package_target.specs.declared.target.Target.{Target}
-use Rattle.bq_value_rule_class.specs.declared.value.AttributeValue.{AttributeValue}
-use Rattle.bq_value_rule_class.specs.declared.value.AttributeValue.TheVariants as a
+use Rattle.bq_value_datum.specs.declared.attribute_value.AttributeValue.{AttributeValue}
+use Rattle.bq_value_datum.specs.declared.attribute_value.AttributeValue.TheVariants as a
 use Rattle.bq_package_target.specs.declared.value.GivenAttribute.{GivenAttribute}
 use Rattle.bq_package_target.specs.Value.{attribute_type}
 use Rattle.bq_package_attributes.specs.declared.arguments.Given.{Given}
-use Rattle.bq_package_typed_value.specs.declared.label_texts.TextKind.TheVariants as k
-use Rattle.bq_package_typed_value.specs.Steps.{and_then}
-use Rattle.bq_package_typed_value.specs.Texts.{text_in}
-use Rattle.bq_package_typed_value.specs.LabelTexts.{label}
-use Rattle.bq_package_typed_value.specs.Values.{value_as}
+use Rattle.bq_package_values.specs.declared.label_texts.TextKind.TheVariants as k
+use Rattle.bq_package_values.specs.Steps.{and_then}
+use Rattle.bq_package_values.specs.Texts.{text_in}
+use Rattle.bq_package_values.specs.LabelTexts.{label}
+use Rattle.bq_package_values.specs.Values.{value_as}
 use Rattle.bq_package_attributes.specs.Arguments.{nothing_given, is_none, keyword, with_value, with_label, with_name, with_attribute, with_argument, with_arguments}
 use Rattle.bq_package_attributes.specs.Declarations.{keywords_alone, gives, is_met, gives_mandatory, default_for, defaults, if_whole, target_of, target, declaration}
-use Rattle.bq_package_attributes.specs.Laws.{has_attribute, MandatoryAttributesAreGiven, DefaultsAreGiven}
-use Rattle.bq_package_typed_value.proofs.Steps.{both_ok, then_ok, then_true}
-use Rattle.bq_package_attributes.proofs.Cases.{default_by, is_value, with_attribute_by}
+use Rattle.bq_package_attributes.specs.DeclarationLaws.{has_attribute, MandatoryAttributesAreGiven, DefaultsAreGiven}
+use Rattle.bq_package_values.proofs.Steps.{both_ok, then_ok, then_true}
+use Rattle.bq_package_attributes.proofs.DeclarationCases.{default_by, is_value, with_attribute_by}
 
 -- ---- one attribute more
 

@@ -5,19 +5,19 @@ use Rattle.bq_base.specs.declared.fault.EvalFault.{EvalFault}
 use Rattle.bq_base.specs.declared.fault.EvalFault.TheVariants as f
 use Rattle.bq_label.specs.declared.packages.BuildFile.{BuildFile}
 use Rattle.bq_label.specs.Label.{PackageParts, LabelParts}
-use Rattle.bq_package_attribute_type.specs.declared.attribute_type.AttributeType.{AttributeType}
-use Rattle.bq_value_rule_class.specs.Class.{Class}
-use Rattle.bq_value_rule_class.specs.declared.value.AttributeValue.{AttributeValue}
-use Rattle.bq_value_rule_class.specs.declared.value.AttributeValue.TheVariants as a
+use Rattle.bq_predeclared.specs.declared.attribute_type.AttributeType.{AttributeType}
+use Rattle.bq_value_datum.specs.Class.{Class}
+use Rattle.bq_value_datum.specs.declared.attribute_value.AttributeValue.{AttributeValue}
+use Rattle.bq_value_datum.specs.declared.attribute_value.AttributeValue.TheVariants as a
 use Rattle.bq_package_target.specs.Value.{attribute_type}
 use Rattle.bq_value.specs.Datum.{Datum, none, string}
 use Rattle.bq_value.specs.Cells.{StoreView}
 use Rattle.bq_package_attributes.specs.declared.arguments.Given.{Given}
-use Rattle.bq_package_typed_value.specs.declared.label_texts.TextKind.TheVariants as k
-use Rattle.bq_package_typed_value.specs.Steps.{and_then}
-use Rattle.bq_package_typed_value.specs.Texts.{text_in}
-use Rattle.bq_package_typed_value.specs.LabelTexts.{label}
-use Rattle.bq_package_typed_value.specs.Values.{value_as}
+use Rattle.bq_package_values.specs.declared.label_texts.TextKind.TheVariants as k
+use Rattle.bq_package_values.specs.Steps.{and_then}
+use Rattle.bq_package_values.specs.Texts.{text_in}
+use Rattle.bq_package_values.specs.LabelTexts.{label}
+use Rattle.bq_package_values.specs.Values.{value_as}
 
 -- before the first argument
 abbrev pub nothing_given : Given

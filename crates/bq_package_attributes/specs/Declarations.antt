@@ -7,8 +7,8 @@ use Rattle.bq_base.specs.declared.fault.EvalFault.{EvalFault}
 use Rattle.bq_base.specs.declared.fault.EvalFault.TheVariants.{MissingAttribute}
 use Rattle.bq_label.specs.declared.packages.BuildFile.{BuildFile}
 use Rattle.bq_label.specs.Label.{PackageParts, LabelParts}
-use Rattle.bq_value_rule_class.specs.Class.{Class}
-use Rattle.bq_value_rule_class.specs.declared.attribute.Attribute.{Attribute}
+use Rattle.bq_value_datum.specs.Class.{Class}
+use Rattle.bq_value_datum.specs.declared.attribute.Attribute.{Attribute}
 use Rattle.bq_package_target.specs.declared.target.Target.{Target}
 use Rattle.bq_package_target.specs.declared.target.TargetKind.TheVariants as kind
 use Rattle.bq_package_target.specs.declared.value.GivenAttribute.{GivenAttribute}
@@ -18,8 +18,8 @@ use Rattle.bq_value.specs.Pairs.{found}
 use Rattle.bq_builtin_machine.specs.Args.{Passed}
 use Rattle.bq_builtin_machine.specs.Parameters.{SignatureView}
 use Rattle.bq_builtin_machine.specs.Binding.{bind}
-use Rattle.bq_package_typed_value.specs.Steps.{and_then}
-use Rattle.bq_value_rule_class.specs.Value.{names_outputs}
+use Rattle.bq_package_values.specs.Steps.{and_then}
+use Rattle.bq_value_datum.specs.AttributeValue.{names_outputs}
 use Rattle.bq_package_attributes.specs.Arguments.{nothing_given, is_none, with_arguments}
 
 -- `**` alone

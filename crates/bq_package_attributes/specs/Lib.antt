@@ -1,4 +1,9 @@
+pub mod Keywords
+pub mod Attribute
+pub mod Rule
+pub mod Call
+pub mod RuleLaws
 pub mod Arguments
-pub mod Named
+pub mod KeywordArguments
 pub mod Declarations
-pub mod Laws
+pub mod DeclarationLaws

@@ -4,16 +4,16 @@ ghost use Rattle.std.specs.Prelude.{◌≡◌, IfOk};
 ghost use Rattle.bq_base.specs.Gives.{Gives};
 ghost use Rattle.bq_value.specs.declared.error.EvalErr.TheVariants.{Bad};
 ghost use Rattle.bq_value.specs.Datum.{string};
-ghost use Rattle.bq_package_attributes.specs.Named.{pairs};
+ghost use Rattle.bq_package_attributes.specs.KeywordArguments.{pairs};
 ghost use Rattle.bq_package_attributes.specs.Arguments.{is_none, keyword, with_name, with_argument, with_arguments};
 
-use crate::named::{HeldArguments, Keywords};
+use crate::keyword_arguments::{HeldArguments, Keywords};
 use bq_base::{Bytes, EvalFault};
 use bq_label::Label;
 use bq_package_target::{GivenAttribute, attribute_type};
-use bq_package_typed_value::{PackageScope, TextKind, label, text_in, value_as};
+use bq_package_values::{PackageScope, TextKind, label, text_in, value_as};
 use bq_value::{Dict, EvalErr, Key, Node, Store, Value};
-use bq_value_rule_class::{AttributeValue, RuleClass};
+use bq_value_datum::{AttributeValue, RuleClass};
 use sqlite_items::Items;
 use std::alloc::{AllocError, Global};
 

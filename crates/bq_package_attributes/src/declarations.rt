@@ -7,12 +7,12 @@ ghost use Rattle.bq_package_attributes.specs.Arguments.{nothing_given};
 ghost use Rattle.bq_package_attributes.specs.Declarations.{gives, gives_mandatory, default_for, defaults, target, declaration};
 
 use crate::arguments::{Callee, Given, is_none};
-use crate::named::Keywords;
+use crate::keyword_arguments::Keywords;
 use bq_base::{Bytes, EvalFault};
 use bq_builtin_machine::Args;
 use bq_package_target::{GivenAttribute, Target, TargetKind};
 use bq_value::EvalErr;
-use bq_value_rule_class::{Attribute, RuleClass};
+use bq_value_datum::{Attribute, RuleClass};
 use sqlite_items::Items;
 use std::alloc::{AllocError, Global};
 use std::mem;

@@ -1,7 +1,7 @@
 -- Parts of definitions, as words that proofs name.
 use Rattle.std.specs.Prelude.{List, None, Option, Some, [], ℕ, ◌∷◌}
-use Rattle.bq_value_rule_class.specs.Class.{Class, extended}
-use Rattle.bq_value_rule_class.specs.declared.attribute.Attribute.{Attribute}
+use Rattle.bq_value_datum.specs.Class.{Class, extended}
+use Rattle.bq_value_datum.specs.declared.attribute.Attribute.{Attribute}
 use Rattle.bq_package_schema.specs.Schema.{Rules, with_last}
 
 -- a list as all but its last element, and that

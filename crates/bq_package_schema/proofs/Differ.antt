@@ -5,13 +5,13 @@ use Rattle.std.specs.Map.{lookup}
 use Rattle.std.proofs.lemmas.Slice.Eq.{bytes_eq-Decides}
 use Rattle.bq_base.specs.declared.fault.FaultKind.{FaultKind}
 use Rattle.bq_base.specs.declared.fault.Fault.{Fault}
-use Rattle.bq_value_rule_class.specs.declared.attribute.Attribute.{Attribute}
-use Rattle.bq_value_rule_class.specs.Class.{Class, has_attribute, extended}
+use Rattle.bq_value_datum.specs.declared.attribute.Attribute.{Attribute}
+use Rattle.bq_value_datum.specs.Class.{Class, has_attribute, extended}
 use Rattle.bq_package_schema.specs.declared.line.Line.{Line}
 use Rattle.bq_package_schema.specs.declared.line.Line.TheVariants as line
 use Rattle.bq_package_schema.specs.Line.{line_of}
 use Rattle.bq_package_schema.specs.Schema.{Rules, with_rule, with_attribute_of_last, last_of, with_last, after}
-use Rattle.bq_base_names.specs.Names.{has}
+use Rattle.bq_base_texts.specs.NameSet.{has}
 use Rattle.bq_package_schema.specs.Reading.{declared_by}
 use Rattle.bq_package_schema.specs.Laws.{NoneTwice, EachNoneTwice, AreRules, names_of}
 use Rattle.bq_package_schema.proofs.Lines.{nothing_left, goes_on}

@@ -1,7 +1,7 @@
 -- One more attribute of the last rule.
 use Rattle.std.proofs.Common.{◌≡◌, ◌∙◌, ℕ, List, [], ◌∷◌, ◌++◌, length, Option, Some, None, refl, sym, ap, arith}
-use Rattle.bq_value_rule_class.specs.declared.attribute.Attribute.{Attribute}
-use Rattle.bq_value_rule_class.specs.Class.{Class, extended}
+use Rattle.bq_value_datum.specs.declared.attribute.Attribute.{Attribute}
+use Rattle.bq_value_datum.specs.Class.{Class, extended}
 use Rattle.bq_package_schema.specs.Schema.{Rules, last_of, with_last, with_attribute_of_last}
 use Rattle.bq_package_schema.proofs.Cases.{last_by, onto}
 

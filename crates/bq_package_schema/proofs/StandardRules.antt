@@ -9,9 +9,9 @@ use Rattle.bq_base.specs.declared.fault.Fault.{Fault}
 use Rattle.bq_base.specs.declared.fault.SourceErr.{SourceErr}
 use Rattle.bq_base.specs.declared.fault.SourceErr.TheVariants.{Bad, Memory}
 use Rattle.bq_parse_grammar.specs.Literals.{is_identifier}
-use Rattle.bq_package_attribute_type.specs.AttributeType.{type_named}
-use Rattle.bq_resolve_predeclared.specs.Predeclared.{place_from, first_named, predeclared_named}
-use Rattle.bq_value_rule_class.specs.Class.{extended}
+use Rattle.bq_predeclared.specs.AttributeType.{type_named}
+use Rattle.bq_predeclared.specs.Predeclared.{place_from, first_named, predeclared_named}
+use Rattle.bq_value_datum.specs.Class.{extended}
 use Rattle.bq_package_schema.specs.Line.{is_skipped, is_predeclared, names_rule, names_attribute, rule_line, attribute_line, words_line, line_of}
 use Rattle.bq_package_schema.specs.Schema.{Rules, no_rules, with_rule, last_of, with_attribute_of_last, after}
 use Rattle.bq_package_schema.specs.Reading.{declared_by}

@@ -2,12 +2,12 @@
 use Rattle.std.specs.Prelude.{◌≡◌, ◌≢◌, ℕ, List, [], ◌∷◌, ◌++◌, length, map, false, None, Ok, Err}
 use Rattle.bq_base.specs.declared.fault.FaultKind.{FaultKind}
 use Rattle.bq_base.specs.declared.fault.Fault.{Fault}
-use Rattle.bq_value_rule_class.specs.Class.{Class}
-use Rattle.bq_value_rule_class.specs.declared.attribute.Attribute.{Attribute}
+use Rattle.bq_value_datum.specs.Class.{Class}
+use Rattle.bq_value_datum.specs.declared.attribute.Attribute.{Attribute}
 use Rattle.bq_package_schema.specs.declared.line.Line.TheVariants as line
 use Rattle.bq_package_schema.specs.Line.{line_of}
 use Rattle.bq_package_schema.specs.Schema.{Rules, no_rules, after}
-use Rattle.bq_base_names.specs.Names.{has}
+use Rattle.bq_base_texts.specs.NameSet.{has}
 use Rattle.bq_package_schema.specs.Reading.{lines, bad_line, declared_by, schema_of}
 
 -- the lines before this one declare rules, and it is a bad one after them

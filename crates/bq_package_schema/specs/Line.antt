@@ -4,9 +4,9 @@ use Rattle.std.specs.Prelude.{ℕ, List, [], ◌∷◌, Bool, true, false, not, 
 use Rattle.std.specs.List.{list_all, slice_split}
 use Rattle.bq_source.specs.Lexis.{is_blank}
 use Rattle.bq_parse_grammar.specs.Literals.{is_identifier}
-use Rattle.bq_resolve_predeclared.specs.Predeclared.{predeclared_named}
-use Rattle.bq_package_attribute_type.specs.AttributeType.{type_named}
-use Rattle.bq_value_rule_class.specs.Common.{common_attribute}
+use Rattle.bq_predeclared.specs.Predeclared.{predeclared_named}
+use Rattle.bq_predeclared.specs.AttributeType.{type_named}
+use Rattle.bq_value_datum.specs.CommonAttributes.{common_attribute}
 use Rattle.bq_package_schema.specs.declared.line.Line.{Line}
 use Rattle.bq_package_schema.specs.declared.line.Line.TheVariants as line
 

@@ -1,8 +1,8 @@
 -- The rules that the lines of a schema have declared so far, and what a further line makes of them (ours).
 use Rattle.std.specs.Prelude.{ℕ, List, [], ◌∷◌, ◌++◌, Option, Some, None, if◌then◌else◌}
-use Rattle.bq_base_names.specs.Names.{has}
-use Rattle.bq_value_rule_class.specs.Class.{Class, extended}
-use Rattle.bq_value_rule_class.specs.declared.attribute.Attribute.{Attribute}
+use Rattle.bq_base_texts.specs.NameSet.{has}
+use Rattle.bq_value_datum.specs.Class.{Class, extended}
+use Rattle.bq_value_datum.specs.declared.attribute.Attribute.{Attribute}
 use Rattle.bq_package_schema.specs.declared.line.Line.{Line}
 use Rattle.bq_package_schema.specs.declared.line.Line.TheVariants as line
 

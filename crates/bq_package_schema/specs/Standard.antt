@@ -1,9 +1,9 @@
 -- The schema of a workspace without a file of its own (ours: a part of the rules of Bazel, Build Encyclopedia: filegroup, genrule, alias,
 -- test_suite).
 use Rattle.std.specs.Prelude.{ℕ, List, [], ◌∷◌, true, false, None, codes}
-use Rattle.bq_value_rule_class.specs.declared.attribute.Attribute.{Attribute}
-use Rattle.bq_package_attribute_type.specs.declared.attribute_type.AttributeType.{AttributeType}
-use Rattle.bq_package_attribute_type.specs.declared.attribute_type.AttributeType.TheVariants as t
+use Rattle.bq_value_datum.specs.declared.attribute.Attribute.{Attribute}
+use Rattle.bq_predeclared.specs.declared.attribute_type.AttributeType.{AttributeType}
+use Rattle.bq_predeclared.specs.declared.attribute_type.AttributeType.TheVariants as t
 use Rattle.bq_package_schema.specs.Schema.{Rules}
 
 -- its lines

@@ -7,10 +7,9 @@ ghost use Rattle.bq_package_schema.specs.Line.{is_skipped, words, rule_line, att
 ghost use Rattle.bq_package_schema.specs.declared.line.Line.TheVariants as line;
 
 use bq_base::Bytes;
-use bq_package_attribute_type::type_named;
 use bq_parse_grammar::is_identifier;
-use bq_resolve_predeclared::predeclared_named;
-use bq_value_rule_class::{Attribute, common_attribute};
+use bq_predeclared::{predeclared_named, type_named};
+use bq_value_datum::{Attribute, common_attribute};
 use std::alloc::{AllocError, Global};
 
 /// What a line says.

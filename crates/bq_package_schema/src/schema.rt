@@ -3,8 +3,8 @@
 ghost use Rattle.std.specs.Prelude.{◌≡◌, position, slice_get, option_copied, bytes_eq, IfOk};
 
 use bq_base::Bytes;
-use bq_base_names::NameSet;
-use bq_value_rule_class::RuleClass;
+use bq_base_texts::NameSet;
+use bq_value_datum::RuleClass;
 use sqlite_items::Items;
 use std::alloc::AllocError;
 use std::marker::Model;

@@ -9,7 +9,7 @@ use Rattle.std.proofs.lemmas.Map.Keys.{IsDistinct-head, IsDistinct-tail}
 use Rattle.bq_package_target.specs.declared.target.Target.{Target}
 use Rattle.bq_package_target.specs.declared.state.Declared.TheVariants.{Accepted, Refused}
 use Rattle.bq_package_target.specs.Names.{with_name, are_new}
-use Rattle.bq_base_names.specs.Names.{has}
+use Rattle.bq_base_texts.specs.NameSet.{has}
 use Rattle.bq_package_target.specs.Target.{names_of, declares}
 use Rattle.bq_package_target.specs.Package.{PackageTargets, finished}
 use Rattle.bq_package_target.specs.Laws.{KeepsOrder, AcceptsDistinct}

@@ -12,7 +12,7 @@ use Rattle.bq_label.specs.Label.{PackageParts, LabelParts}
 use Rattle.bq_package_target.specs.declared.files.Files.{Files}
 use Rattle.bq_package_target.specs.declared.target.Target.{Target}
 use Rattle.bq_package_target.specs.Names.{with_name}
-use Rattle.bq_base_names.specs.Names.{has}
+use Rattle.bq_base_texts.specs.NameSet.{has}
 use Rattle.bq_package_target.specs.Target.{is_of, source}
 use Rattle.bq_package_target.specs.Package.{new_files}
 use Rattle.bq_package_target.specs.Files.{Finds, FindsOwn}

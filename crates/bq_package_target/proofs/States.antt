@@ -13,7 +13,7 @@ use Rattle.bq_package_target.specs.Value.{labels_in, outputs_in}
 use Rattle.bq_package_target.specs.declared.state.Declared.TheVariants.{Accepted, Refused}
 use Rattle.bq_package_target.specs.Calls.{declared, exported}
 use Rattle.bq_package_target.specs.Names.{are_new}
-use Rattle.bq_base_names.specs.Names.{has}
+use Rattle.bq_base_texts.specs.NameSet.{has}
 use Rattle.bq_package_target.specs.Target.{is_of, names_of, source, generated, declares}
 use Rattle.bq_package_target.specs.Package.{PackageTargets, AreTargetsOf, IsState, IsOwnCall, new_files, files, own_labels, finished, target_named, is_taken}
 use Rattle.bq_package_target.proofs.Cases.{is_other}

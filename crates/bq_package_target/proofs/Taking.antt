@@ -7,7 +7,7 @@ use Rattle.std.proofs.lemmas.List.{take-append-le, take_all, length-take}
 use Rattle.std.proofs.lemmas.Map.Keys.{IsDistinct-push}
 use Rattle.std.specs.Cmp.Lexicographic.{nat_list_eq_equiv}
 use Rattle.bq_package_target.specs.Names.{with_name, are_new}
-use Rattle.bq_base_names.specs.Names.{has}
+use Rattle.bq_base_texts.specs.NameSet.{has}
 
 -- what an answer of `add` says of the name
 pub was_there : (b c : Bool) → c ≡ not b → c ≡ false → b ≡ true

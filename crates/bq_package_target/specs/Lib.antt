@@ -6,3 +6,6 @@ pub mod Calls
 pub mod Files
 pub mod ByName
 pub mod Laws
+pub mod PackageOrder
+pub mod Dependencies
+pub mod SourceFiles

@@ -1,6 +1,6 @@
 -- The names that are taken in a package.
 use Rattle.std.specs.Prelude.{ℕ, List, [], ◌∷◌, ◌++◌, Bool, true, not, ◌&&◌, if◌then◌else◌}
-use Rattle.bq_base_names.specs.Names.{has}
+use Rattle.bq_base_texts.specs.NameSet.{has}
 
 -- the name as the last, where it isn't there
 unfoldable pub with_name : List (List ℕ) → List ℕ → List (List ℕ)

@@ -6,7 +6,7 @@ use Rattle.bq_label.specs.Label.{PackageParts, LabelParts, package_of}
 use Rattle.bq_package_target.specs.declared.target.Target.{Target}
 use Rattle.bq_package_target.specs.Value.{labels_in}
 use Rattle.bq_package_target.specs.Target.{is_source, is_of, names_of, source, declares}
-use Rattle.bq_base_names.specs.Names.{has}
+use Rattle.bq_base_texts.specs.NameSet.{has}
 
 -- a package, by the label of its BUILD file, and its targets in the order in which they are declared
 pub record PackageTargets : Type 0 where

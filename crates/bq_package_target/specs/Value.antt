@@ -4,10 +4,10 @@ use Rattle.std.specs.Option.{option_map}
 use Rattle.std.specs.List.{flat_map}
 use Rattle.std.specs.Map.{lookup}
 use Rattle.bq_label.specs.Label.{LabelParts}
-use Rattle.bq_package_attribute_type.specs.declared.attribute_type.AttributeType.{AttributeType}
-use Rattle.bq_value_rule_class.specs.Common.{common_attribute}
-use Rattle.bq_value_rule_class.specs.Class.{Class}
-use Rattle.bq_value_rule_class.specs.Value.{labels_of, outputs_of}
+use Rattle.bq_predeclared.specs.declared.attribute_type.AttributeType.{AttributeType}
+use Rattle.bq_value_datum.specs.CommonAttributes.{common_attribute}
+use Rattle.bq_value_datum.specs.Class.{Class}
+use Rattle.bq_value_datum.specs.AttributeValue.{labels_of, outputs_of}
 use Rattle.bq_package_target.specs.declared.value.GivenAttribute.{GivenAttribute}
 
 -- the targets that attributes name, in order

@@ -5,8 +5,8 @@ ghost use Rattle.bq_package_target.specs.Value.{outputs_in};
 ghost use Rattle.bq_package_target.specs.Target.{names_of, generated, declares};
 ghost use Rattle.bq_package_target.specs.Names.{are_new};
 
-use crate::kept::KeptValues;
 use crate::names::TargetNames;
+use crate::shared_values::KeptValues;
 use crate::state::{Declared, PackageState};
 use crate::target::Target;
 use bq_label::Label;

@@ -2,10 +2,10 @@
 
 ghost use Rattle.std.specs.Prelude.{◌≡◌, [], not, length, take, position, bytes_eq, IfOk, OnOk};
 ghost use Rattle.bq_package_target.specs.Names.{with_name};
-ghost use Rattle.bq_base_names.specs.Names.{has};
+ghost use Rattle.bq_base_texts.specs.NameSet.{has};
 
 use bq_base::Bytes;
-use bq_base_names::NameSet;
+use bq_base_texts::NameSet;
 use std::alloc::{AllocError, Global};
 use std::marker::Model;
 

@@ -2,8 +2,8 @@
 
 ghost use Rattle.std.specs.Prelude.{◌≡◌};
 
-use crate::kept::KeptValues;
 use crate::names::TargetNames;
+use crate::shared_values::KeptValues;
 use crate::target::Target;
 use bq_label::Label;
 use sqlite_items::Items;

@@ -6,7 +6,7 @@ ghost use Rattle.bq_package_target.specs.Target.{is_source, generated};
 use crate::value::GivenAttribute;
 use bq_base::Bytes;
 use bq_label::Label;
-use bq_value_rule_class::RuleClass;
+use bq_value_datum::RuleClass;
 use sqlite_items::Items;
 use std::alloc::{AllocError, Global};
 

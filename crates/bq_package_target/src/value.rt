@@ -4,8 +4,8 @@ ghost use Rattle.std.specs.Prelude.{◌≡◌};
 ghost use Rattle.bq_package_target.specs.Value.{attribute_type};
 
 use bq_base::Bytes;
-use bq_package_attribute_type::AttributeType;
-use bq_value_rule_class::{AttributeValue, RuleClass, common_attribute};
+use bq_predeclared::AttributeType;
+use bq_value_datum::{AttributeValue, RuleClass, common_attribute};
 
 /// An attribute with the value that a call gives it, or that it has by default.
 pub struct GivenAttribute {

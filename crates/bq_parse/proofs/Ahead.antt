@@ -3,7 +3,7 @@ use Rattle.std.proofs.Common.{◌≡◌, suc, List, [], ◌∷◌, length, Some,
 use Rattle.bq_source.specs.declared.token.TokenKind.{TokenKind}
 use Rattle.bq_parse_grammar.specs.Lexeme.{Lexeme}
 use Rattle.bq_parse_grammar.specs.Turns.{next}
-use Rattle.bq_parse_cursor.specs.Tokens.{kind_ahead}
+use Rattle.bq_parse_grammar.specs.Tokens.{kind_ahead}
 
 pub one_less : (ts : List Lexeme) (q : TokenKind) → kind_ahead ts ≡ Some q → length ts ≡ suc (length (next ts))
 one_less [] q e = absurd (cc)

@@ -4,7 +4,7 @@ use Rattle.bq_source.specs.declared.token.TokenKind.{TokenKind}
 use Rattle.bq_parse_grammar.specs.Lexeme.{Lexeme}
 use Rattle.bq_parse_grammar.specs.Turns.{next}
 use Rattle.bq_parse_grammar.specs.Pieces.{ends_line, indents_after, begins_statement, is_zero, onto, cut, pieces}
-use Rattle.bq_parse_cursor.specs.Tokens.{kind_ahead}
+use Rattle.bq_parse_grammar.specs.Tokens.{kind_ahead}
 use Rattle.bq_parse.specs.Pieces.{piece_len, rest_len}
 use Rattle.bq_parse.proofs.Ahead.{same_kind_ahead}
 

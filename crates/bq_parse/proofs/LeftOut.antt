@@ -6,7 +6,7 @@ use Rattle.bq_source.specs.Token.{same_kind}
 use Rattle.bq_parse_grammar.specs.Lexeme.{Lexeme}
 use Rattle.bq_parse_grammar.specs.Turns.{sees, next}
 use Rattle.bq_parse_grammar.specs.LeftOut.{calls_name, calls_method, kinds, leaves_out_by, leaves_out, is_compound, is_starred, has_starred}
-use Rattle.bq_parse_cursor.specs.Tokens.{kind_ahead}
+use Rattle.bq_parse_grammar.specs.Tokens.{kind_ahead}
 use Rattle.bq_parse.specs.LeftOut.{leaves_out_of, leaves_out_next}
 use Rattle.bq_parse.proofs.Ahead.{same_kind_ahead}
 

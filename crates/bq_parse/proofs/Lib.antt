@@ -1,3 +1,7 @@
+pub mod LoopTurns
+pub mod Reversed
+pub mod Strings
+pub mod Taken
 pub mod Ahead
 pub mod Cutting
 pub mod Open

@@ -4,7 +4,7 @@ use Rattle.bq_source.specs.declared.token.TokenKind.{TokenKind}
 use Rattle.bq_parse_grammar.specs.Lexeme.{Lexeme}
 use Rattle.bq_parse_grammar.specs.Nesting.{max_nesting, open_after, nests}
 use Rattle.bq_parse_grammar.specs.Turns.{next}
-use Rattle.bq_parse_cursor.specs.Tokens.{kind_ahead}
+use Rattle.bq_parse_grammar.specs.Tokens.{kind_ahead}
 use Rattle.bq_parse.proofs.Ahead.{same_kind_ahead}
 
 small : (n : ℕ) → n ≤ max_nesting → nat_le n max_nesting ≡ true

@@ -6,7 +6,7 @@ use Rattle.bq_base.specs.declared.fault.StatementFault.{StatementFault}
 use Rattle.bq_base.specs.Fault.{fault_at}
 use Rattle.bq_parse_grammar.specs.Lexeme.{Lexeme}
 use Rattle.bq_parse_grammar.specs.Statements.{line_of}
-use Rattle.bq_parse_tree_laws.specs.Depth.{max_depth, stmt_depth}
+use Rattle.bq_parse_laws.specs.Depth.{max_depth, stmt_depth}
 use Rattle.bq_parse_grammar.specs.declared.tree.TopLevel.{TopLevel}
 
 -- a statement, or its fault at its first line

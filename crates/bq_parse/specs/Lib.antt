@@ -1,3 +1,5 @@
+pub mod Makes
+pub mod Inner
 pub mod Pieces
 pub mod LeftOut
 pub mod Nested

@@ -12,10 +12,8 @@ ghost use Rattle.bq_base.specs.declared.fault.SourceErr.TheVariants.{Bad};
 use crate::pieces::piece_len;
 use crate::verdict::verdict;
 use bq_base::{SourceErr, StatementFault};
-use bq_parse_cursor::Tokens;
-use bq_parse_grammar::{FileKind, TopLevel};
+use bq_parse_grammar::{FileKind, Items, Tokens, TopLevel};
 use bq_source::Token;
-use bq_tree_items::Items;
 use std::alloc::Global;
 use std::marker::Model;
 
@@ -49,7 +47,7 @@ impl Model for ParsedFile {
 }
 
 impl ParsedFile {
-    /// Returns the statements. None is deeper than `max_depth` of `bq_parse_tree_laws`, so that recursion over one takes bounded stack.
+    /// Returns the statements. None is deeper than `max_depth` of `bq_parse_laws`, so that recursion over one takes bounded stack.
     pub fn statements(&self) -> &[TopLevel]
         ensures all { result.now ≡ self.now }
         ensures shallow { AreShallow self.now }

@@ -4,7 +4,7 @@ ghost use Rattle.std.specs.Prelude.{◌≡◌};
 ghost use Rattle.bq_parse.specs.LeftOut as spec;
 ghost use Rattle.bq_parse_grammar.specs.LeftOut as left_out;
 
-use bq_parse_cursor::Tokens;
+use bq_parse_grammar::Tokens;
 use bq_source::TokenKind;
 
 /// Returns whether `identifier (` comes next.

@@ -3,7 +3,7 @@
 ghost use Rattle.std.specs.Prelude.{◌≡◌, ◌≤◌, ◌+◌};
 ghost use Rattle.bq_parse_grammar.specs.Nesting as nesting;
 
-use bq_parse_cursor::Tokens;
+use bq_parse_grammar::Tokens;
 use bq_source::TokenKind;
 
 /// How many brackets and indents may be in one another.

@@ -4,7 +4,7 @@ ghost use Rattle.std.specs.Prelude.{◌≡◌, ◌<◌, ◌≤◌, ◌+◌, ◌^
 ghost use Rattle.bq_parse.specs.Pieces as spec;
 ghost use Rattle.bq_parse_grammar.specs.Pieces as pieces;
 
-use bq_parse_cursor::Tokens;
+use bq_parse_grammar::Tokens;
 use bq_source::TokenKind;
 
 /// Returns whether a statement begins with this token, given whether a line may begin here and how many indents are open.

@@ -8,10 +8,9 @@ ghost use Rattle.bq_base.specs.declared.fault.SourceErr.TheVariants.{Bad};
 use crate::left_out::{has_starred, leaves_out};
 use crate::nested::nested_def;
 use crate::nesting::{MAX_NESTING, nests};
+use crate::statements::top_level;
 use bq_base::{Fault, SourceErr, StatementFault};
-use bq_parse_cursor::Tokens;
-use bq_parse_grammar::{FileKind, SyntaxErr, TopLevel};
-use bq_parse_statement::top_level;
+use bq_parse_grammar::{FileKind, SyntaxErr, Tokens, TopLevel};
 use bq_source::TokenKind;
 use std::alloc::Global;
 

@@ -12,7 +12,7 @@ use Rattle.bq_parse_grammar.specs.declared.tree.Nested.TheVariants.{Or, Test}
 use Rattle.bq_parse_grammar.specs.Operators.{sign, negation}
 use Rattle.bq_parse_grammar.specs.Turns.{Parse, ◌>>=◌}
 use Rattle.bq_parse_grammar.specs.Reading.{is_known, binary, chain, comp_after, comp, not_test, and_test, or_test, conditional, test, phrase_by}
-use Rattle.bq_parse_cursor.specs.Tokens.{kind_ahead}
+use Rattle.bq_parse_grammar.specs.Tokens.{kind_ahead}
 use Rattle.bq_parse_expression.specs.Lone.{ends_phrase, begins_operand, begins_with_operand, is_so}
 use Rattle.bq_parse_expression.specs.Further.{further, chained_by, or_after_primary}
 use Rattle.bq_parse_expression.proofs.Alone.{Quiet, Bare, quiet, unsigned, phrase_alone}

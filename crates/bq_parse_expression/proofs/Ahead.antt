@@ -18,7 +18,7 @@ use Rattle.bq_source.specs.StringLiteral.{string_value}
 use Rattle.bq_parse_grammar.specs.Turns.{Found, Parse, ◌>>=◌, next}
 use Rattle.bq_parse_grammar.specs.Reading.{word, var, var_by, operand, operand_by, string_of, spelling_of, has, is_known, looked_up, known}
 use Rattle.bq_parse_grammar.specs.ReadingStatements.{text_of}
-use Rattle.bq_parse_cursor.specs.Tokens.{kind_ahead, known_by}
+use Rattle.bq_parse_grammar.specs.Tokens.{kind_ahead, known_by}
 
 kind_is : (a b : TokenKind) → a ≡ b → same_kind a b ≡ true
 unfolding same_kind

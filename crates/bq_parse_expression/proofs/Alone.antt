@@ -17,7 +17,7 @@ use Rattle.bq_parse_grammar.specs.Grammar.{binary_of, unary_of, primary_of}
 use Rattle.bq_parse_grammar.specs.Operators.{operator_at, sign, negation, comparison}
 use Rattle.bq_parse_grammar.specs.Turns.{Found, Parse, ◌>>=◌, sees, next, repeat}
 use Rattle.bq_parse_grammar.specs.Reading.{has, is_known, looked_up, int_of, string_of, begins_suffix, suffix, operand, operand_by, primary, prefixed, operation, chain, binary, begins_comparison, comp_op, comp_after, comp, not_test, and_test, or_test, conditional, test, phrase_by}
-use Rattle.bq_parse_cursor.specs.Tokens.{kind_ahead}
+use Rattle.bq_parse_grammar.specs.Tokens.{kind_ahead}
 use Rattle.bq_parse_expression.specs.Lone.{is_atom, ends_phrase, is_so, stands_alone}
 use Rattle.bq_parse_expression.proofs.LoopTurns.{none_follow, no_choice}
 

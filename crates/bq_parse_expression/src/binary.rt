@@ -11,12 +11,11 @@ ghost use Rattle.bq_parse_expression.specs.Nested.{ReadsNested};
 ghost use Rattle.bq_parse_expression.specs.Further.{operations, further, chained_by};
 
 use crate::grammar::Grammar;
-use bq_parse_cursor::Tokens;
 use bq_parse_grammar::{
-    Choice, Comparison, Expr, Nested, Operation, Operator, SyntaxErr, UnaryOperator,
+    Boxed, Choice, Comparison, Expr, Items, Nested, Operation, Operator, SyntaxErr, Tokens,
+    UnaryOperator,
 };
 use bq_source::TokenKind;
-use bq_tree_items::{Boxed, Items};
 use std::alloc::Global;
 
 /// Returns an operand and what is done to it; the operand alone where nothing is.

@@ -5,8 +5,7 @@ ghost use Rattle.bq_parse_grammar.specs.Reading as spec;
 ghost use Rattle.bq_parse_grammar.specs.ReadingStatements as statements;
 
 use crate::grammar::Grammar;
-use bq_parse_cursor::Tokens;
-use bq_parse_grammar::{Expr, Nested, SyntaxErr};
+use bq_parse_grammar::{Expr, Nested, SyntaxErr, Tokens};
 use std::alloc::Global;
 
 /// Reads a phrase in which fewer than `depth` brackets may be open.

@@ -8,10 +8,8 @@ ghost use Rattle.bq_parse_grammar.specs.declared.tree.Nested.TheVariants.{Test};
 ghost use Rattle.bq_parse_expression.specs.Nested.{ReadsNested};
 
 use crate::steps::closed;
-use bq_parse_cursor::Tokens;
-use bq_parse_grammar::{Expr, Nested, SyntaxErr};
+use bq_parse_grammar::{Expr, Items, Nested, SyntaxErr, Tokens};
 use bq_source::TokenKind;
-use bq_tree_items::Items;
 use std::alloc::Global;
 
 #[derive(Drop)]

@@ -4,7 +4,7 @@
 //! of memory aside: the tree, with the tokens after it left, or the refusal. The laws of `bq_parse_grammar` say that this is the tree that
 //! the grammar relates to the tokens, and that there is none where it is refused as syntax.
 //!
-//! What a contract sees: `Tokens` of `bq_parse_cursor`, a place in the tokens of a text, is the list of the tokens from there on, with
+//! What a contract sees: `Tokens` of `bq_parse_grammar`, a place in the tokens of a text, is the list of the tokens from there on, with
 //! their spellings (`Lexeme`). So a function that reads says in one line what it makes of `tokens.old`, and that `tokens.new` is what is
 //! left.
 //!

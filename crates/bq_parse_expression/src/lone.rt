@@ -2,10 +2,10 @@
 //! look at each level of operators.
 
 ghost use Rattle.std.specs.Prelude.{◌≡◌};
-ghost use Rattle.bq_parse_cursor.specs.Tokens.{kind_ahead};
+ghost use Rattle.bq_parse_grammar.specs.Tokens.{kind_ahead};
 ghost use Rattle.bq_parse_expression.specs.Lone as spec;
 
-use bq_parse_cursor::Tokens;
+use bq_parse_grammar::Tokens;
 use bq_source::TokenKind;
 
 /// Returns whether nothing that is done to an operand begins with the next token, so that it ends a phrase that is read up to here.

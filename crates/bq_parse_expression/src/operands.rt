@@ -12,10 +12,10 @@ ghost use Rattle.bq_parse_expression.specs.Nested.{ReadsNested};
 use crate::grammar::Grammar;
 use crate::steps::{begun, closed, only};
 use crate::variables::vars;
-use bq_parse_cursor::Tokens;
-use bq_parse_grammar::{Clause, ComprehensionFrame, Expr, Nested, Pair, SyntaxErr};
+use bq_parse_grammar::{
+    Boxed, Clause, ComprehensionFrame, Expr, Items, Nested, Pair, SyntaxErr, Tokens,
+};
 use bq_source::TokenKind;
-use bq_tree_items::{Boxed, Items};
 use std::alloc::{AllocError, Global};
 
 /// Returns whether a clause of a comprehension comes next.

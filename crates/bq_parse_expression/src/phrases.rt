@@ -7,8 +7,7 @@ ghost use Rattle.bq_parse_expression.specs.Further.{or_after_primary};
 
 use crate::grammar::Grammar;
 use crate::lone::{begins_with_end, begins_with_operand};
-use bq_parse_cursor::Tokens;
-use bq_parse_grammar::{Expr, Nested, SyntaxErr};
+use bq_parse_grammar::{Expr, Nested, SyntaxErr, Tokens};
 use bq_source::TokenKind;
 use std::alloc::Global;
 

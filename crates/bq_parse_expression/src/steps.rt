@@ -4,10 +4,8 @@ ghost use Rattle.std.specs.Prelude.{◌≡◌, [], ◌∷◌, IfOk, Ok};
 ghost use Rattle.bq_parse_grammar.specs.Turns.{Reads, ◌>>=◌ as and_then};
 ghost use Rattle.bq_parse_grammar.specs.Turns as turns;
 
-use bq_parse_cursor::Tokens;
-use bq_parse_grammar::SyntaxErr;
+use bq_parse_grammar::{Items, SyntaxErr, Tokens};
 use bq_source::TokenKind;
-use bq_tree_items::Items;
 use std::alloc::{AllocError, Global};
 
 /// Returns the list of one item, with no room for more.

@@ -13,12 +13,11 @@ ghost use Rattle.bq_parse_expression.specs.Nested.{ReadsNested};
 use crate::grammar::Grammar;
 use crate::steps::{closed, only};
 use bq_base::Bytes;
-use bq_parse_cursor::Tokens;
 use bq_parse_grammar::{
-    Allowed, Argument, ArgumentKind, Expr, Identifier, Nested, Suffix, SyntaxErr,
+    Allowed, Argument, ArgumentKind, Boxed, Expr, Identifier, Items, Nested, Suffix, SyntaxErr,
+    Tokens,
 };
 use bq_source::TokenKind;
-use bq_tree_items::{Boxed, Items};
 use std::alloc::Global;
 
 /// Returns what may come after an argument of this kind, or `None` where that argument is not allowed.

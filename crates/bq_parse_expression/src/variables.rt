@@ -8,10 +8,8 @@ ghost use Rattle.bq_source.specs.declared.token.TokenKind.TheVariants as kind;
 ghost use Rattle.bq_parse_expression.specs.Nested.{ReadsVar};
 
 use crate::steps::{closed, only};
-use bq_parse_cursor::Tokens;
-use bq_parse_grammar::{SyntaxErr, TargetExpr};
+use bq_parse_grammar::{Items, SyntaxErr, TargetExpr, Tokens};
 use bq_source::TokenKind;
-use bq_tree_items::Items;
 use std::alloc::Global;
 
 /// The rules of variables take the reader of those in brackets as a parameter, so that each is proved by itself.

@@ -11,3 +11,4 @@ pub mod Keeping
 pub mod Tests
 -- Parts of definitions, as words that proofs name.
 pub mod Cases
+pub mod Ahead

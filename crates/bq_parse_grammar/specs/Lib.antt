@@ -1,3 +1,4 @@
+pub mod formers
 pub mod Lexeme
 pub mod Literals
 pub mod Operators
@@ -14,3 +15,4 @@ pub mod Targets
 pub mod ReadingStatements
 pub mod Parses
 pub mod Laws
+pub mod Tokens

@@ -1,5 +1,5 @@
 -- Which expressions may be assigned to, and as which targets. An assignment is read as an expression, then `=`: its left side is a
--- target exactly where the expression is one of these (`assignments_have_targets` of bq_parse_statement_laws).
+-- target exactly where the expression is one of these (`assignments_have_targets` of bq_parse_laws).
 use Rattle.std.specs.Prelude.{ℕ, zero, suc, List, [], ◌∷◌, ◌++◌, Result, Ok, Err}
 use Rattle.bq_parse_grammar.specs.declared.refusal.SyntaxErr.{SyntaxErr}
 use Rattle.bq_parse_grammar.specs.declared.refusal.SyntaxErr.TheVariants.{Syntax}

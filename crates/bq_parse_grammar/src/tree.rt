@@ -1,8 +1,9 @@
 //! The trees of statements.
 
+use crate::boxed::Boxed;
+use crate::items::Items;
 use bq_base::Bytes;
-use bq_resolve_predeclared::Predeclared;
-use bq_tree_items::{Boxed, Items};
+use bq_predeclared::Predeclared;
 
 /// Which file the statements stand in.
 #[derive(Clone, Copy, Debug, PartialEq, Eq)]

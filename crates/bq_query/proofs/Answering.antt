@@ -9,9 +9,9 @@ use Rattle.bq_query_lex.specs.declared.query_error.QueryErr.{QueryErr}
 use Rattle.bq_query_function.specs.Sets.{SetOfOne, SetOfTwo, OfOne, OfTwo}
 use Rattle.bq_query_check.specs.Formula.{Formula, named, let_in, one, two}
 use Rattle.bq_query_lex.specs.QueryError.{Meets}
-use Rattle.bq_query_target_pattern.specs.declared.pattern.TargetPattern.{TargetPattern}
-use Rattle.bq_query_target_sets.specs.Words.{Those, one_names}
-use Rattle.bq_query_target_sets.specs.Missing.{first_missing}
+use Rattle.bq_query_lex.specs.declared.pattern.TargetPattern.{TargetPattern}
+use Rattle.bq_query_function.specs.Words.{Those, one_names}
+use Rattle.bq_query_function.specs.Missing.{first_missing}
 use Rattle.bq_query_target_graph.specs.Graph.{GraphParts}
 use Rattle.bq_query.specs.Stands.{Stands, Bound}
 use Rattle.bq_query.specs.Faults.{Has, Answers, fault_in}

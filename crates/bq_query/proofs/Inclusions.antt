@@ -5,7 +5,7 @@ use Rattle.std.specs.List.Sorted.{IsStrictlyIncreasing}
 use Rattle.std.proofs.lemmas.Map.Keys.{Less-from_sorted, below_from_sorted, sorted_from_strictly_increasing}
 use Rattle.bq_query_graph.specs.Marks.{Marked}
 use Rattle.bq_package_target.specs.declared.target.Target.{Target}
-use Rattle.bq_query_target_sets.specs.Order.{by_text, AreInOrder}
+use Rattle.bq_query_function.specs.Order.{by_text, AreInOrder}
 use Rattle.bq_query_target_graph.specs.Graph.{GraphParts}
 use Rattle.bq_query_check.specs.Formula.{Formula}
 use Rattle.bq_query.specs.Stands.{Bound}

@@ -3,8 +3,8 @@ use Rattle.std.proofs.Common.{◌≡◌, ◌∙◌, ℕ, Bool, true, false, List
 use Rattle.std.specs.Bool.{Decides}
 use Rattle.std.proofs.lemmas.List.{ext_get_or}
 use Rattle.bq_query_graph.specs.Marks.{IsSet, Marked}
-use Rattle.bq_query_tree.specs.declared.tree.SetOperator.{SetOperator}
-use Rattle.bq_query_tree.specs.declared.tree.SetOperator.TheVariants as op
+use Rattle.bq_query_parse.specs.declared.tree.SetOperator.{SetOperator}
+use Rattle.bq_query_parse.specs.declared.tree.SetOperator.TheVariants as op
 use Rattle.bq_query_function.specs.Sets.{SetOfOne, SetOfTwo, OfOne, OfTwo}
 use Rattle.bq_query_function.proofs.Within.{Within, one_in, two_in}
 use Rattle.bq_query.specs.Operators.{Combined}

@@ -3,9 +3,9 @@ use Rattle.std.specs.Prelude.{◌≡◌, ◌≢◌, Bool, List, length, Some, No
 use Rattle.std.specs.Option.{option_or}
 use Rattle.bq_query_lex.specs.declared.query_error.QueryErr.{QueryErr}
 use Rattle.bq_query_lex.specs.declared.query_error.QueryErr.TheVariants as e
-use Rattle.bq_query_verdict.specs.Verdict.{Fault}
+use Rattle.bq_query_check.specs.Verdict.{Fault}
 use Rattle.bq_query_check.specs.Formula.{Formula, named, variable, let_in, combined, one, two, IsClosed}
-use Rattle.bq_query_target_sets.specs.Missing.{first_missing}
+use Rattle.bq_query_function.specs.Missing.{first_missing}
 use Rattle.bq_query_graph.specs.Marks.{IsSet}
 use Rattle.bq_query.specs.Stands.{Stands, Bound, AreSets}
 use Rattle.bq_query_target_graph.specs.Graph.{GraphParts}

@@ -2,12 +2,12 @@
 use Rattle.std.specs.Prelude.{◌≡◌, ◌↔◌, ◌⊎◌, ℕ, ◌<◌, Bool, List, length, slice_index_or, Some, None}
 use Rattle.std.specs.declared.cmp.Ordering.TheVariants.{Less}
 use Rattle.bq_query_graph.specs.Marks.{IsSet}
-use Rattle.bq_query_tree.specs.declared.tree.SetOperator.TheVariants as op
+use Rattle.bq_query_parse.specs.declared.tree.SetOperator.TheVariants as op
 use Rattle.bq_query_function.specs.declared.functions.QueryFunction.TheVariants as f
 use Rattle.bq_query_function.specs.Functions.{set_of_one, set_of_two}
 use Rattle.bq_query_check.specs.Formula.{Formula, variable, let_in, combined, one, two}
 use Rattle.bq_package_target.specs.declared.target.Target.{Target}
-use Rattle.bq_query_target_sets.specs.Order.{by_text}
+use Rattle.bq_query_function.specs.Order.{by_text}
 use Rattle.bq_query_target_graph.specs.Graph.{GraphParts}
 use Rattle.bq_query.specs.Stands.{Stands, Bound}
 

@@ -2,8 +2,8 @@
 use Rattle.std.specs.Prelude.{ℕ, ◌++◌, List, slice_get, codes}
 use Rattle.std.specs.List.{filter_map, flat_map}
 use Rattle.bq_package_target.specs.declared.target.Target.{Target}
-use Rattle.bq_query_target_sets.specs.Order.{text_of}
-use Rattle.bq_query_target_sets.specs.Texts.{kind_text}
+use Rattle.bq_query_function.specs.Order.{text_of}
+use Rattle.bq_query_function.specs.Texts.{kind_text}
 use Rattle.bq_query.specs.declared.print.OutputForm.{OutputForm}
 use Rattle.bq_query.specs.declared.print.OutputForm.TheVariants as form
 

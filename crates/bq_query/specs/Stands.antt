@@ -4,7 +4,7 @@ use Rattle.std.specs.Prelude.{◌≡◌, ℕ, length, Bool, List, [], ◌∷◌,
 use Rattle.std.specs.List.{All}
 use Rattle.bq_query_graph.specs.Marks.{IsSet, Marked}
 use Rattle.bq_query_check.specs.Formula.{Formula, named, variable, let_in, combined, one, two}
-use Rattle.bq_query_target_sets.specs.Words.{Those, one_names}
+use Rattle.bq_query_function.specs.Words.{Those, one_names}
 use Rattle.bq_query_target_graph.specs.Graph.{GraphParts}
 use Rattle.bq_query_function.specs.Sets.{OfOne, OfTwo}
 use Rattle.bq_query.specs.Operators.{Combined}

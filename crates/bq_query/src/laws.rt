@@ -5,7 +5,7 @@ ghost use Rattle.std.specs.List.{All};
 ghost use Rattle.std.specs.List.Sorted.{IsStrictlyIncreasing};
 ghost use Rattle.bq_query_check.specs.Formula.{Formula};
 ghost use Rattle.bq_package_target.specs.declared.target.Target.{Target};
-ghost use Rattle.bq_query_target_sets.specs.Order.{AreInOrder};
+ghost use Rattle.bq_query_function.specs.Order.{AreInOrder};
 ghost use Rattle.bq_query_target_graph.specs.Graph.{GraphParts};
 ghost use Rattle.bq_query.specs.Stands.{Bound};
 ghost use Rattle.bq_query.specs.Laws.{AreOfSets, LieWithin, Keep, IsItself, LabelsAscend};

@@ -5,8 +5,8 @@ ghost use Rattle.bq_query_graph.specs.Marks.{IsSet, Marked};
 ghost use Rattle.bq_query.specs.Operators.{Combined};
 
 use bq_query_graph::{difference, intersection, union};
+use bq_query_parse::SetOperator;
 use bq_query_target_graph::TargetGraph;
-use bq_query_tree::SetOperator;
 use std::alloc::{AllocError, Global};
 
 /// Applies an operator to two sets.

@@ -4,10 +4,10 @@
 ghost use Rattle.std.specs.Prelude.{◌≡◌, ◌++◌, ◌∷◌, ◌<◌, [], length, IfOk, OnOk};
 ghost use Rattle.std.specs.List.{All, flat_map};
 ghost use Rattle.bq_label.specs.Label.{full_form, repository_prefix};
-ghost use Rattle.bq_query_target_sets.specs.Texts.{kind_text};
+ghost use Rattle.bq_query_function.specs.Texts.{kind_text};
 ghost use Rattle.bq_query.specs.Printed.{answer_line, printed};
 
-use bq_base_rope::Rope;
+use bq_base_texts::Rope;
 use bq_label::{Bytes, Label};
 use bq_package_target::{Target, TargetKind};
 use std::alloc::{AllocError, Global};
@@ -45,7 +45,7 @@ fn push_label(alloc: Global, label: &Label, text: &mut Rope) -> Result<(), Alloc
 }
 
 /// Appends the text of a kind.
-#[tactic(auto, unfolding(bq_query_target_sets::specs::Texts::kind_text))]
+#[tactic(auto, unfolding(bq_query_function::specs::Texts::kind_text))]
 fn push_kind(alloc: Global, kind: &TargetKind, text: &mut Rope) -> Result<(), AllocError>
     ensures { OnOk result (text.new ≡ text.old ++ kind_text kind.now) }
 {

@@ -10,10 +10,9 @@ ghost use Rattle.bq_query.specs.Faults.{Answers, AreBound, Has};
 use crate::bindings::{bind, set_bound};
 use crate::operators::combined;
 use bq_query_check::{ChainStep, SetExpr};
-use bq_query_function::{Call, of_one, of_two};
+use bq_query_function::{Call, of_one, of_two, targets_named};
 use bq_query_lex::QueryErr;
 use bq_query_target_graph::TargetGraph;
-use bq_query_target_sets::targets_named;
 use sqlite_items::Items;
 use std::alloc::Global;
 

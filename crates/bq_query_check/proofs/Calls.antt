@@ -11,9 +11,9 @@ use Rattle.bq_query_function.specs.Functions.{Row, set_of_one, set_of_two}
 use Rattle.bq_query_function.specs.Calls.{function_named, mandatory}
 use Rattle.bq_query_function.specs.Sets.{SetOfOne, SetOfTwo}
 use Rattle.bq_query_function.proofs.Rows.{is_one_or_two, has_sets, named_is_row}
-use Rattle.bq_query_tree.specs.declared.tree.Query.{Query}
-use Rattle.bq_query_verdict.specs.Verdict as spec
-use Rattle.bq_query_verdict.specs.Verdict.{Fault, fits}
+use Rattle.bq_query_parse.specs.declared.tree.Query.{Query}
+use Rattle.bq_query_check.specs.Verdict as spec
+use Rattle.bq_query_check.specs.Verdict.{Fault, fits}
 use Rattle.bq_query_check.specs.Formula.{Formula, one, two}
 use Rattle.bq_query_check.specs.Call.{Given, nothing, applied, called}
 use Rattle.bq_query_check.specs.FormulaOf.{AreArgumentsOf, IsArgumentOf}

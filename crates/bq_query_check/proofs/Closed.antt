@@ -4,15 +4,15 @@ use Rattle.std.specs.List.{list_any, AllByRecursion}
 use Rattle.std.proofs.lemmas.List.{length-append}
 use Rattle.std.proofs.lemmas.Bool.{cases_eq, false≢true}
 use Rattle.std.proofs.lemmas.Slice.Eq.{bytes_eq-Decides}
-use Rattle.bq_query_tree.specs.declared.tree.SetOperation.{SetOperation}
-use Rattle.bq_query_tree.specs.declared.tree.Query.{Query}
+use Rattle.bq_query_parse.specs.declared.tree.SetOperation.{SetOperation}
+use Rattle.bq_query_parse.specs.declared.tree.Query.{Query}
 use Rattle.bq_query_function.specs.declared.signature.QueryArgumentKind.{QueryArgumentKind}
 use Rattle.bq_query_check.specs.Call.{Given}
 use Rattle.bq_query_check.proofs.Calls.{none_some, same_some, IsApplied, called_is_applied}
 use Rattle.bq_query_check.specs.Formula.{Formula, Step, named, variable, let_in, combined, chained, step_of, formula_of, IsClosed, AreClosed}
 use Rattle.bq_query_lex.specs.declared.query_error.QueryErr.TheVariants.{UnboundVariable}
-use Rattle.bq_query_verdict.specs.Verdict as spec
-use Rattle.bq_query_verdict.specs.Verdict.{no_fault}
+use Rattle.bq_query_check.specs.Verdict as spec
+use Rattle.bq_query_check.specs.Verdict.{no_fault}
 use Rattle.bq_query_check.specs.Checked.{Holds, FirstFails}
 use Rattle.bq_query_check.specs.FormulaOf.{IsInnermost, IsFormulaOf, AreStepsOf, AreArgumentsOf, IsArgumentOf}
 use Rattle.bq_query_check.specs.declared.formula.ChainStep.{ChainStep}

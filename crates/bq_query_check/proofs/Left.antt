@@ -4,8 +4,8 @@ use Rattle.std.specs.List.{AllByRecursion}
 use Rattle.std.proofs.lemmas.List.{map-append}
 use Rattle.bq_query_lex.specs.declared.query_error.QueryErr.{QueryErr}
 use Rattle.bq_query_function.specs.declared.signature.QueryArgumentKind.{QueryArgumentKind}
-use Rattle.bq_query_tree.specs.declared.tree.Query.{Query}
-use Rattle.bq_query_verdict.specs.Verdict.{argument, arguments, part_of}
+use Rattle.bq_query_parse.specs.declared.tree.Query.{Query}
+use Rattle.bq_query_check.specs.Verdict.{argument, arguments, part_of}
 use Rattle.bq_query_function.specs.declared.signature.QueryArgumentKind.TheVariants as kind
 use Rattle.bq_query_check.specs.declared.call.Arguments.{Arguments}
 use Rattle.bq_query_check.specs.declared.formula.SetExpr.{SetExpr}

@@ -3,8 +3,8 @@ use Rattle.std.proofs.Common.{◌≡◌, List, [], ◌∷◌, ◌++◌, ℕ, Non
 use Rattle.std.specs.List.{AllByRecursion}
 use Rattle.std.specs.Option.{option_or}
 use Rattle.bq_query_lex.specs.declared.query_error.QueryErr.{QueryErr}
-use Rattle.bq_query_target_pattern.specs.Reading.{word_fault, words_fault}
-use Rattle.bq_query_verdict.specs.Verdict.{Fault, Need}
+use Rattle.bq_query_lex.specs.PatternReading.{word_fault, words_fault}
+use Rattle.bq_query_check.specs.Verdict.{Fault, Need}
 use Rattle.bq_query_check.specs.Checked.{Holds, FirstFails, Reads}
 
 pub all_hold : (xs ys : List Need) → AllByRecursion Holds xs → AllByRecursion Holds ys → AllByRecursion Holds (xs ++ ys)

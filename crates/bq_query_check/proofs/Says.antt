@@ -1,6 +1,6 @@
 -- The formulas of checked queries, a case for each form.
 use Rattle.std.proofs.Common.{◌≡◌, ℕ, List, map, rules}
-use Rattle.bq_query_target_pattern.specs.declared.pattern.TargetPattern.{TargetPattern}
+use Rattle.bq_query_lex.specs.declared.pattern.TargetPattern.{TargetPattern}
 use Rattle.bq_query_function.specs.declared.call.Call.{Call}
 use Rattle.bq_query_function.specs.Calls.{of_one, of_two}
 use Rattle.bq_query_check.specs.declared.formula.SetExpr.{SetExpr}

@@ -3,9 +3,9 @@ use Rattle.std.proofs.Common.{◌≡◌, ℕ, List, [], ◌∷◌, ◌++◌, ◌
 use Rattle.std.proofs.lemmas.List.{map-append}
 use Rattle.std.specs.List.{AllByRecursion}
 use Rattle.bq_query_lex.specs.declared.query_error.QueryErr.{QueryErr}
-use Rattle.bq_query_tree.specs.declared.tree.SetOperation.{SetOperation}
-use Rattle.bq_query_tree.specs.declared.tree.Query.TheFolds.{the_lemmas}
-use Rattle.bq_query_verdict.specs.Verdict.{Need, parts, part_of, operation_part}
+use Rattle.bq_query_parse.specs.declared.tree.SetOperation.{SetOperation}
+use Rattle.bq_query_parse.specs.declared.tree.Query.TheFolds.{the_lemmas}
+use Rattle.bq_query_check.specs.Verdict.{Need, parts, part_of, operation_part}
 use Rattle.bq_query_check.specs.declared.formula.ChainStep.{ChainStep}
 use Rattle.bq_query_check.specs.Checked.{Holds, FirstFails}
 use Rattle.bq_query_check.specs.Formula.{Step, step_of, formula_of}

@@ -3,9 +3,9 @@ use Rattle.std.proofs.Common.{ℕ, List, [], refl}
 use Rattle.std.specs.List.{AllByRecursion}
 use Rattle.bq_query_lex.specs.declared.query_error.QueryErr.{QueryErr}
 use Rattle.bq_query_lex.specs.declared.query_error.QueryErr.TheVariants as e
-use Rattle.bq_query_tree.specs.declared.tree.Query.{Query}
+use Rattle.bq_query_parse.specs.declared.tree.Query.{Query}
 use Rattle.bq_query_parse.specs.Parses.{IsQuery}
-use Rattle.bq_query_verdict.specs.Verdict.{needs}
+use Rattle.bq_query_check.specs.Verdict.{needs}
 use Rattle.bq_query_check.specs.declared.checked.CheckedQuery.{CheckedQuery}
 use Rattle.bq_query_check.specs.Formula.{formula_of}
 use Rattle.bq_query_check.specs.FormulaOf.{IsFormulaOf}

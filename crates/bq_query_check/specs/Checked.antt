@@ -5,9 +5,9 @@ use Rattle.bq_query_pattern.specs.Patterns.{IsRead, IsCause}
 use Rattle.bq_query_pattern.specs.declared.PatternErr.TheVariants as pattern_err
 use Rattle.bq_query_lex.specs.declared.query_error.QueryErr.{QueryErr}
 use Rattle.bq_query_lex.specs.declared.query_error.QueryErr.TheVariants as e
-use Rattle.bq_query_tree.specs.declared.tree.Query.{Query}
+use Rattle.bq_query_parse.specs.declared.tree.Query.{Query}
 use Rattle.bq_query_parse.specs.Parses.{IsQuery}
-use Rattle.bq_query_verdict.specs.Verdict.{Need, no_fault, regex, needs}
+use Rattle.bq_query_check.specs.Verdict.{Need, no_fault, regex, needs}
 use Rattle.bq_query_check.specs.declared.checked.CheckedQuery.{CheckedQuery}
 use Rattle.bq_query_check.specs.Formula.{Formula, formula_of}
 use Rattle.bq_query_check.specs.FormulaOf.{IsFormulaOf}

@@ -2,8 +2,8 @@
 -- right, a call is the set that its function stands for, and a regular expression is its bytes.
 use Rattle.std.specs.Prelude.{ℕ, ◌+◌, ◌<◌, List, [], ◌∷◌}
 use Rattle.std.specs.Coded.{×_prop, Unit-prop, le_prop}
-use Rattle.bq_query_target_pattern.specs.declared.pattern.TargetPattern.{TargetPattern}
-use Rattle.bq_query_tree.specs.declared.tree.SetOperator.{SetOperator}
+use Rattle.bq_query_lex.specs.declared.pattern.TargetPattern.{TargetPattern}
+use Rattle.bq_query_parse.specs.declared.tree.SetOperator.{SetOperator}
 use Rattle.bq_query_function.specs.Sets.{SetOfOne, SetOfTwo}
 use Rattle.bq_query_function.specs.Calls.{of_one, of_two}
 use Rattle.bq_query_check.specs.declared.formula.SetExpr.{SetExpr, fold-SetExpr}

@@ -4,11 +4,11 @@ use Rattle.bq_query_function.specs.declared.signature.QueryArgumentKind.{QueryAr
 use Rattle.bq_query_function.specs.declared.signature.QueryArgumentKind.TheVariants as kind
 use Rattle.bq_query_function.specs.Functions.{Row}
 use Rattle.bq_query_function.specs.Calls.{function_named}
-use Rattle.bq_query_target_pattern.specs.declared.pattern.TargetPattern.{TargetPattern}
-use Rattle.bq_query_target_pattern.specs.Reading.{ArePatternsOf}
-use Rattle.bq_query_tree.specs.declared.tree.Query.{Query}
-use Rattle.bq_query_tree.specs.declared.tree.Query.TheVariants as tree
-use Rattle.bq_query_tree.specs.declared.tree.SetOperation.{SetOperation}
+use Rattle.bq_query_lex.specs.declared.pattern.TargetPattern.{TargetPattern}
+use Rattle.bq_query_lex.specs.PatternReading.{ArePatternsOf}
+use Rattle.bq_query_parse.specs.declared.tree.Query.{Query}
+use Rattle.bq_query_parse.specs.declared.tree.Query.TheVariants as tree
+use Rattle.bq_query_parse.specs.declared.tree.SetOperation.{SetOperation}
 use Rattle.bq_query_check.specs.Formula.{Formula, Step, named, variable, let_in, chained}
 use Rattle.bq_query_check.specs.Call.{Given, nothing, called}
 

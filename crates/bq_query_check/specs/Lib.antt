@@ -1,3 +1,4 @@
+pub mod Verdict
 pub mod Formula
 pub mod Call
 pub mod FormulaOf

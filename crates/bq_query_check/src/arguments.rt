@@ -1,16 +1,17 @@
 //! Arguments that are one word: patterns, names of attributes, and numbers of edges.
 
 ghost use Rattle.bq_query_function.specs.declared.signature.QueryArgumentKind.TheVariants as kind;
-ghost use Rattle.bq_query_verdict.specs.Verdict.{argument, part_of};
+ghost use Rattle.bq_query_check.specs.Verdict.{argument, part_of};
 ghost use Rattle.bq_query_check.specs.Checked.{Reads};
 ghost use Rattle.bq_query_check.specs.FormulaOf.{IsNumber, IsWord};
 
+use crate::first::no_word;
+use crate::leaves::is_number;
 use crate::number::number;
 use bq_base::Bytes;
 use bq_query_lex::QueryErr;
+use bq_query_parse::Query;
 use bq_query_pattern::{PatternErr, QueryPattern};
-use bq_query_tree::Query;
-use bq_query_verdict::{is_number, no_word};
 use std::alloc::Global;
 
 /// Reads a regular expression: Q4 if it is refused.

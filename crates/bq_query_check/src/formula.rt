@@ -1,8 +1,8 @@
 //! What a checked query says, with its words and numbers read, and its variables and functions known.
 
 use bq_query_function::Call;
-use bq_query_target_pattern::TargetPattern;
-use bq_query_tree::SetOperator;
+use bq_query_lex::TargetPattern;
+use bq_query_parse::SetOperator;
 use sqlite_items::{Boxed, Items};
 
 /// A set of targets, made of sets. Chains are lists, so that it is no deeper than the tree of its query. Contracts see

@@ -5,8 +5,7 @@ ghost use Rattle.bq_query_check.specs.Checked.{Checks};
 use crate::checked::CheckedQuery;
 use crate::trees::check;
 use bq_query_lex::QueryErr;
-use bq_query_parse::parse_tree;
-use bq_query_tree::QuerySyntaxErr;
+use bq_query_parse::{QuerySyntaxErr, parse_tree};
 use std::alloc::Global;
 
 /// Reads and checks the query of the text. It takes time linear in the text, beside what compiling its patterns takes.

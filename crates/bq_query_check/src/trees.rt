@@ -1,9 +1,9 @@
 //! Trees: they are checked in the order of the text, and what they say is made on the way.
 
 ghost use Rattle.std.specs.Prelude.{◌≤◌, ◌++◌, [], ◌∷◌, length, map};
-ghost use Rattle.bq_query_target_pattern.specs.Reading.{words_fault};
-ghost use Rattle.bq_query_verdict.specs.Verdict as spec;
-ghost use Rattle.bq_query_verdict.specs.Verdict.{no_fault, part_of, operation_part, variable};
+ghost use Rattle.bq_query_lex.specs.PatternReading.{words_fault};
+ghost use Rattle.bq_query_check.specs.Verdict as spec;
+ghost use Rattle.bq_query_check.specs.Verdict.{no_fault, part_of, operation_part, variable};
 ghost use Rattle.bq_query_check.specs.Call.{given, nothing};
 ghost use Rattle.bq_query_check.specs.Checked.{Reads};
 ghost use Rattle.bq_query_check.specs.Formula.{formula_of, step_of};
@@ -12,13 +12,12 @@ ghost use Rattle.bq_query_check.specs.FormulaOf.{IsFormulaOf, AreStepsOf, IsArgu
 use crate::arguments::{attribute, limit, pattern};
 use crate::call::{Arguments, called};
 use crate::formula::{ChainStep, SetExpr};
+use crate::leaves::function;
 use crate::names::{innermost, with_name};
 use bq_base::Bytes;
 use bq_query_function::QueryArgumentKind;
-use bq_query_lex::QueryErr;
-use bq_query_target_pattern::read_patterns;
-use bq_query_tree::{Query, SetOperation};
-use bq_query_verdict::function;
+use bq_query_lex::{QueryErr, read_patterns};
+use bq_query_parse::{Query, SetOperation};
 use sqlite_items::{Boxed, Items};
 use std::alloc::Global;
 use std::slice::from_ref;

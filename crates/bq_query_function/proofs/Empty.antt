@@ -2,7 +2,7 @@
 use Rattle.std.proofs.Common.{◌≡◌, ◌∙◌, ℕ, Bool, true, false, List, length, get_or, replicate, sym, ap}
 use Rattle.std.proofs.lemmas.Bool.{false≢true}
 use Rattle.bq_query_graph.specs.Marks.{IsSet}
-use Rattle.bq_query_target_sets.proofs.Tests.{none_marked, length_none}
+use Rattle.bq_query_function.proofs.Tests.{none_marked, length_none}
 
 pub none_in : (n : ℕ) (marks : List Bool) → marks ≡ replicate n false → IsSet n marks (λ (y : ℕ). ⊥)
 none_in n marks e =

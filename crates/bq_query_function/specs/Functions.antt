@@ -1,8 +1,8 @@
 -- The functions of queries (Bazel query reference, "Functions"): the name of each, what its arguments must be, and the set that it stands
 -- for. Calls are checked, read and answered by these rows alone.
 use Rattle.std.specs.Prelude.{ℕ, List, [], ◌∷◌, Option, Some, codes}
-use Rattle.bq_query_target_sets.specs.Labels.{is_named_by}
-use Rattle.bq_query_target_sets.specs.Matching.{has_kind, has_text, has_attribute}
+use Rattle.bq_query_function.specs.Labels.{is_named_by}
+use Rattle.bq_query_function.specs.Matching.{has_kind, has_text, has_attribute}
 use Rattle.bq_query_function.specs.declared.functions.QueryFunction.{QueryFunction}
 use Rattle.bq_query_function.specs.declared.functions.QueryFunction.TheVariants as f
 use Rattle.bq_query_function.specs.declared.signature.QueryArgumentKind.{QueryArgumentKind}

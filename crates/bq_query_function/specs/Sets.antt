@@ -3,8 +3,8 @@ use Rattle.std.specs.Prelude.{ℕ, Bool, Option, Some, None}
 use Rattle.bq_query_graph.specs.Paths.{Deps, DepsWithin, Rdeps, RdepsWithin, OnPaths}
 use Rattle.bq_package_target.specs.declared.target.Target.{Target}
 use Rattle.bq_query_target_graph.specs.Graph.{GraphParts}
-use Rattle.bq_query_target_sets.specs.Matching.{Chosen}
-use Rattle.bq_query_target_sets.specs.Labels.{Related}
+use Rattle.bq_query_function.specs.Matching.{Chosen}
+use Rattle.bq_query_function.specs.Labels.{Related}
 
 -- a set that is made of one set
 pub data SetOfOne : Type 0 where

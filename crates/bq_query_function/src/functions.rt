@@ -6,15 +6,15 @@ ghost use Rattle.bq_query_graph.specs.Marks.{IsSet, Marked};
 ghost use Rattle.bq_query_function.specs.Sets.{OfOne, OfTwo, none, none_of_two};
 ghost use Rattle.bq_query_function.specs.Calls as spec;
 
+use crate::attr::attr;
 use crate::call::Call;
+use crate::filter::filter;
+use crate::kind::kind;
+use crate::labels::labels;
 use crate::sets::{reached, reaching};
 use crate::signature::{QueryArgumentKind, QuerySignature};
 use bq_query_graph::allpaths::allpaths;
 use bq_query_target_graph::TargetGraph;
-use bq_query_target_sets::attr::attr;
-use bq_query_target_sets::filter::filter;
-use bq_query_target_sets::kind::kind;
-use bq_query_target_sets::labels::labels;
 use std::alloc::{AllocError, Global};
 
 /// A function that can be answered.

@@ -4,10 +4,10 @@ ghost use Rattle.std.specs.Prelude.{◌≡◌, length, IfOk};
 ghost use Rattle.bq_query_graph.specs.Marks.{IsSet, Marked};
 ghost use Rattle.bq_query_function.specs.Sets.{OfOne, OfTwo, reached, reaching};
 
+use crate::set::no_target;
 use bq_query_graph::deps::{deps, deps_within};
 use bq_query_graph::rdeps::{rdeps, rdeps_within};
 use bq_query_target_graph::TargetGraph;
-use bq_query_target_sets::no_target;
 use std::alloc::{AllocError, Global};
 
 /// Returns what paths from `x` reach, of at most so many edges if there is a limit.

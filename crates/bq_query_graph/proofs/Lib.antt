@@ -1,6 +1,8 @@
 pub mod Flats
+pub mod Lists
 pub mod Counting
 pub mod Turned
+pub mod Fills
 pub mod Grows
 pub mod Visits
 pub mod Walks

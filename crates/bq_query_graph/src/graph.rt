@@ -1,10 +1,9 @@
 //! Graphs of numbered targets.
 ghost use Rattle.std.specs.Prelude.{◌≡◌, ℕ, ◌+◌, ◌<◌, ◌↔◌, List, length, IfOk};
 ghost use Rattle.std.specs.List.{All};
-ghost use Rattle.bq_query_graph.specs.Paths.{row, Pair, AreBelow, AreTurned};
-ghost use Rattle.bq_query_graph.specs.Edges.{AreBetween, HasPairsOf};
+ghost use Rattle.bq_query_graph.specs.Paths.{row, AreBelow, AreTurned};
 
-use crate::edge::{Direction, Edge};
+use crate::row_list::RowList;
 use crate::rows::Rows;
 use std::alloc::{AllocError, Global};
 use std::marker::Model;
@@ -28,14 +27,16 @@ impl Model for DependencyGraph {
 }
 
 impl DependencyGraph {
-    /// Makes the graph of `count` targets with the edges.
-    pub fn new(alloc: Global, count: usize, edges: &[Edge]) -> Result<DependencyGraph, AllocError>
-        requires { AreBetween count edges.now }
-        ensures { IfOk result (λ g. HasPairsOf count edges.now g) }
+    /// Makes the graph of targets with these rows.
+    pub fn of_rows(alloc: Global, rows: RowList) -> Result<DependencyGraph, AllocError>
+        requires { AreBelow rows }
+        ensures { IfOk result (λ g. g ≡ rows) }
     {
-        let forward = Rows::of_edges(alloc, count, edges, Direction::Forward)?;
-        let back = Rows::of_edges(alloc, count, edges, Direction::Back)?;
-        Ok(DependencyGraph { forward, back })
+        let back = Rows::turned(alloc, &rows)?;
+        Ok(DependencyGraph {
+            forward: Rows::of(rows),
+            back,
+        })
     }
 
     /// Returns the number of targets.

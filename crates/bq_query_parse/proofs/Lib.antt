@@ -1,3 +1,9 @@
+pub mod NextToken
+pub mod Agrees
+pub mod Classes
+pub mod Operands
+pub mod Chains
+pub mod Queries
 pub mod Ahead
 pub mod LoopTurns
 pub mod Texts

@@ -1,7 +1,7 @@
 -- A recursion on a count of turns, beside a loop that counts up.
 use Rattle.std.proofs.Common.{◌≡◌, ℕ, suc, ◌+◌, ◌-◌, ◌<◌, ◌≤◌, List, Some, ap, arith}
-use Rattle.bq_query_tree.specs.Lexeme.{Lexeme}
-use Rattle.bq_query_tree.specs.Turns.{Turn, next_turn, turns}
+use Rattle.bq_query_parse.specs.Lexeme.{Lexeme}
+use Rattle.bq_query_parse.specs.Turns.{Turn, next_turn, turns}
 
 -- a turn more
 pub turns_more : {S : Type 0} (turn : S → List Lexeme → Turn S) (n at : ℕ) (s : S) (ts : List Lexeme) → at < n

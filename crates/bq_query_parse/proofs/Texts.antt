@@ -7,11 +7,11 @@ use Rattle.bq_query_lex.specs.declared.token.QueryToken.{QueryToken}
 use Rattle.bq_query_lex.specs.Reading.{Reads, ended, blank, token, unknown, before, IsWithin}
 use Rattle.bq_query_lex.proofs.Within.{within}
 use Rattle.bq_query_lex.proofs.Unique.{unique}
-use Rattle.bq_query_tree.specs.Lexeme.{Lexeme, lexemes}
-use Rattle.bq_query_tree.specs.declared.tree.Query.{Query}
-use Rattle.bq_query_tree.specs.Turns as turns
-use Rattle.bq_query_tree.specs.Reading.{query_to}
-use Rattle.bq_query_tree.proofs.Queries.{sound, complete}
+use Rattle.bq_query_parse.specs.Lexeme.{Lexeme, lexemes}
+use Rattle.bq_query_parse.specs.declared.tree.Query.{Query}
+use Rattle.bq_query_parse.specs.Turns as turns
+use Rattle.bq_query_parse.specs.Reading.{query_to}
+use Rattle.bq_query_parse.proofs.Queries.{sound, complete}
 use Rattle.bq_query_parse.specs.Tokens.{IsInText, kind_ahead}
 use Rattle.bq_query_parse.specs.Parses.{IsQuery, whole, whole_query}
 

@@ -1,3 +1,9 @@
+pub mod Lexeme
+pub mod Turns
+pub mod Phrases
+pub mod Grammar
+pub mod Reading
+pub mod GrammarLaws
 pub mod Tokens
 pub mod Nested
 pub mod Parses

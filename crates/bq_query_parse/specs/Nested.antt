@@ -2,11 +2,11 @@
 use Rattle.std.specs.Prelude.{ℕ, List, Result}
 use Rattle.std.specs.declared.alloc.Global.{Global}
 use denote.Ref.{MutBor}
-use Rattle.bq_query_tree.specs.Lexeme.{Lexeme}
-use Rattle.bq_query_tree.specs.declared.refusal.QuerySyntaxErr.{QuerySyntaxErr}
-use Rattle.bq_query_tree.specs.declared.tree.Query.{Query}
-use Rattle.bq_query_tree.specs.Turns.{Reads}
-use Rattle.bq_query_tree.specs.Reading.{query_to}
+use Rattle.bq_query_parse.specs.Lexeme.{Lexeme}
+use Rattle.bq_query_parse.specs.declared.refusal.QuerySyntaxErr.{QuerySyntaxErr}
+use Rattle.bq_query_parse.specs.declared.tree.Query.{Query}
+use Rattle.bq_query_parse.specs.Turns.{Reads}
+use Rattle.bq_query_parse.specs.Reading.{query_to}
 
 pub record ReadsQuery (depth : ℕ) (pre : Global → MutBor (List Lexeme) → ℕ → Type 0)
     (post : Global → MutBor (List Lexeme) → ℕ → Result Query QuerySyntaxErr → MutBor (List Lexeme) → Type 0) : Type 0 where

@@ -2,13 +2,13 @@
 use Rattle.std.specs.Prelude.{ℕ, List, [], ◌∷◌, Option, Some, None, Result, Ok, Err, ◌≡◌, ◌≢◌, ◌+◌}
 use Rattle.bq_query_lex.specs.declared.token.QueryToken.{QueryToken}
 use Rattle.bq_query_lex.specs.Reading as tokens
-use Rattle.bq_query_tree.specs.Lexeme.{Lexeme, lexemes}
-use Rattle.bq_query_tree.specs.declared.refusal.QuerySyntaxErr.{QuerySyntaxErr}
-use Rattle.bq_query_tree.specs.declared.refusal.QuerySyntaxErr.TheVariants.{Memory}
-use Rattle.bq_query_tree.specs.declared.tree.Query.{Query}
-use Rattle.bq_query_tree.specs.Grammar.{IsQueryTo, max_open}
-use Rattle.bq_query_tree.specs.Turns.{Found}
-use Rattle.bq_query_tree.specs.Reading.{query_to}
+use Rattle.bq_query_parse.specs.Lexeme.{Lexeme, lexemes}
+use Rattle.bq_query_parse.specs.declared.refusal.QuerySyntaxErr.{QuerySyntaxErr}
+use Rattle.bq_query_parse.specs.declared.refusal.QuerySyntaxErr.TheVariants.{Memory}
+use Rattle.bq_query_parse.specs.declared.tree.Query.{Query}
+use Rattle.bq_query_parse.specs.Grammar.{IsQueryTo, max_open}
+use Rattle.bq_query_parse.specs.Turns.{Found}
+use Rattle.bq_query_parse.specs.Reading.{query_to}
 
 -- the text is cut into tokens, and all of them are a query of this tree
 pub record IsQuery (text : List ℕ) (x : Query) : Type 0 where

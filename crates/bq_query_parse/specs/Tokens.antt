@@ -3,8 +3,8 @@ use Rattle.std.specs.Prelude.{ℕ, ◌≤◌, List, [], ◌∷◌, length, Bool,
 use Rattle.bq_query_lex.specs.declared.token.QueryToken.{QueryToken}
 use Rattle.bq_query_lex.specs.declared.token.QueryTokenKind.{QueryTokenKind}
 use Rattle.bq_query_lex.specs.declared.token.QueryTokenKind.TheVariants as k
-use Rattle.bq_query_tree.specs.Lexeme.{Lexeme, lexemes}
-use Rattle.bq_query_tree.specs.Turns.{sees, next}
+use Rattle.bq_query_parse.specs.Lexeme.{Lexeme, lexemes}
+use Rattle.bq_query_parse.specs.Turns.{sees, next}
 use Rattle.bq_query_parse.specs.declared.tokens.QueryTokens.TheInside.{Inside}
 
 -- a token is a part of the text

@@ -1,15 +1,16 @@
 //! The productions, over the reader of the queries inside one more parenthesis or let.
 
 ghost use Rattle.std.specs.Prelude.{[]};
-ghost use Rattle.bq_query_tree.specs.Turns.{Reads};
-ghost use Rattle.bq_query_tree.specs.Turns as turns;
-ghost use Rattle.bq_query_tree.specs.Reading as spec;
+ghost use Rattle.bq_query_parse.specs.Turns.{Reads};
+ghost use Rattle.bq_query_parse.specs.Turns as turns;
+ghost use Rattle.bq_query_parse.specs.Reading as spec;
 ghost use Rattle.bq_query_parse.specs.Nested.{ReadsQuery};
 
+use crate::refusal::QuerySyntaxErr;
 use crate::tokens::QueryTokens;
+use crate::tree::{Query, SetOperation};
 use bq_base::Bytes;
 use bq_query_lex::QueryTokenKind;
-use bq_query_tree::{Query, QuerySyntaxErr, SetOperation};
 use sqlite_items::{Boxed, Items};
 use std::alloc::Global;
 
@@ -22,7 +23,7 @@ pub struct QueryGrammar<F> {
 }
 
 /// { Word }
-#[tactic(auto, using(crate::proofs::LoopTurns::turns_more, crate::proofs::LoopTurns::turns_over), unfolding(bq_query_tree::specs::Turns::repeat))]
+#[tactic(auto, using(crate::proofs::LoopTurns::turns_more, crate::proofs::LoopTurns::turns_over), unfolding(crate::specs::Turns::repeat))]
 fn words(alloc: Global, tokens: &mut QueryTokens<'_>) -> Result<Items<Bytes>, QuerySyntaxErr>
     ensures { Reads (turns.repeat spec.begins_word spec.a_word [] tokens.old) result tokens.new }
 {
@@ -48,7 +49,7 @@ impl<F: Fn(Global, &mut QueryTokens<'_>, usize) -> Result<Query, QuerySyntaxErr>
     }
 
     /// Arguments = [ Query { ',' Query } ] ')'
-    #[tactic(auto, using(crate::proofs::LoopTurns::turns_more, crate::proofs::LoopTurns::turns_over), unfolding(bq_query_tree::specs::Turns::repeat, bq_query_tree::specs::Reading::arguments))]
+    #[tactic(auto, using(crate::proofs::LoopTurns::turns_more, crate::proofs::LoopTurns::turns_over), unfolding(crate::specs::Turns::repeat, crate::specs::Reading::arguments))]
     fn arguments(&self, tokens: &mut QueryTokens<'_>) -> Result<Items<Query>, QuerySyntaxErr>
         requires { ReadsQuery self.now.depth (F.pre self.now.query) (F.post self.now.query) }
         ensures { Reads (spec.arguments (spec.query_to self.now.depth) tokens.old) result tokens.new }
@@ -70,7 +71,7 @@ impl<F: Fn(Global, &mut QueryTokens<'_>, usize) -> Result<Query, QuerySyntaxErr>
     }
 
     /// '(' Query ')'
-    #[tactic(auto, unfolding(bq_query_tree::specs::Reading::parenthesized))]
+    #[tactic(auto, unfolding(crate::specs::Reading::parenthesized))]
     fn parenthesized(&self, tokens: &mut QueryTokens<'_>) -> Result<Query, QuerySyntaxErr>
         requires { ReadsQuery self.now.depth (F.pre self.now.query) (F.post self.now.query) }
         ensures { Reads (spec.parenthesized self.now.depth (spec.query_to self.now.depth) tokens.old) result tokens.new }
@@ -82,7 +83,7 @@ impl<F: Fn(Global, &mut QueryTokens<'_>, usize) -> Result<Query, QuerySyntaxErr>
     }
 
     /// 'set' '(' { Word } ')', after 'set'
-    #[tactic(auto, unfolding(bq_query_tree::specs::Reading::set_of))]
+    #[tactic(auto, unfolding(crate::specs::Reading::set_of))]
     fn set_of(&self, tokens: &mut QueryTokens<'_>) -> Result<Query, QuerySyntaxErr>
         ensures { Reads (spec.set_of self.now.depth tokens.old) result tokens.new }
     {
@@ -93,7 +94,7 @@ impl<F: Fn(Global, &mut QueryTokens<'_>, usize) -> Result<Query, QuerySyntaxErr>
     }
 
     /// Operand = Word | variable | '(' Query ')' | 'set' '(' { Word } ')' | word '(' Arguments
-    #[tactic(auto, unfolding(bq_query_tree::specs::Reading::operand, bq_query_tree::specs::Reading::call))]
+    #[tactic(auto, unfolding(crate::specs::Reading::operand, crate::specs::Reading::call))]
     fn operand(&self, tokens: &mut QueryTokens<'_>) -> Result<Query, QuerySyntaxErr>
         requires { ReadsQuery self.now.depth (F.pre self.now.query) (F.post self.now.query) }
         ensures { Reads (spec.operand self.now.depth (spec.query_to self.now.depth) tokens.old) result tokens.new }
@@ -122,7 +123,7 @@ impl<F: Fn(Global, &mut QueryTokens<'_>, usize) -> Result<Query, QuerySyntaxErr>
     }
 
     /// Query 'in' Query
-    #[tactic(auto, unfolding(bq_query_tree::specs::Reading::binding))]
+    #[tactic(auto, unfolding(crate::specs::Reading::binding))]
     fn binding(&self, tokens: &mut QueryTokens<'_>, name: Bytes) -> Result<Query, QuerySyntaxErr>
         requires { ReadsQuery self.now.depth (F.pre self.now.query) (F.post self.now.query) }
         ensures { Reads (spec.binding (spec.query_to self.now.depth) name tokens.old) result tokens.new }
@@ -134,7 +135,7 @@ impl<F: Fn(Global, &mut QueryTokens<'_>, usize) -> Result<Query, QuerySyntaxErr>
     }
 
     /// 'let' name '=' Query 'in' Query, after 'let'
-    #[tactic(auto, unfolding(bq_query_tree::specs::Reading::let_in))]
+    #[tactic(auto, unfolding(crate::specs::Reading::let_in))]
     fn let_in(&self, tokens: &mut QueryTokens<'_>) -> Result<Query, QuerySyntaxErr>
         requires { ReadsQuery self.now.depth (F.pre self.now.query) (F.post self.now.query) }
         ensures { Reads (spec.let_in self.now.depth (spec.query_to self.now.depth) tokens.old) result tokens.new }
@@ -159,7 +160,7 @@ impl<F: Fn(Global, &mut QueryTokens<'_>, usize) -> Result<Query, QuerySyntaxErr>
     }
 
     /// operator Operand | operator Let
-    #[tactic(auto, unfolding(bq_query_tree::specs::Reading::an_operation))]
+    #[tactic(auto, unfolding(crate::specs::Reading::an_operation))]
     fn an_operation(&self, tokens: &mut QueryTokens<'_>) -> Result<SetOperation, QuerySyntaxErr>
         requires { ReadsQuery self.now.depth (F.pre self.now.query) (F.post self.now.query) }
         ensures { Reads (spec.an_operation self.now.depth (spec.query_to self.now.depth) tokens.old) result tokens.new }
@@ -172,7 +173,7 @@ impl<F: Fn(Global, &mut QueryTokens<'_>, usize) -> Result<Query, QuerySyntaxErr>
     }
 
     /// Operations = { operator Operand } [ operator Let ]
-    #[tactic(auto, using(crate::proofs::LoopTurns::turns_more, crate::proofs::LoopTurns::turns_over), unfolding(bq_query_tree::specs::Reading::operations))]
+    #[tactic(auto, using(crate::proofs::LoopTurns::turns_more, crate::proofs::LoopTurns::turns_over), unfolding(crate::specs::Reading::operations))]
     fn operations(
         &self,
         tokens: &mut QueryTokens<'_>,
@@ -196,7 +197,7 @@ impl<F: Fn(Global, &mut QueryTokens<'_>, usize) -> Result<Query, QuerySyntaxErr>
     }
 
     /// Query = Let | Operand Operations
-    #[tactic(auto, unfolding(bq_query_tree::specs::Reading::query_in))]
+    #[tactic(auto, unfolding(crate::specs::Reading::query_in))]
     pub fn query_in(&self, tokens: &mut QueryTokens<'_>) -> Result<Query, QuerySyntaxErr>
         requires { ReadsQuery self.now.depth (F.pre self.now.query) (F.post self.now.query) }
         ensures { Reads (spec.query_in self.now.depth (spec.query_to self.now.depth) tokens.old) result tokens.new }

@@ -2,15 +2,16 @@
 
 ghost use Rattle.std.specs.Prelude.{◌≡◌, ◌≢◌};
 ghost use Rattle.bq_query_lex.specs.declared.query_error.QueryErr.TheVariants.{Syntax};
-ghost use Rattle.bq_query_tree.specs.declared.refusal.QuerySyntaxErr.TheVariants.{Memory};
-ghost use Rattle.bq_query_tree.specs.Turns.{Reads};
-ghost use Rattle.bq_query_tree.specs.Reading as spec;
+ghost use Rattle.bq_query_parse.specs.declared.refusal.QuerySyntaxErr.TheVariants.{Memory};
+ghost use Rattle.bq_query_parse.specs.Turns.{Reads};
+ghost use Rattle.bq_query_parse.specs.Reading as spec;
 ghost use Rattle.bq_query_parse.specs.Parses.{Parses};
 
 use crate::grammar::QueryGrammar;
+use crate::refusal::QuerySyntaxErr;
 use crate::tokens::QueryTokens;
+use crate::tree::Query;
 use bq_query_lex::{QueryErr, lex_query};
-use bq_query_tree::{Query, QuerySyntaxErr};
 use std::alloc::Global;
 
 /// How many parentheses and lets may be open.

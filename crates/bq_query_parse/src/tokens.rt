@@ -1,15 +1,16 @@
 //! A place in the tokens of a query, and the steps that every production is made of.
 
 ghost use Rattle.std.specs.Prelude.{◌≡◌, All, drop, length, IfOk};
-ghost use Rattle.bq_query_tree.specs.Lexeme as lexeme;
-ghost use Rattle.bq_query_tree.specs.Turns.{Reads};
-ghost use Rattle.bq_query_tree.specs.Turns as turns;
-ghost use Rattle.bq_query_tree.specs.Reading as spec;
+ghost use Rattle.bq_query_parse.specs.Lexeme as lexeme;
+ghost use Rattle.bq_query_parse.specs.Turns.{Reads};
+ghost use Rattle.bq_query_parse.specs.Turns as turns;
+ghost use Rattle.bq_query_parse.specs.Reading as spec;
 ghost use Rattle.bq_query_parse.specs.Tokens as ahead;
 
+use crate::refusal::QuerySyntaxErr;
+use crate::tree::SetOperator;
 use bq_base::Bytes;
 use bq_query_lex::{QueryToken, QueryTokenKind, is_variable_name};
-use bq_query_tree::{QuerySyntaxErr, SetOperator};
 use std::alloc::{AllocError, Global};
 use std::marker::Model;
 
@@ -51,7 +52,7 @@ pub struct QueryTokens<'a> {
 
 impl<'a> Model for QueryTokens<'a> {
     ghost use Rattle.std.specs.Prelude.{List};
-    ghost use Rattle.bq_query_tree.specs.Lexeme.{Lexeme};
+    ghost use Rattle.bq_query_parse.specs.Lexeme.{Lexeme};
 
     ghost Value = { List Lexeme };
 
@@ -119,7 +120,7 @@ impl<'a> QueryTokens<'a> {
     }
 
     /// Passes the next token if it is of this kind.
-    #[tactic(auto, unfolding(bq_query_tree::specs::Lexeme::same_kind))]
+    #[tactic(auto, unfolding(crate::specs::Lexeme::same_kind))]
     pub fn eat(&mut self, kind: QueryTokenKind) -> bool
         ensures found { result ≡ turns.sees kind self.old }
         ensures after { self.new ≡ turns.after kind self.old }
@@ -205,7 +206,7 @@ impl<'a> QueryTokens<'a> {
     }
 
     /// Reads the name of a variable, without quotes.
-    #[tactic(auto, unfolding(bq_query_tree::specs::Lexeme::same_kind))]
+    #[tactic(auto, unfolding(crate::specs::Lexeme::same_kind))]
     pub fn name(&mut self, alloc: Global) -> Result<Bytes, QuerySyntaxErr>
         ensures { Reads (spec.a_name self.old) result self.new }
     {

@@ -20,14 +20,14 @@ use Rattle.bq_label.specs.Label.{LabelParts, PackageParts, package_of}
 use Rattle.bq_label.specs.Packages.{id_cmp}
 use Rattle.bq_label.proofs.BuildFiles.{by_id}
 use Rattle.bq_label.proofs.Orders.{at_head, head_or_tail}
-use Rattle.bq_base_fault_line.specs.declared.fault_line.FaultLine.{FaultLine}
+use Rattle.bq_base_texts.specs.declared.fault_line.FaultLine.{FaultLine}
 use Rattle.std.specs.BTreeSet.{insert_key}
-use Rattle.bq_base_fault_line.specs.FaultLine.{line_cmp, put_lines, sorted_lines}
-use Rattle.bq_base_fault_line.proofs.LineOrder.{ascending, one_order, same_lines}
+use Rattle.bq_base_texts.specs.FaultLine.{line_cmp, put_lines, sorted_lines}
+use Rattle.bq_base_texts.proofs.LineOrder.{ascending, one_order, same_lines}
 use Rattle.bq_package_target.specs.declared.target.Target.{Target}
 use Rattle.bq_package_target.specs.Target.{is_of, dependencies}
 use Rattle.bq_package_target.specs.Package.{PackageTargets, AreTargetsOf}
-use Rattle.bq_package_list.specs.Order.{id_of, PackagesAscend}
+use Rattle.bq_package_target.specs.PackageOrder.{id_of, PackagesAscend}
 use Rattle.bq_label_set.specs.Labels.{same_label, has_label}
 use Rattle.bq_query_target_graph.specs.Order.{all_targets, target_labels}
 use Rattle.bq_query_target_graph.specs.BuildFiles.{build_files, file_of}

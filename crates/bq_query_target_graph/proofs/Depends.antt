@@ -7,8 +7,7 @@ use Rattle.std.proofs.lemmas.List.Quantifiers.{position-Some}
 use Rattle.std.proofs.lemmas.Map.Keys.{apart_from_distinct}
 use Rattle.bq_label.specs.Label.{LabelParts}
 use Rattle.bq_label.proofs.Orders.{at_head, in_tail, head_or_tail}
-use Rattle.bq_query_graph.specs.declared.edge.Edge.{Edge}
-use Rattle.bq_query_graph.specs.Edges.{HasEdge, AreBetween}
+use Rattle.bq_query_graph.specs.Edges.{Edge, HasEdge, AreBetween}
 use Rattle.bq_package_target.specs.declared.target.Target.{Target}
 use Rattle.bq_label_set.specs.Labels.{same_label, same_label-Decides, same_label-equiv}
 use Rattle.bq_query_target_graph.specs.Order.{target_labels}

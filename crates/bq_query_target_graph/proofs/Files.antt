@@ -11,7 +11,7 @@ use Rattle.bq_label.proofs.BuildFiles.{by_id, same_id_test}
 use Rattle.bq_label.proofs.Searches.{find_here, find_nowhere}
 use Rattle.bq_package_target.specs.Target.{is_of}
 use Rattle.bq_package_target.specs.Package.{PackageTargets}
-use Rattle.bq_package_list.specs.Order.{id_of, PackagesAscend}
+use Rattle.bq_package_target.specs.PackageOrder.{id_of, PackagesAscend}
 use Rattle.bq_query_target_graph.specs.BuildFiles.{build_files, FilesAscend, file_of}
 
 -- a label is of the package that has its name

@@ -1,7 +1,7 @@
 pub mod Lists
 pub mod Ascends
 pub mod Repeats
-pub mod EdgeWalks
+pub mod RowEdges
 pub mod Depends
 pub mod Places
 pub mod Whole

@@ -7,14 +7,14 @@ use Rattle.std.proofs.lemmas.Bool.{cases_lt}
 use Rattle.std.proofs.lemmas.List.{drop_all, drop-drop}
 use Rattle.std.proofs.lemmas.Nat.{mod_below}
 use Rattle.bq_label.specs.Label.{LabelParts}
-use Rattle.bq_base_fault_line.specs.FaultLine.{sorted_lines}
+use Rattle.bq_base_texts.specs.FaultLine.{sorted_lines}
 use Rattle.bq_package_target.specs.declared.target.Target.{Target}
 use Rattle.bq_query_target_graph.specs.declared.edges.Found.{Found}
 use Rattle.bq_query_target_graph.specs.declared.edges.Part.{Part}
-use Rattle.bq_query_target_graph.specs.Edges.{edges_from}
+use Rattle.bq_query_target_graph.specs.Edges.{rows_of}
 use Rattle.bq_query_target_graph.specs.Dangling.{dangling_from}
-use Rattle.bq_query_target_graph.specs.Parts.{part_edges, part_lines, IsFoundIn}
-use Rattle.bq_query_target_graph.proofs.EdgeWalks.{edges_cut, no_edges}
+use Rattle.bq_query_target_graph.specs.Parts.{part_rows, part_lines, IsFoundIn}
+use Rattle.bq_query_target_graph.proofs.RowEdges.{rows_cut}
 use Rattle.bq_query_target_graph.proofs.Danglings.{lines_cut}
 
 -- the chunks are as many as cover the list
@@ -64,30 +64,32 @@ module _ {X Y R : Type 0} (f : R → List Y) (g : ℕ → List X → List Y) (cu
       let count : (zero + length rs) * size ≡ length rs * size = ap (λ (n : ℕ). n * size) (zero-add (length rs)) in
       chunks_from rs zero (λ n d h. each n d h ∙ ap chunk (sym (zero-add n))) (omega arith) ∙ ap (λ (n : ℕ). g n (drop n xs)) (zero-mul size)
 
--- ---- edges and lines
+-- ---- rows and lines
 
 -- what was found along the chunks of the targets
 module _ (ls files : List LabelParts) (size : ℕ) (ts : List Target) (rs : List (Result Part AllocError)) (p : 0 < size) (e : length rs ≡ length ts / size + min 1 (length ts % size))
-    (each : (n : ℕ) (d : Result Part AllocError) → n < length rs → IfOk (get_or rs n d) (IsFoundIn ls files (n * size) (slice_chunk ts size n))) where
-  edges_of : (r : Result Part AllocError) (a : ℕ) (us : List Target) → IsOk r → IfOk r (IsFoundIn ls files a us) → part_edges r ≡ edges_from ls a us
-  edges_of (Ok q) a us o h = h.edges
-  edges_of (Err x) a us o h = absurd cc
+    (each : (n : ℕ) (d : Result Part AllocError) → n < length rs → IfOk (get_or rs n d) (IsFoundIn ls files (slice_chunk ts size n))) where
+  found_rows : (r : Result Part AllocError) (us : List Target) → IsOk r → IfOk r (IsFoundIn ls files us) → part_rows r ≡ rows_of ls us
+  found_rows (Ok q) us o h = h.rows
+  found_rows (Err x) us o h = absurd cc
 
-  lines_of : (r : Result Part AllocError) (a : ℕ) (us : List Target) → IsOk r → IfOk r (IsFoundIn ls files a us) → part_lines r ≡ dangling_from ls files us
-  lines_of (Ok q) a us o h = h.lines
-  lines_of (Err x) a us o h = absurd cc
+  found_lines : (r : Result Part AllocError) (us : List Target) → IsOk r → IfOk r (IsFoundIn ls files us) → part_lines r ≡ dangling_from ls files us
+  found_lines (Ok q) us o h = h.lines
+  found_lines (Err x) us o h = absurd cc
 
-  all_edges : All IsOk rs → flat_map part_edges rs ≡ edges_from ls 0 ts
-  all_edges given = chunks part_edges (edges_from ls) (edges_cut ls) (no_edges ls) size ts rs p e (λ n d h. edges_of (get_or rs n d) (n * size) (slice_chunk ts size n) (given n d h) (each n d h))
+  all_rows : All IsOk rs → flat_map part_rows rs ≡ rows_of ls ts
+  all_rows given =
+      chunks part_rows (λ _ us. rows_of ls us) (λ _ k us. rows_cut ls k us) (λ _. refl) size ts rs p e
+      (λ n d h. found_rows (get_or rs n d) (slice_chunk ts size n) (given n d h) (each n d h))
 
   all_lines : All IsOk rs → flat_map part_lines rs ≡ dangling_from ls files ts
   all_lines given =
       chunks part_lines (λ _ us. dangling_from ls files us) (λ _ k us. lines_cut ls files k us) (λ _. refl) size ts rs p e
-      (λ n d h. lines_of (get_or rs n d) (n * size) (slice_chunk ts size n) (given n d h) (each n d h))
+      (λ n d h. found_lines (get_or rs n d) (slice_chunk ts size n) (given n d h) (each n d h))
 
-  pub joined_edges : (r : Result Found AllocError) → OnOk r (All IsOk rs) → IfOk r (λ f. f.edges.items ≡ flat_map part_edges rs) → IfOk r (λ f. f.edges.items ≡ edges_from ls 0 ts)
-  joined_edges (Ok f) given h = h ∙ all_edges given
-  joined_edges (Err x) given h = tt
+  pub joined_rows : (r : Result Found AllocError) → OnOk r (All IsOk rs) → IfOk r (λ f. f.rows ≡ flat_map part_rows rs) → IfOk r (λ f. f.rows ≡ rows_of ls ts)
+  joined_rows (Ok f) given h = h ∙ all_rows given
+  joined_rows (Err x) given h = tt
 
   pub joined_lines : (r : Result Found AllocError) → OnOk r (All IsOk rs) → IfOk r (λ f. f.dangling ≡ sorted_lines (flat_map part_lines rs)) → IfOk r (λ f. f.dangling ≡ sorted_lines (dangling_from ls files ts))
   joined_lines (Ok f) given h = h ∙ ap sorted_lines (all_lines given)

@@ -4,13 +4,12 @@ use Rattle.std.specs.List.Sorted.{IsPermutation, IsStrictlySortedBy}
 use Rattle.bq_label.specs.Label.{LabelParts, PackageParts, package_of}
 use Rattle.bq_label.specs.Packages.{id_cmp}
 use Rattle.bq_label.proofs.Orders.{in_order_moves}
-use Rattle.bq_base_fault_line.specs.declared.fault_line.FaultLine.{FaultLine}
-use Rattle.bq_base_fault_line.specs.FaultLine.{sorted_lines}
-use Rattle.bq_query_graph.specs.declared.edge.Edge.{Edge}
-use Rattle.bq_query_graph.specs.Edges.{AreBetween, HasPairsOf}
+use Rattle.bq_base_texts.specs.declared.fault_line.FaultLine.{FaultLine}
+use Rattle.bq_base_texts.specs.FaultLine.{sorted_lines}
+use Rattle.bq_query_graph.specs.Edges.{HasPairsOf}
 use Rattle.bq_package_target.specs.declared.target.Target.{Target}
 use Rattle.bq_package_target.specs.Package.{PackageTargets}
-use Rattle.bq_package_list.specs.Order.{id_of}
+use Rattle.bq_package_target.specs.PackageOrder.{id_of}
 use Rattle.bq_query_target_graph.specs.declared.graph.Nodes.{Nodes}
 use Rattle.bq_query_target_graph.specs.Nodes.{AreNodesOf}
 use Rattle.bq_query_target_graph.specs.Order.{target_cmp, target_cmp_total, all_targets, targets_of, target_labels}
@@ -19,7 +18,7 @@ use Rattle.bq_query_target_graph.specs.Dangling.{dangling_from, dangling_lines}
 use Rattle.bq_query_target_graph.specs.Edges.{IsGraphOf, edges_from}
 use Rattle.bq_query_target_graph.proofs.Ascends.{distinct_from_order}
 use Rattle.bq_query_target_graph.proofs.Danglings.{found_lines}
-use Rattle.bq_query_target_graph.proofs.Depends.{edges_are, are_between}
+use Rattle.bq_query_target_graph.proofs.Depends.{edges_are}
 use Rattle.bq_query_target_graph.proofs.Files.{ids_are}
 
 -- the graph of these parts
@@ -40,9 +39,6 @@ module _ (ts : List Target) (s : IsStrictlySortedBy target_cmp ts) (g : List (Li
         let pairs = h.pairs a b in
         (λ p. edges.0 (pairs.0 p), λ d. pairs.1 (edges.1 d));
   }
-
-pub edges_between : (ts : List Target) → IsStrictlySortedBy target_cmp ts → (es : List Edge) → es ≡ edges_from (target_labels ts) 0 ts → AreBetween (length ts) es
-edges_between ts s es n = subst (λ (z : List Edge). AreBetween (length ts) z) (sym n) (are_between ts (distinct_from_order ts s))
 
 -- the graph of packages with these targets and BUILD files
 module _ (ps : List PackageTargets) (r : Nodes) (a : AreNodesOf ps r) where

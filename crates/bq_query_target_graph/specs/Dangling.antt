@@ -3,8 +3,8 @@ use Rattle.std.specs.Prelude.{◌≡◌, ℕ, List, [], ◌∷◌, Bool, false, 
 use Rattle.std.specs.List.{flat_map, Contains}
 use Rattle.bq_base.specs.declared.fault.FaultKind.TheVariants as f
 use Rattle.bq_label.specs.Label.{LabelParts, package_of, full_form}
-use Rattle.bq_base_fault_line.specs.declared.fault_line.FaultLine.{FaultLine}
-use Rattle.bq_base_fault_line.specs.FaultLine.{sorted_lines}
+use Rattle.bq_base_texts.specs.declared.fault_line.FaultLine.{FaultLine}
+use Rattle.bq_base_texts.specs.FaultLine.{sorted_lines}
 use Rattle.bq_package_target.specs.declared.target.Target.{Target}
 use Rattle.bq_package_target.specs.Target.{is_of, dependencies}
 use Rattle.bq_package_target.specs.Package.{PackageTargets}

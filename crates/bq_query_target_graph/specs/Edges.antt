@@ -2,15 +2,15 @@
 use Rattle.std.specs.Prelude.{◌≡◌, ℕ, ◌+◌, ◌↔◌, List, [], ◌∷◌, ◌++◌, Bool, false, Option, Some, None, map, position, slice_get, if◌then◌else◌}
 use Rattle.std.specs.List.{flat_map, Contains}
 use Rattle.bq_label.specs.Label.{LabelParts}
-use Rattle.bq_query_graph.specs.declared.edge.Edge.{Edge}
+use Rattle.bq_query_graph.specs.Edges.{Edge}
 use Rattle.bq_query_graph.specs.Paths.{Pair}
 use Rattle.bq_package_target.specs.declared.target.Target.{Target}
 use Rattle.bq_package_target.specs.declared.target.TargetKind.TheVariants as k
 use Rattle.bq_package_target.specs.Target.{dependencies}
 use Rattle.bq_package_target.specs.Package.{PackageTargets}
-use Rattle.bq_value_rule_class.specs.Value.{labels_of}
+use Rattle.bq_value_datum.specs.AttributeValue.{labels_of}
 use Rattle.bq_label_set.specs.Labels.{same_label}
-use Rattle.bq_package_list.specs.Order.{id_of}
+use Rattle.bq_package_target.specs.PackageOrder.{id_of}
 use Rattle.bq_query_target_graph.specs.Order.{targets_of}
 use Rattle.bq_query_target_graph.specs.Graph.{GraphParts}
 
@@ -58,3 +58,20 @@ edges_to ls a named = flat_map (λ l. edge_by a (position (same_label l) ls)) na
 unfoldable pub edges_from : List LabelParts → ℕ → List Target → List Edge
 edges_from ls a [] = []
 edges_from ls a (t ∷ ts) = edges_to ls a (looked_up t) ++ edges_from ls (a + 1) ts
+
+-- ---- the rows of the graph
+
+abbrev pub number_by : Option ℕ → List ℕ
+number_by None = []
+number_by (Some b) = b ∷ []
+
+-- the numbers of the targets that these labels name, by the labels of all targets
+abbrev pub numbers_of : List LabelParts → List LabelParts → List ℕ
+numbers_of ls named = flat_map (λ l. number_by (position (same_label l) ls)) named
+
+-- the row of a target: the numbers of those that it depends on
+abbrev pub row_of : List LabelParts → Target → List ℕ
+row_of ls t = numbers_of ls (looked_up t)
+
+abbrev pub rows_of : List LabelParts → List Target → List (List ℕ)
+rows_of ls ts = map (row_of ls) ts

@@ -3,7 +3,7 @@ use Rattle.std.specs.Prelude.{◌≡◌, List}
 use Rattle.std.specs.List.{All}
 use Rattle.std.specs.List.Sorted.{IsStrictlySortedBy}
 use Rattle.bq_package_target.specs.Package.{PackageTargets, AreTargetsOf}
-use Rattle.bq_package_list.specs.Order.{id_of, PackagesAscend}
+use Rattle.bq_package_target.specs.PackageOrder.{id_of, PackagesAscend}
 use Rattle.bq_query_target_graph.specs.declared.graph.Nodes.{Nodes}
 use Rattle.bq_query_target_graph.specs.Order.{target_cmp, targets_of}
 use Rattle.bq_query_target_graph.specs.BuildFiles.{build_files}

@@ -2,22 +2,21 @@
 use Rattle.std.specs.Prelude.{◌≡◌, ℕ, List, [], Result, Ok, Err}
 use Rattle.std.specs.declared.alloc.AllocError.{AllocError}
 use Rattle.bq_label.specs.Label.{LabelParts}
-use Rattle.bq_base_fault_line.specs.declared.fault_line.FaultLine.{FaultLine}
-use Rattle.bq_query_graph.specs.declared.edge.Edge.{Edge}
+use Rattle.bq_base_texts.specs.declared.fault_line.FaultLine.{FaultLine}
 use Rattle.bq_package_target.specs.declared.target.Target.{Target}
 use Rattle.bq_query_target_graph.specs.declared.edges.Part.{Part}
-use Rattle.bq_query_target_graph.specs.Edges.{edges_from}
+use Rattle.bq_query_target_graph.specs.Edges.{rows_of}
 use Rattle.bq_query_target_graph.specs.Dangling.{dangling_from}
 
--- the edges and the lines of targets, the first of which has the number `a`, by the labels of all targets and the BUILD files
-pub record IsFoundIn (ls files : List LabelParts) (a : ℕ) (ts : List Target) (p : Part) : Type 0 where
-  pub edges : p.edges.items ≡ edges_from ls a ts
+-- the rows and the lines of targets, by the labels of all targets and the BUILD files
+pub record IsFoundIn (ls files : List LabelParts) (ts : List Target) (p : Part) : Type 0 where
+  pub rows : p.rows ≡ rows_of ls ts
   pub lines : p.dangling.items ≡ dangling_from ls files ts
 
--- the edges of a part; none where memory ran out
-abbrev pub part_edges : Result Part AllocError → List Edge
-part_edges (Ok p) = p.edges.items
-part_edges (Err e) = []
+-- the rows of a part; none where memory ran out
+abbrev pub part_rows : Result Part AllocError → List (List ℕ)
+part_rows (Ok p) = p.rows
+part_rows (Err e) = []
 
 -- its fault lines, of labels that name no target; none where memory ran out
 abbrev pub part_lines : Result Part AllocError → List FaultLine

@@ -4,7 +4,7 @@ ghost use Rattle.std.specs.Prelude.{◌≡◌, map, IfOk};
 ghost use Rattle.std.specs.List.Sorted.{IsStrictlySortedBy};
 ghost use Rattle.bq_label.specs.Label.{package_of};
 ghost use Rattle.bq_label.specs.Packages.{id_cmp};
-ghost use Rattle.bq_package_list.specs.Order.{PackagesAscend};
+ghost use Rattle.bq_package_target.specs.PackageOrder.{PackagesAscend};
 ghost use Rattle.bq_query_target_graph.specs.BuildFiles.{build_files, file_of};
 
 use bq_label::{Label, PackageId};

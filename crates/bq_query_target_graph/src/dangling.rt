@@ -2,13 +2,13 @@
 
 ghost use Rattle.std.specs.Prelude.{◌≡◌, ◌↔◌, ◌++◌, List, false, IfOk, OnOk};
 ghost use Rattle.std.specs.List.{Contains};
-ghost use Rattle.bq_base_fault_line.specs.declared.fault_line.FaultLine.{FaultLine};
+ghost use Rattle.bq_base_texts.specs.declared.fault_line.FaultLine.{FaultLine};
 ghost use Rattle.bq_label.specs.Label.{full_form};
 ghost use Rattle.bq_package_target.specs.Package.{PackageTargets};
 ghost use Rattle.bq_query_target_graph.specs.Dangling.{dangling, dangling_line, all_dangling, IsDangling};
 
 use bq_base::{Bytes, FaultKind};
-use bq_base_fault_line::FaultLine;
+use bq_base_texts::FaultLine;
 use bq_label::{Label, print_label};
 use bq_package_target::is_of;
 use std::alloc::{AllocError, Global};

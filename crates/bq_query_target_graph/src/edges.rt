@@ -3,19 +3,19 @@
 ghost use Rattle.std.specs.Prelude.{◌≡◌, ◌∷◌, ◌++◌, ◌+◌, ◌^◌, ◌<◌, [], None, length, option_copied, IfOk, IsOk, OnOk};
 ghost use Rattle.std.specs.List.{flat_map, All};
 ghost use Rattle.std.specs.List.Sorted.{IsStrictlySortedBy};
-ghost use Rattle.bq_base_fault_line.specs.FaultLine.{put_lines, sorted_lines};
+ghost use Rattle.bq_base_texts.specs.FaultLine.{put_lines, sorted_lines};
 ghost use Rattle.bq_query_target_graph.specs.Order.{target_cmp, target_labels};
-ghost use Rattle.bq_query_target_graph.specs.Edges.{repeats, unrepeated, looked_up, edges_to, edges_from};
+ghost use Rattle.bq_query_target_graph.specs.Edges.{repeats, unrepeated, numbers_of, row_of, rows_of};
 ghost use Rattle.bq_query_target_graph.specs.Dangling.{dangling_to, dangling_at, dangling_from};
-ghost use Rattle.bq_query_target_graph.specs.Parts.{part_edges, part_lines, IsFoundIn};
+ghost use Rattle.bq_query_target_graph.specs.Parts.{part_rows, part_lines, IsFoundIn};
 
 use crate::build_files::BuildFiles;
 use crate::dangling::add_dangling;
 use crate::numbers::Numbers;
-use bq_base_fault_line::{FaultLine, FaultLines};
+use bq_base_texts::{FaultLine, FaultLines};
 use bq_label::Label;
 use bq_package_target::{Target, TargetKind};
-use bq_query_graph::Edge;
+use bq_query_graph::RowList;
 use std::alloc::{AllocError, Global};
 use std::thread;
 use std::thread::Threads;
@@ -26,7 +26,8 @@ const TARGETS_OF_A_THREAD: usize = 1_024;
 /// What is found along the labels that targets depend on.
 #[derive(Drop)]
 pub struct Found {
-    pub edges: Vec<Edge>,
+    /// For each target the numbers of those that it depends on.
+    pub rows: RowList,
     /// The lines of the labels that name no target.
     pub dangling: FaultLines,
 }
@@ -34,16 +35,16 @@ pub struct Found {
 /// What is found along the labels that some of the targets depend on.
 #[derive(Drop)]
 pub(crate) struct Part {
-    edges: Vec<Edge>,
+    /// For each of these targets the numbers of those that it depends on.
+    rows: RowList,
     /// The lines of the labels that name no target, in the order in which they are found.
     dangling: Vec<FaultLine>,
 }
 
-/// A target that depends on others, with its number, and what these are found by.
+/// A target that depends on others, and what these are found by.
 #[derive(Clone, Copy)]
 struct Source<'a> {
     target: &'a Target,
-    number: usize,
     labels: &'a Numbers<'a>,
     files: &'a BuildFiles,
 }
@@ -63,68 +64,67 @@ fn repeats(before: Option<&Label>, label: &Label) -> bool
     }
 }
 
-/// Appends the edge to the target that the label names, or the line of a label that names none.
+/// Appends the number of the target that the label names, or the line of a label that names none.
 fn add_label(
     alloc: Global,
     source: Source<'_>,
     label: &Label,
-    found: &mut Part,
+    row: &mut Vec<usize>,
+    lines: &mut Vec<FaultLine>,
 ) -> Result<(), AllocError>
-    ensures edges { OnOk result (found.new.edges.items ≡ found.old.edges.items ++ edges_to source.entry.labels.now source.entry.number (label.now ∷ [])) }
-    ensures lines { OnOk result (found.new.dangling.items ≡ found.old.dangling.items ++ dangling_to source.entry.labels.now source.entry.files.now source.entry.target.now (label.now ∷ [])) }
+    ensures row { OnOk result (row.new.items ≡ row.old.items ++ numbers_of source.entry.labels.now (label.now ∷ [])) }
+    ensures lines { OnOk result (lines.new.items ≡ lines.old.items ++ dangling_to source.entry.labels.now source.entry.files.now source.entry.target.now (label.now ∷ [])) }
 {
-    // lists of labels are mostly sorted, so the target after the one that was found last is likely the next
-    let next = match found.edges.last() {
-        Some(edge) => edge.to.saturating_add(1),
-        None => 0,
-    };
-    match source.labels.number(next, label) {
-        Some(to) => found.edges.push(Edge {
-            from: source.number,
-            to,
-        })?,
+    match source.labels.number(label) {
+        Some(to) => row.push(to)?,
         None => {
             let file = source.files.file_of(&source.target.label);
-            add_dangling(alloc, file, source.target.line, label, &mut found.dangling)?;
+            add_dangling(alloc, file, source.target.line, label, lines)?;
         }
     }
     Ok(())
 }
 
-/// Appends the edges to the targets that the labels name, and the lines of the labels that name none. A label that is named many
+/// Appends the numbers of the targets that the labels name, and the lines of the labels that name none. A label that is named many
 /// times in a row counts once, so that a list of millions of one label is one edge.
 fn add_labels(
     alloc: Global,
     source: Source<'_>,
     named: &[Label],
-    found: &mut Part,
+    row: &mut Vec<usize>,
+    lines: &mut Vec<FaultLine>,
 ) -> Result<(), AllocError>
-    ensures edges { OnOk result (found.new.edges.items ≡ found.old.edges.items ++ edges_to source.entry.labels.now source.entry.number (unrepeated None named.now)) }
-    ensures lines { OnOk result (found.new.dangling.items ≡ found.old.dangling.items ++ dangling_to source.entry.labels.now source.entry.files.now source.entry.target.now (unrepeated None named.now)) }
+    ensures row { OnOk result (row.new.items ≡ row.old.items ++ numbers_of source.entry.labels.now (unrepeated None named.now)) }
+    ensures lines { OnOk result (lines.new.items ≡ lines.old.items ++ dangling_to source.entry.labels.now source.entry.files.now source.entry.target.now (unrepeated None named.now)) }
 {
     let mut before: Option<&Label> = None;
     for label in named {
         if repeats(before, label) {
             continue;
         }
-        add_label(alloc, source, label, found)?;
+        add_label(alloc, source, label, row, lines)?;
         before = Some(label);
     }
     Ok(())
 }
 
-/// Appends what is found along the dependencies of a target.
+/// Appends what is found along the dependencies of a target to its row.
 #[tactic(auto, unfolding(crate::specs::Edges::looked_up))]
-fn add_dependencies(alloc: Global, source: Source<'_>, found: &mut Part) -> Result<(), AllocError>
-    ensures edges { OnOk result (found.new.edges.items ≡ found.old.edges.items ++ edges_to source.entry.labels.now source.entry.number (looked_up source.entry.target.now)) }
-    ensures lines { OnOk result (found.new.dangling.items ≡ found.old.dangling.items ++ dangling_at source.entry.labels.now source.entry.files.now source.entry.target.now) }
+fn add_dependencies(
+    alloc: Global,
+    source: Source<'_>,
+    row: &mut Vec<usize>,
+    lines: &mut Vec<FaultLine>,
+) -> Result<(), AllocError>
+    ensures row { OnOk result (row.new.items ≡ row.old.items ++ row_of source.entry.labels.now source.entry.target.now) }
+    ensures lines { OnOk result (lines.new.items ≡ lines.old.items ++ dangling_at source.entry.labels.now source.entry.files.now source.entry.target.now) }
 {
     if let TargetKind::Generated(rule) = &source.target.kind {
-        return add_label(alloc, source, rule, found);
+        return add_label(alloc, source, rule, row, lines);
     }
     let attributes = source.target.attributes.as_slice();
     for given in attributes {
-        add_labels(alloc, source, given.value.labels(), found)?;
+        add_labels(alloc, source, given.value.labels(), row, lines)?;
     }
     Ok(())
 }
@@ -139,26 +139,26 @@ fn found_in(
 ) -> Result<Part, AllocError>
     requires ascending { IsStrictlySortedBy target_cmp targets.now }
     requires room { first + length part.now < 2 ^ 64 }
-    ensures { IfOk result (IsFoundIn (target_labels targets.now) files.now first part.now) }
+    ensures { IfOk result (IsFoundIn (target_labels targets.now) files.now part.now) }
 {
     let mut labels = Numbers::of(targets);
-    let mut found = Part {
-        edges: Vec::new(alloc),
-        dangling: Vec::new(alloc),
-    };
+    let mut rows = RowList::new(alloc)?;
+    let mut row = Vec::new(alloc);
+    let mut dangling = Vec::new(alloc);
     let mut number = first;
     for target in part {
         labels.enter(number);
         let source = Source {
             target,
-            number,
             labels: &labels,
             files,
         };
-        add_dependencies(alloc, source, &mut found)?;
+        row.clear();
+        add_dependencies(alloc, source, &mut row, &mut dangling)?;
+        rows.push(&row)?;
         number += 1;
     }
-    Ok(found)
+    Ok(Part { rows, dangling })
 }
 
 /// Adds lines to those that are there.
@@ -174,14 +174,11 @@ fn add_lines(lines: Vec<FaultLine>, all: &mut FaultLines) -> Result<(), AllocErr
 impl Found {
     /// Adds what is found along the targets that come next.
     fn add(&mut self, part: Part) -> Result<(), AllocError>
-        ensures edges { OnOk result (self.new.edges.items ≡ self.old.edges.items ++ part.edges.items) }
+        ensures rows { OnOk result (self.new.rows ≡ self.old.rows ++ part.rows) }
         ensures lines { OnOk result (self.new.dangling ≡ put_lines self.old.dangling part.dangling.items) }
     {
-        let Part {
-            mut edges,
-            dangling,
-        } = part;
-        self.edges.append(&mut edges)?;
+        let Part { rows, dangling } = part;
+        self.rows.append(rows)?;
         add_lines(dangling, &mut self.dangling)
     }
 }
@@ -189,11 +186,11 @@ impl Found {
 /// Joins what is found along one part of the targets after the other. If memory was refused to one of them, it fails too.
 fn joined(alloc: Global, parts: Vec<Result<Part, AllocError>>) -> Result<Found, AllocError>
     ensures given { OnOk result (All IsOk parts.items) }
-    ensures edges { IfOk result (λ f. f.edges.items ≡ flat_map part_edges parts.items) }
+    ensures rows { IfOk result (λ f. f.rows ≡ flat_map part_rows parts.items) }
     ensures lines { IfOk result (λ f. f.dangling ≡ sorted_lines (flat_map part_lines parts.items)) }
 {
     let mut found = Found {
-        edges: Vec::new(alloc),
+        rows: RowList::new(alloc)?,
         dangling: FaultLines::new(alloc),
     };
     for one in parts {
@@ -205,17 +202,17 @@ fn joined(alloc: Global, parts: Vec<Result<Part, AllocError>>) -> Result<Found, 
     Ok(found)
 }
 
-/// Returns the edges between targets, by their numbers, and the lines of the labels that name no target.
+/// Returns the numbers of the targets that each target depends on, and the lines of the labels that name no target.
 pub fn edges(alloc: Global, files: &BuildFiles, targets: &[Target]) -> Result<Found, AllocError>
     requires { IsStrictlySortedBy target_cmp targets.now }
-    ensures edges { IfOk result (λ f. f.edges.items ≡ edges_from (target_labels targets.now) 0 targets.now) }
+    ensures rows { IfOk result (λ f. f.rows ≡ rows_of (target_labels targets.now) targets.now) }
     ensures lines { IfOk result (λ f. f.dangling ≡ sorted_lines (dangling_from (target_labels targets.now) files.now targets.now)) }
 {
-    let Part { edges, dangling } = found_in(alloc, files, targets, 0, targets)?;
+    let Part { rows, dangling } = found_in(alloc, files, targets, 0, targets)?;
     let mut lines = FaultLines::new(alloc);
     add_lines(dangling, &mut lines)?;
     Ok(Found {
-        edges,
+        rows,
         dangling: lines,
     })
 }
@@ -229,12 +226,12 @@ pub fn edges_by<R: Threads + Sync>(
     threads: usize,
 ) -> Result<Found, AllocError>
     requires { IsStrictlySortedBy target_cmp targets.now }
-    ensures edges { IfOk result (λ f. f.edges.items ≡ edges_from (target_labels targets.now) 0 targets.now) }
+    ensures rows { IfOk result (λ f. f.rows ≡ rows_of (target_labels targets.now) targets.now) }
     ensures lines { IfOk result (λ f. f.dangling ≡ sorted_lines (dangling_from (target_labels targets.now) files.now targets.now)) }
 {
     let each = |first: usize, part: &[Target]| -> Result<Part, AllocError>
         requires { (IsStrictlySortedBy target_cmp targets.now) × (first + length part.now < 2 ^ 64) }
-        ensures { IfOk result (IsFoundIn (target_labels targets.entry.now) files.entry.now first part.entry.now) }
+        ensures { IfOk result (IsFoundIn (target_labels targets.entry.now) files.entry.now part.entry.now) }
     { found_in(alloc, files, targets, first, part) };
     let even = targets.len().div_ceil(threads.max(1));
     let size = even.max(TARGETS_OF_A_THREAD);

@@ -4,21 +4,20 @@ ghost use Rattle.std.specs.Prelude.{◌≡◌, List, length, map, IfOk};
 ghost use Rattle.std.specs.List.Sorted.{IsStrictlySortedBy};
 ghost use Rattle.bq_label.specs.Label.{package_of};
 ghost use Rattle.bq_label.specs.Packages.{id_cmp};
-ghost use Rattle.bq_base_fault_line.specs.FaultLine.{sorted_lines};
+ghost use Rattle.bq_base_texts.specs.FaultLine.{sorted_lines};
 ghost use Rattle.bq_package_target.specs.Package.{PackageTargets};
 ghost use Rattle.bq_query_graph.specs.Edges.{HasPairsOf};
 ghost use Rattle.bq_query_target_graph.specs.Dangling.{dangling_from, dangling_lines};
-ghost use Rattle.bq_query_target_graph.specs.Edges.{edges_from, IsGraphOf};
+ghost use Rattle.bq_query_target_graph.specs.Edges.{edges_from, rows_of, IsGraphOf};
 ghost use Rattle.bq_query_target_graph.specs.Nodes.{AreNodesOf};
 ghost use Rattle.bq_query_target_graph.specs.Order.{target_labels, target_cmp};
 
 use crate::build_files::BuildFiles;
 use crate::edges::{Found, edges, edges_by};
 use crate::order::in_order;
-use bq_base_fault_line::FaultLines;
+use bq_base_texts::FaultLines;
 use bq_label::PackageId;
-use bq_package_list::PackageList;
-use bq_package_target::Target;
+use bq_package_target::{PackageList, Target};
 use bq_query_graph::DependencyGraph;
 use sqlite_items::Items;
 use std::alloc::{AllocError, Global};
@@ -123,7 +122,7 @@ fn link(
     found: Result<Found, AllocError>,
 ) -> Result<Linked, AllocError>
     requires ascending { IsStrictlySortedBy target_cmp targets.now }
-    requires edges { IfOk found (λ f. f.edges.items ≡ edges_from (target_labels targets.now) 0 targets.now) }
+    requires rows { IfOk found (λ f. f.rows ≡ rows_of (target_labels targets.now) targets.now) }
     requires lines { IfOk found (λ f. f.dangling ≡ sorted_lines (dangling_from (target_labels targets.now) files.now targets.now)) }
     ensures packages { IfOk result (λ l. l.packages ≡ map package_of files.now) }
     ensures ascending { IfOk result (λ l. IsStrictlySortedBy id_cmp l.packages) }
@@ -133,7 +132,7 @@ fn link(
     let found = found?;
     Ok(Linked {
         packages: files.packages(alloc)?,
-        graph: DependencyGraph::new(alloc, targets.len(), &found.edges)?,
+        graph: DependencyGraph::of_rows(alloc, found.rows)?,
         dangling: found.dangling,
     })
 }
@@ -145,7 +144,7 @@ fn graph_by(
     found: Result<Found, AllocError>,
 ) -> Result<(TargetGraph, FaultLines), AllocError>
     requires ascending { IsStrictlySortedBy target_cmp nodes.targets.items }
-    requires edges { IfOk found (λ f. f.edges.items ≡ edges_from (target_labels nodes.targets.items) 0 nodes.targets.items) }
+    requires rows { IfOk found (λ f. f.rows ≡ rows_of (target_labels nodes.targets.items) nodes.targets.items) }
     requires lines { IfOk found (λ f. f.dangling ≡ sorted_lines (dangling_from (target_labels nodes.targets.items) nodes.files nodes.targets.items)) }
     ensures graph { (ps : List PackageTargets) → AreNodesOf ps nodes → IfOk result (λ made. IsGraphOf ps made.0) }
     ensures lines { (ps : List PackageTargets) → AreNodesOf ps nodes → IfOk result (λ made. made.1 ≡ dangling_lines ps) }

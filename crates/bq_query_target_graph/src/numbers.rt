@@ -23,6 +23,8 @@ pub struct Numbers<'a> {
     /// The targets of the package that is entered, and the number of the first of them.
     own: &'a [Target],
     first: usize,
+    /// The number after that of the label that was found last.
+    next: Cell<usize>,
     /// The number of the label of another package that was found last.
     far: Cell<usize>,
 }
@@ -67,6 +69,7 @@ impl<'a> Numbers<'a> {
             targets,
             own: &targets[..0],
             first: 0,
+            next: Cell::new(0),
             far: Cell::new(0),
         }
     }
@@ -86,8 +89,19 @@ impl<'a> Numbers<'a> {
         self.first = number;
     }
 
+    /// Returns the number of a label. Lists of labels are mostly sorted, so it is looked for first after the one that was found last.
+    pub fn number(&self, label: &Label) -> Option<usize>
+        ensures { result ≡ position (same_label label.now) self.now }
+    {
+        let found = self.number_near(self.next.get(), label);
+        if let Some(number) = found {
+            self.next.set(number.saturating_add(1));
+        }
+        found
+    }
+
     /// Returns the number of a label, which is looked for first at the number `next`.
-    pub fn number(&self, next: usize, label: &Label) -> Option<usize>
+    fn number_near(&self, next: usize, label: &Label) -> Option<usize>
         ensures { result ≡ position (same_label label.now) self.now }
     {
         if has_at(self.targets, next, label) {

@@ -7,8 +7,8 @@ use Rattle.bq_parse_grammar.specs.declared.tree.Stmt.{Stmt}
 use Rattle.bq_resolve_scope.specs.Scope.{BlockParts, FileParts}
 use Rattle.bq_resolve_scope.specs.Visit.{Passed, Visit}
 use Rattle.bq_resolve_scope.specs.Statements.{stmt_to}
-use Rattle.bq_resolve_expression.specs.declared.scope.Scope.{Scope}
-use Rattle.bq_resolve_expression.specs.Walks.{Writes}
+use Rattle.bq_resolve.specs.declared.scope.Scope.{Scope}
+use Rattle.bq_resolve.specs.Walks.{Writes}
 
 -- what a statement inside resolves to in a scope, if it is at most `layers` layers deep
 abbrev pub inner : Scope → ℕ → Bool → Stmt → Visit Stmt

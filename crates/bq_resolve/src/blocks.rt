@@ -5,15 +5,15 @@ ghost use Rattle.bq_parse_grammar.specs.declared.tree.Stmt.{out-Stmt};
 ghost use Rattle.bq_parse_grammar.specs.declared.tree.Stmt.TheVariants as form;
 ghost use Rattle.bq_resolve_scope.specs.Visit as visit;
 ghost use Rattle.bq_resolve_scope.specs.Statements as spec;
-ghost use Rattle.bq_resolve_expression.specs.Walks.{Writes};
+ghost use Rattle.bq_resolve.specs.Walks.{Writes};
 ghost use Rattle.bq_resolve.specs.Inner.{inner, with_inner, WritesStatement};
 
-use crate::expressions::{expr, target};
+use crate::scope::Scope;
 use crate::small::{line, misplaced};
+use crate::statement_parts::{expr, target};
+use crate::walk::Walk;
 use bq_base::{NameFault, SourceErr};
-use bq_parse_grammar::{Branch, Expr, Stmt, TargetExpr};
-use bq_resolve_expression::{Scope, Walk};
-use bq_tree_items::Items;
+use bq_parse_grammar::{Branch, Expr, Items, Stmt, TargetExpr};
 
 /// The rules of blocks take the resolver of the statements in them as a parameter, so that each rule is proved by itself.
 #[derive(Drop)]

@@ -7,10 +7,10 @@ ghost use Rattle.bq_resolve_scope.specs.Files.{resolved};
 ghost use Rattle.bq_parse.specs.Answers.{itself};
 
 use crate::outside::top_levels;
+use crate::walk::Walk;
 use bq_base::{NameFault, SourceErr};
 use bq_base_takeable::Takeable;
 use bq_parse::ParsedFile;
-use bq_resolve_expression::Walk;
 use bq_resolve_scope::{FileNames, LoadStmt, ResolvedFile, Universe};
 use std::alloc::Global;
 

@@ -5,18 +5,19 @@ ghost use Rattle.bq_base.specs.declared.fault.SourceErr.TheVariants.{Bad};
 ghost use Rattle.bq_resolve_scope.specs.declared.file.Outside.TheVariants as line;
 ghost use Rattle.bq_resolve_scope.specs.Files as files;
 ghost use Rattle.bq_resolve_scope.specs.Statements as spec;
-ghost use Rattle.bq_resolve_expression.specs.Walks.{Walks};
+ghost use Rattle.bq_resolve.specs.Walks.{Walks};
 
 use crate::blocks::BlockResolver;
+use crate::identifier::bound_at;
 use crate::parameters::{ParameterList, parameters};
+use crate::scope::Scope;
 use crate::statements::stmt_to;
+use crate::walk::Walk;
 use bq_base::{Bytes, NameFault, SourceErr};
-use bq_parse_grammar::{Identifier, Parameter, Stmt};
-use bq_resolve_expression::{Scope, Walk, bound_at};
+use bq_parse_grammar::{Identifier, Items as Trees, Parameter, Stmt};
 use bq_resolve_scope::{
     Block, Def, FileNames, Formal, Function, MAX_LAYERS, Names, function_names, inside,
 };
-use bq_tree_items::Items as Trees;
 use sqlite_items::Items;
 use std::alloc::Global;
 

@@ -2,11 +2,12 @@
 
 ghost use Rattle.bq_parse_grammar.specs.declared.tree.SmallKind.TheVariants as small;
 ghost use Rattle.bq_resolve_scope.specs.Statements as spec;
-ghost use Rattle.bq_resolve_expression.specs.Walks.{Writes};
+ghost use Rattle.bq_resolve.specs.Walks.{Writes};
 
+use crate::identifier::fault_of;
+use crate::walk::Walk;
 use bq_base::{NameFault, SourceErr};
 use bq_parse_grammar::Load;
-use bq_resolve_expression::{Walk, fault_of};
 use bq_resolve_scope::{FileNames, LoadStmt, LoadedSymbol};
 use sqlite_items::Items;
 use std::alloc::Global;

@@ -3,15 +3,15 @@
 ghost use Rattle.std.specs.Prelude.{[]};
 ghost use Rattle.bq_resolve_scope.specs.Visit as visit;
 ghost use Rattle.bq_resolve_scope.specs.Files as files;
-ghost use Rattle.bq_resolve_expression.specs.Walks.{Walks};
+ghost use Rattle.bq_resolve.specs.Walks.{Walks};
 
 use crate::functions::def_stmt;
+use crate::scope::Scope;
 use crate::small::{line, misplaced};
+use crate::walk::Walk;
 use bq_base::{NameFault, SourceErr};
-use bq_parse_grammar::{Stmt, TopLevel};
-use bq_resolve_expression::{Scope, Walk};
+use bq_parse_grammar::{Boxed, Items as Trees, Stmt, TopLevel};
 use bq_resolve_scope::{FileLine, FileNames, Outside};
-use bq_tree_items::{Boxed, Items as Trees};
 use sqlite_items::Items;
 use std::alloc::Global;
 

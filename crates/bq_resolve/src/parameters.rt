@@ -3,15 +3,16 @@
 ghost use Rattle.bq_base.specs.Gives.{Gives};
 ghost use Rattle.bq_base.specs.declared.fault.SourceErr.TheVariants.{Bad};
 ghost use Rattle.bq_resolve_scope.specs.Statements as spec;
-ghost use Rattle.bq_resolve_expression.specs.Walks.{Walks};
+ghost use Rattle.bq_resolve.specs.Walks.{Walks};
 ghost use Rattle.bq_resolve.specs.Parameters.{slotted};
 
-use crate::expressions::expr;
+use crate::identifier::fault_of;
+use crate::scope::Scope;
+use crate::statement_parts::expr;
+use crate::walk::Walk;
 use bq_base::{NameFault, SourceErr};
-use bq_parse_grammar::{Expr, Identifier, Parameter, Referent};
-use bq_resolve_expression::{Scope, Walk, fault_of};
+use bq_parse_grammar::{Expr, Identifier, Items as Trees, Parameter, Referent};
 use bq_resolve_scope::{FileNames, Formal, Names};
-use bq_tree_items::Items as Trees;
 use sqlite_items::Items;
 use std::alloc::Global;
 use std::marker::Model;

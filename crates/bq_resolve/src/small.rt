@@ -7,14 +7,14 @@ ghost use Rattle.bq_base.specs.Fault.{fault_at};
 ghost use Rattle.bq_parse_grammar.specs.declared.tree.SmallKind.TheVariants as small;
 ghost use Rattle.bq_resolve_scope.specs.Visit as visit;
 ghost use Rattle.bq_resolve_scope.specs.Statements as spec;
-ghost use Rattle.bq_resolve_expression.specs.Walks.{Writes};
+ghost use Rattle.bq_resolve.specs.Walks.{Writes};
 
-use crate::expressions::{expr, target};
 use crate::load::load;
+use crate::scope::Scope;
+use crate::statement_parts::{expr, target};
+use crate::walk::Walk;
 use bq_base::{Fault, NameFault, SourceErr};
-use bq_parse_grammar::{Expr, Operator, SmallKind, SmallStmt, TargetExpr};
-use bq_resolve_expression::{Scope, Walk};
-use bq_tree_items::Items;
+use bq_parse_grammar::{Expr, Items, Operator, SmallKind, SmallStmt, TargetExpr};
 
 /// Returns F23, the fault of what stands where it may not.
 pub fn misplaced<T>(line: u32) -> Result<T, SourceErr<NameFault>>

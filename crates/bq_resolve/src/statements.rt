@@ -1,12 +1,13 @@
 //! Statements of functions, with the resolver of those in blocks.
 
 ghost use Rattle.bq_resolve_scope.specs.Statements as spec;
-ghost use Rattle.bq_resolve_expression.specs.Walks.{Writes};
+ghost use Rattle.bq_resolve.specs.Walks.{Writes};
 
 use crate::blocks::BlockResolver;
+use crate::scope::Scope;
+use crate::walk::Walk;
 use bq_base::{Fault, NameFault, SourceErr};
 use bq_parse_grammar::Stmt;
-use bq_resolve_expression::{Scope, Walk};
 
 /// Resolves a statement of a function that is at most `layers` layers deep; `looping` is true inside a `for` of the function.
 pub fn stmt_to(

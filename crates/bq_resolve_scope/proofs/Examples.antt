@@ -28,14 +28,14 @@ use Rattle.bq_parse_grammar.specs.declared.tree.Suffix.{Suffix, out-Suffix}
 use Rattle.bq_parse_grammar.specs.declared.tree.Suffix.TheVariants as suffix
 use Rattle.bq_parse_grammar.specs.declared.tree.TargetExpr.{TargetExpr, out-TargetExpr, roll-TargetExpr}
 use Rattle.bq_parse_grammar.specs.declared.tree.TargetExpr.TheVariants as target_of
-use Rattle.bq_package_attribute_type.specs.AttributeType.{type_named}
-use Rattle.bq_package_attribute_type.specs.declared.attribute_type.AttributeType.TheVariants as attribute
-use Rattle.bq_resolve_predeclared.specs.declared.host_function.HostFunction.TheVariants as host
-use Rattle.bq_resolve_predeclared.specs.declared.predeclared.Predeclared.{Predeclared}
-use Rattle.bq_resolve_predeclared.specs.declared.predeclared.Predeclared.TheVariants as p
-use Rattle.bq_resolve_predeclared.specs.declared.rule_function.RuleFunction.TheVariants as function
-use Rattle.bq_resolve_predeclared.specs.Predeclared.{place_from, first_named, predeclared_named}
-use Rattle.bq_resolve_predeclared.specs.RuleFunctions.{attr_named}
+use Rattle.bq_predeclared.specs.AttributeType.{type_named}
+use Rattle.bq_predeclared.specs.declared.attribute_type.AttributeType.TheVariants as attribute
+use Rattle.bq_predeclared.specs.declared.host_function.HostFunction.TheVariants as host
+use Rattle.bq_predeclared.specs.declared.predeclared.Predeclared.{Predeclared}
+use Rattle.bq_predeclared.specs.declared.predeclared.Predeclared.TheVariants as p
+use Rattle.bq_predeclared.specs.declared.rule_function.RuleFunction.TheVariants as function
+use Rattle.bq_predeclared.specs.Predeclared.{place_from, first_named, predeclared_named}
+use Rattle.bq_predeclared.specs.RuleFunctions.{attr_named}
 use Rattle.bq_resolve_scope.specs.declared.file.ResolvedFile.{ResolvedFile}
 use Rattle.bq_resolve_scope.specs.declared.universe.Namespace.{Namespace}
 use Rattle.bq_resolve_scope.specs.declared.universe.Namespace.TheVariants as namespace

@@ -3,7 +3,7 @@ use Rattle.std.proofs.Common.{◌≡◌, ◌<◌, ◌+◌, ℕ, false, List, [],
 use Rattle.std.specs.Option.{option_map}
 use Rattle.bq_parse_grammar.specs.declared.tree.Referent.{Referent}
 use Rattle.bq_parse_grammar.specs.declared.tree.Referent.TheVariants as b
-use Rattle.bq_resolve_predeclared.specs.declared.predeclared.Predeclared.{Predeclared}
+use Rattle.bq_predeclared.specs.declared.predeclared.Predeclared.{Predeclared}
 use Rattle.bq_resolve_scope.specs.Universe.{universe_has}
 use Rattle.bq_resolve_scope.specs.Names.{Name, has, place_among}
 use Rattle.bq_resolve_scope.specs.Scope.{BlockParts, FileParts, or_else, slot_in, slot_of, file_has, use_of}

@@ -22,11 +22,11 @@ use Rattle.bq_parse_grammar.specs.declared.tree.Suffix.TheVariants as suffix
 use Rattle.bq_parse_grammar.specs.declared.tree.TargetExpr.TheVariants as target
 use Rattle.bq_parse_grammar.specs.declared.tree.TopLevel.{TopLevel}
 use Rattle.bq_parse_grammar.specs.Literals as literals
-use Rattle.bq_package_attribute_type.specs.declared.attribute_type.AttributeType.TheVariants as attribute
-use Rattle.bq_resolve_predeclared.specs.declared.host_function.HostFunction.TheVariants as host
-use Rattle.bq_resolve_predeclared.specs.declared.predeclared.Predeclared.{Predeclared}
-use Rattle.bq_resolve_predeclared.specs.declared.predeclared.Predeclared.TheVariants as p
-use Rattle.bq_resolve_predeclared.specs.declared.rule_function.RuleFunction.TheVariants as function
+use Rattle.bq_predeclared.specs.declared.attribute_type.AttributeType.TheVariants as attribute
+use Rattle.bq_predeclared.specs.declared.host_function.HostFunction.TheVariants as host
+use Rattle.bq_predeclared.specs.declared.predeclared.Predeclared.{Predeclared}
+use Rattle.bq_predeclared.specs.declared.predeclared.Predeclared.TheVariants as p
+use Rattle.bq_predeclared.specs.declared.rule_function.RuleFunction.TheVariants as function
 use Rattle.bq_resolve_scope.specs.declared.file.FileLine.{FileLine}
 use Rattle.bq_resolve_scope.specs.declared.file.Formal.TheVariants as formal
 use Rattle.bq_resolve_scope.specs.declared.file.Outside.TheVariants as outside

@@ -4,13 +4,13 @@ use Rattle.std.specs.Prelude.{ℕ, List, Option, Some, None, codes, bytes_eq, na
 use Rattle.std.specs.Option.{option_map}
 use Rattle.bq_parse_grammar.specs.declared.tree.FileKind.{FileKind}
 use Rattle.bq_parse_grammar.specs.declared.tree.FileKind.TheVariants as file
-use Rattle.bq_resolve_predeclared.specs.declared.host_function.HostFunction.{HostFunction}
-use Rattle.bq_resolve_predeclared.specs.declared.host_function.HostFunction.TheVariants as host
-use Rattle.bq_resolve_predeclared.specs.declared.predeclared.Predeclared.{Predeclared}
-use Rattle.bq_resolve_predeclared.specs.declared.predeclared.Predeclared.TheVariants as p
-use Rattle.bq_resolve_predeclared.specs.declared.rule_function.RuleFunction.TheVariants as f
-use Rattle.bq_resolve_predeclared.specs.Predeclared.{predeclared_named}
-use Rattle.bq_resolve_predeclared.specs.RuleFunctions.{attr_named}
+use Rattle.bq_predeclared.specs.declared.host_function.HostFunction.{HostFunction}
+use Rattle.bq_predeclared.specs.declared.host_function.HostFunction.TheVariants as host
+use Rattle.bq_predeclared.specs.declared.predeclared.Predeclared.{Predeclared}
+use Rattle.bq_predeclared.specs.declared.predeclared.Predeclared.TheVariants as p
+use Rattle.bq_predeclared.specs.declared.rule_function.RuleFunction.TheVariants as f
+use Rattle.bq_predeclared.specs.Predeclared.{predeclared_named}
+use Rattle.bq_predeclared.specs.RuleFunctions.{attr_named}
 use Rattle.bq_resolve_scope.specs.declared.universe.Namespace.{Namespace}
 use Rattle.bq_resolve_scope.specs.declared.universe.Namespace.TheVariants as space
 use Rattle.bq_resolve_scope.specs.Names.{place_among}

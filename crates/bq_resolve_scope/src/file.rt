@@ -3,8 +3,7 @@
 use crate::loads::LoadStmt;
 use bq_base::Bytes;
 use bq_base_takeable::Takeable;
-use bq_parse_grammar::{Expr, Identifier, SmallStmt, Stmt};
-use bq_tree_items::{Boxed, Items as Trees};
+use bq_parse_grammar::{Boxed, Expr, Identifier, Items as Trees, SmallStmt, Stmt};
 use sqlite_items::Items;
 
 /// A parameter of a function. Its name refers to its slot.

@@ -1,7 +1,7 @@
 //! Scopes: which binding each use of a name in a file stands for.
 //!
 //! The trees of `bq_parse_grammar` come in; what their blocks bind, and what a name among these blocks stands for, go out. Resolved files
-//! (`file`) and the whole definition of what a file resolves to are here too; `bq_resolve_expression` and the crates above it compute it.
+//! (`file`) and the whole definition of what a file resolves to are here too; `bq_resolve` and the crates above it compute it.
 //!
 //! A resolved file holds the trees that were parsed: what each name refers to is written into them.
 //!

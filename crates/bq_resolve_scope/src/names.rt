@@ -4,7 +4,7 @@ ghost use Rattle.std.specs.Prelude.{◌≡◌, [], length, IfOk, OnOk, IfSome, �
 ghost use Rattle.bq_resolve_scope.specs.Names.{has, place_among, with_name};
 
 use bq_base::Bytes;
-use bq_base_names::NameSet;
+use bq_base_texts::NameSet;
 use sqlite_items::Items;
 use std::alloc::{AllocError, Global};
 use std::marker::Model;

@@ -11,7 +11,7 @@ use crate::names::Names;
 use crate::universe::{Namespace, Universe};
 use bq_base::Bytes;
 use bq_parse_grammar::{FileKind, Referent, TopLevel};
-use bq_resolve_predeclared::Predeclared;
+use bq_predeclared::Predeclared;
 use sqlite_items::Items;
 use std::alloc::{AllocError, Global};
 use std::marker::Model;

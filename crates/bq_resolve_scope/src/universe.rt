@@ -6,11 +6,9 @@ ghost use Rattle.bq_resolve_scope.specs.Universe.{rule_named, member_named, name
 
 use crate::names::Names;
 use bq_base::Bytes;
-use bq_base_names::NameSet;
+use bq_base_texts::NameSet;
 use bq_parse_grammar::FileKind;
-use bq_resolve_predeclared::{
-    HostFunction, Predeclared, RuleFunction, attr_named, predeclared_named,
-};
+use bq_predeclared::{HostFunction, Predeclared, RuleFunction, attr_named, predeclared_named};
 use std::alloc::{AllocError, Global};
 use std::marker::Model;
 use std::sync::Arc;

@@ -2,7 +2,7 @@
 use Rattle.std.proofs.Common.{◌≡◌, ◌∙◌, ◌≤◌, ℕ, List, Bool, true, false, Option, None, Some, length, nat_le, option_and_then, refl, sym, ap, arith}
 use Rattle.std.specs.Prelude.{if◌then◌else◌}
 use Rattle.std.proofs.lemmas.Bool.Decides.{nat_tests}
-use Rattle.bq_base_limits.specs.declared.limits.Limits.{Limits}
+use Rattle.bq_base.specs.declared.limits.Limits.{Limits}
 use Rattle.bq_label.specs.Workspace.{workspace_within}
 use Rattle.bq_label.specs.declared.workspace.File.{File}
 use Rattle.bq_run.specs.Bundle.{bundle_within, files_of}

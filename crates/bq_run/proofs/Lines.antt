@@ -6,7 +6,7 @@ use Rattle.std.proofs.lemmas.List.{drop_all}
 use Rattle.std.specs.List.{list_all}
 use Rattle.bq_label.specs.declared.workspace.File.{File}
 use Rattle.bq_label.specs.Workspace.{workspace_within}
-use Rattle.bq_base_limits.specs.declared.limits.Limits.{Limits}
+use Rattle.bq_base.specs.declared.limits.Limits.{Limits}
 use Rattle.bq_run.specs.Bundle.{lines, Cut, cut, is_header, is_whole, file_of, is_bundle, files_of, BeginsWith}
 
 -- a line ends at the first newline

@@ -1,6 +1,6 @@
 -- A report on what was loaded is a report on the workspace.
 use Rattle.std.proofs.Common.{◌≡◌, ◌∙◌, ℕ, List, Ok, ap, subst, sym}
-use Rattle.bq_base_fault_line.specs.declared.fault_line.FaultLine.{FaultLine}
+use Rattle.bq_base_texts.specs.declared.fault_line.FaultLine.{FaultLine}
 use Rattle.bq_label.specs.declared.packages.BuildFile.{BuildFile}
 use Rattle.bq_label.specs.declared.workspace.File.{File}
 use Rattle.bq_label.specs.Packages.{packages_of}

@@ -1,8 +1,8 @@
 -- The text form of a workspace: header lines, each followed by its file.
 use Rattle.std.specs.Prelude.{◌≡◌, ◌<◌, ◌-◌, ◌++◌, ◌==◌, ◌&&◌, ℕ, Bool, true, nat_le, nat_eq, List, [], ◌∷◌, Option, None, Some, length, take, drop, map, slice_index, codes, option_and_then, if◌then◌else◌}
 use Rattle.std.specs.List.{starts_with, list_all, onto_first}
-use Rattle.bq_base_limits.specs.declared.limits.Limits.{Limits}
-use Rattle.bq_base_limits.specs.Limits.{standard}
+use Rattle.bq_base.specs.declared.limits.Limits.{Limits}
+use Rattle.bq_base.specs.Limits.{standard}
 use Rattle.bq_label.specs.Workspace.{workspace_within}
 use Rattle.bq_label.specs.declared.workspace.File.{File}
 

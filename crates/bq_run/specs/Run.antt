@@ -1,6 +1,6 @@
 -- What a run writes for the bytes that it reads, and how it ends.
 use Rattle.std.specs.Prelude.{◌≡◌, ◌≤◌, ℕ, List, [], Err}
-use Rattle.bq_base_limits.specs.Limits.{AreBounded}
+use Rattle.bq_base.specs.Limits.{AreBounded}
 use Rattle.bq_label.specs.declared.workspace.File.{File}
 use Rattle.bq_load_workers.specs.Workers.{max_workers}
 use Rattle.bq_run_write.specs.Deeds.{Run, run_report}

@@ -1,7 +1,7 @@
 -- The report on a workspace in hand: its texts, and how a run over it ends. The query is read first, then the schema, and then the modules
 -- are loaded; what each of them gives is said by names.
 use Rattle.std.specs.Prelude.{◌≡◌, ℕ, List, [], Ok, Err}
-use Rattle.bq_base_fault_line.specs.FaultLine.{sorted_lines}
+use Rattle.bq_base_texts.specs.FaultLine.{sorted_lines}
 use Rattle.bq_label.specs.declared.packages.BuildFile.{BuildFile}
 use Rattle.bq_label.specs.declared.workspace.File.{File}
 use Rattle.bq_label.specs.Label.{LabelParts}

@@ -2,8 +2,8 @@
 -- just these texts, as just these files, and `bundle_within` just those that hold a workspace.
 use Rattle.std.specs.Prelude.{◌≡◌, ◌⊎◌, ◌≤◌, ◌==◌, ◌++◌, ℕ, false, List, [], ◌∷◌, Some, length, codes}
 use Rattle.std.specs.List.{AllByRecursion}
-use Rattle.bq_base_limits.specs.declared.limits.Limits.{Limits}
-use Rattle.bq_base_limits.specs.Limits.{standard}
+use Rattle.bq_base.specs.declared.limits.Limits.{Limits}
+use Rattle.bq_base.specs.Limits.{standard}
 use Rattle.bq_label.specs.Workspace.{workspace_within}
 use Rattle.bq_label.specs.declared.workspace.File.{File}
 use Rattle.bq_run.specs.Bundle.{lines, is_header}

@@ -2,12 +2,11 @@
 
 ghost use Rattle.std.specs.Prelude.{◌≡◌, ◌⊎◌, ◌+◌, ◌-◌, ◌^◌, ◌<◌, ◌≤◌, ◌∷◌, [], Some, None, true, false, take, drop, length, option_and_then, IfOk, IfSome, IfNone, IsErr, IsErrOf};
 ghost use Rattle.std.specs.List.{list_all};
-ghost use Rattle.bq_base_limits.specs.Limits.{AreBounded};
+ghost use Rattle.bq_base.specs.Limits.{AreBounded};
 ghost use Rattle.bq_label.specs.Workspace.{workspace_within};
 ghost use Rattle.bq_run.specs.Bundle.{BeginsWith, bundle_of, bundle_within, cut, files_of, is_whole, lines};
 
-use bq_base::Bytes;
-use bq_base_limits::Limits;
+use bq_base::{Bytes, Limits};
 use bq_label::{File, Workspace};
 use bq_run_device::{ByteSource, ReadFault, read_all};
 use bq_run_write::RunErr;

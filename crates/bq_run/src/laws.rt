@@ -1,7 +1,7 @@
 //! What the definitions say together. The functions do nothing: their contracts are the laws.
 
 ghost use Rattle.std.specs.Prelude.{◌≡◌, ◌↔◌, ℕ, List, Some};
-ghost use Rattle.bq_base_limits.specs.declared.limits.Limits.{Limits};
+ghost use Rattle.bq_base.specs.declared.limits.Limits.{Limits};
 ghost use Rattle.bq_label.specs.declared.workspace.File.{File};
 ghost use Rattle.bq_run.specs.Bundle.{bundle_within, files_of};
 ghost use Rattle.bq_run.specs.Written.{IsBundleWithin, IsWritten};

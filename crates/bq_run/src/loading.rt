@@ -14,7 +14,7 @@ use bq_load_by_name::{
     LoadErr, LoadGraph, Loaded, OpenGate, Sources, Workers, load_graph_with, load_within,
 };
 use bq_package_schema::Schema;
-use bq_value_seed::Seed;
+use bq_value_datum::Seed;
 use std::alloc::{AllocError, Global};
 use std::random::RandomSource;
 use std::sync::Wait;

@@ -1,6 +1,6 @@
 //! What a run is asked to do.
 
-use bq_base_limits::Limits;
+use bq_base::Limits;
 use bq_label::Workspace;
 use bq_load_workers::MAX_WORKERS;
 use bq_query::OutputForm;

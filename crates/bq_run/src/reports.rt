@@ -10,7 +10,7 @@ ghost use Rattle.bq_run.specs.WorkspaceRun.{IsReportOn, refused};
 
 use crate::loading::load_workspace;
 use crate::options::Options;
-use bq_base_rope::Rope;
+use bq_base_texts::Rope;
 use bq_label::Workspace;
 use bq_load_by_name::{LoadErr, schema_of};
 use bq_package_schema::Schema;

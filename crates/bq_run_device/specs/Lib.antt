@@ -1,1 +1,3 @@
 pub mod Device
+-- How much a walk keeps.
+pub mod Walk

@@ -8,7 +8,7 @@ ghost use Rattle.bq_run_device.specs.declared.transfer.ReadFault.TheVariants.{Me
 
 use crate::device::{ByteSink, ByteSource};
 use bq_base::Bytes;
-use bq_base_rope::Rope;
+use bq_base_texts::Rope;
 use std::alloc::{AllocError, Global};
 
 /// Why a reader was not read to its end.

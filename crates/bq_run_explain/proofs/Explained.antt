@@ -6,7 +6,7 @@ use Rattle.std.specs.List.{AllByRecursion, find}
 use Rattle.std.specs.Fmt.{digits}
 use Rattle.std.proofs.lemmas.Slice.Eq.{bytes_eq-Decides}
 use Rattle.bq_base.specs.declared.fault.FaultKind.{FaultKind}
-use Rattle.bq_base_fault_line.specs.Kinds.{fault_word, kinds, first_called, fault_called, each_is_called}
+use Rattle.bq_base_texts.specs.FaultKinds.{fault_word, kinds, first_called, fault_called, each_is_called}
 use Rattle.bq_query_lex.specs.declared.query_error.QueryErr.{QueryErr}
 use Rattle.bq_query_lex.specs.declared.query_error.QueryErr.TheVariants as query
 use Rattle.bq_run_write.specs.declared.error.RunErr.{RunErr}

@@ -2,7 +2,7 @@
 use Rattle.std.specs.Prelude.{◌≡◌, ◌≢◌, ℕ, List, ◌∷◌, ◌++◌, Some, codes}
 use Rattle.bq_base.specs.declared.fault.FaultKind.{FaultKind}
 use Rattle.bq_base.specs.Fault.{fault_name}
-use Rattle.bq_base_fault_line.specs.Kinds.{fault_word}
+use Rattle.bq_base_texts.specs.FaultKinds.{fault_word}
 use Rattle.bq_query_lex.specs.declared.query_error.QueryErr.TheVariants as query
 use Rattle.bq_run_write.specs.declared.error.RunErr.{RunErr}
 use Rattle.bq_run_write.specs.declared.error.RunErr.TheVariants as run

@@ -3,7 +3,7 @@ use Rattle.std.specs.Prelude.{ℕ, List, [], ◌∷◌, Option, Some, None, code
 use Rattle.std.specs.Option.{option_or}
 use Rattle.bq_base.specs.Fault.{fault_name}
 use Rattle.bq_base.specs.declared.fault.FaultKind.{FaultKind}
-use Rattle.bq_base_fault_line.specs.Kinds.{fault_word, fault_called}
+use Rattle.bq_base_texts.specs.FaultKinds.{fault_word, fault_called}
 use Rattle.bq_run_explain.specs.declared.explanation.ErrorEntry.{ErrorEntry}
 use Rattle.bq_run_explain.specs.declared.explanation.Explanation.{Explanation}
 use Rattle.bq_run_explain.specs.declared.explanation.NumberMeaning.{NumberMeaning}

@@ -1,7 +1,7 @@
 //! The faults of files, F1 to F80 (docs/LANGUAGE.md, docs/BUILD_RULES.md): which fault a word names, and what is printed for each.
 
 ghost use Rattle.std.specs.Prelude.{◌≡◌, bytes_eq};
-ghost use Rattle.bq_base_fault_line.specs.Kinds.{fault_called, fault_word, first_called};
+ghost use Rattle.bq_base_texts.specs.FaultKinds.{fault_called, fault_word, first_called};
 
 use bq_base::FaultKind;
 use itoa::Buffer;
@@ -79,7 +79,7 @@ fn is_word_of(word: &[u8], kind: FaultKind) -> bool
 }
 
 /// Returns the first of these faults that the word names.
-#[tactic(auto, unfolding(bq_base_fault_line::specs::Kinds::first_called))]
+#[tactic(auto, unfolding(bq_base_texts::specs::FaultKinds::first_called))]
 fn first_called(word: &[u8], mut kinds: &[FaultKind]) -> Option<FaultKind>
     ensures { result ≡ first_called word.now kinds.entry.now }
 {

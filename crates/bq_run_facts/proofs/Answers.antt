@@ -11,7 +11,7 @@ use Rattle.bq_query_check.specs.Checked.{IsChecked, IsWrong}
 use Rattle.bq_query_check.specs.Formula.{formula_of}
 use Rattle.bq_query_check.specs.declared.checked.CheckedQuery.{CheckedQuery}
 use Rattle.bq_query_target_graph.specs.Graph.{GraphParts}
-use Rattle.bq_query_verdict.specs.Verdict.{Fault}
+use Rattle.bq_query_check.specs.Verdict.{Fault}
 use Rattle.bq_query.specs.Faults.{fault_in}
 use Rattle.bq_query.specs.Printed.{printed}
 use Rattle.bq_query.specs.declared.print.OutputForm.{OutputForm}

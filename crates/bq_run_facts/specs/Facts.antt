@@ -10,11 +10,11 @@ use Rattle.bq_load_front.specs.Reading.{parsed_of}
 use Rattle.bq_load_discover.specs.LoadGraph.{GraphParts as LoadParts, IsReadGraph, inputs_of}
 use Rattle.bq_load_discover.specs.Modules.{AreTooMany}
 use Rattle.bq_load_discover.specs.Schema.{schema_in}
-use Rattle.bq_base_fault_line.specs.declared.fault_line.FaultLine.{FaultLine}
+use Rattle.bq_base_texts.specs.declared.fault_line.FaultLine.{FaultLine}
 use Rattle.bq_query_lex.specs.declared.query_error.QueryErr.{QueryErr}
 use Rattle.bq_query_target_graph.specs.Graph.{GraphParts}
 use Rattle.bq_query_target_graph.specs.Edges.{IsGraphOf}
-use Rattle.bq_query_verdict.specs.Verdict.{Fault}
+use Rattle.bq_query_check.specs.Verdict.{Fault}
 use Rattle.bq_query_check.specs.Checked.{IsChecked, IsWrong}
 use Rattle.bq_query_check.specs.Formula.{formula_of}
 use Rattle.bq_query_check.specs.declared.checked.CheckedQuery.{CheckedQuery}

@@ -4,7 +4,7 @@ ghost use Rattle.std.specs.Prelude.{◌≡◌, ◌++◌, ◌<◌, length, OnOk};
 ghost use Rattle.std.specs.List.{All};
 ghost use Rattle.bq_run_facts.specs.Lines.{line_at, line_of_module, target_lines, module_lines, fault_objects};
 
-use bq_base_fault_line::FaultLines;
+use bq_base_texts::FaultLines;
 use bq_facts::{SharedText, direct_deps, file_of, labels_at, push_fault, push_module, push_target};
 use bq_label::Packages;
 use bq_load_discover::Module;

@@ -8,7 +8,7 @@ ghost use Rattle.bq_run_facts.specs.Facts.{Tells, facts_text, further_view};
 
 use crate::lines::push_targets;
 use crate::selection::meant;
-use bq_base_rope::Rope;
+use bq_base_texts::Rope;
 use bq_facts::{Counts, Origin, SharedText, push_header};
 use bq_label::Packages;
 use bq_query_check::CheckedQuery;

@@ -3,7 +3,7 @@ use Rattle.std.proofs.Common.{◌≡◌, ◌⊎◌, ◌∙◌, ◌<◌, ℕ, zer
 use Rattle.std.specs.List.{All, AllByRecursion, flat_map}
 use Rattle.std.proofs.lemmas.Grind.{flat_map-append}
 use Rattle.std.proofs.lemmas.List.Elements.{All-head, All-tail}
-use Rattle.bq_base_fault_line.specs.declared.fault_line.FaultLine.{FaultLine}
+use Rattle.bq_base_texts.specs.declared.fault_line.FaultLine.{FaultLine}
 use Rattle.bq_label.specs.declared.packages.BuildFile.{BuildFile}
 use Rattle.bq_label.specs.declared.workspace.File.{File}
 use Rattle.bq_label.specs.Label.{LabelParts}
@@ -13,7 +13,7 @@ use Rattle.bq_load_discover.specs.LoadGraph.{GraphParts as LoadParts}
 use Rattle.bq_load_front.specs.Front.{loads_by}
 use Rattle.bq_package_target.specs.declared.target.Target.{Target}
 use Rattle.bq_resolve_scope.specs.declared.loads.LoadStmt.{LoadStmt}
-use Rattle.bq_facts_json.specs.Json.{Json, value_text}
+use Rattle.bq_package_values.specs.JsonValue.{Json, value_text}
 use Rattle.bq_facts.specs.declared.header.Counts.{Counts}
 use Rattle.bq_facts.specs.declared.header.Origin.{Origin}
 use Rattle.bq_facts.specs.Header.{header_line}
@@ -24,7 +24,7 @@ use Rattle.bq_facts.specs.TargetLine.{file_of}
 use Rattle.bq_facts.proofs.Lines as lines
 use Rattle.bq_query_target_graph.specs.Graph.{GraphParts}
 use Rattle.bq_query_check.specs.declared.checked.CheckedQuery.{CheckedQuery}
-use Rattle.bq_query_verdict.specs.Verdict.{Fault}
+use Rattle.bq_query_check.specs.Verdict.{Fault}
 use Rattle.bq_run_report.specs.Report.{Inside, ReplyView, all_faults}
 use Rattle.bq_run_write.specs.declared.ending.NoAnswer.{NoAnswer}
 use Rattle.bq_run_write.specs.Ending.{status_by}

@@ -1,3 +1,9 @@
+-- what queries stand for
+pub mod Queries
+-- labels that name no target
+pub mod DanglingLabels
+-- how kinds and values are written
+pub mod Texts
 -- what comes first where several things are wrong
 pub mod Order
 -- what a run writes, by how it ends

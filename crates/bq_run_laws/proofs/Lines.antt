@@ -15,9 +15,9 @@ use Rattle.bq_package_schema.specs.Schema.{Rules}
 use Rattle.bq_package_target.specs.declared.target.Target.{Target}
 use Rattle.bq_package_target.specs.Package.{PackageTargets}
 use Rattle.bq_package_target.specs.Target.{source, dependencies}
-use Rattle.bq_base_fault_line.specs.declared.fault_line.FaultLine.{FaultLine}
-use Rattle.bq_base_fault_line.specs.FaultLine.{line_cmp, put_lines}
-use Rattle.bq_base_fault_line.proofs.LineOrder.{same_lines}
+use Rattle.bq_base_texts.specs.declared.fault_line.FaultLine.{FaultLine}
+use Rattle.bq_base_texts.specs.FaultLine.{line_cmp, put_lines}
+use Rattle.bq_base_texts.proofs.LineOrder.{same_lines}
 use Rattle.bq_load_front.specs.Inputs.{InputParts}
 use Rattle.bq_load_front.specs.Reading.{parsed_of}
 use Rattle.bq_load_front.proofs.Fronts.{fronts_are}

@@ -8,8 +8,8 @@ use Rattle.bq_query_lex.specs.declared.query_error.QueryErr.TheVariants.{BadRege
 use Rattle.bq_query_check.specs.Checked.{Holds, FirstFails, IsChecked, IsWrong}
 use Rattle.bq_query_check.specs.Formula.{Formula}
 use Rattle.bq_query_parse.proofs.Texts.{one_tree}
-use Rattle.bq_query_tree.specs.declared.tree.Query.{Query}
-use Rattle.bq_query_verdict.specs.Verdict.{Need, no_fault, regex, needs}
+use Rattle.bq_query_parse.specs.declared.tree.Query.{Query}
+use Rattle.bq_query_check.specs.Verdict.{Need, no_fault, regex, needs}
 use Rattle.bq_run_write.specs.Report.{ReportView}
 use Rattle.bq_run_write.specs.declared.ending.NoAnswer.TheVariants as refusal
 use Rattle.bq_run_write.specs.declared.ending.Status.{Status}

@@ -1,7 +1,7 @@
 -- What a run writes, by how it ends.
 use Rattle.std.proofs.Common.{◌≡◌, ◌∙◌, sym, ap, subst, refl, ℕ, true, false, List, [], ◌++◌, Result, Ok, Err}
 use Rattle.std.specs.List.{flat_map}
-use Rattle.bq_base_fault_line.specs.LineText.{line_text}
+use Rattle.bq_base_texts.specs.LineText.{line_text}
 use Rattle.bq_label.specs.declared.workspace.File.{File}
 use Rattle.bq_query_lex.specs.declared.query_error.QueryErr.{QueryErr}
 use Rattle.bq_run_write.specs.Ending.{names_nothing}

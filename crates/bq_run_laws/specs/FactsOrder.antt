@@ -3,7 +3,7 @@
 use Rattle.std.specs.Prelude.{◌≡◌, ◌⊎◌, ℕ, List, [], ◌∷◌, ◌++◌, Option, codes, length}
 use Rattle.std.specs.List.{AllByRecursion, flat_map}
 use Rattle.bq_label.specs.declared.workspace.File.{File}
-use Rattle.bq_facts_json.specs.Json.{Json, Named, fields_of, object, value_text}
+use Rattle.bq_package_values.specs.JsonValue.{Json, Named, fields_of, object, value_text}
 use Rattle.bq_facts.specs.declared.header.Origin.{Origin}
 use Rattle.bq_facts.specs.Objects.{header_value}
 use Rattle.bq_run_write.specs.Report.{ReportView}

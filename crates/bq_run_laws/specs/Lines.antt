@@ -7,9 +7,9 @@ use Rattle.bq_label.specs.Packages.{label_file, packages_of}
 use Rattle.bq_label.specs.Workspace.{IsWorkspace}
 use Rattle.bq_resolve_scope.specs.declared.file.ResolvedFile.{ResolvedFile}
 use Rattle.bq_package_schema.specs.Schema.{Rules}
-use Rattle.bq_base_fault_line.specs.declared.fault_line.FaultLine.{FaultLine}
+use Rattle.bq_base_texts.specs.declared.fault_line.FaultLine.{FaultLine}
 use Rattle.bq_load_front.specs.Inputs.{InputParts}
-use Rattle.bq_load_front.specs.Laws.{TextResolvesTo}
+use Rattle.bq_load_front.specs.FileLaws.{TextResolvesTo}
 use Rattle.bq_load_discover.specs.LoadGraph.{IsLoadGraph, inputs_of}
 use Rattle.bq_load_laws.specs.Faults.Parts.{universe_at}
 use Rattle.bq_load_laws.specs.Packages.Declared.{IsLineOf}

@@ -2,7 +2,7 @@
 use Rattle.std.proofs.Common.{◌≡◌, ◌∙◌, ℕ, List, [], None, Some, Result, Ok, ap, subst, sym}
 use Rattle.bq_label.specs.Label.{PackageParts}
 use Rattle.bq_query_check.specs.Formula.{Formula}
-use Rattle.bq_query_verdict.specs.Verdict.{Fault}
+use Rattle.bq_query_check.specs.Verdict.{Fault}
 use Rattle.bq_package_target.specs.declared.target.Target.{Target}
 use Rattle.bq_query_target_graph.specs.Graph.{GraphParts}
 use Rattle.bq_query_target_graph.specs.Edges.{DependsOn, IsGraphOf}

@@ -1,7 +1,7 @@
 -- The report that the session over a workspace and the reply to a query are parts of.
 use Rattle.std.proofs.Common.{◌≡◌, ℕ, List, [], None, Some, Ok, Err, subst}
 use Rattle.bq_query_target_graph.specs.Graph.{GraphParts}
-use Rattle.bq_query_verdict.specs.Verdict.{Fault}
+use Rattle.bq_query_check.specs.Verdict.{Fault}
 use Rattle.bq_query_check.specs.Formula.{Formula}
 use Rattle.bq_query.specs.Printed.{printed}
 use Rattle.bq_query.specs.declared.print.OutputForm.{OutputForm}

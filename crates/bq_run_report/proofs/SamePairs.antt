@@ -3,8 +3,8 @@ use Rattle.std.proofs.Common.{◌≡◌, ℕ, List, [], ◌∷◌, ◌++◌, inl
 use Rattle.bq_label.specs.Label.{PackageParts}
 use Rattle.bq_query_function.proofs.Within.{Within, PairsIn, graph, one_in, two_in}
 use Rattle.bq_query_check.specs.Formula.{Formula, named, variable, let_in, combined, one, two}
-use Rattle.bq_query_tree.specs.declared.tree.SetOperator.{SetOperator}
-use Rattle.bq_query_tree.specs.declared.tree.SetOperator.TheVariants as op
+use Rattle.bq_query_parse.specs.declared.tree.SetOperator.{SetOperator}
+use Rattle.bq_query_parse.specs.declared.tree.SetOperator.TheVariants as op
 use Rattle.bq_package_target.specs.declared.target.Target.{Target}
 use Rattle.bq_query.specs.Faults.{fault_in}
 use Rattle.bq_query.specs.Operators.{Combined}

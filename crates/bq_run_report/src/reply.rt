@@ -4,7 +4,7 @@ ghost use Rattle.std.specs.Prelude.{IfOk};
 ghost use Rattle.bq_query_check.specs.Formula.{formula_of};
 ghost use Rattle.bq_run_report.specs.Report.{Replies, reply_view};
 
-use bq_base_rope::Rope;
+use bq_base_texts::Rope;
 use bq_query::{OutputForm, answer, print_answer};
 use bq_query_check::CheckedQuery;
 use bq_query_target_graph::TargetGraph;

@@ -2,13 +2,12 @@
 
 ghost use Rattle.std.specs.Prelude.{◌≡◌, ◌++◌, IfOk};
 ghost use Rattle.std.specs.List.{flat_map};
-ghost use Rattle.bq_base_fault_line.specs.FaultLine.{put_lines};
-ghost use Rattle.bq_base_fault_line.specs.LineText.{line_text};
+ghost use Rattle.bq_base_texts.specs.FaultLine.{put_lines};
+ghost use Rattle.bq_base_texts.specs.LineText.{line_text};
 ghost use Rattle.bq_run_write.specs.Ending.{status_by};
 ghost use Rattle.bq_run_report.specs.Report.{IsOver, inside};
 
-use bq_base_fault_line::FaultLines;
-use bq_base_rope::Rope;
+use bq_base_texts::{FaultLines, Rope};
 use bq_load::Loaded;
 use bq_query_target_graph::{TargetGraph, build_graph_by};
 use bq_run_write::Status;

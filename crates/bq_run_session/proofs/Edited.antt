@@ -6,7 +6,7 @@ use Rattle.std.proofs.lemmas.Bool.{cases_Bool}
 use Rattle.std.proofs.lemmas.List.{take_more, take_all, reverse-append}
 use Rattle.std.proofs.lemmas.List.Elements.{filter-append}
 use Rattle.std.proofs.lemmas.Slice.Eq.{bytes_eq-Decides}
-use Rattle.bq_base_names.specs.Names.{has, with_name}
+use Rattle.bq_base_texts.specs.NameSet.{has, with_name}
 use Rattle.bq_label.specs.declared.workspace.File.{File}
 use Rattle.bq_run_session.specs.declared.edits.Edit.{Edit}
 use Rattle.bq_run_session.specs.declared.edits.Edit.TheVariants.{Put, Remove}

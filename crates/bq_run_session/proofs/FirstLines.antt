@@ -16,7 +16,7 @@ take_nil (suc n) = refl
 
 -- ---- the end of a line
 
-without_last_end : (b : ℕ) (xs : List ℕ) → without_last b (xs ++ b ∷ []) ≡ xs
+pub without_last_end : (b : ℕ) (xs : List ℕ) → without_last b (xs ++ b ∷ []) ≡ xs
 without_last_end b [] = rw (eq-eqb b b refl) refl
 without_last_end b (x ∷ []) = rw (eq-eqb b b refl) refl
 without_last_end b (x ∷ y ∷ ys) = ap (λ t. x ∷ t) (without_last_end b (y ∷ ys))

@@ -1,7 +1,7 @@
 -- What a session answers is what a run with the query alone reports.
 use Rattle.std.proofs.Common.{◌≤◌, ℕ, List, [], Err, refl, sym, subst, inl, inr, length}
-use Rattle.bq_base_limits.specs.declared.limits.Limits.{Limits}
-use Rattle.bq_run.specs.WorkspaceRun.{Fits}
+use Rattle.bq_base.specs.declared.limits.Limits.{Limits}
+use Rattle.bq_run.specs.WorkspaceRun.{Fits, IsReportOn, loaded_in}
 use Rattle.bq_query.specs.declared.print.OutputForm.{OutputForm}
 use Rattle.bq_query_check.specs.Checked.{IsChecked, IsWrong}
 use Rattle.bq_query_check.specs.Formula.{Formula}
@@ -12,7 +12,6 @@ use Rattle.bq_run_report.specs.Report.{Inside, ReplyView, Replies, Reports, all_
 use Rattle.bq_run_write.specs.declared.ending.NoAnswer.{NoAnswer}
 use Rattle.bq_run_write.specs.declared.ending.NoAnswer.TheVariants.{Query}
 use Rattle.bq_run_write.specs.declared.ending.Status.{Status}
-use Rattle.bq_run.specs.WorkspaceRun.{IsReportOn, loaded_in}
 use Rattle.bq_run_session.specs.Answer.{IsAnswerTo}
 use Rattle.bq_run_session.specs.Queries.{max_query_bytes}
 use Rattle.bq_run_session.specs.Session.{IsAnswerIn}

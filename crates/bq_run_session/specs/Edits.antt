@@ -1,7 +1,7 @@
 -- The files of a workspace as they are edited.
 use Rattle.std.specs.Prelude.{ℕ, ◌++◌, Bool, List, [], ◌∷◌, bytes_eq, not}
 use Rattle.std.specs.List.{filter}
-use Rattle.bq_base_names.specs.Names.{has}
+use Rattle.bq_base_texts.specs.NameSet.{has}
 use Rattle.bq_label.specs.declared.workspace.File.{File}
 use Rattle.bq_run_session.specs.declared.edits.Edit.{Edit}
 use Rattle.bq_run_session.specs.declared.edits.Edit.TheVariants.{Put, Remove}

@@ -9,3 +9,5 @@ pub mod Session
 pub mod State
 pub mod Steps
 pub mod Outcome
+pub mod Changes
+pub mod Laws

@@ -1,6 +1,6 @@
 -- What a session has, and what an item does to it.
 use Rattle.std.specs.Prelude.{◌≡◌, ◌++◌, ◌||◌, ℕ, Bool, true, false, List, [], ◌∷◌, None, Some, Ok, Err}
-use Rattle.bq_base_limits.specs.declared.limits.Limits.{Limits}
+use Rattle.bq_base.specs.declared.limits.Limits.{Limits}
 use Rattle.bq_label.specs.declared.workspace.File.{File}
 use Rattle.bq_label.specs.Workspace.{workspace_within}
 use Rattle.bq_run.specs.declared.options.Options.{Options}

@@ -12,7 +12,7 @@ ghost use Rattle.bq_run_session.specs.Steps.{IsBlockOf, WritesOne};
 
 use crate::lines::MAX_QUERY_BYTES;
 use bq_base::Bytes;
-use bq_base_rope::Rope;
+use bq_base_texts::Rope;
 use bq_run::{ByteSink, RunErr, status_of, write_all, write_rope};
 use bq_run_device::WriteFault;
 use bq_run_report::{NoAnswer, Status};

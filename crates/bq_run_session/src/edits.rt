@@ -2,10 +2,10 @@
 
 ghost use Rattle.std.specs.Prelude.{◌≡◌, ◌++◌, ◌∷◌, [], IfOk, OnOk, reverse};
 ghost use Rattle.std.specs.List.{filter};
-ghost use Rattle.bq_base_names.specs.Names.{with_name};
+ghost use Rattle.bq_base_texts.specs.NameSet.{with_name};
 ghost use Rattle.bq_run_session.specs.Edits.{edited, file_put, is_untouched, path_of};
 
-use bq_base_names::NameSet;
+use bq_base_texts::NameSet;
 use bq_label::{Bytes, File, Workspace};
 use std::alloc::{AllocError, Global};
 

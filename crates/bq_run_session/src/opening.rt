@@ -15,7 +15,7 @@ use bq_load_reload::{Kept, PreviousLoad, Reloaded, load_again};
 use bq_package_schema::Schema;
 use bq_run::{Options, RunErr};
 use bq_run_report::{Session, session_over};
-use bq_value_seed::Seed;
+use bq_value_datum::Seed;
 use std::alloc::Global;
 use std::random::RandomSource;
 use std::sync::Wait;

@@ -6,7 +6,7 @@ ghost use Rattle.bq_run_session.specs.Queries.{max_query_bytes};
 ghost use Rattle.bq_run_session.specs.Session.{IsAnswerIn};
 
 use crate::lines::MAX_QUERY_BYTES;
-use bq_base_rope::Rope;
+use bq_base_texts::Rope;
 use bq_query::OutputForm;
 use bq_query_check::parse_query;
 use bq_query_lex::QueryErr;

@@ -1,6 +1,6 @@
 -- The exit status of a run, and the line that names its error.
 use Rattle.std.specs.Prelude.{◌++◌, ℕ, List, [], ◌∷◌, Result, Ok, Err, codes, decimal}
-use Rattle.bq_base_fault_line.specs.LineText.{detail_text}
+use Rattle.bq_base_texts.specs.LineText.{detail_text}
 use Rattle.bq_query_lex.specs.QueryError.{query_detail}
 use Rattle.bq_run_write.specs.declared.ending.Status.{Status}
 use Rattle.bq_run_write.specs.declared.ending.Status.TheVariants.{Answered, WithFaults}

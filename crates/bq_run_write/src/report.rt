@@ -1,7 +1,7 @@
 //! The report on a workspace: what is written of it.
 
 use crate::ending::{NoAnswer, Status};
-use bq_base_rope::Rope;
+use bq_base_texts::Rope;
 
 /// The texts of a run, and how it ends once they are written.
 #[derive(Drop)]

@@ -2,13 +2,13 @@
 
 ghost use Rattle.std.specs.Prelude.{◌≡◌, ◌⊎◌, ◌++◌, ◌+◌, ◌-◌, ◌^◌, ◌<◌, IfOk, OnOk, OnErr};
 ghost use Rattle.std.specs.Io.KnownBytes.{Appends};
-ghost use Rattle.bq_base_fault_line.specs.LineText.{detail_text};
+ghost use Rattle.bq_base_texts.specs.LineText.{detail_text};
 ghost use Rattle.bq_run_device.specs.Device.{Begins};
 ghost use Rattle.bq_run_write.specs.Status.{error_detail, error_line, status_code, status_line};
 
 use crate::ending::Status;
 use crate::error::RunErr;
-use bq_base_fault_line::push_detail;
+use bq_base_texts::push_detail;
 use bq_run_device::{ByteSink, WriteFault, write_all};
 use itoa::Buffer;
 use std::alloc::{AllocError, Global};

@@ -4,12 +4,12 @@
 //! link to where it leads; `read` gives the files below a path, a line each, or says that they are refused; and `within` does so where
 //! those that are read may have so many bytes together.
 
-ghost use Rattle.bq_base_limits.specs.Limits.{AreBounded};
+ghost use Rattle.bq_base.specs.Limits.{AreBounded};
 
 use crate::rows::{Row, Subject, check_rows};
-use bq_base_limits::Limits;
+use bq_base::Limits;
 use bq_label::{File, Workspace};
-use bq_run_directory::{DirectoryErr, read_directory};
+use bq_run_device::{DirectoryErr, read_directory};
 use std::alloc::{AllocError, Global};
 use std::os::fd::AsRawFd;
 use std::os::unix::fs::symlink;

@@ -2,13 +2,10 @@
 //! and attributes of a type that rules in .bzl files haven't.
 
 use bq_base::Bytes;
-use bq_package_attribute_type::AttributeType;
+use bq_predeclared::{AttributeType, Predeclared, RuleFunction};
 use bq_query_pattern::{PatternErr, QueryPattern};
-use bq_resolve_predeclared::{Predeclared, RuleFunction};
-use bq_value::{FunctionValue, Store, Value};
-use bq_value_compare::equal;
-use bq_value_rule_class::Attribute;
-use bq_value_seed::Seed;
+use bq_value::{FunctionValue, Store, Value, equal};
+use bq_value_datum::{Attribute, Seed};
 use bq_value_text::text;
 use std::alloc::{AllocError, Global};
 

@@ -2,14 +2,14 @@
 -- files declare. A BUILD file is evaluated, and no default is read.
 use Rattle.std.specs.Prelude.{ℕ, List, [], ◌∷◌, ◌++◌, Bool, true, false, Err, if◌then◌else◌}
 use Rattle.bq_base.specs.declared.fault.EvalFault.TheVariants.{NotInPackage, BadLabel}
-use Rattle.bq_resolve_predeclared.specs.declared.host_function.HostFunction.{HostFunction}
-use Rattle.bq_resolve_predeclared.specs.declared.host_function.HostFunction.TheVariants as h
-use Rattle.bq_value_rule_class.specs.Class.{Class}
+use Rattle.bq_predeclared.specs.declared.host_function.HostFunction.{HostFunction}
+use Rattle.bq_predeclared.specs.declared.host_function.HostFunction.TheVariants as h
+use Rattle.bq_value_datum.specs.Class.{Class}
 use Rattle.bq_value.specs.Datum.{Datum, none}
 use Rattle.bq_builtin_machine.specs.Args.{Passed}
 use Rattle.bq_builtin_machine.specs.State.{State, stop_at}
 use Rattle.bq_builtin_machine.specs.Action.{Action, done, stopped}
-use Rattle.bq_package_host.specs.Host.{HostCalls}
+use Rattle.bq_package_values.specs.Host.{HostCalls}
 
 abbrev pub is_licenses : HostFunction → Bool
 is_licenses h.Licenses = true

@@ -6,18 +6,16 @@ ghost use Rattle.std.specs.Prelude.{◌≡◌};
 ghost use Rattle.bq_tests_program.specs.Noting.{is_licenses, noted};
 
 use bq_base::{Bytes, EvalFault};
-use bq_base_names::NameSet;
+use bq_base_texts::NameSet;
 use bq_builtin_machine::{Args, Machine};
 use bq_eval::{EvaluatedFile, FileOutcome, ResolvedModule, eval_module};
 use bq_load_front::resolved_file;
-use bq_package_host::{BuiltIns, Host};
-use bq_package_typed_value::Written;
+use bq_package_values::{BuiltIns, Host, Written};
 use bq_parse_grammar::FileKind;
-use bq_resolve_predeclared::HostFunction;
+use bq_predeclared::HostFunction;
 use bq_resolve_scope::{ResolvedFile, Universe};
 use bq_value::{EvalErr, Value};
-use bq_value_rule_class::{AttributeValue, RuleClass};
-use bq_value_seed::Seed;
+use bq_value_datum::{AttributeValue, RuleClass, Seed};
 use std::alloc::{AllocError, Global};
 use std::sync::Arc;
 
@@ -35,7 +33,7 @@ fn is_licenses(function: HostFunction) -> bool
 
 impl Host for Noting {
     ghost use Rattle.std.specs.Prelude.{List};
-    ghost use Rattle.bq_resolve_predeclared.specs.declared.host_function.HostFunction.{HostFunction};
+    ghost use Rattle.bq_predeclared.specs.declared.host_function.HostFunction.{HostFunction};
 
     ghost Kept = { List HostFunction };
 

@@ -5,8 +5,7 @@ ghost use Rattle.bq_tests_program.specs.Mixing.{is_faulty, mixed};
 
 use crate::random::random_rows;
 use bq_board::{Graph, PlanErr};
-use bq_load_order::{Evaluate, SharedOutcome, Unwatched, Watch, outcomes_one_thread};
-use bq_load_outcome_spec::Outcome;
+use bq_load_order::{Evaluate, Outcome, SharedOutcome, Unwatched, Watch, outcomes_one_thread};
 use bq_load_workers::{MAX_WORKERS, WorkerPool, WorkerSeat, outcomes_by_workers};
 use std::alloc::{AllocError, Global};
 use std::sync::atomic::{AtomicU64, Ordering};

@@ -1,6 +1,6 @@
 //! What command lines ask for. The texts that refuse others are in the rows in `tests/rows`.
 
-use bq_base_limits::Limits;
+use bq_base::Limits;
 use bq_command_line::{Asked, Wanted, Words, WorkspacePlace, words_of};
 use bq_run::OutputForm;
 use bq_run_explain::{Explanation, NumberMeaning};

@@ -2,7 +2,7 @@
 
 ghost use Rattle.std.specs.Prelude.{◌≡◌};
 
-use bq_base_limits::Limits;
+use bq_base::Limits;
 use bq_run::{Metered, ReadFault, read_all};
 use std::io;
 use std::io::Read;

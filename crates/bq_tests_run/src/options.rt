@@ -3,7 +3,7 @@
 ghost use Rattle.std.specs.Prelude.{IfOk};
 ghost use Rattle.bq_run.specs.Run.{IsInRange};
 
-use bq_base_limits::Limits;
+use bq_base::Limits;
 use bq_run::{MAX_JOBS, Options, OutputForm};
 use std::alloc::{AllocError, Global};
 

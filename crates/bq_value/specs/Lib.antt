@@ -17,3 +17,9 @@ pub mod TrieOf
 pub mod Smaller
 pub mod StoreOf
 pub mod Lending
+pub mod Looked
+pub mod Equality
+pub mod Order
+pub mod Truth
+pub mod KeyWalk
+pub mod WalkLaws

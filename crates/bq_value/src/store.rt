@@ -1,7 +1,6 @@
 //! The store of a running module.
 
-ghost use Rattle.std.specs.Prelude.{◌≡◌, [], ◌∷◌, ◌++◌, None, Some, MatchOption, IfOk, OnOk, OnErr, length};
-ghost use Rattle.std.specs.Prelude.{◌<◌, ◌≢◌, slice_get, option_copied, IsOkAnd, IsErrOf};
+ghost use Rattle.std.specs.Prelude.{◌≡◌, [], ◌∷◌, ◌++◌, None, Some, MatchOption, IfOk, OnOk, OnErr, length, ◌<◌, ◌≢◌, slice_get, option_copied, IsOkAnd, IsErrOf};
 ghost use Rattle.std.specs.Borrow.{sem};
 ghost use Rattle.bq_value.specs.Lending.{LendsCellIfOk};
 ghost use Rattle.bq_value.specs.Cells.{content_at, kind_of, with_cells, loading};
@@ -11,8 +10,7 @@ use crate::frozen::Frozen;
 use crate::modules::Modules;
 use bq_base::{Bytes, EvalFault};
 use bq_value_content::{Content, Made};
-use bq_value_datum::Cell;
-use bq_value_seed::Seed;
+use bq_value_datum::{Cell, Seed};
 use std::alloc::{AllocError, Global};
 use std::marker::Model;
 

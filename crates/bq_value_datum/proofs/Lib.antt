@@ -1,3 +1,7 @@
+-- names beside attributes, and what is looked up in both
+pub mod NamedAttributes
+-- lists of labels that differ in length
+pub mod LabelLengths
 -- how the weights of a list change
 pub mod Weights
 -- lists of values that are compared as keys

@@ -4,18 +4,18 @@ use Rattle.std.proofs.Common.{sym, ◌∙◌, ap, arith}
 use Rattle.std.specs.Coded.{coded_ℕ, coded_ℤ, coded_bool, coded_list, coded_option}
 use base.Stored.{Coded, Gv, gnil, gnum, gcons}
 use denote.Enum.Declared.{tag_of}
-use Rattle.bq_package_attribute_type.specs.AttributeType.{coded_type}
-use Rattle.bq_resolve_predeclared.proofs.Found.{each_name}
-use Rattle.bq_resolve_predeclared.specs.HostFunctions.{host_function_name}
-use Rattle.bq_resolve_predeclared.specs.contracts.predeclared.Predeclared as variants
-use Rattle.bq_resolve_predeclared.specs.declared.host_function.HostFunction.{HostFunction}
-use Rattle.bq_resolve_predeclared.specs.declared.host_function.HostFunction.TheVariants as host
-use Rattle.bq_resolve_predeclared.specs.declared.predeclared.Predeclared.{Predeclared}
-use Rattle.bq_resolve_predeclared.specs.declared.predeclared.Predeclared.TheVariants as p
-use Rattle.bq_resolve_predeclared.specs.declared.rule_function.RuleFunction.{RuleFunction}
-use Rattle.bq_resolve_predeclared.specs.declared.rule_function.RuleFunction.TheVariants as rules
-use Rattle.bq_value_rule_class.specs.Codes.{coded_attribute}
-pub use Rattle.bq_value_rule_class.specs.Codes.{coded_class}
+use Rattle.bq_predeclared.specs.AttributeType.{coded_type}
+use Rattle.bq_predeclared.proofs.NameFound.{each_name}
+use Rattle.bq_predeclared.specs.HostFunctions.{host_function_name}
+use Rattle.bq_predeclared.specs.contracts.predeclared.Predeclared as variants
+use Rattle.bq_predeclared.specs.declared.host_function.HostFunction.{HostFunction}
+use Rattle.bq_predeclared.specs.declared.host_function.HostFunction.TheVariants as host
+use Rattle.bq_predeclared.specs.declared.predeclared.Predeclared.{Predeclared}
+use Rattle.bq_predeclared.specs.declared.predeclared.Predeclared.TheVariants as p
+use Rattle.bq_predeclared.specs.declared.rule_function.RuleFunction.{RuleFunction}
+use Rattle.bq_predeclared.specs.declared.rule_function.RuleFunction.TheVariants as rules
+use Rattle.bq_value_datum.specs.AttributeCodes.{coded_attribute}
+pub use Rattle.bq_value_datum.specs.AttributeCodes.{coded_class}
 use Rattle.bq_value_datum.specs.Datum.{BuiltIn, predeclared, schema_rule, Datum, none, boolean, int, string, tuple, range, cell, function, built_in, rule_function, attribute, Data, end, datum}
 use Rattle.bq_value_datum.specs.Same.{rule_place}
 

@@ -1,12 +1,12 @@
 -- What a value is (Starlark, "Data types"), as plain data: nothing of how it is shared or laid out.
 use Rattle.std.specs.Prelude.{◌≡◌, ℕ, ◌+◌, ℤ, Bool, List, [], ◌∷◌, Option, Some, None, refl}
 use Rattle.std.proofs.Common.{ap}
-use Rattle.bq_resolve_predeclared.specs.Predeclared.{name_of}
-use Rattle.bq_resolve_predeclared.specs.declared.host_function.HostFunction.TheVariants as host
-use Rattle.bq_resolve_predeclared.specs.declared.predeclared.Predeclared.{Predeclared}
-use Rattle.bq_resolve_predeclared.specs.declared.predeclared.Predeclared.TheVariants as p
-use Rattle.bq_resolve_predeclared.specs.declared.rule_function.RuleFunction.{RuleFunction}
-use Rattle.bq_value_rule_class.specs.declared.attribute.Attribute.{Attribute}
+use Rattle.bq_predeclared.specs.Predeclared.{name_of}
+use Rattle.bq_predeclared.specs.declared.host_function.HostFunction.TheVariants as host
+use Rattle.bq_predeclared.specs.declared.predeclared.Predeclared.{Predeclared}
+use Rattle.bq_predeclared.specs.declared.predeclared.Predeclared.TheVariants as p
+use Rattle.bq_predeclared.specs.declared.rule_function.RuleFunction.{RuleFunction}
+use Rattle.bq_value_datum.specs.declared.attribute.Attribute.{Attribute}
 
 -- a built-in function: one of the language or a build function, which have names of their own, or a rule of the schema, by its place
 -- there and its name

@@ -1,4 +1,13 @@
-pub use Rattle.bq_value_rule_class.specs.Class
+pub mod Folding
+pub mod ListText
+pub mod AttributeValue
+pub mod AttributeSame
+pub mod AttributeCodes
+pub mod CommonAttributes
+pub mod Class
+pub mod AttributeLaws
+-- attributes that are the same, and equal ones
+pub mod EqualAttributes
 pub mod Datum
 pub mod Codes
 pub mod View

@@ -6,16 +6,16 @@ use Rattle.std.specs.Cmp.{signed_Decides, unsigned_Decides, IsEquivalence, decid
 use Rattle.std.specs.Cmp.Lexicographic.{pointwise}
 use denote.Enum.Bare.{same_true, true_same}
 use lib.Pointwise.{bytes_decides}
-use Rattle.bq_package_attribute_type.specs.contracts.attribute_type.AttributeType.{the_type}
-use Rattle.bq_resolve_predeclared.specs.HostFunctions.{host_function_name}
-use Rattle.bq_resolve_predeclared.specs.declared.host_function.HostFunction.{HostFunction}
-use Rattle.bq_resolve_predeclared.specs.declared.predeclared.Predeclared.{Predeclared}
-use Rattle.bq_resolve_predeclared.specs.declared.predeclared.Predeclared.TheVariants as p
-use Rattle.bq_resolve_predeclared.specs.declared.rule_function.RuleFunction.{RuleFunction}
-use Rattle.bq_resolve_predeclared.specs.declared.rule_function.RuleFunction.TheVariants as rules
-use Rattle.bq_value_rule_class.proofs.Equal.{same_attribute_true, same_attribute_refl}
-use Rattle.bq_value_rule_class.specs.Same.{same_attribute}
-use Rattle.bq_value_rule_class.specs.declared.attribute.Attribute.{Attribute}
+use Rattle.bq_predeclared.specs.contracts.attribute_type.AttributeType.{the_type}
+use Rattle.bq_predeclared.specs.HostFunctions.{host_function_name}
+use Rattle.bq_predeclared.specs.declared.host_function.HostFunction.{HostFunction}
+use Rattle.bq_predeclared.specs.declared.predeclared.Predeclared.{Predeclared}
+use Rattle.bq_predeclared.specs.declared.predeclared.Predeclared.TheVariants as p
+use Rattle.bq_predeclared.specs.declared.rule_function.RuleFunction.{RuleFunction}
+use Rattle.bq_predeclared.specs.declared.rule_function.RuleFunction.TheVariants as rules
+use Rattle.bq_value_datum.specs.EqualAttributes.{same_attribute_true, same_attribute_refl}
+use Rattle.bq_value_datum.specs.AttributeSame.{same_attribute}
+use Rattle.bq_value_datum.specs.declared.attribute.Attribute.{Attribute}
 use Rattle.bq_value_datum.specs.Codes.{hosts_differ}
 use Rattle.bq_value_datum.specs.Datum.{BuiltIn, predeclared, schema_rule, Datum, none, boolean, int, string, tuple, range, cell, function, built_in, rule_function, attribute, Data, end, datum}
 use Rattle.bq_value_datum.specs.Same.{bool_same, same_name, rule_place, same_host, same_rule_function, same_predeclared, same_built_in, same, same_all, feed}

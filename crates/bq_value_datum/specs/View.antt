@@ -2,7 +2,7 @@
 use Rattle.std.specs.Prelude.{◌+◌, ◌≤◌, List, [], ◌∷◌}
 use Rattle.std.proofs.Common.{arith}
 use denote.Param.Weighed.{most}
-use Rattle.bq_resolve_predeclared.specs.declared.rule_function.RuleFunction.TheVariants as rules
+use Rattle.bq_predeclared.specs.declared.rule_function.RuleFunction.TheVariants as rules
 use Rattle.bq_value_datum.specs.Datum.{Datum, none, boolean, int, string, tuple, range, cell, function, predeclared, schema_rule, built_in, rule_function, attribute, data_of, weight, weights}
 use Rattle.bq_value_datum.specs.declared.value.Node.{Node}
 use Rattle.bq_value_datum.specs.declared.value.Node.TheVariants as node

@@ -4,10 +4,10 @@ ghost use Rattle.std.specs.Prelude.{◌≡◌, fold, option_copied};
 ghost use Rattle.bq_value_datum.specs.Datum.{none, boolean, int, string, tuple, range, cell, function, predeclared, schema_rule, built_in, rule_function, attribute, data_of};
 ghost use Rattle.bq_value_datum.specs.Same.{same_name, rule_place, same_host, same_rule_function, same_predeclared, same, same_all, feed, feed_all};
 
+use crate::attribute::Attribute;
 use crate::range::Range;
 use crate::value::{Cell, FunctionValue, Node, Value};
-use bq_resolve_predeclared::{HostFunction, Predeclared, RuleFunction};
-use bq_value_rule_class::Attribute;
+use bq_predeclared::{HostFunction, Predeclared, RuleFunction};
 use std::hash::{Hash, Hasher};
 
 impl Value {

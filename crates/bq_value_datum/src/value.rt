@@ -3,11 +3,10 @@
 ghost use Rattle.std.specs.Prelude.{◌≡◌, ◌+◌, ◌<◌, ◌≤◌, IfOk, IfSome};
 ghost use Rattle.bq_value_datum.specs.Datum.{Datum, none, boolean, int, string, tuple, range, cell, function, predeclared, schema_rule, built_in, rule_function, attribute, data_of, weight, weights};
 
+use crate::attribute::Attribute;
 use crate::range::Range;
 use bq_base::Bytes;
-use bq_package_attribute_type::AttributeType;
-use bq_resolve_predeclared::{Predeclared, RuleFunction};
-use bq_value_rule_class::Attribute;
+use bq_predeclared::{AttributeType, Predeclared, RuleFunction};
 use std::alloc::{AllocError, Global};
 use std::marker::Model;
 use std::mem;

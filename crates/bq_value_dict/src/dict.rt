@@ -7,8 +7,7 @@ ghost use Rattle.bq_value_dict.specs.DictOf.{pairs_of};
 
 use crate::few::Few;
 use crate::many::Many;
-use bq_value_datum::{Key, Value};
-use bq_value_seed::Seed;
+use bq_value_datum::{Key, Seed, Value};
 use std::alloc::{AllocError, Global};
 use std::marker::Model;
 

@@ -5,8 +5,7 @@ ghost use Rattle.std.specs.Map.Iter.{deref_pair};
 ghost use Rattle.bq_value_dict.specs.Pairs.{found, put, without, HasNoKeyTwice};
 
 use crate::places::{free_key, leave_empty, place_of};
-use bq_value_datum::{Key, Value};
-use bq_value_seed::Seed;
+use bq_value_datum::{Key, Seed, Value};
 use indexmap::IndexMap;
 use std::alloc::{AllocError, Global};
 use std::marker::Model;

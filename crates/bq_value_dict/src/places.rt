@@ -7,8 +7,7 @@ ghost use Rattle.bq_value_datum.specs.Datum.{Datum};
 ghost use Rattle.bq_value_datum.specs.Same.{same};
 ghost use Rattle.bq_value_dict.specs.Places.{live, empty_from, is_empty, Rises, passed, with_index};
 
-use bq_value_datum::{Key, Value};
-use bq_value_seed::Seed;
+use bq_value_datum::{Key, Seed, Value};
 use indexmap::IndexMap;
 use std::alloc::AllocError;
 

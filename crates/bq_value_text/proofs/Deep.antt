@@ -4,8 +4,8 @@ use Rattle.std.specs.Prelude.{codes}
 use Rattle.bq_base.specs.declared.fault.EvalFault.TheVariants.{TooDeep}
 use Rattle.bq_value.specs.Datum.{none, end, datum, list_of}
 use Rattle.bq_value.specs.Cells.{StoreView}
-use Rattle.bq_value_compare.specs.Looked.{Looked}
-use Rattle.bq_value_compare.specs.Laws.{nested}
+use Rattle.bq_value.specs.Looked.{Looked}
+use Rattle.bq_value.specs.WalkLaws.{nested}
 use Rattle.bq_value_text.specs.Page.{PageView, written}
 use Rattle.bq_value_text.specs.Leaf.{leaf_written}
 use Rattle.bq_value_text.specs.Shown.{and_then, closed, tuple_end, shown_at, repr_shown}

@@ -4,12 +4,12 @@ use Rattle.std.specs.Prelude.{codes}
 use Rattle.std.specs.Ordering.{int_eq}
 use Rattle.std.specs.Fmt.{signed_decimal}
 use Rattle.bq_source.specs.StringLiteral.{quoted}
-use Rattle.bq_resolve_predeclared.specs.RuleFunctions.{rule_function_name}
-use Rattle.bq_package_attribute_type.specs.AttributeType.{type_name}
+use Rattle.bq_predeclared.specs.RuleFunctions.{rule_function_name}
+use Rattle.bq_predeclared.specs.AttributeType.{type_name}
 use Rattle.bq_value.specs.Datum.{Datum, none, boolean, int, string, tuple, range, cell, function, built_in, built_in_name, rule_function, attribute, list_of}
 use Rattle.bq_value.specs.Contents.{Contents, items, pairs, rule}
 use Rattle.bq_value.specs.Cells.{StoreView, content_at}
-use Rattle.bq_value_compare.specs.Looked.{Looked, max_levels}
+use Rattle.bq_value.specs.Looked.{Looked, max_levels}
 use Rattle.bq_value_text.specs.Laws.{joined_on, joined, tuple_close, step_text, HasTexts, AllHaveText, PairHasText, PairsHaveText, ContentHasText, IsTextOf, HasText}
 use Rattle.bq_value_text.specs.Page.{PageView, written}
 use Rattle.bq_value_text.specs.Leaf.{range_written, named_written, leaf_written}

@@ -6,7 +6,7 @@ use Rattle.std.specs.Fmt.{signed_decimal}
 use Rattle.bq_source.specs.StringLiteral.{quoted}
 use Rattle.bq_value.specs.Datum.{Datum, none, boolean, int, string, tuple, Data, end, datum, list_of}
 use Rattle.bq_value.specs.Cells.{StoreView}
-use Rattle.bq_value_compare.specs.Looked.{Looked, max_levels}
+use Rattle.bq_value.specs.Looked.{Looked, max_levels}
 use Rattle.bq_value_text.specs.Laws.{IsKeyInRange, AreKeysInRange}
 use Rattle.bq_value_text.specs.Page.{PageView, written, max_text}
 use Rattle.bq_value_text.specs.Leaf.{leaf_written}

@@ -4,8 +4,8 @@ use Rattle.std.specs.Fmt.{signed_decimal}
 use Rattle.std.specs.Ordering.{int_eq}
 use Rattle.std.specs.Int.Signed.{mag}
 use Rattle.bq_source.specs.StringLiteral.{quoted}
-use Rattle.bq_resolve_predeclared.specs.RuleFunctions.{rule_function_name}
-use Rattle.bq_package_attribute_type.specs.AttributeType.{type_name}
+use Rattle.bq_predeclared.specs.RuleFunctions.{rule_function_name}
+use Rattle.bq_predeclared.specs.AttributeType.{type_name}
 use Rattle.bq_value.specs.Datum.{Datum, none, boolean, int, string, tuple, range, cell, function, built_in, built_in_name, rule_function, attribute, Data, end, datum, list_of}
 use Rattle.bq_value.specs.Contents.{Contents, items, pairs, rule}
 use Rattle.bq_value.specs.Cells.{StoreView, content_at}

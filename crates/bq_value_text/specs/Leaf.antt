@@ -3,8 +3,8 @@ use Rattle.std.specs.Prelude.{ℤ, pos, true, false, ℕ, List, cond, codes}
 use Rattle.std.specs.Ordering.{int_eq}
 use Rattle.std.specs.Fmt.{signed_decimal}
 use Rattle.bq_source.specs.StringLiteral.{quoted}
-use Rattle.bq_resolve_predeclared.specs.RuleFunctions.{rule_function_name}
-use Rattle.bq_package_attribute_type.specs.AttributeType.{type_name}
+use Rattle.bq_predeclared.specs.RuleFunctions.{rule_function_name}
+use Rattle.bq_predeclared.specs.AttributeType.{type_name}
 use Rattle.bq_value.specs.Datum.{Datum, none, boolean, int, string, range, function, built_in, built_in_name, rule_function, attribute}
 use Rattle.bq_value_text.specs.Page.{PageView, written}
 

@@ -4,7 +4,7 @@ use Rattle.bq_base.specs.declared.fault.EvalFault.TheVariants.{TooDeep, TooLong}
 use Rattle.bq_value.specs.Datum.{Datum, string, tuple, cell, list_of}
 use Rattle.bq_value.specs.Contents.{Contents, items, pairs, rule}
 use Rattle.bq_value.specs.Cells.{StoreView, content_at}
-use Rattle.bq_value_compare.specs.Looked.{Looked, stepped, max_levels}
+use Rattle.bq_value.specs.Looked.{Looked, stepped, max_levels}
 use Rattle.bq_value_text.specs.Page.{PageView, written}
 use Rattle.bq_value_text.specs.Leaf.{leaf_written}
 

@@ -2,14 +2,14 @@
 
 ghost use Rattle.std.specs.Prelude.{◌≡◌, OnOk};
 ghost use Rattle.std.specs.Fmt.{signed_decimal};
-ghost use Rattle.bq_resolve_predeclared.specs.Predeclared.{name_of};
+ghost use Rattle.bq_predeclared.specs.Predeclared.{name_of};
 ghost use Rattle.bq_value.specs.Datum.{text_of_name};
 ghost use Rattle.bq_value_text.specs.Page.{written};
 ghost use Rattle.bq_value_text.specs.Leaf.{leaf_written, range_written, named_written};
 
 use crate::page::Page;
 use crate::quoted::write_quoted;
-use bq_resolve_predeclared::{Predeclared, RuleFunction};
+use bq_predeclared::{Predeclared, RuleFunction};
 use bq_value::{Node, Range, Value};
 use itoa::Buffer;
 use std::alloc::AllocError;

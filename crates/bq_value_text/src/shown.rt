@@ -5,14 +5,13 @@ ghost use Rattle.bq_base.specs.Gives.{Gives};
 ghost use Rattle.bq_value.specs.declared.error.EvalErr.TheVariants.{Bad};
 ghost use Rattle.bq_value.specs.Cells.{StoreView};
 ghost use Rattle.bq_value.specs.Datum.{int};
-ghost use Rattle.bq_value_compare.specs.Looked.{max_levels};
+ghost use Rattle.bq_value.specs.Looked.{max_levels};
 ghost use Rattle.bq_value_text.specs.Shown.{shown_at, repr_shown, text_shown, string_in, list_shown, dict_shown, contents_shown, tuple_end, repr_of, text_of};
 
 use crate::leaf::write_leaf;
 use crate::page::Page;
 use bq_base::{Bytes, EvalFault};
-use bq_value::{Body, Content, Dict, EvalErr, Node, Store, Value};
-use bq_value_compare::MAX_LEVELS;
+use bq_value::{Body, Content, Dict, EvalErr, MAX_LEVELS, Node, Store, Value};
 use itoa::Buffer;
 use std::alloc::Global;
 

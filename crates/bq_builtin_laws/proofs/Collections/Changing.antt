@@ -7,7 +7,7 @@ use Rattle.bq_value.specs.Contents.{Contents}
 use Rattle.bq_builtin_machine.specs.Action.{Action, given, pure, ◌>>=◌, ◌>>◌}
 use Rattle.bq_builtin_machine.specs.Cells.{Change, changing, can_change, content, may_change, is_walked, put_content}
 use Rattle.bq_builtin_machine.specs.State.{State}
-use Rattle.bq_builtin_refusal_laws.specs.Refusals.{Check, fault_of, fault_in, first_fault}
+use Rattle.bq_builtin_machine.specs.Refusals.{Check, fault_of, fault_in, first_fault}
 use Rattle.bq_builtin_laws.specs.Collections.Orders.{frozen, walked}
 
 -- what is left to do with the content

@@ -3,8 +3,8 @@ use Rattle.std.proofs.Common.{◌≡◌, ◌∙◌, ap, refl, sym, subst, ℕ, L
 use Rattle.bq_base.specs.declared.fault.EvalFault.{EvalFault}
 use Rattle.bq_value.specs.Contents.{pairs}
 use Rattle.bq_value.specs.Datum.{Datum, none, cell, or_none}
-use Rattle.bq_value_compare.specs.KeyWalk.{walked_at, keyed}
-use Rattle.bq_value_compare.specs.Looked.{Looked, max_levels}
+use Rattle.bq_value.specs.KeyWalk.{walked_at, keyed}
+use Rattle.bq_value.specs.Looked.{Looked, max_levels}
 use Rattle.bq_builtin_machine.specs.Action.{Action, Run, done, stopped, following, given, look, pure, ◌>>=◌, ◌>>◌}
 use Rattle.bq_builtin_machine.specs.Answer.{and_then}
 use Rattle.bq_builtin_machine.specs.Args.{Passed}
@@ -13,17 +13,17 @@ use Rattle.bq_builtin_machine.specs.Cells.{Change, changing, content, may_change
 use Rattle.bq_builtin_machine.specs.Iteration.{elements_in, elements}
 use Rattle.bq_builtin_machine.specs.Machine.{with_steps, after_walk, key}
 use Rattle.bq_builtin_machine.specs.State.{State}
-use Rattle.bq_builtin_in_place.specs.InPlace.{dict_united, pair_put, set_item, set_index}
-use Rattle.bq_builtin_collections.specs.Arguments.{no_argument, one_or_two}
-use Rattle.bq_builtin_collections.specs.Dict as dict
+use Rattle.bq_builtin_operators.specs.InPlace.{dict_united, pair_put, set_item, set_index}
+use Rattle.bq_builtin_methods.specs.Arguments.{no_argument, one_or_two}
+use Rattle.bq_builtin_methods.specs.Dict as dict
 use Rattle.bq_builtin_laws.specs.Collections.DictCalls as call
-use Rattle.bq_builtin_collections.specs.Dict.{DictChange, on_pairs, emptied, taken_out, first_out, with_default, key_to_change, pairs_in}
-use Rattle.bq_builtin_collections.specs.PairsGiven.{Pairs, GivenView, pairs_signature, first_value, nothing_read, dict_of, take_elements, read_by, read, read_optional, pairs_given, all_pairs}
-use Rattle.bq_builtin_refusal_laws.specs.Refusals.{Check, fault_of, fault_in, fault_after, first_fault, IsRefusedForFirst}
+use Rattle.bq_builtin_methods.specs.Dict.{DictChange, on_pairs, emptied, taken_out, first_out, with_default, key_to_change, pairs_in}
+use Rattle.bq_builtin_methods.specs.PairsGiven.{Pairs, GivenView, pairs_signature, first_value, nothing_read, dict_of, take_elements, read_by, read, read_optional, pairs_given, all_pairs}
+use Rattle.bq_builtin_machine.specs.Refusals.{Check, fault_of, fault_in, fault_after, first_fault, IsRefusedForFirst}
 use Rattle.bq_builtin_laws.specs.Collections.Laws.{IsDict}
 use Rattle.bq_builtin_laws.specs.Collections.Orders.{frozen, walked, no_key, clearing, taking_out, taking_first, setting_default, updating, setting_pair}
 use Rattle.bq_builtin_laws.proofs.Collections.Changing.{changing_refused, before_refused}
-use Rattle.bq_builtin_collections.proofs.Cases.{as_pairs}
+use Rattle.bq_builtin_methods.proofs.Cases.{as_pairs}
 
 -- ---- arguments
 

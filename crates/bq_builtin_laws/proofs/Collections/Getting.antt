@@ -5,14 +5,14 @@ use Rattle.std.proofs.lemmas.List.Elements.{Contains-append_left, Contains-appen
 use Rattle.bq_value.specs.Datum.{Datum, or_none}
 use Rattle.bq_value.specs.Pairs.{found}
 use Rattle.bq_value.specs.Same.{same}
-use Rattle.bq_value_compare.specs.KeyWalk.{walked_at, keyed}
-use Rattle.bq_value_compare.specs.Looked.{Looked, max_levels}
+use Rattle.bq_value.specs.KeyWalk.{walked_at, keyed}
+use Rattle.bq_value.specs.Looked.{Looked, max_levels}
 use Rattle.bq_builtin_machine.specs.Action.{Run, done, following, ◌>>=◌, pure}
 use Rattle.bq_builtin_machine.specs.Cells.{content}
 use Rattle.bq_builtin_machine.specs.Machine.{with_steps, after_walk, key}
 use Rattle.bq_builtin_machine.specs.State.{State}
-use Rattle.bq_builtin_collections.specs.Arguments.{one_or_two}
-use Rattle.bq_builtin_collections.specs.Dict.{pairs_in, or_value, get}
+use Rattle.bq_builtin_methods.specs.Arguments.{one_or_two}
+use Rattle.bq_builtin_methods.specs.Dict.{pairs_in, or_value, get}
 use Rattle.bq_builtin_laws.specs.Collections.Laws.{IsDict}
 use Rattle.bq_builtin_laws.specs.Collections.Looks.{OnlyLooks}
 

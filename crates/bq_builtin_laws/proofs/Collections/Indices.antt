@@ -6,17 +6,17 @@ use Rattle.std.proofs.lemmas.List.{get_or-take, get_or-drop, length-take}
 use Rattle.std.proofs.lemmas.Option.{slice_get_within, get_or_from_slice_get, slice_get-get_or}
 use Rattle.bq_base.specs.declared.fault.EvalFault.TheVariants.{TooLong}
 use Rattle.bq_value.specs.Datum.{Datum, int}
-use Rattle.bq_value_compare.specs.Looked.{Looked}
+use Rattle.bq_value.specs.Looked.{Looked}
 use Rattle.bq_builtin_machine.specs.Action.{done, following, given}
 use Rattle.bq_builtin_machine.specs.Cells.{content}
 use Rattle.bq_builtin_machine.specs.Machine.{looked_equal, with_steps, after_walk}
 use Rattle.bq_builtin_machine.specs.State.{State}
-use Rattle.bq_builtin_numbers.specs.Length.{max_len}
-use Rattle.bq_builtin_numbers.specs.Place.{bound}
-use Rattle.bq_builtin_collections.specs.Arguments.{one_to_three, optional_integer}
-use Rattle.bq_builtin_collections.specs.List.{list_in, find, place_value, index}
+use Rattle.bq_builtin_strings.specs.Length.{max_len}
+use Rattle.bq_builtin_strings.specs.Place.{bound}
+use Rattle.bq_builtin_methods.specs.Arguments.{one_to_three, optional_integer}
+use Rattle.bq_builtin_methods.specs.List.{list_in, find, place_value, index}
 use Rattle.bq_builtin_machine.specs.Answer.{and_then}
-use Rattle.bq_builtin_collections.specs.Search.{if_unequal, first_equal, found_between}
+use Rattle.bq_builtin_methods.specs.Search.{if_unequal, first_equal, found_between}
 use Rattle.bq_builtin_laws.specs.Collections.Laws.{IsList}
 use Rattle.bq_builtin_laws.specs.Collections.Looks.{IsCompared, IsFirstPlace, IsFirstIndex}
 

@@ -3,8 +3,8 @@ use Rattle.std.proofs.Common.{◌≡◌, ap, List, [], ◌∷◌, map, Option, S
 use Rattle.bq_base.specs.declared.fault.EvalFault.{EvalFault}
 use Rattle.bq_value.specs.Datum.{Datum}
 use Rattle.bq_value.specs.Pairs.{found}
-use Rattle.bq_builtin_collections.specs.Dict.{first_out, pair_tuple, with_default}
-use Rattle.bq_builtin_collections.proofs.Cases.{with_default_by}
+use Rattle.bq_builtin_methods.specs.Dict.{first_out, pair_tuple, with_default}
+use Rattle.bq_builtin_methods.proofs.Cases.{with_default_by}
 
 -- the items of an answer and of the pairs that are left
 abbrev items_of : Result (Datum × List (Datum × Datum)) EvalFault → List Datum

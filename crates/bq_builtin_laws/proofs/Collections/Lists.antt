@@ -9,18 +9,18 @@ use Rattle.bq_builtin_machine.specs.Action.{Action, following, given, ◌>>=◌}
 use Rattle.bq_builtin_machine.specs.Cells.{changing, content}
 use Rattle.bq_builtin_machine.specs.Iteration.{elements_in}
 use Rattle.bq_builtin_machine.specs.State.{State}
-use Rattle.bq_builtin_numbers.specs.Length.{within, max_len}
-use Rattle.bq_builtin_in_place.specs.InPlace.{element_set, set_item, set_index}
-use Rattle.bq_builtin_collections.specs.Arguments.{no_argument, one_argument, two_arguments, optional_argument, integer, index_or_last}
-use Rattle.bq_builtin_collections.specs.List as list
+use Rattle.bq_builtin_strings.specs.Length.{within, max_len}
+use Rattle.bq_builtin_operators.specs.InPlace.{element_set, set_item, set_index}
+use Rattle.bq_builtin_methods.specs.Arguments.{no_argument, one_argument, two_arguments, optional_argument, integer, index_or_last}
+use Rattle.bq_builtin_methods.specs.List as list
 use Rattle.bq_builtin_laws.specs.Collections.ListCalls as call
-use Rattle.bq_builtin_collections.specs.List.{on_items, appended, extended, inserted, popped, cleared, find, drop_at, list_in}
+use Rattle.bq_builtin_methods.specs.List.{on_items, appended, extended, inserted, popped, cleared, find, drop_at, list_in}
 use Rattle.bq_builtin_machine.specs.Answer.{and_then}
-use Rattle.bq_builtin_refusal_laws.specs.Refusals.{Check, fault_of, fault_in, fault_then, first_fault, IsRefusedForFirst}
+use Rattle.bq_builtin_machine.specs.Refusals.{Check, fault_of, fault_in, fault_then, first_fault, IsRefusedForFirst}
 use Rattle.bq_builtin_laws.specs.Collections.Laws.{IsList}
 use Rattle.bq_builtin_laws.specs.Collections.Orders.{frozen, walked, too_long, appending, clearing, extending, inserting, popping, removing, setting_element}
 use Rattle.bq_builtin_laws.proofs.Collections.Changing.{changing_refused, before_refused}
-use Rattle.bq_builtin_collections.proofs.Cases.{as_items}
+use Rattle.bq_builtin_methods.proofs.Cases.{as_items}
 
 -- ---- arguments
 

@@ -2,14 +2,14 @@
 use Rattle.std.proofs.Common.{◌≡◌, ◌∙◌, ap, ℕ, Some, Option}
 use Rattle.bq_base.specs.declared.fault.EvalFault.TheVariants.{WrongType}
 use Rattle.bq_parse_grammar.specs.declared.tree.Operator.TheVariants as op
-use Rattle.bq_value_rule_class.specs.Class.{Class}
+use Rattle.bq_value_datum.specs.Class.{Class}
 use Rattle.bq_value.specs.Contents.{Contents, rule}
 use Rattle.bq_value.specs.Datum.{Datum, cell}
 use Rattle.bq_builtin_machine.specs.Action.{Run, stopped, following, ◌>>=◌, given, pure, look}
 use Rattle.bq_builtin_machine.specs.Cells.{content, or_wrong, changing}
 use Rattle.bq_builtin_machine.specs.Iteration.{elements}
 use Rattle.bq_builtin_machine.specs.State.{State, stop_at}
-use Rattle.bq_builtin_in_place.specs.InPlace.{set_in, set_item, set_index, augment_sum, augment_union, augment, list_extended, dict_united}
+use Rattle.bq_builtin_operators.specs.InPlace.{set_in, set_item, set_index, augment_sum, augment_union, augment, list_extended, dict_united}
 use Rattle.bq_builtin_operators.specs.Operand.{dict_in}
 use Rattle.bq_builtin_laws.specs.Collections.Laws.{IsRule}
 use Rattle.bq_builtin_operators.proofs.Cases.{dict_of_content, list_of_content}

@@ -11,13 +11,13 @@ use Rattle.bq_builtin_machine.specs.Action.{Run, done, stopped, following, pure}
 use Rattle.bq_builtin_machine.specs.Cells.{changing}
 use Rattle.bq_builtin_machine.specs.Iteration.{elements_in, elements}
 use Rattle.bq_builtin_machine.specs.State.{State}
-use Rattle.bq_builtin_numbers.specs.Length.{max_len}
-use Rattle.bq_builtin_in_place.specs.InPlace.{list_extended, augment_sum, augment}
+use Rattle.bq_builtin_strings.specs.Length.{max_len}
+use Rattle.bq_builtin_operators.specs.InPlace.{list_extended, augment_sum, augment}
 use Rattle.bq_builtin_operators.specs.Operand.{list_in}
 use Rattle.bq_builtin_machine.specs.Answer.{and_then}
 use Rattle.bq_builtin_operators.specs.Sequence.{joined}
 use Rattle.bq_builtin_operators.proofs.Cases.{list_of_content}
-use Rattle.bq_builtin_collections.proofs.Ends.{changed}
+use Rattle.bq_builtin_methods.proofs.Ends.{changed}
 use Rattle.bq_builtin_laws.specs.Collections.Laws.{IsList, StaysTheSameList}
 
 abbrev content_of : Result (Unit {0} × Contents) EvalFault → Contents

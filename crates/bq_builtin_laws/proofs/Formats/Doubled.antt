@@ -5,11 +5,11 @@ use Rattle.std.specs.Option.{option_map}
 use Rattle.std.proofs.lemmas.Bool.{eqb-true}
 use Rattle.std.proofs.lemmas.Bool.Decides.{nat_tests}
 use Rattle.bq_base.proofs.Choices.{by_bool}
-use Rattle.bq_builtin_string_parts.specs.Search.{find}
-use Rattle.bq_builtin_string_parts.specs.Parts.{around, partition}
+use Rattle.bq_builtin_strings.specs.Search.{find}
+use Rattle.bq_builtin_strings.specs.Parts.{around, partition}
 use Rattle.bq_value.specs.Cells.{StoreView}
 use Rattle.bq_value.specs.Datum.{Datum}
-use Rattle.bq_value_compare.specs.Looked.{Looked}
+use Rattle.bq_value.specs.Looked.{Looked}
 use Rattle.bq_value_text.specs.Page.{PageView, written, max_text}
 use Rattle.bq_value_text.proofs.Pages.{written_more}
 use Rattle.bq_builtin_format.specs.Percent.{DraftView, and_write, and_then, converted, values_after, ended, filled_by, filled, blank, text_by, text_filled}

@@ -1,7 +1,7 @@
 -- What is malformed stays so.
 use Rattle.std.proofs.Common.{◌≡◌, refl, ℕ, Bool, true, false, List, Ok, Err}
 use Rattle.bq_base.specs.declared.fault.EvalFault.TheVariants.{Format}
-use Rattle.bq_value_compare.specs.Looked.{Looked}
+use Rattle.bq_value.specs.Looked.{Looked}
 use Rattle.bq_value_text.specs.Page.{PageView}
 use Rattle.bq_builtin_format.specs.Percent.{DraftView, onto, and_then, text_by}
 use Rattle.bq_builtin_format.proofs.Cases.{finished_when, with_steps}

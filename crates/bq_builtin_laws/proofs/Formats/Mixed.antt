@@ -6,7 +6,7 @@ use Rattle.std.proofs.lemmas.List.Elements.{Contains-append_cases, Contains-push
 use Rattle.bq_base.proofs.Choices.{by_bool}
 use Rattle.bq_value.specs.Cells.{StoreView}
 use Rattle.bq_value.specs.Datum.{Datum}
-use Rattle.bq_value_compare.specs.Looked.{Looked}
+use Rattle.bq_value.specs.Looked.{Looked}
 use Rattle.bq_builtin_format.specs.declared.argument.Numbering.{Numbering}
 use Rattle.bq_builtin_format.specs.Argument.{argument, is_number, next_after, no_fields, numbering_after}
 use Rattle.bq_builtin_format.specs.Method.{field_shown, unmixed, made, formatted}

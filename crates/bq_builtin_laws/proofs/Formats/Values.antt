@@ -3,11 +3,11 @@ use Rattle.std.proofs.Common.{◌≡◌, ◌∙◌, sym, ap, refl, ℕ, zero, su
 use Rattle.std.specs.Prelude.{◌==◌}
 use Rattle.bq_base.specs.declared.fault.EvalFault.TheVariants.{Format}
 use Rattle.bq_base.proofs.Choices.{by_bool}
-use Rattle.bq_builtin_string_parts.specs.Parts.{partition}
+use Rattle.bq_builtin_strings.specs.Parts.{partition}
 use Rattle.bq_value_text.specs.Shown.{text_shown, repr_shown}
 use Rattle.bq_value.specs.Cells.{StoreView}
 use Rattle.bq_value.specs.Datum.{Datum, int}
-use Rattle.bq_value_compare.specs.Looked.{Looked}
+use Rattle.bq_value.specs.Looked.{Looked}
 use Rattle.bq_builtin_format.specs.Percent.{DraftView, and_write, spoiled, and_then, decimal, takes_value, shown, next_shown, converted, values_after, ended, filled_by, filled, blank, text_by, text_filled}
 use Rattle.bq_builtin_laws.proofs.Formats.Malformed.{draft, IsMalformed, onto_malformed, then_malformed, text_malformed, text_whole, not_both}
 

@@ -3,13 +3,13 @@ use Rattle.std.proofs.Common.{◌≡◌, Bool, true, false, cond, List, [], ◌�
 use Rattle.std.specs.Prelude.{reverse, nat_le}
 use Rattle.bq_base.specs.declared.fault.EvalFault.{EvalFault}
 use Rattle.bq_base.specs.declared.fault.EvalFault.TheVariants.{TooLong}
-use Rattle.bq_builtin_numbers.specs.Length.{max_len}
+use Rattle.bq_builtin_strings.specs.Length.{max_len}
 use Rattle.bq_value.specs.Cells.{StoreView}
 use Rattle.bq_value.specs.Datum.{Datum, boolean}
 use Rattle.bq_builtin_machine.specs.Iteration.{elements_in}
 use Rattle.bq_builtin.specs.Arguments.{only_named, one_and_named, flag}
 use Rattle.bq_builtin_machine.specs.Answer.{and_then}
-use Rattle.bq_builtin_collections.specs.Arguments.{one_or_two}
+use Rattle.bq_builtin_methods.specs.Arguments.{one_or_two}
 use Rattle.bq_builtin.specs.Choosing.{in_order, sorted}
 use Rattle.bq_builtin.specs.Elements.{room_for}
 use Rattle.bq_builtin_laws.specs.Functions.Words.{by_place}

@@ -3,7 +3,7 @@ use Rattle.std.proofs.Common.{◌≡◌, ◌∙◌, sym, ap, Bool, true, false, 
 use Rattle.std.specs.Prelude.{nat_le}
 use Rattle.bq_base.specs.declared.fault.EvalFault.{EvalFault}
 use Rattle.bq_base.specs.declared.fault.EvalFault.TheVariants.{TooLong}
-use Rattle.bq_builtin_numbers.specs.Length.{max_len}
+use Rattle.bq_builtin_strings.specs.Length.{max_len}
 use Rattle.bq_value.specs.Cells.{StoreView}
 use Rattle.bq_value.specs.Datum as datum
 use Rattle.bq_value.specs.Datum.{Datum, data_of}
@@ -11,7 +11,7 @@ use Rattle.bq_builtin_machine.specs.Iteration.{elements_in}
 use Rattle.bq_builtin.specs.Arguments as arguments
 use Rattle.bq_builtin.specs.Arguments.{only_argument_if_any}
 use Rattle.bq_builtin_machine.specs.Answer.{and_then}
-use Rattle.bq_builtin_collections.specs.Arguments.{optional_argument}
+use Rattle.bq_builtin_methods.specs.Arguments.{optional_argument}
 use Rattle.bq_builtin.specs.Elements.{room_for, listed, listed_if_any}
 use Rattle.bq_builtin.specs.Sequences.{list, tuple}
 use Rattle.bq_builtin_laws.specs.Functions.Words.{by_place}

@@ -4,7 +4,7 @@ use Rattle.std.specs.Prelude.{nat_le}
 use Rattle.bq_base.proofs.Choices.{by_bool}
 use Rattle.bq_value.specs.Cells.{StoreView}
 use Rattle.bq_value.specs.Datum.{Datum, none, string}
-use Rattle.bq_value_compare.specs.Looked.{Looked}
+use Rattle.bq_value.specs.Looked.{Looked}
 use Rattle.bq_value_text.specs.Page.{PageView, max_text, written}
 use Rattle.bq_value_text.specs.Shown.{finished_by}
 use Rattle.bq_builtin_machine.specs.Action.{Run, done, stopped, following, pure, ◌>>◌}

@@ -15,7 +15,7 @@ use Rattle.bq_value.proofs.Elements.{elements_counted}
 use Rattle.bq_builtin_machine.specs.Iteration.{range_integers, elements_in}
 use Rattle.bq_builtin_machine.proofs.Walking.{range_counted, range_at}
 use Rattle.bq_builtin.specs.Arguments as arguments
-use Rattle.bq_builtin_collections.specs.Arguments.{one_to_three, integer}
+use Rattle.bq_builtin_methods.specs.Arguments.{one_to_three, integer}
 use Rattle.bq_builtin.specs.Integers.{range_by, range_from, range}
 use Rattle.bq_builtin_laws.specs.Functions.Words.{by_place, AreCounted}
 

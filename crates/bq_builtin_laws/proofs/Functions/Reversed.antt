@@ -4,14 +4,14 @@ use Rattle.std.specs.Prelude.{reverse, slice_get, nat_le}
 use Rattle.std.proofs.lemmas.List.{reverse-reverse, length-reverse, get_or-reverse}
 use Rattle.std.proofs.lemmas.Option.{slice_get_cases, slice_get-get_or}
 use Rattle.bq_base.specs.declared.fault.EvalFault.TheVariants.{TooLong}
-use Rattle.bq_builtin_numbers.specs.Length.{max_len}
+use Rattle.bq_builtin_strings.specs.Length.{max_len}
 use Rattle.bq_value.specs.Cells.{StoreView}
 use Rattle.bq_value.specs.Datum.{Datum, tuple, data_of, list_of_data_of}
 use Rattle.bq_builtin_machine.specs.Iteration.{elements_in}
 use Rattle.bq_builtin.specs.Arguments as arguments
 use Rattle.bq_builtin.specs.Arguments.{only_argument}
 use Rattle.bq_builtin_machine.specs.Answer.{and_then}
-use Rattle.bq_builtin_collections.specs.Arguments.{one_argument}
+use Rattle.bq_builtin_methods.specs.Arguments.{one_argument}
 use Rattle.bq_builtin.specs.Elements.{room_for, listed}
 use Rattle.bq_builtin.specs.Sequences.{reversed}
 use Rattle.bq_builtin_laws.specs.Functions.Words.{by_place}

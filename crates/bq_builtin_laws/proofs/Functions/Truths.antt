@@ -6,11 +6,11 @@ use Rattle.std.proofs.lemmas.List.Folds.{list_any-from_Any, list_any_none, list_
 use Rattle.std.proofs.lemmas.List.Elements.{All-head, All-tail}
 use Rattle.bq_value.specs.Cells.{StoreView}
 use Rattle.bq_value.specs.Datum.{Datum, boolean}
-use Rattle.bq_value_compare.specs.Truth.{truth_of}
+use Rattle.bq_value.specs.Truth.{truth_of}
 use Rattle.bq_builtin_machine.specs.Iteration.{elements_in}
 use Rattle.bq_builtin.specs.Arguments as arguments
 use Rattle.bq_builtin.specs.Arguments.{only_argument}
-use Rattle.bq_builtin_collections.specs.Arguments.{one_argument}
+use Rattle.bq_builtin_methods.specs.Arguments.{one_argument}
 use Rattle.bq_builtin.specs.Truths.{all_true, any_true, all, any}
 use Rattle.bq_builtin_laws.specs.Functions.Words.{by_place}
 

@@ -5,7 +5,7 @@ use Rattle.std.specs.declared.cmp.Ordering.{Ordering}
 use Rattle.std.specs.declared.cmp.Ordering.TheVariants.{Less, Equal, Greater}
 use Rattle.std.specs.Ordering.{is_lt, is_le, is_gt, is_ge}
 use Rattle.bq_base.specs.declared.fault.EvalFault.{EvalFault}
-use Rattle.bq_value_compare.specs.Looked.{Looked}
+use Rattle.bq_value.specs.Looked.{Looked}
 use Rattle.bq_builtin_machine.specs.Machine.{looked_order}
 use Rattle.bq_builtin_operators.specs.Comparing.{negated, by_order, compared}
 use Rattle.bq_builtin_laws.specs.Operators.Comparisons.{OppositesDiffer}

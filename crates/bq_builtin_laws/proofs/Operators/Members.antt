@@ -9,8 +9,8 @@ use Rattle.bq_value.specs.Cells.{StoreView}
 use Rattle.bq_value.specs.Contents.{Contents}
 use Rattle.bq_value.specs.Datum.{Datum, cell}
 use Rattle.bq_value.specs.Pairs.{found}
-use Rattle.bq_value_compare.specs.Looked.{Looked, max_levels}
-use Rattle.bq_value_compare.specs.KeyWalk.{walked_at, keyed}
+use Rattle.bq_value.specs.Looked.{Looked, max_levels}
+use Rattle.bq_value.specs.KeyWalk.{walked_at, keyed}
 use Rattle.bq_builtin_machine.specs.Machine.{looked_equal}
 use Rattle.bq_builtin_operators.specs.Membership.{if_not, among, in_list, in_dict, in_content, contained}
 use Rattle.bq_builtin_operators.specs.Subscript.{or_fault, at_no_cost, value_in, content_item, item_of}

@@ -10,18 +10,18 @@ use Rattle.bq_builtin_machine.specs.Binding.{bind}
 use Rattle.bq_builtin_machine.specs.Cells.{content, may_change, changing, new_list, new_dict}
 use Rattle.bq_builtin_machine.specs.Iteration.{elements}
 use Rattle.bq_builtin_machine.specs.Machine.{key}
-use Rattle.bq_builtin_in_place.specs.InPlace.{dict_united}
+use Rattle.bq_builtin_operators.specs.InPlace.{dict_united}
 use Rattle.bq_builtin_operators.specs.Sequence.{limited}
 use Rattle.bq_builtin_operators.specs.Union.{put_all}
-use Rattle.bq_builtin_collections.specs.Arguments.{no_argument, one_argument, one_or_two, one_to_three, optional_integer}
-use Rattle.bq_builtin_collections.specs.Dict as dict
-use Rattle.bq_builtin_collections.specs.Dict.{on_pairs, pairs_in, pair_tuple, or_value, taken_out, with_default, key_to_change}
-use Rattle.bq_builtin_collections.specs.List as list
-use Rattle.bq_builtin_collections.specs.List.{on_items, dropped, list_in, find, place_value, drop_at}
-use Rattle.bq_builtin_collections.specs.PairsGiven.{Pairs, GivenView, take_elements, read_by, read, pairs_signature, first_value, nothing_read, read_optional, pairs_given, make_key, make_keys, all_pairs}
-use Rattle.bq_builtin_collections.specs.PairsGiven as given_pairs
-use Rattle.bq_builtin_collections.specs.Search.{found_between}
-use Rattle.bq_builtin_collections.proofs.Cases.{dict_of, list_of}
+use Rattle.bq_builtin_methods.specs.Arguments.{no_argument, one_argument, one_or_two, one_to_three, optional_integer}
+use Rattle.bq_builtin_methods.specs.Dict as dict
+use Rattle.bq_builtin_methods.specs.Dict.{on_pairs, pairs_in, pair_tuple, or_value, taken_out, with_default, key_to_change}
+use Rattle.bq_builtin_methods.specs.List as list
+use Rattle.bq_builtin_methods.specs.List.{on_items, dropped, list_in, find, place_value, drop_at}
+use Rattle.bq_builtin_methods.specs.PairsGiven.{Pairs, GivenView, take_elements, read_by, read, pairs_signature, first_value, nothing_read, read_optional, pairs_given, make_key, make_keys, all_pairs}
+use Rattle.bq_builtin_methods.specs.PairsGiven as given_pairs
+use Rattle.bq_builtin_methods.specs.Search.{found_between}
+use Rattle.bq_builtin_methods.proofs.Cases.{dict_of, list_of}
 use Rattle.bq_builtin_methods.specs.Methods.{list_methods, dict_methods}
 use Rattle.bq_builtin_laws.specs.Steps.Steps.{machine}
 use Rattle.bq_builtin_laws.proofs.Steps.Owning.{here_at_state}

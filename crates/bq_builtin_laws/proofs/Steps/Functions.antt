@@ -3,12 +3,12 @@ use Rattle.std.proofs.Common.{ℕ, zero, suc, List, [], ◌∷◌, slice_get}
 use Rattle.std.specs.List.{AllByRecursion}
 use Rattle.std.specs.Map.{values_of}
 use Rattle.bq_base.specs.declared.fault.EvalFault.TheVariants as fault
-use Rattle.bq_resolve_predeclared.specs.declared.predeclared.Predeclared.{Predeclared}
-use Rattle.bq_resolve_predeclared.specs.declared.predeclared.Predeclared.TheVariants as p
+use Rattle.bq_predeclared.specs.declared.predeclared.Predeclared.{Predeclared}
+use Rattle.bq_predeclared.specs.declared.predeclared.Predeclared.TheVariants as p
 use Rattle.bq_value.specs.Datum.{Datum, none, string}
 use Rattle.bq_builtin_machine.specs.Action.{◌>>◌, pure, given}
 use Rattle.bq_builtin_machine.specs.Args.{Passed}
-use Rattle.bq_builtin_collections.specs.Calling.{Calling}
+use Rattle.bq_builtin_methods.specs.Calling.{Calling}
 use Rattle.bq_builtin_machine.specs.Machine as machine
 use Rattle.bq_builtin_machine.specs.Machine.{walk}
 use Rattle.bq_builtin.specs.Arguments.{by_place, only_argument}

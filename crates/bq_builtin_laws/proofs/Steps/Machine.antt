@@ -2,13 +2,13 @@
 use Rattle.std.proofs.Common.{◌≡◌, ◌∙◌, ◌<◌, ℕ, zero, suc, ◌+◌, ◌-◌, Bool, true, false, cond, List, [], ◌∷◌, ◌++◌, Option, Some, None, Result, Ok, Err, nat_lt, ◌==◌, length, slice_get, set, refl, sym, ap, subst, arith, le-ltb, lt-ltb}
 use Rattle.bq_base.specs.declared.fault.EvalFault.{EvalFault}
 use Rattle.bq_base.specs.declared.fault.EvalFault.TheVariants as f
-use Rattle.bq_value_rule_class.specs.Class.{Class}
+use Rattle.bq_value_datum.specs.Class.{Class}
 use Rattle.bq_value.specs.Cells.{StoreView, with_cells, content_at}
 use Rattle.bq_value.specs.Contents.{Contents, items, pairs, rule}
 use Rattle.bq_value.specs.Datum.{Datum, cell}
-use Rattle.bq_value_compare.specs.Looked.{Looked}
-use Rattle.bq_value_compare.specs.Laws.{with_left}
-use Rattle.bq_value_compare.specs.Laws as walks
+use Rattle.bq_value.specs.Looked.{Looked}
+use Rattle.bq_value.specs.WalkLaws.{with_left}
+use Rattle.bq_value.specs.WalkLaws as walks
 use Rattle.bq_builtin_machine.specs.Action.{Action, Run, done, stopped, ◌>>=◌, ◌>>◌, pure, stop, given, look, change}
 use Rattle.bq_builtin_machine.specs.Calls.{is_active, max_active, enter, leave}
 use Rattle.bq_builtin_machine.specs.Cells.{with_content, new_content, or_wrong, content, is_walked, may_change, can_change, put_content, Change, changing}

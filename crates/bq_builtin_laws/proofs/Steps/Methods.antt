@@ -10,7 +10,7 @@ use Rattle.bq_builtin_format.specs.Method.{formatted}
 use Rattle.bq_builtin_machine.specs.Answer.{and_then, as_string}
 use Rattle.bq_builtin_machine.specs.Action.{Action, pure, given}
 use Rattle.bq_builtin_machine.specs.Args.{Passed}
-use Rattle.bq_builtin_collections.specs.Calling.{called}
+use Rattle.bq_builtin_methods.specs.Calling.{called}
 use Rattle.bq_builtin_machine.specs.Cells.{content}
 use Rattle.bq_builtin_machine.specs.Iteration.{elements}
 use Rattle.bq_builtin_machine.specs.Machine.{walk}

@@ -9,8 +9,8 @@ use Rattle.bq_parse_grammar.specs.declared.tree.UnaryOperator.{UnaryOperator}
 use Rattle.bq_value.specs.Cells.{StoreView}
 use Rattle.bq_value.specs.Contents.{Contents, items, pairs, rule}
 use Rattle.bq_value.specs.Datum.{Datum, boolean, int, string, tuple, cell, list_of}
-use Rattle.bq_value_compare.specs.Looked.{max_levels}
-use Rattle.bq_value_compare.specs.KeyWalk.{walked_at, keyed}
+use Rattle.bq_value.specs.Looked.{max_levels}
+use Rattle.bq_value.specs.KeyWalk.{walked_at, keyed}
 use Rattle.bq_value_text.specs.Shown.{text_of, repr_of}
 use Rattle.bq_value_text.proofs.Counting.{text_takes, repr_takes}
 use Rattle.bq_builtin_format.specs.Percent.{percent_of}
@@ -30,7 +30,7 @@ use Rattle.bq_builtin_operators.specs.Product.{list_product, times, int_product,
 use Rattle.bq_builtin_operators.specs.Remainder.{remainder}
 use Rattle.bq_builtin_operators.specs.Union.{dict_union, union}
 use Rattle.bq_builtin_operators.specs.Operate.{binary, unary, compare, index, list_slice, slice}
-use Rattle.bq_builtin_in_place.specs.InPlace.{list_extended, dict_united, element_set, pair_put, augment_sum, augment_union, augment, set_in, set_item, set_index}
+use Rattle.bq_builtin_operators.specs.InPlace.{list_extended, dict_united, element_set, pair_put, augment_sum, augment_union, augment, set_in, set_item, set_index}
 use Rattle.bq_builtin_laws.specs.Steps.Laws.{Own}
 use Rattle.bq_builtin_laws.proofs.Steps.Machine.{pure_owns, stop_owns, given_owns, bind_owns, then_owns, look_owns, walk_owns, new_owns, content_owns, may_owns, SparesRules, changing_owns, elements_owns}
 use Rattle.bq_builtin_laws.proofs.Steps.Walks.{key_looked, compared_takes, item_takes, percent_takes}

@@ -9,9 +9,9 @@ use Rattle.bq_value.specs.Datum.{Datum}
 use Rattle.bq_builtin_machine.specs.Action.{◌>>=◌, look}
 use Rattle.bq_builtin_machine.specs.Args.{Passed}
 use Rattle.bq_builtin_machine.specs.Cells.{changing, new_list}
-use Rattle.bq_builtin_collections.specs.Calling.{Calling, gives, lists, changes_list, changes_dict, does, called}
-use Rattle.bq_builtin_collections.specs.Dict.{DictChange, DictCall, on_pairs, dict_changed}
-use Rattle.bq_builtin_collections.specs.List.{ListChange, ListCall, on_items, list_changed}
+use Rattle.bq_builtin_methods.specs.Calling.{Calling, gives, lists, changes_list, changes_dict, does, called}
+use Rattle.bq_builtin_methods.specs.Dict.{DictChange, DictCall, on_pairs, dict_changed}
+use Rattle.bq_builtin_methods.specs.List.{ListChange, ListCall, on_items, list_changed}
 use Rattle.bq_builtin_laws.specs.Steps.Laws.{Own}
 use Rattle.bq_builtin_laws.proofs.Steps.Machine.{bind_owns, look_owns, new_owns, SparesRules, changing_owns}
 

@@ -5,9 +5,9 @@ use Rattle.bq_base.specs.declared.fault.EvalFault.TheVariants.{TooDeep, TooLong}
 use Rattle.bq_value.specs.Datum.{Datum, none, boolean, int, string, tuple, range, cell, function, built_in, rule_function, attribute, list_of}
 use Rattle.bq_value.specs.Contents.{Contents, items, pairs, rule}
 use Rattle.bq_value.specs.Cells.{StoreView, content_at}
-use Rattle.bq_value_compare.specs.Looked.{max_levels}
-use Rattle.bq_value_compare.specs.Laws.{Takes}
-use Rattle.bq_value_compare.proofs.Counting.{ok_takes, err_takes, stepped_takes, followed}
+use Rattle.bq_value.specs.Looked.{max_levels}
+use Rattle.bq_value.specs.WalkLaws.{Takes}
+use Rattle.bq_value.proofs.Counting.{ok_takes, err_takes, stepped_takes, followed}
 use Rattle.bq_value_text.specs.Page.{PageView, written}
 use Rattle.bq_value_text.specs.Shown.{Shows, and_then, all_shown, pairs_shown, closed, list_shown, contents_shown, cell_shown, tuple_end, parts_shown, shown_at, repr_shown, text_by, text_shown, string_in, finished_by}
 

@@ -11,11 +11,11 @@ use Rattle.bq_value.specs.Datum.{Datum, none, boolean, int, string, tuple, range
 use Rattle.bq_value.specs.Contents.{Contents, items, pairs, rule}
 use Rattle.bq_value.specs.Pairs.{found}
 use Rattle.bq_value.specs.Cells.{StoreView, content_at}
-use Rattle.bq_value_compare.specs.Looked.{Looked, max_levels}
-use Rattle.bq_value_compare.specs.KeyWalk.{walked_at, keyed}
-use Rattle.bq_value_compare.specs.Laws.{Takes}
-use Rattle.bq_value_compare.proofs.Counting.{ok_takes, err_takes, followed, equal_takes, order_takes}
-use Rattle.bq_value_compare.proofs.KeySteps.{key_takes}
+use Rattle.bq_value.specs.Looked.{Looked, max_levels}
+use Rattle.bq_value.specs.KeyWalk.{walked_at, keyed}
+use Rattle.bq_value.specs.WalkLaws.{Takes}
+use Rattle.bq_value.proofs.Counting.{ok_takes, err_takes, followed, equal_takes, order_takes}
+use Rattle.bq_value.proofs.KeySteps.{key_takes}
 use Rattle.bq_value_text.specs.Page.{PageView, written}
 use Rattle.bq_value_text.specs.Shown as shown
 use Rattle.bq_value_text.specs.Shown.{text_shown, repr_shown, finished_by}
@@ -25,13 +25,13 @@ use Rattle.bq_builtin_format.specs.Argument.{argument, next_after, no_fields, nu
 use Rattle.bq_builtin_format.specs.Percent as percent
 use Rattle.bq_builtin_format.specs.Percent.{DraftView, and_write, spoiled, onto, decimal, takes_value, next_shown, converted, values_after, filled_by, filled, blank, finished_draft, text_by, percent_of}
 use Rattle.bq_builtin_format.specs.Method.{field_shown, unmixed, made, formatted}
-use Rattle.bq_builtin_string_parts.specs.Parts.{partition}
+use Rattle.bq_builtin_strings.specs.Parts.{partition}
 use Rattle.bq_builtin_machine.specs.Machine.{looked_equal, looked_order}
-use Rattle.bq_builtin_numbers.specs.Place.{bound}
+use Rattle.bq_builtin_strings.specs.Place.{bound}
 use Rattle.bq_builtin_operators.specs.Comparing.{negated, by_order, compared}
 use Rattle.bq_builtin_operators.specs.Membership.{if_not, among, in_string, in_range, in_list, in_dict, in_content, contained}
 use Rattle.bq_builtin_operators.specs.Subscript.{or_fault, byte_in, item_in, integer_in, at_no_cost, value_in, content_item, item_of}
-use Rattle.bq_builtin_collections.specs.Search.{if_unequal, first_equal, found_between}
+use Rattle.bq_builtin_methods.specs.Search.{if_unequal, first_equal, found_between}
 use Rattle.bq_builtin.specs.Texts.{others_shown, values_shown, joined_texts}
 use Rattle.bq_builtin_laws.proofs.Steps.Texts.{repr_shown_takes, finish_takes, text_shown_takes}
 use Rattle.bq_builtin_format.proofs.Cases.{with_steps}

@@ -4,7 +4,7 @@ use Rattle.std.specs.Prelude.{◌||◌, Any, All, slice_index_or}
 use Rattle.std.specs.List.{list_any}
 use Rattle.std.proofs.lemmas.List.Folds.{list_any-from_Any, list_any_none}
 use Rattle.bq_base.specs.declared.fault.EvalFault.{EvalFault}
-use Rattle.bq_builtin_numbers.specs.Place.{bound}
+use Rattle.bq_builtin_strings.specs.Place.{bound}
 use Rattle.bq_value.specs.Datum.{Datum, boolean, string, tuple, data_of, list_of_data_of}
 use Rattle.bq_builtin_string_methods.specs.Affixes.{has_end, texts_of, ends}
 use Rattle.bq_builtin_string_methods.specs.Argument.{part_of}

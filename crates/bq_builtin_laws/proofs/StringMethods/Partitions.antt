@@ -3,10 +3,10 @@ use Rattle.std.proofs.Common.{◌≡◌, subst, refl, ℕ, ◌+◌, Bool, true, 
 use Rattle.std.specs.Prelude.{bytes_eq, if◌then◌else◌}
 use Rattle.bq_base.specs.declared.fault.EvalFault.{EvalFault}
 use Rattle.bq_base.specs.declared.fault.EvalFault.TheVariants.{BadValue}
-use Rattle.bq_builtin_string_parts.specs.Search.{IsLeastPlace, IsGreatestPlace, find, rfind}
-use Rattle.bq_builtin_string_parts.specs.Parts as parts
-use Rattle.bq_builtin_string_parts.specs.Parts.{around}
-use Rattle.bq_builtin_string_parts.proofs.Places.{find_least, rfind_greatest, found_whole, rfound_whole}
+use Rattle.bq_builtin_strings.specs.Search.{IsLeastPlace, IsGreatestPlace, find, rfind}
+use Rattle.bq_builtin_strings.specs.Parts as parts
+use Rattle.bq_builtin_strings.specs.Parts.{around}
+use Rattle.bq_builtin_strings.proofs.Places.{find_least, rfind_greatest, found_whole, rfound_whole}
 use Rattle.bq_value.specs.Datum.{Datum, string}
 use Rattle.bq_builtin_string_methods.specs.Cuts.{three_parts, cut_once, partition}
 use Rattle.bq_builtin_string_methods.specs.declared.cuts.Side.{Side}

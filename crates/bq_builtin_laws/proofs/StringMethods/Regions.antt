@@ -6,9 +6,9 @@ use Rattle.std.proofs.Math.Seq.{take-append-add}
 use Rattle.std.proofs.lemmas.List.{take-append-drop, drop-append-le, length-take}
 use Rattle.bq_base.specs.declared.fault.EvalFault.TheVariants.{BadValue, Overflow}
 use Rattle.bq_value.specs.Datum.{Datum, int}
-use Rattle.bq_builtin_numbers.specs.Place.{bound}
-use Rattle.bq_builtin_string_parts.specs.Search.{StandsAt, IsLeastPlace, IsGreatestPlace, find, rfind}
-use Rattle.bq_builtin_string_parts.proofs.Places.{find_least, rfind_greatest}
+use Rattle.bq_builtin_strings.specs.Place.{bound}
+use Rattle.bq_builtin_strings.specs.Search.{StandsAt, IsLeastPlace, IsGreatestPlace, find, rfind}
+use Rattle.bq_builtin_strings.proofs.Places.{find_least, rfind_greatest}
 use Rattle.bq_builtin_string_methods.specs.Argument.{part_of}
 use Rattle.bq_builtin_string_methods.specs.Searches.{number, place_or_less, place_or_fault, said, search}
 use Rattle.bq_builtin_string_methods.specs.declared.searches.SearchMethod.{SearchMethod}

@@ -7,8 +7,8 @@ use Rattle.std.proofs.lemmas.List.{take-append-drop, get_or-take, get_or-drop, g
 use Rattle.std.proofs.lemmas.List.Sums.{prefix_len-le-length, prefix_len_passes, prefix_len_stops, suffix_len-le-length}
 use Rattle.bq_base.specs.declared.fault.EvalFault.{EvalFault}
 use Rattle.bq_value.specs.Datum.{Datum}
-use Rattle.bq_builtin_string_parts.specs.Trim as trim
-use Rattle.bq_builtin_string_parts.specs.Trim.{is_among, lstrip, rstrip}
+use Rattle.bq_builtin_strings.specs.Trim as trim
+use Rattle.bq_builtin_strings.specs.Trim.{is_among, lstrip, rstrip}
 use Rattle.bq_builtin_string_methods.specs.Argument.{bytes_in}
 use Rattle.bq_builtin_machine.specs.Answer.{and_then}
 use Rattle.bq_builtin_string_methods.specs.Strips.{without, strip}

@@ -2,10 +2,10 @@
 use Rattle.std.proofs.Common.{◌≡◌, refl, ℕ, zero, suc, ◌+◌, inl, inr, false, List, [], ◌∷◌, take, drop, arith}
 use Rattle.std.specs.List.{AllByRecursion, prefix_len}
 use Rattle.bq_base.proofs.Choices.{by_bool}
-use Rattle.bq_builtin_string_parts.specs.Trim.{is_among, spaces, lstrip}
-use Rattle.bq_builtin_string_classes.specs.Class.{is_space, has}
-use Rattle.bq_builtin_string_classes.specs.declared.class.ByteClass.TheVariants.{NonSpace}
-use Rattle.bq_builtin_string_classes.specs.Word.{first_word, last_part, words_from}
+use Rattle.bq_builtin_strings.specs.Trim.{is_among, spaces, lstrip}
+use Rattle.bq_builtin_strings.specs.Class.{is_space, has}
+use Rattle.bq_builtin_strings.specs.declared.class.ByteClass.TheVariants.{NonSpace}
+use Rattle.bq_builtin_strings.specs.Word.{first_word, last_part, words_from}
 use Rattle.bq_builtin_string_methods.specs.Cuts.{words_of}
 use Rattle.bq_builtin_string_methods.specs.declared.cuts.Side.TheVariants.{Left}
 use Rattle.bq_builtin_laws.specs.StringMethods.Parts.{BeginsWithoutSpace}

@@ -3,9 +3,9 @@ use Rattle.std.specs.Prelude.{ℕ, List}
 use Rattle.bq_value.specs.Datum.{Datum}
 use Rattle.bq_builtin_machine.specs.State.{State}
 use Rattle.bq_builtin_machine.specs.Action.{Action}
-use Rattle.bq_builtin_collections.specs.Dict as dict
-use Rattle.bq_builtin_collections.specs.Dict.{dict_changed}
-pub use Rattle.bq_builtin_collections.specs.Dict.{pop, setdefault, update}
+use Rattle.bq_builtin_methods.specs.Dict as dict
+use Rattle.bq_builtin_methods.specs.Dict.{dict_changed}
+pub use Rattle.bq_builtin_methods.specs.Dict.{pop, setdefault, update}
 
 abbrev pub clear : ℕ → ℕ → List Datum → Action State Datum
 clear home number args = dict_changed dict.clear home number args

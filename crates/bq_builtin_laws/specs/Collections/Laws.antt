@@ -1,14 +1,14 @@
 -- Words of the laws.
 use Rattle.std.specs.Prelude.{◌≡◌, ℕ, List, ◌++◌, Some, Ok}
 use Rattle.bq_parse_grammar.specs.declared.tree.Operator.TheVariants as op
-use Rattle.bq_value_rule_class.specs.Class.{Class}
+use Rattle.bq_value_datum.specs.Class.{Class}
 use Rattle.bq_value.specs.Cells.{content_at}
 use Rattle.bq_value.specs.Contents.{items, pairs, rule}
 use Rattle.bq_value.specs.Datum.{Datum, cell}
 use Rattle.bq_builtin_machine.specs.Action.{done}
 use Rattle.bq_builtin_machine.specs.Iteration.{elements_in}
 use Rattle.bq_builtin_machine.specs.State.{State}
-use Rattle.bq_builtin_in_place.specs.InPlace.{augment}
+use Rattle.bq_builtin_operators.specs.InPlace.{augment}
 
 -- the cell of that number holds a list of these values
 abbrev pub IsList : State → ℕ → ℕ → List Datum → Type 0

@@ -3,9 +3,9 @@ use Rattle.std.specs.Prelude.{ℕ, List}
 use Rattle.bq_value.specs.Datum.{Datum}
 use Rattle.bq_builtin_machine.specs.State.{State}
 use Rattle.bq_builtin_machine.specs.Action.{Action}
-use Rattle.bq_builtin_collections.specs.List as list
-use Rattle.bq_builtin_collections.specs.List.{list_changed}
-pub use Rattle.bq_builtin_collections.specs.List.{remove_value}
+use Rattle.bq_builtin_methods.specs.List as list
+use Rattle.bq_builtin_methods.specs.List.{list_changed}
+pub use Rattle.bq_builtin_methods.specs.List.{remove_value}
 
 abbrev pub append : ℕ → ℕ → List Datum → Action State Datum
 append home number args = list_changed list.append home number args

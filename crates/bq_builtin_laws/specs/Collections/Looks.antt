@@ -5,11 +5,11 @@ use Rattle.bq_value.specs.Datum.{Datum, int, or_none}
 use Rattle.bq_builtin_machine.specs.Action.{done}
 use Rattle.bq_builtin_machine.specs.Machine.{looked_equal}
 use Rattle.bq_builtin_machine.specs.State.{State}
-use Rattle.bq_builtin_numbers.specs.Place.{bound}
-use Rattle.bq_builtin_collections.specs.Arguments.{one_or_two, one_to_three, optional_integer}
-use Rattle.bq_builtin_collections.specs.Dict as dict
-use Rattle.bq_builtin_collections.specs.List as list
-use Rattle.bq_builtin_collections.specs.PairsGiven.{Pairs}
+use Rattle.bq_builtin_strings.specs.Place.{bound}
+use Rattle.bq_builtin_methods.specs.Arguments.{one_or_two, one_to_three, optional_integer}
+use Rattle.bq_builtin_methods.specs.Dict as dict
+use Rattle.bq_builtin_methods.specs.List as list
+use Rattle.bq_builtin_methods.specs.PairsGiven.{Pairs}
 use Rattle.bq_builtin_laws.specs.Collections.Laws.{IsList, IsDict}
 
 -- `get` of a dict of these pairs gave the answer; it was called with a key and, if there is one, a value for a key that isn't there

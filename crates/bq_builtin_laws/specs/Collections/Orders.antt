@@ -10,14 +10,14 @@ use Rattle.bq_builtin_machine.specs.Cells.{is_walked, changing}
 use Rattle.bq_builtin_machine.specs.Iteration.{elements_in}
 use Rattle.bq_builtin_machine.specs.Machine.{key}
 use Rattle.bq_builtin_machine.specs.State.{State}
-use Rattle.bq_builtin_numbers.specs.Length.{max_len}
-use Rattle.bq_builtin_in_place.specs.InPlace.{element_set, pair_put, dict_united}
+use Rattle.bq_builtin_strings.specs.Length.{max_len}
+use Rattle.bq_builtin_operators.specs.InPlace.{element_set, pair_put, dict_united}
 use Rattle.bq_builtin_operators.specs.Operand.{int_of}
-use Rattle.bq_builtin_collections.specs.Arguments.{one_or_two}
-use Rattle.bq_builtin_collections.specs.Dict.{setdefault, first_out, taken_out, with_default}
-use Rattle.bq_builtin_collections.specs.List.{popped, find, drop_at}
-use Rattle.bq_builtin_collections.specs.PairsGiven.{Pairs, pairs_given, all_pairs}
-use Rattle.bq_builtin_refusal_laws.specs.Refusals.{Check, when, fault_of, fault_in, fault_then, fault_after, IsRefusedForFirst}
+use Rattle.bq_builtin_methods.specs.Arguments.{one_or_two}
+use Rattle.bq_builtin_methods.specs.Dict.{setdefault, first_out, taken_out, with_default}
+use Rattle.bq_builtin_methods.specs.List.{popped, find, drop_at}
+use Rattle.bq_builtin_methods.specs.PairsGiven.{Pairs, pairs_given, all_pairs}
+use Rattle.bq_builtin_machine.specs.Refusals.{Check, when, fault_of, fault_in, fault_then, fault_after, IsRefusedForFirst}
 
 -- ---- checks
 

@@ -3,13 +3,13 @@ use Rattle.std.specs.Prelude.{ℕ, List}
 use Rattle.bq_parse_grammar.specs.declared.tree.Comparison.{Comparison}
 use Rattle.bq_parse_grammar.specs.declared.tree.Operator.{Operator}
 use Rattle.bq_parse_grammar.specs.declared.tree.UnaryOperator.{UnaryOperator}
-use Rattle.bq_resolve_predeclared.specs.declared.predeclared.Predeclared.{Predeclared}
+use Rattle.bq_predeclared.specs.declared.predeclared.Predeclared.{Predeclared}
 use Rattle.bq_value.specs.Datum.{Datum}
 use Rattle.bq_builtin_machine.specs.Action.{Action}
 use Rattle.bq_builtin_machine.specs.Args.{Passed}
 use Rattle.bq_builtin_machine.specs.State.{State}
 use Rattle.bq_builtin_operators.specs.Operate as operate
-use Rattle.bq_builtin_in_place.specs.InPlace as in_place
+use Rattle.bq_builtin_operators.specs.InPlace as in_place
 use Rattle.bq_builtin_methods.specs.Call as methods
 use Rattle.bq_builtin.specs.Call as functions
 use Rattle.bq_builtin_laws.specs.Steps.Steps.{machine, TakesInLine}

@@ -1,7 +1,7 @@
 -- Actions that have a number of steps and an outcome of their own.
 use Rattle.std.specs.Prelude.{◌≡◌, ℕ, ◌+◌, ◌<◌, List, ◌++◌, Some, slice_get}
 use Rattle.bq_base.specs.declared.fault.EvalFault.TheVariants.{StepLimit}
-use Rattle.bq_value_rule_class.specs.Class.{Class}
+use Rattle.bq_value_datum.specs.Class.{Class}
 use Rattle.bq_value.specs.Cells.{StoreView}
 use Rattle.bq_value.specs.Contents.{rule}
 use Rattle.bq_builtin_machine.specs.Action.{Action, Run, done, stopped}

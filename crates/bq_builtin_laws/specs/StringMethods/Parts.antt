@@ -1,11 +1,11 @@
 -- What parts of a string are, in words of the string.
 use Rattle.std.specs.Prelude.{◌≡◌, ℕ, List, [], ◌∷◌, ◌++◌, false}
-use Rattle.bq_builtin_string_parts.specs.Search.{StandsAt}
+use Rattle.bq_builtin_strings.specs.Search.{StandsAt}
 use Rattle.bq_builtin_string_methods.specs.Cuts.{three}
 use Rattle.bq_builtin_string_methods.specs.declared.cuts.Side.{Side}
 use Rattle.bq_builtin_string_methods.specs.declared.cuts.Side.TheVariants.{Left, Right}
 use Rattle.bq_value.specs.Datum.{Datum}
-use Rattle.bq_builtin_string_classes.specs.Class.{is_space}
+use Rattle.bq_builtin_strings.specs.Class.{is_space}
 
 abbrev pub IsNowhereIn : List ℕ → List ℕ → Type 0
 IsNowhereIn separator text = (at : ℕ) → ¬ StandsAt separator text at

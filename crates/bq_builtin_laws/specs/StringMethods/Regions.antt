@@ -1,8 +1,8 @@
 -- Where a text stands in a region of a string, in places of the whole string.
 use Rattle.std.specs.Prelude.{◌≡◌, ◌<◌, ◌≤◌, ◌+◌, ◌-◌, ℕ, ℤ, List, length, slice_get, Option, Some, Ok}
 use Rattle.bq_value.specs.Datum.{Datum, string}
-use Rattle.bq_builtin_numbers.specs.Place.{bound}
-use Rattle.bq_builtin_string_parts.specs.Search.{StandsAt}
+use Rattle.bq_builtin_strings.specs.Place.{bound}
+use Rattle.bq_builtin_strings.specs.Search.{StandsAt}
 use Rattle.bq_builtin_string_methods.specs.Argument.{place_in}
 
 -- the arguments of a search: what is looked for, and the start and the end of the region, each of which may be left out

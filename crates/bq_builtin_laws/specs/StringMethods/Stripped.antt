@@ -1,6 +1,6 @@
 -- What is left of a text whose ends are stripped, in words of the text.
 use Rattle.std.specs.Prelude.{◌≡◌, ℕ, List, [], ◌∷◌, ◌++◌, All, true, false}
-use Rattle.bq_builtin_string_parts.specs.Trim.{is_among}
+use Rattle.bq_builtin_strings.specs.Trim.{is_among}
 
 -- each of these bytes is of the set
 abbrev pub AreOf : List ℕ → List ℕ → Type 0

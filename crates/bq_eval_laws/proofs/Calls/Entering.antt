@@ -10,9 +10,9 @@ use Rattle.bq_builtin_machine.specs.Action.{done, stopped}
 use Rattle.bq_builtin_machine.specs.Calls as machine
 use Rattle.bq_builtin_machine.specs.Calls.{is_active, enter}
 use Rattle.bq_builtin_machine.specs.State.{State, Stop, stop_at}
-use Rattle.bq_eval_language_spec.specs.Calls as meaning
-use Rattle.bq_eval_language_spec.specs.Calls.{call_function}
-use Rattle.bq_builtin_refusal_laws.specs.Refusals.{IsRefusedForFirst}
+use Rattle.bq_eval_spec.specs.Calls as meaning
+use Rattle.bq_eval_spec.specs.Calls.{call_function}
+use Rattle.bq_builtin_machine.specs.Refusals.{IsRefusedForFirst}
 use Rattle.bq_eval_laws.specs.Calls.Entered.{FunctionCall, entered, activated, whole_call}
 use Rattle.bq_eval_laws.specs.Calls.Orders.{entering, IsActive}
 

@@ -21,11 +21,11 @@ use Rattle.bq_builtin_machine.specs.Binding.{BoundView, Binding, placed, take_na
 use Rattle.bq_builtin_machine.specs.Parameters.{ParameterView, SignatureView, is_called, places}
 use Rattle.bq_builtin_machine.specs.State.{stop_at}
 use Rattle.bq_builtin_machine.proofs.Bindings.{arguments_arrive}
-use Rattle.bq_eval_meaning_spec.specs.Frame.{Frame, empty, fill}
-use Rattle.bq_eval_meaning_spec.specs.Primitives.{Primitives, given_by}
-use Rattle.bq_eval_language_spec.specs.Calls.{Filling, singles, placed_of, has_star, has_star_star, signature, keywords_of, with_value, with_default, fill_by, fill_parameter, fill_parameters, entry}
-use Rattle.bq_eval_language_spec.specs.Environment.{Scoping}
-use Rattle.bq_eval_language_spec.specs.Slots.{slot_of, by_slots}
+use Rattle.bq_eval_spec.specs.Frame.{Frame, empty, fill}
+use Rattle.bq_eval_spec.specs.Primitives.{Primitives, given_by}
+use Rattle.bq_eval_spec.specs.Calls.{Filling, singles, placed_of, has_star, has_star_star, signature, keywords_of, with_value, with_default, fill_by, fill_parameter, fill_parameters, entry}
+use Rattle.bq_eval_spec.specs.Environment.{Scoping}
+use Rattle.bq_eval_spec.specs.Slots.{slot_of, by_slots}
 use Rattle.bq_eval_meaning_laws.specs.Frames.{goes_into}
 use Rattle.bq_eval_laws.specs.Calls.Parameters.{takes_one, has_default, is_star, is_for, bound_name, HasNoStar, count_of_one, IsParameter, from_place, from_name, from_default, from_rest, for_none, ParametersBegin, KeywordsBegin, BareStarsEndThem}
 use Rattle.bq_eval_laws.specs.Calls.Misfits.{left_over}

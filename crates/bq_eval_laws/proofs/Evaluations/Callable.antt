@@ -7,9 +7,9 @@ use Rattle.bq_resolve_scope.specs.declared.file.ResolvedFile.{ResolvedFile}
 use Rattle.bq_value.specs.Cells.{StoreView, FrozenCells, FrozenView, Modules, module_at, globals_at, frozen, placed, added, loading}
 use Rattle.bq_value.specs.Datum.{Datum}
 use Rattle.bq_value.proofs.Cases.{brought, globals_of}
-use Rattle.bq_eval_language_spec.specs.Slots.{frozen_unit, globals_among, frozen_units}
-use Rattle.bq_eval_meaning_spec.proofs.Cases.{or_else}
-use Rattle.bq_eval_operations.specs.Calling.{HostCalls}
+use Rattle.bq_eval_spec.specs.Slots.{frozen_unit, globals_among, frozen_units}
+use Rattle.bq_eval_spec.proofs.Cases.{or_else}
+use Rattle.bq_eval.specs.Calling.{HostCalls}
 use Rattle.bq_eval.specs.Module.{first_store}
 use Rattle.bq_eval_laws.specs.Evaluations.Files.{HostTakes}
 use Rattle.bq_eval_laws.specs.Evaluations.Callable.{IsCallable, FunctionsStayCallable}

@@ -7,10 +7,10 @@ use Rattle.bq_value.specs.Cells.{StoreView, FrozenView, module_at, cell_of, cont
 use Rattle.bq_value.specs.Datum.{Datum}
 use Rattle.bq_builtin_machine.specs.Action.{Run, done, stopped}
 use Rattle.bq_builtin_machine.specs.State.{State, started}
-use Rattle.bq_eval_meaning_spec.specs.Frame.{Frame}
-use Rattle.bq_eval_language_spec.specs.Slots.{module_meaning, frozen_units}
-use Rattle.bq_eval_operations.specs.Calling.{HostCalls}
-use Rattle.bq_eval_operations.specs.Runtime.{primitives}
+use Rattle.bq_eval_spec.specs.Frame.{Frame}
+use Rattle.bq_eval_spec.specs.Slots.{module_meaning, frozen_units}
+use Rattle.bq_eval.specs.Calling.{HostCalls}
+use Rattle.bq_eval.specs.Runtime.{primitives}
 use Rattle.bq_eval.specs.Module.{Ended, evaluated, failed, first_store, frozen_values, ended, module_run}
 use Rattle.bq_eval_meaning_laws.proofs.ModuleRules.{module_rule}
 use Rattle.bq_eval_laws.specs.Evaluations.Files.{HostTakes, prints_of, EndsShort, FileTakes, FrozenAre, ends, FilesTakeTheirSteps, OtherModulesStay}

@@ -2,17 +2,17 @@
 use Rattle.std.proofs.Common.{◌≡◌, ◌∙◌, ℕ, Bool, true, false, List, Option, Some, None, refl, ap, subst}
 use Rattle.std.specs.Prelude.{if◌then◌else◌}
 use Rattle.bq_base.specs.declared.fault.EvalFault.TheVariants.{BadValue, NotInPackage}
-use Rattle.bq_resolve_predeclared.specs.declared.predeclared.Predeclared.{Predeclared}
-use Rattle.bq_resolve_predeclared.specs.declared.predeclared.Predeclared.TheVariants as p
-use Rattle.bq_resolve_predeclared.specs.declared.rule_function.RuleFunction.{RuleFunction}
-use Rattle.bq_resolve_predeclared.specs.declared.rule_function.RuleFunction.TheVariants as f
-use Rattle.bq_value_rule_class.specs.Class.{Class}
+use Rattle.bq_predeclared.specs.declared.predeclared.Predeclared.{Predeclared}
+use Rattle.bq_predeclared.specs.declared.predeclared.Predeclared.TheVariants as p
+use Rattle.bq_predeclared.specs.declared.rule_function.RuleFunction.{RuleFunction}
+use Rattle.bq_predeclared.specs.declared.rule_function.RuleFunction.TheVariants as f
+use Rattle.bq_value_datum.specs.Class.{Class}
 use Rattle.bq_resolve_scope.specs.Names.{Name}
 use Rattle.bq_value.specs.Cells.{content_at, kind_of}
 use Rattle.bq_value.specs.Contents.{rule}
 use Rattle.bq_value.specs.Datum as datum
 use Rattle.bq_value.specs.Datum.{Datum}
-use Rattle.bq_value_compare.specs.Truth.{truth_of}
+use Rattle.bq_value.specs.Truth.{truth_of}
 use Rattle.bq_builtin_machine.specs.Action.{Action, Run, done, stopped, pure, look, beside, on_machine}
 use Rattle.bq_builtin_machine.specs.Action as action
 use Rattle.bq_builtin_machine.specs.Args.{Passed}
@@ -20,12 +20,12 @@ use Rattle.bq_builtin_machine.specs.Cells.{new_content}
 use Rattle.bq_builtin_machine.specs.Machine.{with_steps}
 use Rattle.bq_builtin_machine.specs.State.{State}
 use Rattle.bq_builtin.specs.Call.{call_function}
-use Rattle.bq_package_rule_functions.specs.Attribute.{attribute}
-use Rattle.bq_package_host.specs.Host.{ReadDefault}
-use Rattle.bq_package_rule_functions.specs.Call.{new_attribute, new_rule, declare, call_rule_function, class_in, call_kind, call_class, call_cell}
-use Rattle.bq_package_rule_functions.specs.Rule.{class}
-use Rattle.bq_eval_operations.specs.Calling.{HostCalls, call_built_in}
-use Rattle.bq_eval_operations.specs.Runtime.{primitives}
+use Rattle.bq_package_attributes.specs.Attribute.{attribute}
+use Rattle.bq_package_values.specs.Host.{ReadDefault}
+use Rattle.bq_package_attributes.specs.Call.{new_attribute, new_rule, declare, call_rule_function, class_in, call_kind, call_class, call_cell}
+use Rattle.bq_package_attributes.specs.Rule.{class}
+use Rattle.bq_eval.specs.Calling.{HostCalls, call_built_in}
+use Rattle.bq_eval.specs.Runtime.{primitives}
 use Rattle.bq_eval_meaning_laws.proofs.Respects.{Relation, Respects, OfLines, choosing}
 use Rattle.bq_eval_laws.specs.Evaluations.Files.{HostTakes}
 use Rattle.bq_builtin_laws.specs.Steps.Steps.{machine, hosted, Begins, leaving, printed, IsCutShort, Leaves, Takes, InLine, TakesInLine}

@@ -7,14 +7,14 @@ use Rattle.bq_resolve_scope.specs.declared.file.ResolvedFile.{ResolvedFile}
 use Rattle.bq_value.specs.Datum.{Datum}
 use Rattle.bq_builtin_machine.specs.Action.{Run, done, stopped, following}
 use Rattle.bq_builtin_machine.specs.State.{State, started}
-use Rattle.bq_eval_meaning_spec.specs.Frame.{Frame, empty, Surroundings}
-use Rattle.bq_eval_language_spec.specs.Calls.{Units}
-use Rattle.bq_eval_language_spec.specs.Module as language
-use Rattle.bq_eval_language_spec.specs.Module.{Own, top_level, top_levels, eval_top}
-use Rattle.bq_eval_language_spec.specs.Slots.{by_slots, own_of, first_globals, module_meaning, frozen_units}
-use Rattle.bq_eval_language_spec.specs.Statements.{Flow, next, leave, again, answer, go_on}
-use Rattle.bq_eval_operations.specs.Calling.{HostCalls}
-use Rattle.bq_eval_operations.specs.Runtime.{primitives}
+use Rattle.bq_eval_spec.specs.Frame.{Frame, empty, Surroundings}
+use Rattle.bq_eval_spec.specs.Calls.{Units}
+use Rattle.bq_eval_spec.specs.Module as language
+use Rattle.bq_eval_spec.specs.Module.{Own, top_level, top_levels, eval_top}
+use Rattle.bq_eval_spec.specs.Slots.{by_slots, own_of, first_globals, module_meaning, frozen_units}
+use Rattle.bq_eval_spec.specs.Statements.{Flow, next, leave, again, answer, go_on}
+use Rattle.bq_eval.specs.Calling.{HostCalls}
+use Rattle.bq_eval.specs.Runtime.{primitives}
 use Rattle.bq_eval.specs.Module.{first_store, fault_of, ended, module_run}
 use Rattle.bq_eval_meaning_laws.proofs.ModuleRules.{outside_rule, top_rule}
 use Rattle.bq_builtin_laws.specs.Steps.Steps.{hosted, InLine}

@@ -8,9 +8,9 @@ use Rattle.bq_builtin_machine.specs.Iteration.{elements, elements_in}
 use Rattle.bq_builtin_machine.specs.Machine.{key}
 use Rattle.bq_builtin_operators.specs.Operand.{dict_in}
 use Rattle.bq_builtin_machine.specs.Answer.{and_then}
-use Rattle.bq_eval_operations.specs.Making.{with_element, with_pair, with_new_pair, add, put_pair, add_pair}
-use Rattle.bq_eval_operations.specs.Passing.{if_few, with_positional, with_named, with_pairs, pass, pass_named, pass_all, pass_all_named}
-use Rattle.bq_eval_operations.specs.Unpacking.{just, parts}
+use Rattle.bq_eval.specs.Making.{with_element, with_pair, with_new_pair, add, put_pair, add_pair}
+use Rattle.bq_eval.specs.Passing.{if_few, with_positional, with_named, with_pairs, pass, pass_named, pass_all, pass_all_named}
+use Rattle.bq_eval.specs.Unpacking.{just, parts}
 use Rattle.bq_builtin_laws.specs.Steps.Laws.{Own}
 use Rattle.bq_builtin_laws.proofs.Steps.Machine.{given_owns, bind_owns, look_owns, elements_owns}
 use Rattle.bq_builtin_laws.proofs.Steps.Operators.{key_owns}

@@ -1,17 +1,17 @@
 -- A rule holds the same attributes after a call, whatever is called.
 use Rattle.std.proofs.Common.{◌≡◌, ◌∙◌, ◌<◌, ◌≤◌, ◌⊎◌, inl, inr, ℕ, ◌+◌, ◌-◌, ◌==◌, Bool, true, false, List, Some, slice_get, refl, sym, ap, subst, arith}
 use Rattle.std.proofs.lemmas.Bool.{cases_lt}
-use Rattle.bq_value_rule_class.specs.Class.{Class}
+use Rattle.bq_value_datum.specs.Class.{Class}
 use Rattle.bq_resolve_scope.specs.Names.{Name}
 use Rattle.bq_value.specs.Cells.{StoreView, module_at, cell_of, content_at}
 use Rattle.bq_value.specs.Contents.{rule}
 use Rattle.bq_builtin_machine.specs.Action.{Action, Run, done, stopped}
 use Rattle.bq_builtin_machine.specs.Machine.{with_steps}
 use Rattle.bq_builtin_machine.specs.State.{State}
-use Rattle.bq_eval_language_spec.specs.Calls.{calls}
-use Rattle.bq_eval_language_spec.specs.Slots.{by_slots}
-use Rattle.bq_eval_operations.specs.Calling.{HostCalls}
-use Rattle.bq_eval_operations.specs.Runtime.{primitives}
+use Rattle.bq_eval_spec.specs.Calls.{calls}
+use Rattle.bq_eval_spec.specs.Slots.{by_slots}
+use Rattle.bq_eval.specs.Calling.{HostCalls}
+use Rattle.bq_eval.specs.Runtime.{primitives}
 use Rattle.bq_eval_meaning_laws.proofs.CallRules.{calls_rule}
 use Rattle.bq_builtin_laws.specs.Steps.Steps.{hosted, leaving, printed, IsCutShort, Stays, Leaves, Takes}
 use Rattle.bq_eval_laws.specs.Evaluations.Files.{HostTakes, CallsKeepRules}

@@ -4,10 +4,10 @@ use Rattle.bq_resolve_scope.specs.declared.file.Function.{Function}
 use Rattle.bq_value.specs.Datum.{Datum}
 use Rattle.bq_builtin_machine.specs.Action.{Run}
 use Rattle.bq_builtin_machine.specs.Args.{Passed}
-use Rattle.bq_eval_meaning_spec.specs.Primitives.{Primitives}
-use Rattle.bq_eval_language_spec.specs.Calls.{TreeUnit, entry, call_function}
-use Rattle.bq_eval_language_spec.specs.Environment.{Scoping}
-use Rattle.bq_eval_language_spec.specs.Trees.{Calls}
+use Rattle.bq_eval_spec.specs.Primitives.{Primitives}
+use Rattle.bq_eval_spec.specs.Calls.{TreeUnit, entry, call_function}
+use Rattle.bq_eval_spec.specs.Environment.{Scoping}
+use Rattle.bq_eval_spec.specs.Trees.{Calls}
 
 -- The function has a module, its place there, and the values of its defaults, whatever names mean. `inner` are the calls that its
 -- body may make.

@@ -3,7 +3,7 @@ use Rattle.std.specs.Prelude.{ℕ, not, nat_lt, List, [], ◌∷◌, length, Con
 use Rattle.bq_base.specs.declared.fault.EvalFault.TheVariants.{Recursion, CallDepth}
 use Rattle.bq_builtin_machine.specs.Calls.{is_active}
 use Rattle.bq_builtin_machine.specs.State.{State}
-use Rattle.bq_builtin_refusal_laws.specs.Refusals.{Check, when}
+use Rattle.bq_builtin_machine.specs.Refusals.{Check, when}
 
 -- that function of that module is among those that are running
 abbrev pub IsActive : ℕ → ℕ → State → Type 0

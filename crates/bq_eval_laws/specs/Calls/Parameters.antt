@@ -12,11 +12,11 @@ use Rattle.bq_value.specs.Datum.{Datum, string, tuple, data_of}
 use Rattle.bq_builtin_machine.specs.Action.{done, stopped}
 use Rattle.bq_builtin_machine.specs.Args.{Passed}
 use Rattle.bq_builtin_machine.specs.State.{stop_at}
-use Rattle.bq_eval_meaning_spec.specs.Frame.{Frame}
-use Rattle.bq_eval_meaning_spec.specs.Primitives.{Primitives}
-use Rattle.bq_eval_language_spec.specs.Calls.{entry}
-use Rattle.bq_eval_language_spec.specs.Environment.{Scoping}
-use Rattle.bq_eval_language_spec.specs.Slots.{slot_of, by_slots}
+use Rattle.bq_eval_spec.specs.Frame.{Frame}
+use Rattle.bq_eval_spec.specs.Primitives.{Primitives}
+use Rattle.bq_eval_spec.specs.Calls.{entry}
+use Rattle.bq_eval_spec.specs.Environment.{Scoping}
+use Rattle.bq_eval_spec.specs.Slots.{slot_of, by_slots}
 use Rattle.bq_eval_meaning_laws.specs.Frames.{goes_into}
 
 -- a parameter takes one argument: it is none with a star

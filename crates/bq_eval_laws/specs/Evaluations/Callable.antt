@@ -4,8 +4,8 @@ use Rattle.bq_resolve_scope.specs.Names.{Name}
 use Rattle.bq_resolve_scope.specs.declared.file.ResolvedFile.{ResolvedFile}
 use Rattle.bq_value.specs.Cells.{FrozenView}
 use Rattle.bq_value.specs.Datum.{Datum}
-use Rattle.bq_eval_language_spec.specs.Slots.{frozen_units}
-use Rattle.bq_eval_operations.specs.Calling.{HostCalls}
+use Rattle.bq_eval_spec.specs.Slots.{frozen_units}
+use Rattle.bq_eval.specs.Calling.{HostCalls}
 use Rattle.bq_eval_laws.specs.Evaluations.Files.{FrozenAre, ends}
 
 -- The functions of the module `home` are there for a file of that number, which loads these modules: they are its own, or those of a

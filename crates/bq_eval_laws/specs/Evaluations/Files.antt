@@ -5,19 +5,19 @@ use Rattle.bq_base.specs.declared.fault.EvalFault.TheVariants.{StepLimit}
 use Rattle.bq_resolve_scope.specs.Names.{Name}
 use Rattle.bq_resolve_scope.specs.declared.file.FileLine.{FileLine}
 use Rattle.bq_resolve_scope.specs.declared.file.ResolvedFile.{ResolvedFile}
-use Rattle.bq_resolve_predeclared.specs.declared.host_function.HostFunction.{HostFunction}
-use Rattle.bq_value_rule_class.specs.Class.{Class}
+use Rattle.bq_predeclared.specs.declared.host_function.HostFunction.{HostFunction}
+use Rattle.bq_value_datum.specs.Class.{Class}
 use Rattle.bq_value.specs.Cells.{FrozenView, content_at, frozen_at}
 use Rattle.bq_value.specs.Contents.{rule}
 use Rattle.bq_value.specs.Datum.{Datum}
 use Rattle.bq_builtin_machine.specs.Action.{done}
 use Rattle.bq_builtin_machine.specs.Args.{Passed}
 use Rattle.bq_builtin_machine.specs.State.{State}
-use Rattle.bq_eval_meaning_spec.specs.Frame.{Surroundings}
-use Rattle.bq_eval_language_spec.specs.Calls.{Units, calls}
-use Rattle.bq_eval_language_spec.specs.Slots.{by_slots}
-use Rattle.bq_eval_operations.specs.Calling.{HostCalls}
-use Rattle.bq_eval_operations.specs.Runtime.{primitives}
+use Rattle.bq_eval_spec.specs.Frame.{Surroundings}
+use Rattle.bq_eval_spec.specs.Calls.{Units, calls}
+use Rattle.bq_eval_spec.specs.Slots.{by_slots}
+use Rattle.bq_eval.specs.Calling.{HostCalls}
+use Rattle.bq_eval.specs.Runtime.{primitives}
 use Rattle.bq_eval.specs.Module.{Ended, evaluated, failed, ended, first_store, module_run}
 use Rattle.bq_builtin_laws.specs.Steps.Steps.{hosted, Begins, TakesInLine}
 

@@ -3,13 +3,13 @@ use denote.Ref.{NamedLft}
 use denote.RattleType.{RattleType}
 use denote.Param.Send.{IsSend, IsSync, sendable}
 use Rattle.std.proofs.Crossing.{crosses}
-use Rattle.bq_value_seed.proofs.seed.Seed.TheSendSync as Seed
-use Rattle.bq_value_seed.proofs.hasher.KeyHasher.TheSendSync as KeyHasher
+use Rattle.bq_value_datum.proofs.seed.Seed.TheSendSync as Seed
+use Rattle.bq_value_datum.proofs.hasher.KeyHasher.TheSendSync as KeyHasher
 use Rattle.bq_base.proofs.fault.Fault.TheSendSync as Fault
 use Rattle.bq_base.proofs.fault.FaultKind.TheSendSync as FaultKind
-use Rattle.bq_base_names.proofs.name_set.NameSet.TheSendSync as Names
+use Rattle.bq_base_texts.proofs.name_set.NameSet.TheSendSync as Names
 use Rattle.bq_package_schema.specs.contracts.schema.Schema as Schema
-use Rattle.bq_package_host.specs.contracts.built_ins.BuiltIns as BuiltIns
+use Rattle.bq_package_values.specs.contracts.built_ins.BuiltIns as BuiltIns
 use Rattle.bq_load_front.specs.contracts.named_files.NamedFiles as NamedFiles
 use Rattle.bq_load_front.specs.contracts.front.Front as Front
 use Rattle.bq_load_discover.specs.contracts.modules.Module as Module

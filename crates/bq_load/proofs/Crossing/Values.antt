@@ -4,8 +4,8 @@ use Rattle.std.proofs.Crossing.{crosses}
 use Rattle.std.proofs.hash.BuildHasherDefault.TheSendSync as Builder
 use Rattle.std.proofs.hash.FoldHasher.TheSendSync as Hasher
 use Rattle.indexmap.proofs.map.IndexMap.TheSendSync as Map
-use Rattle.bq_value_seed.proofs.seed.Seed.TheSendSync as Seed
-use Rattle.bq_value_seed.proofs.hasher.KeyHasher.TheSendSync as KeyHasher
+use Rattle.bq_value_datum.proofs.seed.Seed.TheSendSync as Seed
+use Rattle.bq_value_datum.proofs.hasher.KeyHasher.TheSendSync as KeyHasher
 use Rattle.bq_base.proofs.bytes.Bytes.TheSendSync as Bytes
 use Rattle.bq_value_datum.proofs.value.Value.TheLaws.TheKnot as Knot
 use Rattle.bq_value.proofs.tree.Tree.TheLaws.TheKnot as Trees

@@ -2,7 +2,7 @@
 use denote.Param.Send.{IsSync, sendable}
 use Rattle.std.proofs.Crossing.{crosses}
 use Rattle.std.proofs.collections.BTreeMap.TheSendSync as Tree
-use Rattle.bq_base_names.proofs.name_set.NameSet.TheSendSync as Names
+use Rattle.bq_base_texts.proofs.name_set.NameSet.TheSendSync as Names
 use Rattle.bq_label_set.specs.contracts.label_set.LabelSet as LabelSet
 use Rattle.bq_resolve_scope.specs.contracts.universe.Universe as Universe
 use Rattle.bq_load_discover.proofs.Crossing.Workspaces.{label_sync}

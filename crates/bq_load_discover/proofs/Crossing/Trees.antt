@@ -2,9 +2,9 @@
 use denote.Param.Send.{IsSend, IsSync, sendable}
 use Rattle.std.proofs.Crossing.{crosses}
 use Rattle.bq_base_takeable.proofs.takeable.Takeable.TheSendSync as Takeable
-use Rattle.bq_package_attribute_type.specs.contracts.attribute_type.AttributeType as AttributeType
-use Rattle.bq_resolve_predeclared.specs.contracts.rule_function.RuleFunction as RuleFunction
-use Rattle.bq_resolve_predeclared.specs.contracts.predeclared.Predeclared as Predeclared
+use Rattle.bq_predeclared.specs.contracts.attribute_type.AttributeType as AttributeType
+use Rattle.bq_predeclared.specs.contracts.rule_function.RuleFunction as RuleFunction
+use Rattle.bq_predeclared.specs.contracts.predeclared.Predeclared as Predeclared
 use Rattle.bq_parse_grammar.proofs.tree.Argument.TheLaws.TheKnot as Trees
 use Rattle.bq_parse_grammar.proofs.tree.Stmt.TheLaws.TheKnot as Blocks
 use Rattle.bq_parse_grammar.specs.contracts.tree.Referent as Referent

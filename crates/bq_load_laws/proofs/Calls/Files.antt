@@ -8,7 +8,7 @@ use Rattle.bq_label_set.proofs.Added.{none_in, the_labels_added}
 use Rattle.bq_board.specs.Counts.{Has}
 use Rattle.bq_board.specs.Graph.{row}
 use Rattle.bq_board.proofs.Lemmas.{cons_has}
-use Rattle.bq_load_label.proofs.Loads.{named}
+use Rattle.bq_load_front.proofs.LoadNames.{named}
 use Rattle.bq_load_front.specs.Parsed.{kind_of}
 use Rattle.bq_load_front.specs.Reading.{parsed_of, loads_of}
 use Rattle.bq_load_front.specs.Inputs.{InputParts}

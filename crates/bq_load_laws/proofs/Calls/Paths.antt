@@ -18,14 +18,14 @@ use Rattle.bq_eval_laws.specs.Evaluations.Callable.{IsCallable}
 use Rattle.bq_eval_laws.specs.Evaluations.Files.{FrozenAre}
 use Rattle.bq_eval_laws.proofs.Evaluations.Callable.{stay_callable}
 use Rattle.bq_package.specs.Calls.{meaning, package_in}
-use Rattle.bq_eval_package_laws.proofs.BuildFiles.Calls.{calls_own}
+use Rattle.bq_eval_laws.proofs.BuildFiles.Calls.{calls_own}
 use Rattle.bq_package_target.specs.Package.{PackageTargets, finished}
 use Rattle.bq_load_front.specs.Parsed.{kind_of}
 use Rattle.bq_load_front.specs.Inputs.{InputParts}
 use Rattle.bq_load_front.specs.declared.front.Front.{Front}
 use Rattle.bq_load_discover.specs.LoadGraph.{GraphParts, IsReadGraph, inputs_of}
 use Rattle.bq_load_discover.specs.Module.{module_of}
-use Rattle.bq_load_outcome_spec.specs.Outcome.{outcome}
+use Rattle.bq_load_order.specs.Outcome.{outcome}
 use Rattle.bq_load_discover.specs.declared.modules.Module.{Module}
 use Rattle.bq_load.specs.Evaluation.{kept_first, evaluation, module_with, module_by, module_after, loaded_parts, by_imports, file_means, by_front, by_module, means}
 use Rattle.bq_load.specs.Imports.{imports}

@@ -6,10 +6,10 @@ use Rattle.bq_board.specs.Cycles.{is_cyclic, starts_path}
 use Rattle.bq_board.specs.Depth.{max_load_depth, is_too_deep}
 use Rattle.bq_board.specs.Graph.{Loads, row}
 use Rattle.bq_board.proofs.Lemmas.{cons_has}
-use Rattle.bq_load_outcome_spec.specs.Outcome.{first, with_load_value, load_values, own, evaluated, by_loads, outcome}
-use Rattle.bq_load_outcome_spec.specs.declared.outcome.Outcome.{Outcome}
-use Rattle.bq_load_outcome_spec.specs.declared.outcome.Outcome.TheVariants as o
-use Rattle.bq_load_outcome_spec.proofs.Solution.{outcome_is}
+use Rattle.bq_load_order.specs.Outcome.{first, with_load_value, load_values, own, evaluated, by_loads, outcome}
+use Rattle.bq_load_order.specs.declared.outcome.Outcome.{Outcome}
+use Rattle.bq_load_order.specs.declared.outcome.Outcome.TheVariants as o
+use Rattle.bq_load_order.proofs.Solution.{outcome_is}
 
 module _ {V : Type 0} where
   abbrev some_values : List V → Result (List V) ℕ

@@ -19,11 +19,11 @@ use Rattle.bq_label.specs.declared.workspace.File.{File}
 use Rattle.bq_label.specs.Label.{LabelParts}
 use Rattle.bq_label.specs.Workspace.{IsWorkspace}
 use Rattle.bq_label.proofs.Orders.{head_or_tail}
-use Rattle.bq_base_fault_line.specs.declared.fault_line.FaultLine.{FaultLine}
-use Rattle.bq_base_fault_line.specs.FaultLine.{sorted_lines}
-use Rattle.bq_base_fault_line.proofs.LineOrder.{same_lines}
+use Rattle.bq_base_texts.specs.declared.fault_line.FaultLine.{FaultLine}
+use Rattle.bq_base_texts.specs.FaultLine.{sorted_lines}
+use Rattle.bq_base_texts.proofs.LineOrder.{same_lines}
 use Rattle.bq_load.specs.declared.loaded.Loaded.{Loaded}
-use Rattle.bq_base_limits.specs.declared.limits.Limits.{Limits}
+use Rattle.bq_base.specs.declared.limits.Limits.{Limits}
 use Rattle.bq_load.specs.Loaded.{line_of, lines_by, fault_lines, LoadsWithin}
 use Rattle.bq_load.specs.Results.{outcomes}
 use Rattle.bq_load.specs.Loading.{loading_in}

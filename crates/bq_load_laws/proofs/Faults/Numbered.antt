@@ -17,16 +17,16 @@ use Rattle.bq_package_target.specs.declared.target.Target.{Target}
 use Rattle.bq_package_target.specs.Package.{PackageTargets}
 use Rattle.bq_load_front.specs.Parsed.{kind_of}
 use Rattle.bq_load_front.specs.Inputs.{InputParts}
-use Rattle.bq_load_front.specs.Laws.{TextResolvesTo}
+use Rattle.bq_load_front.specs.FileLaws.{TextResolvesTo}
 use Rattle.bq_load_discover.specs.LoadGraph.{inputs_of}
 use Rattle.bq_load_discover.proofs.Lists.{none_in}
 use Rattle.bq_load.specs.Results.{outcomes}
 use Rattle.bq_load.specs.Loading.{loading_in}
 use Rattle.bq_load.specs.Views.{ModuleView, FailedView}
-use Rattle.bq_load_line_laws.proofs.Tokens as tokens
-use Rattle.bq_load_line_laws.proofs.Pieces as pieces
-use Rattle.bq_load_line_laws.proofs.Pieces.{Numbered, lexemes_numbered}
-use Rattle.bq_load_line_laws.proofs.Names.Files.{fault_stands, resolved_stands}
+use Rattle.bq_load_laws.proofs.Tokens as tokens
+use Rattle.bq_load_laws.proofs.Pieces as pieces
+use Rattle.bq_load_laws.proofs.Pieces.{Numbered, lexemes_numbered}
+use Rattle.bq_load_laws.proofs.Names.Files.{fault_stands, resolved_stands}
 use Rattle.bq_load_laws.specs.Faults.Lines.{FaultsStandOnLines, StandsOnALine, OutcomesStandOnLines, FaultLinesStandOnLines, TargetsStandOnLines}
 use Rattle.bq_load_laws.specs.Faults.Parts.{universe_at, FailsIn, FailsInItsPart}
 use Rattle.bq_load_laws.specs.Packages.Declared.{IsLineOf, IsFile, IsFileOrIn, AreDeclaredBy, HasDeclared, DeclaresIn}

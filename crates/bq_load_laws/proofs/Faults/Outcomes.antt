@@ -30,22 +30,22 @@ use Rattle.bq_load_front.specs.Reading.{parsed_of}
 use Rattle.bq_load_front.proofs.Fronts.{are_fronts}
 use Rattle.bq_load_front.specs.Inputs.{InputParts}
 use Rattle.bq_load_front.specs.declared.front.Front.{Front}
-use Rattle.bq_load_outcome_spec.specs.Outcome.{first, load_values, own, evaluated, by_loads, outcome}
-use Rattle.bq_load_outcome_spec.specs.declared.outcome.Outcome.{Outcome}
-use Rattle.bq_load_outcome_spec.specs.declared.outcome.Outcome.TheVariants as o
+use Rattle.bq_load_order.specs.Outcome.{first, load_values, own, evaluated, by_loads, outcome}
+use Rattle.bq_load_order.specs.declared.outcome.Outcome.{Outcome}
+use Rattle.bq_load_order.specs.declared.outcome.Outcome.TheVariants as o
 use Rattle.bq_label.specs.Packages.{label_file}
 use Rattle.bq_label.proofs.Orders.{at_head, in_tail}
 use Rattle.bq_load_discover.proofs.Files.{modules_have_files}
-use Rattle.bq_load_label.proofs.Tests.{there_is_file}
+use Rattle.bq_load_front.proofs.Tests.{there_is_file}
 use Rattle.bq_load_laws.proofs.Graphs.Nothing.{loads_nothing}
-use Rattle.bq_load_outcome_spec.proofs.Solution.{outcome_is, evaluated_is}
+use Rattle.bq_load_order.proofs.Solution.{outcome_is, evaluated_is}
 use Rattle.bq_package_schema.specs.Schema.{Rules}
 use Rattle.bq_parse_grammar.specs.declared.tree.FileKind.{FileKind}
 use Rattle.bq_parse_grammar.specs.declared.tree.FileKind.TheVariants as kinds
 use Rattle.bq_eval_laws.specs.Evaluations.Files.{FailsAtAStatement}
 use Rattle.bq_eval_laws.proofs.Evaluations.Lines.{files_fail_at}
 use Rattle.bq_package.specs.Calls.{meaning, package_in}
-use Rattle.bq_eval_package_laws.proofs.BuildFiles.Calls.{calls_own}
+use Rattle.bq_eval_laws.proofs.BuildFiles.Calls.{calls_own}
 use Rattle.bq_package_target.specs.Package.{PackageTargets}
 use Rattle.bq_resolve_scope.specs.Names.{Name}
 use Rattle.bq_resolve_scope.specs.declared.loads.LoadStmt.{LoadStmt}

@@ -7,7 +7,7 @@ use Rattle.bq_base.specs.declared.fault.LoadFault.TheVariants as f
 use Rattle.bq_base.specs.Fault.{fault_at, kind_of_load, or_fault_as}
 use Rattle.bq_parse_grammar.specs.Lexeme.{lexemes}
 use Rattle.bq_parse_grammar.specs.Pieces.{pieces}
-use Rattle.bq_parse_tree_laws.proofs.FileDepths.{file_within}
+use Rattle.bq_parse_laws.proofs.FileDepths.{file_within}
 use Rattle.bq_resolve_scope.specs.declared.loads.LoadStmt.{LoadStmt}
 use Rattle.bq_resolve_scope.specs.declared.file.ResolvedFile.{ResolvedFile}
 use Rattle.bq_resolve_laws.proofs.Depths.Files.{none_too_deep}
@@ -16,12 +16,12 @@ use Rattle.bq_label.specs.declared.workspace.File.{File}
 use Rattle.bq_label.specs.declared.packages.BuildFile.{BuildFile}
 use Rattle.bq_label.specs.Label.{LabelParts, PackageParts, package_of, full_form}
 use Rattle.bq_label.specs.Packages.{label_file}
-use Rattle.bq_load_label.specs.NamedFile.{bzl_label, fault_of_file, unless_fault, file_named, load_label}
+use Rattle.bq_load_front.specs.NamedFile.{bzl_label, fault_of_file, unless_fault, file_named, load_label}
 use Rattle.bq_load_front.specs.Resolved.{resolved_file, ◌>>=◌}
 use Rattle.bq_load_front.specs.Front.{front_at, front_of, load_of}
 use Rattle.bq_load_front.specs.Parsed.{labels_of, kind_of}
 use Rattle.bq_load_front.specs.Inputs.{InputParts}
-use Rattle.bq_load_front.specs.Laws.{TextResolvesTo, HasFault}
+use Rattle.bq_load_front.specs.FileLaws.{TextResolvesTo, HasFault}
 use Rattle.bq_load_front.specs.declared.front.Front.{Front}
 use Rattle.bq_load_front.proofs.ResolvedFiles.{resolved_files_of_texts, faults_of_files}
 use Rattle.bq_load_front.proofs.Loads.{are_read}

@@ -8,9 +8,9 @@ use Rattle.bq_label.specs.declared.workspace.File.{File}
 use Rattle.bq_label.specs.declared.packages.BuildFile.{BuildFile}
 use Rattle.bq_label.specs.Label.{LabelParts, PackageParts, package_of}
 use Rattle.bq_label.specs.Packages.{package_named, label_file}
-use Rattle.bq_load_label.specs.Crossing.{crosses}
-use Rattle.bq_load_label.specs.NamedFile.{bzl_label, fault_of_file, unless_fault, file_named, load_label}
-use Rattle.bq_builtin_refusal_laws.specs.Refusals.{when, first_fault}
+use Rattle.bq_load_front.specs.Crossing.{crosses}
+use Rattle.bq_load_front.specs.NamedFile.{bzl_label, fault_of_file, unless_fault, file_named, load_label}
+use Rattle.bq_builtin_machine.specs.Refusals.{when, first_fault}
 use Rattle.bq_load_laws.specs.Graphs.Orders.{finding, finding_any, loading, fault_of_load}
 
 module _ (files : List File) (packages : List BuildFile) where

@@ -18,17 +18,17 @@ use Rattle.bq_board.specs.Depth.{max_load_depth, is_too_deep}
 use Rattle.bq_board.specs.Graph.{Loads, row, Known}
 use Rattle.bq_board.proofs.Going.{loads_a_cyclic}
 use Rattle.bq_board.proofs.Lemmas.{bool_cases, head_has, tail_has, cons_has, any_some, deep_both}
-use Rattle.bq_load_outcome_spec.specs.Outcome.{first, with_load_value, load_values, own, evaluated, by_loads, outcome}
-use Rattle.bq_load_outcome_spec.specs.declared.outcome.Outcome.{Outcome}
-use Rattle.bq_load_outcome_spec.specs.declared.outcome.Outcome.TheVariants as o
-use Rattle.bq_load_outcome_spec.proofs.Solution.{cond_true, cond_false, outcome_is}
+use Rattle.bq_load_order.specs.Outcome.{first, with_load_value, load_values, own, evaluated, by_loads, outcome}
+use Rattle.bq_load_order.specs.declared.outcome.Outcome.{Outcome}
+use Rattle.bq_load_order.specs.declared.outcome.Outcome.TheVariants as o
+use Rattle.bq_load_order.proofs.Solution.{cond_true, cond_false, outcome_is}
 use Rattle.bq_load_front.specs.Resolved as text
 use Rattle.bq_load_front.specs.Resolved.{◌>>=◌}
 use Rattle.bq_load_front.specs.Front.{load_of, front_at, front_of, loads_by}
 use Rattle.bq_load_front.specs.Parsed.{labels_of, kind_of}
 use Rattle.bq_load_front.specs.Reading.{parsed_of, loads_of}
 use Rattle.bq_load_front.specs.Inputs.{InputParts, universe_of}
-use Rattle.bq_load_front.specs.Laws.{named, NameFiles}
+use Rattle.bq_load_front.specs.FileLaws.{named, NameFiles}
 use Rattle.bq_load_front.specs.declared.front.Front.{Front}
 use Rattle.bq_load_front.proofs.ByName.{loads_agree}
 use Rattle.bq_load_front.proofs.Loads.{are_read}

@@ -10,9 +10,9 @@ use Rattle.bq_base.proofs.Choices.{by_bool}
 use Rattle.bq_board.specs.Graph.{Loads, row}
 use Rattle.bq_board.specs.Cycles.{is_cyclic}
 use Rattle.bq_board.specs.Depth.{is_too_deep}
-use Rattle.bq_load_outcome_spec.specs.Outcome.{load_values, own, evaluated, by_loads, outcome}
-use Rattle.bq_load_outcome_spec.specs.declared.outcome.Outcome.{Outcome}
-use Rattle.bq_load_outcome_spec.proofs.Solution.{solved}
+use Rattle.bq_load_order.specs.Outcome.{load_values, own, evaluated, by_loads, outcome}
+use Rattle.bq_load_order.specs.declared.outcome.Outcome.{Outcome}
+use Rattle.bq_load_order.proofs.Solution.{solved}
 use Rattle.bq_resolve_scope.specs.Names.{Name}
 use Rattle.bq_resolve_scope.specs.declared.file.ResolvedFile.{ResolvedFile}
 use Rattle.bq_value.specs.Datum.{Datum}
@@ -24,7 +24,7 @@ use Rattle.bq_load.specs.Imports.{is_private, global_by, or_no_symbol, exported}
 use Rattle.bq_load.specs.Results.{load_fault_by, load_fault, result_of}
 use Rattle.bq_load.specs.Loading.{LoadingParts}
 use Rattle.bq_load.specs.Views.{ModuleView, FailedView}
-use Rattle.bq_builtin_refusal_laws.specs.Refusals.{when, fault_in, first_fault, FailsForFirst}
+use Rattle.bq_builtin_machine.specs.Refusals.{when, fault_in, first_fault, FailsForFirst}
 use Rattle.bq_load_laws.specs.Outcomes.Orders.{exporting, failure, load_failed, own_failure, loading}
 
 -- ---- symbols

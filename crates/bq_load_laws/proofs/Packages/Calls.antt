@@ -4,7 +4,7 @@ use Rattle.std.specs.Prelude.{if◌then◌else◌}
 use Rattle.std.specs.List.{list_any}
 use Rattle.bq_base.specs.declared.fault.EvalFault.{EvalFault}
 use Rattle.bq_label.specs.Label.{LabelParts}
-use Rattle.bq_value_rule_class.specs.Class.{Class}
+use Rattle.bq_value_datum.specs.Class.{Class}
 use Rattle.bq_builtin_machine.specs.Action.{given, ◌>>=◌}
 use Rattle.bq_builtin_machine.specs.Args.{Passed}
 use Rattle.bq_builtin_machine.specs.State.{State}
@@ -15,14 +15,14 @@ use Rattle.bq_package_target.specs.Target.{names_of, declares as declared_by}
 use Rattle.bq_package_target.specs.Names.{are_new}
 use Rattle.bq_package_target.specs.Package.{PackageTargets, is_taken, files}
 use Rattle.bq_package_target.specs.Calls.{declared, exported}
-use Rattle.bq_resolve_predeclared.specs.declared.host_function.HostFunction.{HostFunction}
-use Rattle.bq_resolve_predeclared.specs.declared.host_function.HostFunction.TheVariants as b
+use Rattle.bq_predeclared.specs.declared.host_function.HostFunction.{HostFunction}
+use Rattle.bq_predeclared.specs.declared.host_function.HostFunction.TheVariants as b
 use Rattle.bq_package.specs.Glob.{globbed}
 use Rattle.bq_package.specs.Files.{files_named}
 use Rattle.bq_package.specs.Groups.{group_named}
 use Rattle.bq_package.specs.Rules.{declared_target, rule_target}
 use Rattle.bq_package.specs.Calls.{Declaring, HeldPackage, outside, declaring, new_strings, package_name, ignored, settled, declares, call_in, call_by, call_of, rule_by, rule_call}
-use Rattle.bq_load_line_laws.proofs.Tokens.{all_append}
+use Rattle.bq_load_laws.proofs.Tokens.{all_append}
 use Rattle.bq_load_laws.specs.Packages.Declared.{IsFileOrIn}
 use Rattle.bq_load_laws.proofs.Packages.Keeping.{Left, beside_left}
 use Rattle.bq_load_laws.proofs.Packages.Lines.{AllIn, call_declares, all_in, files_are_files, IsAt, declared_at, rule_at, group_at}

@@ -4,17 +4,17 @@ use Rattle.std.proofs.Common.{◌≡◌, ℕ, Bool, true, false, List, [], ◌�
 use Rattle.std.specs.Prelude.{if◌then◌else◌}
 use Rattle.bq_base.specs.declared.fault.EvalFault.{EvalFault}
 use Rattle.bq_base.specs.declared.fault.EvalFault.TheVariants.{NotInPackage}
-use Rattle.bq_resolve_predeclared.specs.declared.host_function.HostFunction.{HostFunction}
-use Rattle.bq_resolve_predeclared.specs.declared.predeclared.Predeclared.{Predeclared}
-use Rattle.bq_resolve_predeclared.specs.declared.predeclared.Predeclared.TheVariants as p
-use Rattle.bq_resolve_predeclared.specs.declared.rule_function.RuleFunction.{RuleFunction}
-use Rattle.bq_value_rule_class.specs.Class.{Class}
+use Rattle.bq_predeclared.specs.declared.host_function.HostFunction.{HostFunction}
+use Rattle.bq_predeclared.specs.declared.predeclared.Predeclared.{Predeclared}
+use Rattle.bq_predeclared.specs.declared.predeclared.Predeclared.TheVariants as p
+use Rattle.bq_predeclared.specs.declared.rule_function.RuleFunction.{RuleFunction}
+use Rattle.bq_value_datum.specs.Class.{Class}
 use Rattle.bq_resolve_scope.specs.Names.{Name}
 use Rattle.bq_resolve_scope.specs.declared.file.FileLine.{FileLine}
 use Rattle.bq_resolve_scope.specs.declared.file.ResolvedFile.{ResolvedFile}
 use Rattle.bq_value.specs.Cells.{FrozenView, content_at, kind_of}
 use Rattle.bq_value.specs.Datum.{Datum}
-use Rattle.bq_value_compare.specs.Truth.{truth_of}
+use Rattle.bq_value.specs.Truth.{truth_of}
 use Rattle.bq_builtin_laws.specs.Steps.Steps.{hosted, InLine}
 use Rattle.bq_builtin_machine.specs.Action.{Action, Run, done, stopped, following, given, beside, look, on_machine}
 use Rattle.bq_builtin_machine.specs.Action as action
@@ -25,24 +25,24 @@ use Rattle.bq_builtin_machine.specs.Cells as cells
 use Rattle.bq_builtin_machine.specs.Iteration as iteration
 use Rattle.bq_builtin_machine.specs.Calls as calls
 use Rattle.bq_builtin_operators.specs.Operate as operate
-use Rattle.bq_builtin_in_place.specs.InPlace as in_place
+use Rattle.bq_builtin_operators.specs.InPlace as in_place
 use Rattle.bq_builtin_methods.specs.Call as methods
 use Rattle.bq_builtin.specs.Call.{call_function}
 use Rattle.bq_eval.specs.Module.{first_store, module_run}
 use Rattle.bq_eval_laws.specs.Evaluations.Files.{HostTakes}
 use Rattle.bq_eval_laws.proofs.Evaluations.Hosts.{OwnsItsSteps, own_steps}
-use Rattle.bq_eval_meaning_spec.specs.Frame.{Frame, empty, Surroundings}
-use Rattle.bq_eval_language_spec.specs.Calls.{Units}
-use Rattle.bq_eval_language_spec.specs.Module.{Own, top_level, top_levels, eval_top, module_meaning}
-use Rattle.bq_eval_language_spec.specs.Slots as slots
-use Rattle.bq_eval_language_spec.specs.Slots.{by_slots, own_of, first_globals, frozen_units}
-use Rattle.bq_eval_language_spec.specs.Statements.{Flow, next, leave, again, answer, go_on}
-use Rattle.bq_package_rule_functions.specs.Call.{class_in, declare, call_rule_function, call_kind, call_class, call_cell}
-use Rattle.bq_eval_operations.specs.Calling.{HostCalls, call_built_in}
-use Rattle.bq_eval_operations.specs.Making as making
-use Rattle.bq_eval_operations.specs.Passing as passing
-use Rattle.bq_eval_operations.specs.Unpacking as unpacking
-use Rattle.bq_eval_operations.specs.Runtime.{primitives}
+use Rattle.bq_eval_spec.specs.Frame.{Frame, empty, Surroundings}
+use Rattle.bq_eval_spec.specs.Calls.{Units}
+use Rattle.bq_eval_spec.specs.Module.{Own, top_level, top_levels, eval_top, module_meaning}
+use Rattle.bq_eval_spec.specs.Slots as slots
+use Rattle.bq_eval_spec.specs.Slots.{by_slots, own_of, first_globals, frozen_units}
+use Rattle.bq_eval_spec.specs.Statements.{Flow, next, leave, again, answer, go_on}
+use Rattle.bq_package_attributes.specs.Call.{class_in, declare, call_rule_function, call_kind, call_class, call_cell}
+use Rattle.bq_eval.specs.Calling.{HostCalls, call_built_in}
+use Rattle.bq_eval.specs.Making as making
+use Rattle.bq_eval.specs.Passing as passing
+use Rattle.bq_eval.specs.Unpacking as unpacking
+use Rattle.bq_eval.specs.Runtime.{primitives}
 use Rattle.bq_eval_meaning_laws.proofs.ModuleRules.{outside_rule, top_rule}
 use Rattle.bq_eval_meaning_laws.proofs.Respects.{Relation, Respects}
 

@@ -18,10 +18,10 @@ use Rattle.bq_load_front.specs.Inputs.{InputParts}
 use Rattle.bq_load_discover.specs.LoadGraph.{GraphParts, IsReadGraph, inputs_of}
 use Rattle.bq_load_discover.specs.Module.{module_of}
 use Rattle.bq_load_discover.specs.Modules.{edges_from}
-use Rattle.bq_load_outcome_spec.specs.Outcome.{first, load_values, own, evaluated, by_loads, outcome, IsByLoads}
-use Rattle.bq_load_outcome_spec.specs.declared.outcome.Outcome.{Outcome}
-use Rattle.bq_load_outcome_spec.specs.declared.outcome.Outcome.TheVariants as o
-use Rattle.bq_load_outcome_spec.proofs.Solution.{values_same, outcome_is, solved}
+use Rattle.bq_load_order.specs.Outcome.{first, load_values, own, evaluated, by_loads, outcome, IsByLoads}
+use Rattle.bq_load_order.specs.declared.outcome.Outcome.{Outcome}
+use Rattle.bq_load_order.specs.declared.outcome.Outcome.TheVariants as o
+use Rattle.bq_load_order.proofs.Solution.{values_same, outcome_is, solved}
 use Rattle.bq_load_discover.specs.declared.modules.Module.{Module}
 use Rattle.bq_load.specs.Evaluation.{means}
 use Rattle.bq_load.specs.Results.{result_of}

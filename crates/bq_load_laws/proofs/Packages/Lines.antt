@@ -4,7 +4,7 @@ use Rattle.std.specs.List.{AllByRecursion}
 use Rattle.bq_base.specs.declared.fault.EvalFault.{EvalFault}
 use Rattle.bq_label.specs.declared.packages.BuildFile.{BuildFile}
 use Rattle.bq_label.specs.Label.{LabelParts, PackageParts}
-use Rattle.bq_value_rule_class.specs.Class.{Class}
+use Rattle.bq_value_datum.specs.Class.{Class}
 use Rattle.bq_value.specs.Cells.{StoreView}
 use Rattle.bq_value.specs.Datum.{Datum}
 use Rattle.bq_builtin_machine.specs.Args.{Passed}
@@ -14,8 +14,8 @@ use Rattle.bq_package_target.specs.declared.value.GivenAttribute.{GivenAttribute
 use Rattle.bq_package_target.specs.Package.{new_files, files}
 use Rattle.bq_package_target.specs.Target.{names_of, source, generated, declares}
 use Rattle.bq_package_target.specs.Value.{outputs_in}
-use Rattle.bq_package_typed_value.specs.Parameters.{argument}
-use Rattle.bq_package_typed_value.specs.Steps.{and_then}
+use Rattle.bq_package_values.specs.Parameters.{argument}
+use Rattle.bq_package_values.specs.Steps.{and_then}
 use Rattle.bq_package_attributes.specs.Arguments.{nothing_given, with_arguments}
 use Rattle.bq_package_attributes.specs.Declarations.{keywords_alone, gives_mandatory, defaults, if_whole, target, declaration}
 use Rattle.bq_package.specs.Bound.{group_parameters, text_of, texts_of}

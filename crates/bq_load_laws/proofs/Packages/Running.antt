@@ -9,7 +9,7 @@ use Rattle.bq_value.specs.Datum.{Datum}
 use Rattle.bq_package_target.specs.declared.target.Target.{Target}
 use Rattle.bq_package_target.specs.Package.{PackageTargets}
 use Rattle.bq_package.specs.Calls.{Declaring, HeldPackage, outside, declaring, package_in, meaning}
-use Rattle.bq_eval_package_laws.proofs.BuildFiles.Calls.{calls_own}
+use Rattle.bq_eval_laws.proofs.BuildFiles.Calls.{calls_own}
 use Rattle.bq_load.specs.Evaluation.{kept_first, evaluation}
 use Rattle.bq_load.specs.ResolvedFiles.{resolved_files}
 use Rattle.bq_load.specs.Loading.{LoadingParts}

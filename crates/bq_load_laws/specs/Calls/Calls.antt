@@ -7,7 +7,7 @@ use Rattle.bq_board.specs.Cycles.{Reaches}
 use Rattle.bq_board.specs.Graph.{Loads, row}
 use Rattle.bq_eval_laws.specs.Evaluations.Callable.{IsCallable}
 use Rattle.bq_load_discover.specs.LoadGraph.{GraphParts, IsReadGraph, inputs_of}
-use Rattle.bq_load_outcome_spec.specs.Outcome.{outcome, load_values}
+use Rattle.bq_load_order.specs.Outcome.{outcome, load_values}
 use Rattle.bq_load.specs.Evaluation.{means}
 use Rattle.bq_load.specs.ResolvedFiles.{resolved_files}
 use Rattle.bq_load.specs.Loading.{LoadingParts, loading_in}

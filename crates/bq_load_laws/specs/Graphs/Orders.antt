@@ -7,9 +7,9 @@ use Rattle.bq_label.specs.declared.workspace.File.{File}
 use Rattle.bq_label.specs.declared.packages.BuildFile.{BuildFile}
 use Rattle.bq_label.specs.Label.{LabelParts, PackageParts, package_of}
 use Rattle.bq_label.specs.Packages.{package_named, label_file}
-use Rattle.bq_load_label.specs.Crossing.{crosses}
-use Rattle.bq_load_label.specs.NamedFile.{bzl_label}
-use Rattle.bq_builtin_refusal_laws.specs.Refusals.{when, first_fault}
+use Rattle.bq_load_front.specs.Crossing.{crosses}
+use Rattle.bq_load_front.specs.NamedFile.{bzl_label}
+use Rattle.bq_builtin_machine.specs.Refusals.{when, first_fault}
 
 -- F32: the package is one; F37: no other owns the file; F31: the file is there
 abbrev pub finding : List File → List BuildFile → LabelParts → List (Option LoadFault)

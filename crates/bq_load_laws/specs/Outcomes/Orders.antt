@@ -9,12 +9,12 @@ use Rattle.bq_resolve_scope.specs.declared.file.ResolvedFile.{ResolvedFile}
 use Rattle.bq_board.specs.Graph.{Loads, row}
 use Rattle.bq_board.specs.Cycles.{is_cyclic}
 use Rattle.bq_board.specs.Depth.{is_too_deep}
-use Rattle.bq_load_outcome_spec.specs.Outcome.{outcome, load_values}
+use Rattle.bq_load_order.specs.Outcome.{outcome, load_values}
 use Rattle.bq_load.specs.Evaluation.{means}
 use Rattle.bq_load.specs.Imports.{is_private, global_by}
 use Rattle.bq_load.specs.Loading.{LoadingParts}
 use Rattle.bq_load.specs.Views.{ModuleView, FailedView}
-use Rattle.bq_builtin_refusal_laws.specs.Refusals.{when}
+use Rattle.bq_builtin_machine.specs.Refusals.{when}
 
 -- a symbol that a load asks for: F34 for a private name, also where there is none, and then F33
 abbrev pub exporting : List (Option ResolvedFile) → Option ModuleView → Name → List (Option LoadFault)

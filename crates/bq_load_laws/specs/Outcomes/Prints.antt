@@ -4,7 +4,7 @@ use Rattle.std.specs.List.{flat_map}
 use Rattle.bq_label.specs.Label.{LabelParts, full_form}
 use Rattle.bq_builtin_machine.specs.Action.{Run, done, stopped}
 use Rattle.bq_builtin_machine.specs.State.{State}
-use Rattle.bq_eval_meaning_spec.specs.Frame.{Frame}
+use Rattle.bq_eval_spec.specs.Frame.{Frame}
 use Rattle.bq_package.specs.Calls.{HeldPackage}
 use Rattle.bq_resolve_scope.specs.declared.file.ResolvedFile.{ResolvedFile}
 use Rattle.bq_value.specs.Datum.{Datum}

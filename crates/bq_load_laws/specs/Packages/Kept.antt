@@ -6,9 +6,9 @@ use Rattle.bq_package_schema.specs.Schema.{Rules}
 use Rattle.bq_package_target.specs.Package.{PackageTargets}
 use Rattle.bq_value.specs.Cells.{FrozenView}
 use Rattle.bq_load_discover.specs.LoadGraph.{GraphParts, IsReadGraph, inputs_of}
-use Rattle.bq_load_outcome_spec.specs.Outcome.{outcome}
-use Rattle.bq_load_outcome_spec.specs.declared.outcome.Outcome.{Outcome}
-use Rattle.bq_load_outcome_spec.specs.declared.outcome.Outcome.TheVariants as o
+use Rattle.bq_load_order.specs.Outcome.{outcome}
+use Rattle.bq_load_order.specs.declared.outcome.Outcome.{Outcome}
+use Rattle.bq_load_order.specs.declared.outcome.Outcome.TheVariants as o
 use Rattle.bq_load.specs.Evaluation.{means}
 use Rattle.bq_load.specs.Loaded.{package_by, lines_by, prints_by}
 use Rattle.bq_load.specs.Loading.{loading_in}

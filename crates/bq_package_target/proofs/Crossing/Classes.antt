@@ -2,13 +2,13 @@
 use denote.Param.Send.{IsSend, IsSync, sendable}
 use Rattle.std.proofs.Crossing.{crosses}
 use Rattle.bq_base.proofs.bytes.Bytes.TheSendSync as Bytes
-use Rattle.bq_base_names.proofs.name_set.NameSet.TheSendSync as Names
+use Rattle.bq_base_texts.proofs.name_set.NameSet.TheSendSync as Names
 use Rattle.bq_label.specs.contracts.label.Label as Label
-use Rattle.bq_package_attribute_type.specs.contracts.attribute_type.AttributeType as AttributeType
-use Rattle.bq_value_rule_class.specs.contracts.value.AttributeValue as AttributeValue
-use Rattle.bq_value_rule_class.specs.contracts.attribute.Attribute as Attribute
-use Rattle.bq_value_rule_class.specs.contracts.attributes.Attributes as Attributes
-use Rattle.bq_value_rule_class.specs.contracts.class.RuleClass as RuleClass
+use Rattle.bq_predeclared.specs.contracts.attribute_type.AttributeType as AttributeType
+use Rattle.bq_value_datum.specs.contracts.attribute_value.AttributeValue as AttributeValue
+use Rattle.bq_value_datum.specs.contracts.attribute.Attribute as Attribute
+use Rattle.bq_value_datum.specs.contracts.attributes.Attributes as Attributes
+use Rattle.bq_value_datum.specs.contracts.class.RuleClass as RuleClass
 
 pub label_send : IsSend (Label.the_field).row
 label_send = search (Bytes.the_send, crosses, sendable) depth 60 fits 20000

@@ -24,13 +24,13 @@ use Rattle.bq_parse_grammar.specs.declared.tree.Suffix.TheVariants as s
 use Rattle.bq_parse_grammar.specs.declared.tree.TargetExpr.{TargetExpr, out-TargetExpr}
 use Rattle.bq_parse_grammar.specs.declared.tree.TargetExpr.TheVariants as t
 use Rattle.bq_parse_grammar.specs.Targets.{ExprLayer, SuffixLayer}
-use Rattle.bq_resolve_predeclared.specs.declared.predeclared.Predeclared.{Predeclared}
+use Rattle.bq_predeclared.specs.declared.predeclared.Predeclared.{Predeclared}
 use Rattle.bq_resolve_scope.specs.Names.{Name, TargetLayer, ClauseLayer, max_layers, has, with_name, comprehension_names}
 use Rattle.bq_resolve_scope.specs.Scope.{BlockParts, FileParts, use_of}
 use Rattle.bq_resolve_scope.specs.Universe.{member_named}
 use Rattle.bq_resolve_scope.specs.Visit.{Passed, Visit, ◌>>=◌, pure, given, fault_of, each, optional}
 use Rattle.bq_resolve_scope.specs.Expressions.{refer, NamedSpace, place_of, is_bzl, bind_global, bind_in, framed, in_frame, member_by, member_call, namespace_at, use_at, bound_at, target_by, target_to, pair, operation, choice, argument_by, arguments, suffix_by, suffixes, operand, call_member, primary_by, primary, clause_by, clauses, in_block, comprehension, expr_by, expr_to}
-use Rattle.bq_parse_tree_laws.specs.Depth.{deepest, expr_depth, target_depth, argument_depth, clause_depth, suffix_depth, choice_depth, operation_depth, pair_depth}
+use Rattle.bq_parse_laws.specs.Depth.{deepest, expr_depth, target_depth, argument_depth, clause_depth, suffix_depth, choice_depth, operation_depth, pair_depth}
 use Rattle.bq_resolve_laws.proofs.Depths.Layers.{part_depth, argument_layer, clause_layer, suffix_layer, target_layer, expr_layer, opened_argument, opened_clause, opened_suffix, opened_target, target_has_depth, opened_expr, expr_has_depth, opened_pair, opened_operation, opened_choice}
 use Rattle.bq_resolve_laws.proofs.Depths.Calm.{IsCalm, Calm, unknown_is_named, rebound_is_named, calm_bind, calm_map, calm_two, calm_three, calm_given, calm_if, calm_each}
 

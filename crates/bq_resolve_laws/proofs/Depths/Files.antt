@@ -24,7 +24,7 @@ use Rattle.bq_resolve_scope.specs.Expressions.{refer, bound_at}
 use Rattle.bq_resolve_scope.specs.Statements.{ParameterParts, no_parameters, expr, small_stmt, stmt_to, named_parameter, default_parameter, next_parameter, parameters, statements_in, with_function, function}
 use Rattle.bq_resolve_scope.specs.Universe.{UniverseParts}
 use Rattle.bq_resolve_scope.specs.Files.{file_names, def_stmt, file_stmt, top_level, resolved_by, resolved}
-use Rattle.bq_parse_tree_laws.specs.Depth.{deepest, max_depth, expr_depth, parameter_depth, small_depth, stmt_depth}
+use Rattle.bq_parse_laws.specs.Depth.{deepest, max_depth, expr_depth, parameter_depth, small_depth, stmt_depth}
 use Rattle.bq_resolve_laws.specs.Depths.Nesting.{NoFileIsTooDeep}
 use Rattle.bq_resolve_laws.proofs.Depths.Layers.{stmt_layer, opened_stmt}
 use Rattle.bq_resolve_laws.proofs.Depths.Calm.{is_of_names, IsCalm, Calm, flow_is_named, double_is_named, calm_bind, calm_map, calm_choice, calm_each}

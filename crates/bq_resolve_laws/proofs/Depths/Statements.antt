@@ -22,7 +22,7 @@ use Rattle.bq_resolve_scope.specs.Scope.{BlockParts, FileParts}
 use Rattle.bq_resolve_scope.specs.Visit.{Passed, Visit, ◌>>=◌, pure, fault_of, each, optional}
 use Rattle.bq_resolve_scope.specs.Expressions.{is_bzl, expr_to}
 use Rattle.bq_resolve_scope.specs.Statements.{expr, target, load_clause, with_load, load, assign, augment, returned, load_in, in_loop, small_by, small_stmt, branch, if_stmt, for_stmt, stmt_by, stmt_to}
-use Rattle.bq_parse_tree_laws.specs.Depth.{deepest, expr_depth, target_depth, kind_depth, small_depth, branch_depth, stmt_depth}
+use Rattle.bq_parse_laws.specs.Depth.{deepest, expr_depth, target_depth, kind_depth, small_depth, branch_depth, stmt_depth}
 use Rattle.bq_resolve_laws.proofs.Depths.Layers.{stmt_layer, opened_stmt, stmt_has_depth, opened_branch}
 use Rattle.bq_resolve_laws.proofs.Depths.Calm.{is_of_names, IsCalm, Calm, rebound_is_named, twice_is_named, flow_is_named, calm_bind, calm_map, calm_two, calm_three, calm_all, calm_each}
 use Rattle.bq_resolve_laws.proofs.Depths.Expressions.{expr_calm, target_calm}

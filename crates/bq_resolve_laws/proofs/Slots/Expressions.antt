@@ -24,7 +24,7 @@ use Rattle.bq_parse_grammar.specs.declared.tree.TargetExpr.TheVariants as t
 use Rattle.bq_parse_grammar.specs.Targets.{ExprLayer, SuffixLayer}
 use Rattle.bq_resolve_scope.specs.Names.{Name, TargetLayer, ClauseLayer, max_layers, comprehension_names}
 use Rattle.bq_resolve_scope.specs.Scope.{BlockParts, FileParts}
-use Rattle.bq_resolve_predeclared.specs.declared.predeclared.Predeclared.{Predeclared}
+use Rattle.bq_predeclared.specs.declared.predeclared.Predeclared.{Predeclared}
 use Rattle.bq_resolve_scope.specs.Universe.{member_named}
 use Rattle.bq_resolve_scope.specs.Visit.{Passed, Visit, ◌>>=◌, pure, given, fault_of, each, optional}
 use Rattle.bq_resolve_scope.specs.Expressions.{NamedSpace, bound_at, refer, member_by, member_call, namespace_at, use_at, target_by, target_to, pair, operation, choice, argument_by, arguments, suffix_by, suffixes, operand, call_member, primary_by, primary, clause_by, clauses, in_block, comprehension, expr_by, expr_to}

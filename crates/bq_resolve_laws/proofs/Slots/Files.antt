@@ -35,10 +35,10 @@ use Rattle.bq_resolve_scope.specs.Names.{Name, function_names, has, max_layers, 
 use Rattle.bq_resolve_scope.specs.Scope.{BlockParts, FileParts, use_of}
 use Rattle.bq_resolve_scope.specs.Statements.{ParameterParts, assign, augment, default_parameter, expr, function, in_loop, load, load_clause, load_in, named_parameter, next_parameter, no_parameters, parameters, returned, small_by, small_stmt, statements_in, stmt_to, with_function, with_load}
 use Rattle.bq_resolve_scope.specs.Visit.{Passed, Visit, following, ◌>>=◌, each, fault_of, nothing_passed, pure, stop}
-use Rattle.bq_resolve_by_name.specs.Resolution.{ExprIs, InOrder, StmtTo, kind_is}
-use Rattle.bq_resolve_by_name.proofs.Makes.{Making, Makes, makes_all}
-use Rattle.bq_resolve_by_name.proofs.ResolvedExpressions.{name_makes}
-use Rattle.bq_resolve_by_name.proofs.ResolvedStatements.{an_expr_makes, assign_makes, augment_makes, in_loop_makes, returned_makes, stmt_makes}
+use Rattle.bq_resolve_laws.specs.Resolution.{ExprIs, InOrder, StmtTo, kind_is}
+use Rattle.bq_resolve_laws.proofs.Makes.{Making, Makes, makes_all}
+use Rattle.bq_resolve_laws.proofs.ResolvedExpressions.{name_makes}
+use Rattle.bq_resolve_laws.proofs.ResolvedStatements.{an_expr_makes, assign_makes, augment_makes, in_loop_makes, returned_makes, stmt_makes}
 use Rattle.bq_resolve_laws.specs.Slots.Sharing.{AreShared, SharesSlots, SlotsAreShared, WrittenDef, def_by, defs_of}
 use Rattle.bq_resolve_laws.specs.Slots.Slots.{all, stmt_slots}
 use Rattle.bq_resolve_laws.specs.Slots.Uses as uses

@@ -5,7 +5,7 @@ use Rattle.bq_base.specs.declared.fault.NameFault.{NameFault}
 use Rattle.bq_base.specs.declared.fault.Fault.{Fault}
 use Rattle.bq_resolve_scope.specs.Scope.{BlockParts}
 use Rattle.bq_resolve_scope.specs.Visit.{Passed, Visit, following, ◌>>=◌, pure, stop, given, each, optional}
-use Rattle.bq_resolve_by_name.specs.Resolution.{InOrder}
+use Rattle.bq_resolve_laws.specs.Resolution.{InOrder}
 use Rattle.bq_resolve_laws.specs.Slots.Slots.{all}
 use Rattle.bq_resolve_laws.specs.Slots.Uses as uses
 use Rattle.bq_resolve_laws.specs.Slots.Uses.{Block, Part, Use, both, nothing}

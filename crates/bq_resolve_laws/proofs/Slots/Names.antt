@@ -4,7 +4,7 @@ use Rattle.std.specs.Prelude.{◌&&◌, if◌then◌else◌}
 use Rattle.std.specs.Option.{option_map}
 use Rattle.std.proofs.lemmas.Bool.{false≢true}
 use Rattle.bq_base.specs.declared.fault.NameFault.TheVariants as f
-use Rattle.bq_resolve_predeclared.specs.declared.predeclared.Predeclared.{Predeclared}
+use Rattle.bq_predeclared.specs.declared.predeclared.Predeclared.{Predeclared}
 use Rattle.bq_parse_grammar.specs.declared.tree.Argument.TheOpen.{Expr-F}
 use Rattle.bq_parse_grammar.specs.declared.tree.Identifier.{Identifier}
 use Rattle.bq_parse_grammar.specs.declared.tree.Referent.{Referent}
@@ -16,7 +16,7 @@ use Rattle.bq_resolve_scope.specs.Scope.{BlockParts, FileParts, file_has, or_els
 use Rattle.bq_resolve_scope.specs.Universe.{namespace_named, universe_has}
 use Rattle.bq_resolve_scope.specs.Visit.{Visit, ◌>>=◌, pure, given, fault_of}
 use Rattle.bq_resolve_scope.specs.Expressions.{NamedSpace, is_bzl, is_unbound, namespace_at, bound_at, place_of, refer, space_of, use_at, with_space}
-use Rattle.bq_resolve_by_name.specs.Resolution.{InOrder}
+use Rattle.bq_resolve_laws.specs.Resolution.{InOrder}
 use Rattle.bq_resolve_laws.specs.Slots.Slots.{name_slots, referent_slots}
 use Rattle.bq_resolve_laws.specs.Slots.Uses.{Block, Part, Use, name_use, use_among}
 use Rattle.bq_resolve_laws.proofs.Slots.Lists.{Listed, Lists, lists_given, lists_map}

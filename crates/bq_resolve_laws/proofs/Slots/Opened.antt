@@ -2,7 +2,7 @@
 use Rattle.std.proofs.Common.{◌≡◌, ◌∙◌, ◌≤◌, ◌<◌, ℕ, zero, suc, ◌+◌, List, [], ◌∷◌, ◌++◌, length, Option, Some, None, refl, sym, ap, arith}
 use Rattle.bq_resolve_scope.specs.Names.{place_among}
 use Rattle.bq_resolve_scope.specs.Scope.{BlockParts}
-use Rattle.bq_resolve_by_name.specs.Resolution.{InOrder}
+use Rattle.bq_resolve_laws.specs.Resolution.{InOrder}
 use Rattle.bq_resolve_laws.specs.Slots.Uses.{Block, Use}
 
 -- the block of this number

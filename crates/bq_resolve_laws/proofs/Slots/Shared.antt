@@ -5,7 +5,7 @@ use Rattle.std.proofs.lemmas.Bool.{cases_eq, cases_lt}
 use Rattle.std.proofs.lemmas.Slice.Eq.{bytes_eq-Decides}
 use Rattle.bq_resolve_scope.specs.Names.{Name, place_among}
 use Rattle.bq_resolve_scope.specs.Scope.{BlockParts}
-use Rattle.bq_resolve_by_name.specs.Resolution.{InOrder}
+use Rattle.bq_resolve_laws.specs.Resolution.{InOrder}
 use Rattle.bq_resolve_laws.specs.Slots.Sharing.{AreShared}
 use Rattle.bq_resolve_laws.specs.Slots.Uses.{Use}
 use Rattle.bq_resolve_laws.proofs.Slots.Opened.{IsSlot, Stacked, block_at, ends_before}

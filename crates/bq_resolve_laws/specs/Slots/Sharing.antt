@@ -10,7 +10,7 @@ use Rattle.bq_resolve_scope.specs.declared.file.ResolvedFile.{ResolvedFile}
 use Rattle.bq_resolve_scope.specs.Files.{resolved}
 use Rattle.bq_resolve_scope.specs.Names.{function_names}
 use Rattle.bq_resolve_scope.specs.Universe.{UniverseParts}
-use Rattle.bq_resolve_by_name.specs.Resolution.{InOrder}
+use Rattle.bq_resolve_laws.specs.Resolution.{InOrder}
 use Rattle.bq_resolve_laws.specs.Slots.Slots.{all, stmt_slots}
 use Rattle.bq_resolve_laws.specs.Slots.Uses.{Use, body_uses}
 

@@ -7,7 +7,7 @@ use super::{LIMIT, Property, Tree, files_have, large, text_has};
 use bq_load::{Gate, Loaded, OpenGate, load_one_thread, load_with};
 use bq_load_discover::LoadErr;
 use bq_load_workers::MAX_WORKERS;
-use bq_value_seed::Seed;
+use bq_value_datum::Seed;
 use std::alloc::{AllocError, Global};
 use std::sync::Wait;
 use std::thread::Threads;

@@ -11,7 +11,7 @@ use super::{LIMIT, Property, Tree, text_has};
 use bq_board::MAX_SEATS;
 use bq_load::{Evaluated, OpenGate, Pool, PoolSeat};
 use bq_load_discover::{LoadErr, LoadGraph, discover};
-use bq_value_seed::Seed;
+use bq_value_datum::Seed;
 use std::sync::{Arc, Wait};
 use std::thread::Threads;
 

@@ -1,4 +1,4 @@
-use Rattle.bq_builtin_numbers.proofs.Fits.{count_fits, count_is_too_great}
+use Rattle.bq_builtin_strings.proofs.Fits.{count_fits, count_is_too_great}
 use Rattle.std.proofs.Common.{arith}
 use Rattle.bq_builtin.proofs.integers.from_count.Goals as goal
 

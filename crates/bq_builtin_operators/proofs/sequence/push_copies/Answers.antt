@@ -1,6 +1,6 @@
 use Rattle.std.proofs.Common.{◌≡◌, ◌∙◌, ◌++◌, ◌-◌, ℤ, ap, FitsSigned, w64, to_z, of_z}
 use Rattle.std.proofs.lemmas.Int.{to_z-of_z}
-use Rattle.bq_builtin_numbers.specs.Length.{times_of}
+use Rattle.bq_builtin_strings.specs.Length.{times_of}
 use Rattle.bq_builtin_operators.specs.Sequence.{copies}
 use Rattle.bq_builtin_operators.proofs.Sequences.{turns_begin, turns_go_on, turns_end}
 use Rattle.bq_builtin_operators.proofs.sequence.push_copies.Goals as goal

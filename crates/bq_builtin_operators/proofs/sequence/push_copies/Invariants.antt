@@ -1,5 +1,5 @@
 use Rattle.std.proofs.Common.{◌≡◌, ◌++◌, ◌-◌}
-use Rattle.bq_builtin_numbers.specs.Length.{times_of}
+use Rattle.bq_builtin_strings.specs.Length.{times_of}
 use Rattle.bq_builtin_operators.specs.Sequence.{copies}
 use Rattle.bq_builtin_operators.proofs.sequence.push_copies.Given as goal
 

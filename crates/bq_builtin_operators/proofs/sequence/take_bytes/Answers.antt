@@ -1,7 +1,7 @@
 use Rattle.std.proofs.Common.{◌≡◌, ◌∙◌, ◌++◌, ◌-◌, ◌<◌, [], ℕ, ℤ, pos, ap, length, get_or, FitsSigned, w64, to_z, of_z, rules, arith}
 use Rattle.std.specs.Prelude.{◌≤ℤ◌, ◌<ℤ◌, unsigned_abs}
 use Rattle.bq_value.specs.Range.{range_count, range_element}
-use Rattle.bq_builtin_numbers.specs.Slice.{taken, taken_by}
+use Rattle.bq_builtin_strings.specs.Slice.{taken, taken_by}
 use Rattle.bq_builtin_operators.proofs.Sequences.{none_taken, places_go_on, byte_found}
 use Rattle.bq_builtin_operators.proofs.sequence.take_bytes.Goals as goal
 

@@ -1,7 +1,7 @@
 use Rattle.std.proofs.Common.{◌≡◌, ◌∙◌, ◌++◌, ◌∷◌, ◌-◌, ◌<◌, [], ℕ, ℤ, pos, ap, length, FitsSigned, w64, rules, arith}
 use Rattle.std.specs.Prelude.{◌≤ℤ◌, ◌<ℤ◌}
 use Rattle.bq_value.specs.Range.{range_count, range_element}
-use Rattle.bq_builtin_numbers.specs.Slice.{taken, taken_by}
+use Rattle.bq_builtin_strings.specs.Slice.{taken, taken_by}
 use Rattle.bq_builtin_operators.proofs.Sequences.{none_taken, places_go_on, value_found}
 use Rattle.bq_builtin_operators.proofs.sequence.take_values.Goals as goal
 

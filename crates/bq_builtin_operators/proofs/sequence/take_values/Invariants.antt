@@ -1,6 +1,6 @@
 use Rattle.std.proofs.Common.{◌≡◌, ◌++◌, ◌-◌}
 use Rattle.bq_value.specs.Range.{range_element}
-use Rattle.bq_builtin_numbers.specs.Slice.{taken, taken_by}
+use Rattle.bq_builtin_strings.specs.Slice.{taken, taken_by}
 use Rattle.bq_builtin_operators.proofs.sequence.take_values.Given as goal
 
 abbrev pub invariant-loop-number : goal.invariant-loop-number

@@ -1,5 +1,5 @@
 use Rattle.std.proofs.Common.{rules, ◌≡◌, ◌+◌, length, Ok, Err}
-use Rattle.bq_builtin_string_parts.specs.Parts.{joined_on}
+use Rattle.bq_builtin_strings.specs.Parts.{joined_on}
 use Rattle.bq_builtin_string_methods.specs.Longer.{fits}
 use Rattle.bq_builtin_string_methods.proofs.Lengths.{joined_more, joined_bad, joined_fits}
 use Rattle.bq_builtin_string_methods.proofs.longer.fit_parts.Goals as goal

@@ -1,5 +1,5 @@
 use Rattle.std.proofs.Common.{◌≡◌, ◌+◌, length, drop}
-use Rattle.bq_builtin_string_parts.specs.Parts.{joined_on}
+use Rattle.bq_builtin_strings.specs.Parts.{joined_on}
 use Rattle.bq_builtin_string_methods.proofs.longer.fit_parts.Given as goal
 
 -- the length so far, and that of what is left, is the whole

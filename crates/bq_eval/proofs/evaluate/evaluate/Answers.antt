@@ -1,9 +1,9 @@
 use Rattle.std.proofs.Common.{◌≡◌, IfSome, sym, subst}
 use Rattle.bq_builtin_machine.specs.Action.{Run, HostDoes}
 use Rattle.bq_builtin_machine.specs.State.{State}
-use Rattle.bq_eval_meaning_spec.specs.Frame.{Frame}
+use Rattle.bq_eval_spec.specs.Frame.{Frame}
 use Rattle.bq_eval_frame.specs.Slots.{slots_of}
-use Rattle.bq_eval_operations.specs.Runtime.{primitives, machine_of}
+use Rattle.bq_eval.specs.Runtime.{primitives, machine_of}
 use Rattle.bq_eval.specs.Module.{ended, kept_after}
 use Rattle.bq_eval.specs.Outcomes.{ended_of}
 use Rattle.bq_eval.proofs.Ends.{host_does}

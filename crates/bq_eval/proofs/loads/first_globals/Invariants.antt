@@ -1,7 +1,7 @@
 -- the loads that are left, with the values that are left, decide
 use Rattle.std.proofs.Common.{◌≡◌, drop}
 use Rattle.bq_eval_frame.specs.Slots.{slots_of}
-use Rattle.bq_eval_language_spec.specs.Slots.{first_globals}
+use Rattle.bq_eval_spec.specs.Slots.{first_globals}
 use Rattle.bq_eval.proofs.loads.first_globals.Given as goal
 
 abbrev pub invariant-loop-load : goal.invariant-loop-load

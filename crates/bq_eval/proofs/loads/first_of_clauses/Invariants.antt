@@ -1,7 +1,7 @@
 -- the clauses that are left, with the values that are left, decide
 use Rattle.std.proofs.Common.{◌≡◌, drop}
 use Rattle.bq_eval_frame.specs.Slots.{slots_of}
-use Rattle.bq_eval_language_spec.specs.Slots.{first_of_clauses}
+use Rattle.bq_eval_spec.specs.Slots.{first_of_clauses}
 use Rattle.bq_eval.proofs.loads.first_of_clauses.Given as goal
 
 abbrev pub invariant-loop-clause : goal.invariant-loop-clause

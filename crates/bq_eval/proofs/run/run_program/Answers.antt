@@ -1,6 +1,6 @@
 use Rattle.std.proofs.Common.{arith}
-use Rattle.bq_eval_language_spec.specs.Calls.{max_active}
-use Rattle.bq_eval_language_spec.specs.Module.{eval_top, module_meaning}
+use Rattle.bq_eval_spec.specs.Calls.{max_active}
+use Rattle.bq_eval_spec.specs.Module.{eval_top, module_meaning}
 use Rattle.bq_eval_frame.proofs.Slots.{none_filled}
 use Rattle.bq_eval_rules.specs.Round.{evals, outside_functions, units_at}
 use Rattle.bq_eval.specs.Outcomes.{program_run}

@@ -1,7 +1,7 @@
 use Rattle.std.proofs.Common.{refl}
 use Rattle.bq_base.specs.declared.fault.EvalFault.TheVariants.{WrongType}
-use Rattle.bq_eval_language_spec.specs.Calls.{inner_calls}
-use Rattle.bq_eval_language_spec.specs.Slots.{by_slots}
+use Rattle.bq_eval_spec.specs.Calls.{inner_calls}
+use Rattle.bq_eval_spec.specs.Slots.{by_slots}
 use Rattle.bq_eval_rules.specs.Round.{globals_of, units_at}
 use Rattle.bq_eval_rules.specs.TreeUnits.{unit_of}
 use Rattle.bq_eval_rules.proofs.CallSteps.{known_function, no_function, no_unit}

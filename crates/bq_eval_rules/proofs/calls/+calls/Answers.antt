@@ -2,7 +2,7 @@ use Rattle.std.proofs.Common.{◌∙◌, ap, sym, subst, arith}
 use Rattle.std.proofs.lemmas.Grind.{common_steps}
 use Rattle.bq_value.specs.Datum.{Datum, list_of_data_of}
 use Rattle.bq_builtin_machine.specs.Action.{Run, stopped}
-use Rattle.bq_eval_language_spec.specs.Slots.{by_slots}
+use Rattle.bq_eval_spec.specs.Slots.{by_slots}
 use Rattle.bq_eval_frame.specs.Slots.{slots_of}
 use Rattle.bq_base.specs.declared.fault.EvalFault.TheVariants.{WrongType}
 use Rattle.bq_builtin_machine.specs.State.{stop_at}
@@ -16,7 +16,7 @@ use Rattle.bq_eval_rules.specs.Answers.{AnswerPlace}
 use Rattle.bq_eval_rules.specs.Flows.{flow_of, result_of}
 use Rattle.bq_eval_rules.proofs.CallSteps.{body_runs, calls_step, no_body, same_kind}
 use Rattle.bq_eval_rules.proofs.Flowing.{body_returns}
-use Rattle.bq_eval_language_spec.specs.Calls.{apply, call_function, inner_calls, run_body}
+use Rattle.bq_eval_spec.specs.Calls.{apply, call_function, inner_calls, run_body}
 use Rattle.bq_eval_rules.proofs.calls.+calls.Goals as goal
 
 pub run_body-returns-then-context-eq0 : goal.run_body-returns-then-context-eq0

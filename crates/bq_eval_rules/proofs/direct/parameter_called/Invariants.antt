@@ -2,7 +2,7 @@
 use Rattle.std.proofs.Common.{◌≡◌, ◌≤◌, drop}
 use Rattle.std.specs.List.{position_from}
 use Rattle.bq_builtin_machine.specs.Parameters.{is_called}
-use Rattle.bq_eval_language_spec.specs.Calls.{singles}
+use Rattle.bq_eval_spec.specs.Calls.{singles}
 use Rattle.bq_eval_rules.proofs.direct.parameter_called.Given as goal
 
 abbrev pub invariant-loop-parameter : goal.invariant-loop-parameter

@@ -1,6 +1,6 @@
 use Rattle.std.proofs.Common.{◌≡◌, drop}
-use Rattle.bq_eval_language_spec.specs.Calls.{fill_parameters}
-use Rattle.bq_eval_language_spec.specs.Slots.{by_slots}
+use Rattle.bq_eval_spec.specs.Calls.{fill_parameters}
+use Rattle.bq_eval_spec.specs.Slots.{by_slots}
 use Rattle.bq_eval_frame.specs.Slots.{slots_of}
 use Rattle.bq_eval_rules.specs.Fillings.{filling_of}
 use Rattle.bq_eval_rules.proofs.filling.fill_parameters.Given as goal

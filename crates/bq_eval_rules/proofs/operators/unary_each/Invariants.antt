@@ -1,5 +1,5 @@
 use Rattle.std.proofs.Common.{◌≡◌, reverse, length}
-use Rattle.bq_eval_language_spec.specs.Expressions.{unary_each}
+use Rattle.bq_eval_spec.specs.Expressions.{unary_each}
 use Rattle.bq_eval_rules.proofs.operators.unary_each.Given as goal
 
 abbrev pub invariant-loop-rest : goal.invariant-loop-rest

@@ -1,6 +1,6 @@
 use Rattle.std.proofs.Common.{arith}
 use Rattle.std.proofs.lemmas.Grind.{common_steps}
-use Rattle.bq_eval_language_spec.specs.Slots.{globals_among}
+use Rattle.bq_eval_spec.specs.Slots.{globals_among}
 use Rattle.bq_eval_rules.proofs.units.globals_among.Goals as goal
 
 pub loop-frozen-init : goal.loop-frozen-init

@@ -1,6 +1,6 @@
 -- the frozen modules that are left decide
 use Rattle.std.proofs.Common.{◌≡◌, length}
-use Rattle.bq_eval_language_spec.specs.Slots.{globals_among}
+use Rattle.bq_eval_spec.specs.Slots.{globals_among}
 use Rattle.bq_eval_rules.specs.Round.{views_of}
 use Rattle.bq_eval_rules.proofs.units.globals_among.Given as goal
 

@@ -1,6 +1,6 @@
 use Rattle.std.proofs.Common.{arith}
 use Rattle.std.proofs.lemmas.Grind.{common_steps, elements}
-use Rattle.bq_eval_language_spec.specs.Slots.{frozen_units}
+use Rattle.bq_eval_spec.specs.Slots.{frozen_units}
 use Rattle.bq_eval_rules.specs.Round.{globals_of, units_at}
 use Rattle.bq_eval_rules.proofs.units.unit_at.Goals as goal
 

@@ -1,7 +1,7 @@
 use Rattle.std.proofs.Common.{◌≡◌, ◌++◌, drop}
 use Rattle.std.specs.List.{flat_map}
-use Rattle.bq_facts_json.specs.Values.{comma}
-use Rattle.bq_package_typed_value.specs.Json.{json_label}
+use Rattle.bq_package_values.specs.JsonParts.{comma}
+use Rattle.bq_package_values.specs.Json.{json_label}
 use Rattle.bq_facts.proofs.lists.push_further_labels.Given as goal
 
 abbrev pub invariant-loop-label : goal.invariant-loop-label

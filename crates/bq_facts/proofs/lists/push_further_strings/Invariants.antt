@@ -1,7 +1,7 @@
 use Rattle.std.proofs.Common.{◌≡◌, ◌++◌, drop}
 use Rattle.std.specs.List.{flat_map}
-use Rattle.bq_facts_json.specs.Values.{comma}
-use Rattle.bq_facts_json.specs.JsonString.{json_string}
+use Rattle.bq_package_values.specs.JsonParts.{comma}
+use Rattle.bq_package_values.specs.JsonString.{json_string}
 use Rattle.bq_facts.proofs.lists.push_further_strings.Given as goal
 
 abbrev pub invariant-loop-string : goal.invariant-loop-string

@@ -1,6 +1,6 @@
 use Rattle.std.proofs.Common.{◌∙◌, ◌++◌, ℕ, List, refl, ap}
-use Rattle.bq_facts_json.proofs.Texts.{array_text}
-use Rattle.bq_package_typed_value.specs.Json.{json_label, label_json}
+use Rattle.bq_package_values.proofs.JsonTexts.{array_text}
+use Rattle.bq_package_values.specs.Json.{json_label, label_json}
 use Rattle.bq_facts.proofs.lists.push_labels.Goals as goal
 
 pub returns : goal.returns

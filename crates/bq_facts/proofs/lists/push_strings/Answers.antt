@@ -1,7 +1,7 @@
 use Rattle.std.proofs.Common.{◌∙◌, ◌++◌, ℕ, List, refl, ap}
-use Rattle.bq_facts_json.specs.Json as json
-use Rattle.bq_facts_json.specs.JsonString.{json_string}
-use Rattle.bq_facts_json.proofs.Texts.{array_text}
+use Rattle.bq_package_values.specs.JsonValue as json
+use Rattle.bq_package_values.specs.JsonString.{json_string}
+use Rattle.bq_package_values.proofs.JsonTexts.{array_text}
 use Rattle.bq_facts.proofs.lists.push_strings.Goals as goal
 
 pub returns : goal.returns

@@ -1,6 +1,6 @@
 use Rattle.std.proofs.Common.{◌++◌}
 use Rattle.std.specs.List.{join_by, zip}
-use Rattle.bq_facts_json.specs.Values.{comma}
+use Rattle.bq_package_values.specs.JsonParts.{comma}
 use Rattle.bq_facts.specs.ModuleLine.{load_object}
 use Rattle.bq_facts.proofs.Loads.{next_load, no_file}
 use Rattle.bq_facts.proofs.module_line.push_items.Goals as goal

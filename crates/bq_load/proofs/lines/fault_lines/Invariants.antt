@@ -1,5 +1,5 @@
 use Rattle.std.proofs.Common.{◌≡◌, map, drop}
-use Rattle.bq_base_fault_line.specs.FaultLine.{put_lines, sorted_lines}
+use Rattle.bq_base_texts.specs.FaultLine.{put_lines, sorted_lines}
 use Rattle.bq_load.specs.Views.{outcome_view}
 use Rattle.bq_load.specs.Loaded.{fault_lines}
 use Rattle.bq_load.proofs.lines.fault_lines.Given as goal

@@ -1,5 +1,5 @@
 use Rattle.std.proofs.Common.{subst}
-use Rattle.bq_base_limits.specs.declared.limits.Limits.{Limits}
+use Rattle.bq_base.specs.declared.limits.Limits.{Limits}
 use Rattle.bq_load.specs.Loaded.{LoadsWithin}
 use Rattle.bq_load.proofs.load.load_one_thread.Goals as goal
 

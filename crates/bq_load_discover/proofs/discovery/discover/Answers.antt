@@ -1,5 +1,5 @@
 use Rattle.std.proofs.Common.{subst}
-use Rattle.bq_base_limits.specs.declared.limits.Limits.{Limits}
+use Rattle.bq_base.specs.declared.limits.Limits.{Limits}
 use Rattle.bq_load_discover.specs.LoadGraph.{DiscoversWithin, inputs_of}
 use Rattle.bq_load_discover.proofs.discovery.discover.Goals as goal
 

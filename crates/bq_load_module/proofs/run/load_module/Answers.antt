@@ -1,7 +1,7 @@
 use Rattle.std.proofs.Common.{◌≡◌, Result, IfOk, subst}
 use Rattle.bq_eval.specs.Outcomes.{ended_of, run_of}
 use Rattle.bq_package.specs.Calls.{held_by, meaning}
-use Rattle.bq_load_order.specs.Shown.{told}
+use Rattle.bq_load_order.specs.SharedOutcomes.{told}
 use Rattle.bq_load_module.specs.Views.{ModuleView, FailedView, module_view, failed_view}
 use Rattle.bq_load_module.proofs.Endings.{ended_is}
 use Rattle.bq_load_module.proofs.run.load_module.Goals as goal

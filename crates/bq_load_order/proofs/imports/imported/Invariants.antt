@@ -1,6 +1,6 @@
 use Rattle.std.proofs.Common.{◌≡◌, drop, map}
-use Rattle.bq_load_outcome_spec.specs.Outcome.{load_values}
-use Rattle.bq_load_order.specs.Shown.{slot}
+use Rattle.bq_load_order.specs.Outcome.{load_values}
+use Rattle.bq_load_order.specs.SharedOutcomes.{slot}
 use Rattle.bq_load_order.specs.Slots.{found_at}
 use Rattle.bq_load_order.proofs.Values.{before}
 use Rattle.bq_load_order.proofs.imports.imported.Given as goal

@@ -1,9 +1,9 @@
 use Rattle.std.proofs.Common.{◌≡◌, ◌∙◌, Result, Ok, Vec, Global, List, ℕ, map, sym, ap}
 use Rattle.std.specs.declared.sync.Arc.{Arc}
-use Rattle.bq_load_outcome_spec.specs.declared.outcome.Outcome.{Outcome}
-use Rattle.bq_load_outcome_spec.specs.declared.outcome.Outcome.TheVariants.{Loaded, Faulty}
-use Rattle.bq_load_outcome_spec.specs.Outcome.{own, evaluated}
-use Rattle.bq_load_order.specs.Shown.{told, seen}
+use Rattle.bq_load_order.specs.declared.outcome.Outcome.{Outcome}
+use Rattle.bq_load_order.specs.declared.outcome.Outcome.TheVariants.{Loaded, Faulty}
+use Rattle.bq_load_order.specs.Outcome.{own, evaluated}
+use Rattle.bq_load_order.specs.SharedOutcomes.{told, seen}
 use Rattle.bq_load_order.proofs.module.outcome_by.Goals as goal
 
 -- the outcome is what the module evaluated to, by the values of its loads

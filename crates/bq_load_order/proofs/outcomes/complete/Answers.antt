@@ -1,7 +1,7 @@
 use Rattle.std.proofs.Common.{◌≡◌, ◌∙◌, ℕ, ◌<◌, List, length, map, get_or, take, sym, ap, subst}
 use Rattle.std.proofs.lemmas.List.{take_all}
-use Rattle.bq_load_outcome_spec.specs.Outcome.{outcome}
-use Rattle.bq_load_order.specs.Shown.{shown, slot}
+use Rattle.bq_load_order.specs.Outcome.{outcome}
+use Rattle.bq_load_order.specs.SharedOutcomes.{shown, slot}
 use Rattle.bq_load_order.specs.Slots.{Filling, Puts, Ready, Tabulates, or_cyclic}
 use Rattle.bq_load_order.proofs.Filled.{all_found, fill_ready, fill_next}
 use Rattle.bq_load_order.proofs.outcomes.complete.Goals as goal

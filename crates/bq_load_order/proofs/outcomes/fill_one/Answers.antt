@@ -1,4 +1,4 @@
-use Rattle.bq_load_outcome_spec.specs.Outcome.{outcome}
+use Rattle.bq_load_order.specs.Outcome.{outcome}
 use Rattle.bq_load_order.proofs.Filled.{puts_found}
 use Rattle.bq_load_order.proofs.outcomes.fill_one.Goals as goal
 

@@ -1,8 +1,8 @@
 use Rattle.std.proofs.Common.{map, sym, ap, subst, ◌∙◌}
 use Rattle.bq_board_plan.specs.Counts.{Has}
 use Rattle.bq_board_plan.proofs.Lemmas.{loads_not_cyclic}
-use Rattle.bq_load_outcome_spec.specs.Outcome.{load_values}
-use Rattle.bq_load_order.specs.Shown.{seen, slot}
+use Rattle.bq_load_order.specs.Outcome.{load_values}
+use Rattle.bq_load_order.specs.SharedOutcomes.{seen, slot}
 use Rattle.bq_load_order.specs.Slots.{found_at}
 use Rattle.bq_load_order.proofs.Filled.{deep_outcome, found_outcome}
 use Rattle.bq_load_order.proofs.outcomes.outcome_of.Goals as goal

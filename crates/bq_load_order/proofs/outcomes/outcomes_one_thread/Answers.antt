@@ -1,7 +1,7 @@
 use Rattle.std.proofs.Common.{map, length, arith}
 use Rattle.std.proofs.lemmas.List.{length-map}
-use Rattle.bq_load_outcome_spec.specs.Outcome.{outcome}
-use Rattle.bq_load_order.specs.Shown.{slot}
+use Rattle.bq_load_order.specs.Outcome.{outcome}
+use Rattle.bq_load_order.specs.SharedOutcomes.{slot}
 use Rattle.bq_load_order.proofs.Filled.{is_load_order, fill_none, none_shown}
 use Rattle.bq_load_order.proofs.outcomes.outcomes_one_thread.Goals as goal
 

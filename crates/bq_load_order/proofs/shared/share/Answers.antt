@@ -1,6 +1,6 @@
 use Rattle.std.proofs.Common.{ap, sym, ◌∙◌}
-use Rattle.bq_load_outcome_spec.specs.declared.outcome.Outcome.TheVariants.{Loaded, Faulty}
-use Rattle.bq_load_order.specs.Shown.{shown}
+use Rattle.bq_load_order.specs.declared.outcome.Outcome.TheVariants.{Loaded, Faulty}
+use Rattle.bq_load_order.specs.SharedOutcomes.{shown}
 use Rattle.bq_load_order.proofs.shared.share.Goals as goal
 
 pub returns-in_ok-try_clone-in-Loaded : goal.returns-in_ok-try_clone-in-Loaded

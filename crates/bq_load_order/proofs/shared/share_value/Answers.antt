@@ -1,5 +1,5 @@
 use Rattle.std.proofs.Common.{ap, sym, ◌∙◌, Some}
-use Rattle.bq_load_order.specs.Shown.{shown, value_in}
+use Rattle.bq_load_order.specs.SharedOutcomes.{shown, value_in}
 use Rattle.bq_load_order.proofs.shared.share_value.Goals as goal
 
 pub returns-in_ok-try_clone-in-Loaded : goal.returns-in_ok-try_clone-in-Loaded

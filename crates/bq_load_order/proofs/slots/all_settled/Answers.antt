@@ -1,5 +1,5 @@
 use Rattle.std.proofs.Common.{length, map, arith}
-use Rattle.bq_load_order.specs.Shown.{shown, slot}
+use Rattle.bq_load_order.specs.SharedOutcomes.{shown, slot}
 use Rattle.bq_load_order.specs.Slots.{or_cyclic}
 use Rattle.bq_load_order.proofs.Filled.{means_none, means_more, tabulates_all}
 use Rattle.bq_load_order.proofs.slots.all_settled.Goals as goal

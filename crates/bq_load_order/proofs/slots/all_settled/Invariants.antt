@@ -1,5 +1,5 @@
 use Rattle.std.proofs.Common.{map}
-use Rattle.bq_load_order.specs.Shown.{shown, slot}
+use Rattle.bq_load_order.specs.SharedOutcomes.{shown, slot}
 use Rattle.bq_load_order.specs.Slots.{Tabulates, or_cyclic}
 use Rattle.bq_load_order.proofs.slots.all_settled.Given as goal
 

@@ -1,6 +1,6 @@
 use Rattle.std.proofs.Common.{◌≡◌, drop}
 use Rattle.bq_board_plan.specs.Cycles.{is_cyclic}
-use Rattle.bq_load_outcome_spec.specs.Outcome.{first}
+use Rattle.bq_load_order.specs.Outcome.{first}
 use Rattle.bq_load_order.proofs.slots.first_cyclic.Given as goal
 
 abbrev pub invariant-loop-l : goal.invariant-loop-l

@@ -1,6 +1,6 @@
 use Rattle.std.proofs.Common.{map}
 use Rattle.bq_load.specs.Views.{module_view, failed_view}
-use Rattle.bq_load_order.specs.Shown.{slot}
+use Rattle.bq_load_order.specs.SharedOutcomes.{slot}
 use Rattle.bq_load_reload.proofs.Along.{filled_in, fits_in, loaded_in, read_in}
 use Rattle.bq_load_reload.proofs.load.evaluated.Goals as goal
 

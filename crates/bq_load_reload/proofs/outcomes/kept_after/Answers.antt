@@ -3,8 +3,8 @@ use denote.Param.Send.{sendable}
 use Rattle.bq_load.proofs.Crossing.Modules.{loaded_send, loaded_sync, loading_sync}
 use Rattle.bq_load.specs.Loading.{loading_in, loading_of}
 use Rattle.bq_load.specs.Views.{module_view, failed_view}
-use Rattle.bq_load_again.specs.Again.{had}
-use Rattle.bq_load_order.specs.Shown.{shown, slot}
+use Rattle.bq_load_order.specs.Again.{had}
+use Rattle.bq_load_order.specs.SharedOutcomes.{shown, slot}
 use Rattle.bq_load_reload.proofs.Along.{refilled, same_unchanged}
 use Rattle.bq_load_reload.proofs.outcomes.kept_after.Goals as goal
 

@@ -1,6 +1,6 @@
 use Rattle.std.proofs.Common.{List, Option, map, sym, subst}
-use Rattle.bq_load_again.specs.Again.{had, AreUnchanged}
-use Rattle.bq_load_order.specs.Shown.{shown}
+use Rattle.bq_load_order.specs.Again.{had, AreUnchanged}
+use Rattle.bq_load_order.specs.SharedOutcomes.{shown}
 use Rattle.bq_load.specs.Evaluation.{means}
 use Rattle.bq_load.specs.Loading.{loading_in}
 use Rattle.bq_load.specs.Views.{module_view, failed_view}

@@ -1,7 +1,7 @@
 use Rattle.std.proofs.Common.{map, sym}
 use Rattle.bq_load.specs.Loading.{loading_in, loading_of}
 use Rattle.bq_load.specs.Views.{module_view, failed_view}
-use Rattle.bq_load_order.specs.Shown.{slot}
+use Rattle.bq_load_order.specs.SharedOutcomes.{slot}
 use Rattle.bq_load_reload.proofs.Along.{refilled}
 use Rattle.bq_load_reload.proofs.outcomes.outcomes_from.Goals as goal
 

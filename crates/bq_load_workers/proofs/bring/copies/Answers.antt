@@ -1,7 +1,7 @@
 use Rattle.std.proofs.Common.{◌≡◌, ◌+◌, List, refl, sym, subst, arith, ap, ◌∙◌, length, All}
 use Rattle.std.proofs.lemmas.List.{length_push}
 use Rattle.std.proofs.lemmas.List.Elements.{All-push}
-use Rattle.bq_load_order.specs.Shown.{seen_value, shown, value_in}
+use Rattle.bq_load_order.specs.SharedOutcomes.{seen_value, shown, value_in}
 use Rattle.bq_load_workers.specs.declared.import.Import.{Import}
 use Rattle.bq_load_workers.proofs.bring.copies.Goals as goal
 

@@ -1,5 +1,5 @@
 use Rattle.std.proofs.Common.{◌≡◌, length, All}
-use Rattle.bq_load_order.specs.Shown.{seen_value, shown, value_in}
+use Rattle.bq_load_order.specs.SharedOutcomes.{seen_value, shown, value_in}
 use Rattle.bq_load_workers.proofs.bring.copies.Given as goal
 
 abbrev pub invariant-loop : goal.invariant-loop

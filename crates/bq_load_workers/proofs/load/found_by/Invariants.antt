@@ -1,6 +1,6 @@
 use Rattle.std.proofs.Common.{map, length, take, All, IsOk, []}
-use Rattle.bq_load_outcome_spec.specs.Outcome.{outcome}
-use Rattle.bq_load_order.specs.Shown.{slot}
+use Rattle.bq_load_order.specs.Outcome.{outcome}
+use Rattle.bq_load_order.specs.SharedOutcomes.{slot}
 use Rattle.bq_load_order.specs.Slots.{Filling}
 use Rattle.bq_load_workers.proofs.load.found_by.Given as goal
 

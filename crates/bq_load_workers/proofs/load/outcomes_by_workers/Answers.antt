@@ -1,6 +1,6 @@
 use Rattle.std.proofs.Common.{List, All, Result, length, sym, subst}
 use Rattle.std.specs.declared.alloc.AllocError.{AllocError}
-use Rattle.bq_load_outcome_spec.specs.Outcome.{outcome}
+use Rattle.bq_load_order.specs.Outcome.{outcome}
 use Rattle.bq_load_workers.specs.Brought.{IsAnswer}
 use Rattle.bq_load_workers.specs.declared.pool.WorkDone.{WorkDone}
 use Rattle.bq_load_workers.proofs.load.outcomes_by_workers.Goals as goal

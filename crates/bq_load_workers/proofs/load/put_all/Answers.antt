@@ -1,7 +1,7 @@
 use Rattle.std.proofs.Common.{length, map, set, ap, ◌∙◌, Some}
 use Rattle.std.proofs.lemmas.List.{map-set}
-use Rattle.bq_load_outcome_spec.specs.Outcome.{outcome}
-use Rattle.bq_load_order.specs.Shown.{slot}
+use Rattle.bq_load_order.specs.Outcome.{outcome}
+use Rattle.bq_load_order.specs.SharedOutcomes.{slot}
 use Rattle.bq_load_order.proofs.Filled.{fill_keep}
 use Rattle.bq_load_workers.proofs.Bringing.{right_item}
 use Rattle.bq_load_workers.proofs.load.put_all.Goals as goal

@@ -3,7 +3,7 @@ use Rattle.std.proofs.lemmas.List.{length_push}
 use Rattle.std.proofs.lemmas.List.Elements.{All-same, All-head, All-tail, All-push}
 use Rattle.std.specs.Vec.Iter.{into_iter_items}
 use Rattle.core.specs.declared.thread.PromisedHandle.{PromisedHandle}
-use Rattle.bq_load_outcome_spec.specs.Outcome.{outcome}
+use Rattle.bq_load_order.specs.Outcome.{outcome}
 use Rattle.bq_load_workers.specs.Brought.{IsAnswer}
 use Rattle.bq_load_workers.proofs.Promises.{answer_by}
 use Rattle.bq_load_workers.proofs.threads.joined.Goals as goal

@@ -1,6 +1,6 @@
 use Rattle.std.proofs.Common.{◌≡◌, ◌+◌, All, length}
 use Rattle.std.specs.Vec.Iter.{into_iter_items}
-use Rattle.bq_load_outcome_spec.specs.Outcome.{outcome}
+use Rattle.bq_load_order.specs.Outcome.{outcome}
 use Rattle.bq_load_workers.specs.Brought.{IsAnswer}
 use Rattle.bq_load_workers.proofs.threads.joined.Given as goal
 

@@ -1,5 +1,5 @@
 use Rattle.std.proofs.Common.{◌≡◌, drop}
-use Rattle.bq_package_typed_value.specs.Steps.{in_turn}
+use Rattle.bq_package_values.specs.Steps.{in_turn}
 use Rattle.bq_package.specs.Glob.{pattern, patterns}
 use Rattle.bq_package.proofs.glob.patterns.Given as goal
 

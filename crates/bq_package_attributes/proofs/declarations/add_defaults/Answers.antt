@@ -1,6 +1,6 @@
 use Rattle.std.proofs.Common.{◌++◌}
 use Rattle.bq_package_attributes.specs.Declarations.{defaults}
-use Rattle.bq_package_attributes.proofs.Entries.{defaults_next, defaults_end}
+use Rattle.bq_package_attributes.proofs.ClassEntries.{defaults_next, defaults_end}
 use Rattle.bq_package_attributes.proofs.declarations.add_defaults.Goals as goal
 
 pub loop-place-preserved : goal.loop-place-preserved

@@ -1,6 +1,6 @@
 use Rattle.std.proofs.Common.{◌∙◌, ◌||◌, Bool, not, sym, ap}
 use Rattle.bq_package_attributes.specs.Declarations.{gives, gives_mandatory}
-use Rattle.bq_package_attributes.proofs.Entries.{met_next, met_stops}
+use Rattle.bq_package_attributes.proofs.ClassEntries.{met_next, met_stops}
 use Rattle.bq_package_attributes.proofs.declarations.gives_mandatory.Goals as goal
 
 pub loop-place-preserved-then-not-attribute : goal.loop-place-preserved-then-not-attribute

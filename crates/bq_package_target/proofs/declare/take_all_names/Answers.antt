@@ -1,7 +1,7 @@
 use Rattle.std.proofs.Common.{◌≡◌, ◌∙◌, ◌++◌, cond, ap, sym, true, false, List, ℕ, length, take}
 use Rattle.bq_package_target.specs.Target.{names_of}
 use Rattle.bq_package_target.specs.Names.{with_name, are_new}
-use Rattle.bq_base_names.specs.Names.{has}
+use Rattle.bq_base_texts.specs.NameSet.{has}
 use Rattle.bq_package_target.proofs.Taking.{was_there, was_new, with_old, new_more, new_less, all_more, front_more, front_is}
 use Rattle.bq_package_target.proofs.declare.take_all_names.Goals as goal
 

@@ -1,7 +1,7 @@
 use Rattle.std.proofs.Common.{◌≡◌, ◌∙◌, ◌+◌, ap, sym, subst, true, false, drop, List, ℕ, length, take}
 use Rattle.bq_package_target.specs.Target.{names_of}
 use Rattle.bq_package_target.specs.Names.{with_name}
-use Rattle.bq_base_names.specs.Names.{has}
+use Rattle.bq_base_texts.specs.NameSet.{has}
 use Rattle.bq_package_target.proofs.Taking.{Takes, was_there, was_new, front_more, takes_none, takes_more, takes_stop, takes_all, takes_end}
 use Rattle.bq_package_target.proofs.Walking.{names_left, names_done}
 use Rattle.bq_package_target.proofs.declare.take_names.Goals as goal

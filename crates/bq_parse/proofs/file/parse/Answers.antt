@@ -4,8 +4,8 @@ use Rattle.bq_source.specs.Spelling.{Lies}
 use Rattle.bq_source_lexer.proofs.Lying.{all_lie}
 use Rattle.bq_parse_grammar.specs.Lexeme.{lexemes}
 use Rattle.bq_parse_grammar.specs.Pieces.{pieces}
-use Rattle.bq_parse_statement_laws.proofs.Verdicts.{file_reads, file_only}
-use Rattle.bq_parse_tree_laws.proofs.FileDepths.{file_within}
+use Rattle.bq_parse_laws.proofs.Verdicts.{file_reads, file_only}
+use Rattle.bq_parse_laws.proofs.FileDepths.{file_within}
 use Rattle.bq_parse.proofs.Files.{is_read, is_given, is_shallow}
 use Rattle.bq_parse.proofs.file.parse.Goals as goal
 

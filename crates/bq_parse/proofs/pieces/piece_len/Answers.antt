@@ -1,6 +1,6 @@
 use Rattle.std.proofs.Common.{◌≡◌, ◌+◌, ◌-◌, ◌<◌, ◌^◌, ◌&&◌, true, false, length, Some, rules, arith}
 use Rattle.bq_parse_grammar.specs.Pieces.{begins_statement, is_zero}
-use Rattle.bq_parse_cursor.specs.Tokens.{kind_ahead}
+use Rattle.bq_parse_grammar.specs.Tokens.{kind_ahead}
 use Rattle.bq_parse.specs.Pieces.{piece_len, rest_len}
 use Rattle.bq_parse.proofs.Ahead.{one_less}
 use Rattle.bq_parse.proofs.Cutting.{begins_here, goes_on}

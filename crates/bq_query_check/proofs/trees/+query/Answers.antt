@@ -6,13 +6,13 @@ use Rattle.std.specs.Slice.Iter.{iter_rest}
 use Rattle.std.proofs.lemmas.Slice.Zip.{Zip-more, either_empty_from_Zip}
 use Rattle.bq_query_function.specs.declared.signature.QueryArgumentKind.{QueryArgumentKind}
 use Rattle.std.proofs.lemmas.Result.{err_from_is_err_and}
-use Rattle.bq_query_target_pattern.specs.Reading.{word_fault, words_fault}
-use Rattle.bq_query_tree.specs.declared.tree.Query.{Query}
-use Rattle.bq_query_tree.specs.declared.tree.Query.TheVariants as tree
-use Rattle.bq_query_tree.specs.declared.tree.Query.TheFolds.{the_lemmas}
-use Rattle.bq_query_tree.specs.declared.tree.SetOperation.{SetOperation}
-use Rattle.bq_query_verdict.specs.Verdict as spec
-use Rattle.bq_query_verdict.specs.Verdict.{Need, no_fault, part_of, operation_part, parts}
+use Rattle.bq_query_lex.specs.PatternReading.{word_fault, words_fault}
+use Rattle.bq_query_parse.specs.declared.tree.Query.{Query}
+use Rattle.bq_query_parse.specs.declared.tree.Query.TheVariants as tree
+use Rattle.bq_query_parse.specs.declared.tree.Query.TheFolds.{the_lemmas}
+use Rattle.bq_query_parse.specs.declared.tree.SetOperation.{SetOperation}
+use Rattle.bq_query_check.specs.Verdict as spec
+use Rattle.bq_query_check.specs.Verdict.{Need, no_fault, part_of, operation_part, parts}
 use Rattle.bq_query_check.specs.declared.formula.SetExpr.{SetExpr}
 use Rattle.bq_query_check.specs.declared.formula.ChainStep.{ChainStep}
 use Rattle.bq_query_check.specs.Checked.{Holds, FirstFails, Reads}

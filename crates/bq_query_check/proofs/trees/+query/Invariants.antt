@@ -2,7 +2,7 @@ use Rattle.std.proofs.Common.{map, take}
 use Rattle.std.specs.List.{AllByRecursion}
 use Rattle.std.specs.Iterator.Adapters.{zip_first, zip_second}
 use Rattle.std.specs.Slice.Iter.{iter_rest}
-use Rattle.bq_query_verdict.specs.Verdict.{parts, operation_part}
+use Rattle.bq_query_check.specs.Verdict.{parts, operation_part}
 use Rattle.bq_query_check.specs.Call.{given}
 use Rattle.bq_query_check.specs.Checked.{Holds}
 use Rattle.bq_query_check.specs.Formula.{step_of}

@@ -1,6 +1,6 @@
 use Rattle.std.proofs.Common.{arith}
 use Rattle.std.proofs.lemmas.Grind.{common_steps}
-use Rattle.bq_query_tree.specs.Turns.{repeat}
+use Rattle.bq_query_parse.specs.Turns.{repeat}
 use Rattle.bq_query_parse.proofs.LoopTurns.{turns_more, turns_over}
 use Rattle.bq_query_parse.proofs.grammar.words.Goals as goal
 

@@ -1,6 +1,6 @@
 use Rattle.std.proofs.Common.{◌≡◌, ◌-◌, []}
-use Rattle.bq_query_tree.specs.Turns.{turns, repeat, repeat_turn}
-use Rattle.bq_query_tree.specs.Reading.{begins_word, a_word}
+use Rattle.bq_query_parse.specs.Turns.{turns, repeat, repeat_turn}
+use Rattle.bq_query_parse.specs.Reading.{begins_word, a_word}
 use Rattle.bq_query_parse.proofs.grammar.words.Given as goal
 
 abbrev pub invariant-loop-turn : goal.invariant-loop-turn

@@ -1,5 +1,5 @@
 use Rattle.std.proofs.Common.{◌≡◌, ap, arith}
-use Rattle.bq_query_tree.specs.Reading.{query_to}
+use Rattle.bq_query_parse.specs.Reading.{query_to}
 use Rattle.bq_query_parse.proofs.LoopTurns.{deeper}
 use Rattle.bq_query_parse.proofs.parse.+query.Goals as goal
 

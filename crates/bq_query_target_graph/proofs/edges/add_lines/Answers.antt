@@ -1,8 +1,8 @@
 use Rattle.std.proofs.Common.{◌≡◌, ◌∙◌, ◌∷◌, List, [], ap, arith, sym, rules}
 use Rattle.std.specs.Vec.Iter.{into_iter_items}
 use Rattle.std.proofs.lemmas.List.{nil_from_length}
-use Rattle.bq_base_fault_line.specs.FaultLine.{put_lines}
-use Rattle.bq_base_fault_line.specs.declared.fault_line.FaultLine.{FaultLine}
+use Rattle.bq_base_texts.specs.FaultLine.{put_lines}
+use Rattle.bq_base_texts.specs.declared.fault_line.FaultLine.{FaultLine}
 use Rattle.bq_query_target_graph.proofs.Danglings.{none_put}
 use Rattle.bq_query_target_graph.proofs.edges.add_lines.Goals as goal
 

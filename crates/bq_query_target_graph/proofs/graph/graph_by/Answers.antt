@@ -1,5 +1,5 @@
 use Rattle.std.proofs.Common.{◌∙◌, List, length, ap, subst}
-use Rattle.bq_base_fault_line.specs.FaultLine.{sorted_lines}
+use Rattle.bq_base_texts.specs.FaultLine.{sorted_lines}
 use Rattle.bq_query_graph.specs.Edges.{HasPairsOf}
 use Rattle.bq_package_target.specs.declared.target.Target.{Target}
 use Rattle.bq_query_target_graph.specs.Order.{target_labels}

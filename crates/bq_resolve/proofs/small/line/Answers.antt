@@ -1,7 +1,7 @@
 use Rattle.std.proofs.Common.{◌≡◌, ◌∙◌, ◌≤◌, length, Ok, length-set, arith}
 use Rattle.std.proofs.lemmas.Grind.{common_steps}
 use Rattle.bq_resolve_scope.specs.Statements.{small_stmt}
-use Rattle.bq_resolve_expression.proofs.Each.{each_more, each_fault, each_end}
+use Rattle.bq_resolve.proofs.Each.{each_more, each_fault, each_end}
 use Rattle.bq_resolve.proofs.small.line.Goals as goal
 
 pub loop-at-preserved : goal.loop-at-preserved

@@ -1,4 +1,4 @@
-use Rattle.bq_resolve.proofs.Layers.{writes_layer, writes_no_layer}
+use Rattle.bq_resolve.proofs.StatementLayers.{writes_layer, writes_no_layer}
 use Rattle.bq_resolve.proofs.statements.+stmt_to.Goals as goal
 
 pub returns-then-layers-eq0 : goal.returns-then-layers-eq0

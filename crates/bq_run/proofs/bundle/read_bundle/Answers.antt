@@ -1,6 +1,6 @@
 use Rattle.std.proofs.Common.{◌≡◌, None, Some, subst}
 use Rattle.std.specs.Prelude.{IfOk, IfSome, IsErrOf}
-use Rattle.bq_base_limits.specs.declared.limits.Limits.{Limits}
+use Rattle.bq_base.specs.declared.limits.Limits.{Limits}
 use Rattle.bq_run_write.specs.declared.error.RunErr.TheVariants as run
 use Rattle.bq_run.specs.Bundle.{bundle_within}
 use Rattle.bq_run.proofs.bundle.read_bundle.Goals as goal

@@ -1,5 +1,5 @@
 use Rattle.std.proofs.Common.{◌≡◌, length}
-use Rattle.bq_base_fault_line.specs.Kinds.{first_called}
+use Rattle.bq_base_texts.specs.FaultKinds.{first_called}
 use Rattle.bq_run_explain.proofs.faults.first_called.Given as goal
 
 abbrev pub invariant-loop-kinds : goal.invariant-loop-kinds

@@ -1,7 +1,7 @@
 use Rattle.std.proofs.Common.{◌∙◌, ap}
 use Rattle.std.specs.Option.{is_some}
-use Rattle.bq_base_names.specs.Names.{has}
-use Rattle.bq_base_names.proofs.Placed.{has_place}
+use Rattle.bq_base_texts.specs.NameSet.{has}
+use Rattle.bq_base_texts.proofs.NameLookups.{has_place}
 use Rattle.bq_run_session.proofs.Edited.{none_there}
 use Rattle.bq_run_session.proofs.edits.is_untouched.Goals as goal
 

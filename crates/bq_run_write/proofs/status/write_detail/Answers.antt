@@ -1,5 +1,5 @@
 use Rattle.std.proofs.Common.{◌≡◌, ◌==◌, ◌++◌, List, ℕ, [], ◌∷◌, false, refl, subst, length, arith}
-use Rattle.bq_base_fault_line.specs.LineText.{detail_text}
+use Rattle.bq_base_texts.specs.LineText.{detail_text}
 use Rattle.bq_run_device.specs.Device.{Begins}
 use Rattle.bq_run_device.proofs.Transfers.{Begins-more}
 use Rattle.std.proofs.lemmas.Grind.{common_steps}

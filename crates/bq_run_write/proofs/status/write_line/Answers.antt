@@ -1,7 +1,7 @@
 use Rattle.std.proofs.Common.{◌++◌, ◌∙◌, ℕ, List, [], ◌∷◌, ap, subst, codes}
 use Rattle.std.proofs.lemmas.Result.{on_ok_weaker}
 use Rattle.std.specs.Io.KnownBytes.{Appends}
-use Rattle.bq_base_fault_line.specs.LineText.{detail_text}
+use Rattle.bq_base_texts.specs.LineText.{detail_text}
 use Rattle.bq_run_device.specs.Device.{Begins}
 use Rattle.bq_run_write.specs.Error.{run_title}
 use Rattle.bq_run_write.specs.Status.{error_detail}

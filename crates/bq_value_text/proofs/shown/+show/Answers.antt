@@ -3,7 +3,7 @@ use Rattle.std.proofs.lemmas.Grind.{common_steps}
 use Rattle.std.specs.Prelude.{codes}
 use Rattle.bq_base.specs.Gives.{Gives}
 use Rattle.bq_value.specs.declared.error.EvalErr.TheVariants.{Bad}
-use Rattle.bq_value_compare.specs.Looked.{Looked}
+use Rattle.bq_value.specs.Looked.{Looked}
 use Rattle.bq_value_text.specs.Page.{PageView}
 use Rattle.bq_value_text.specs.Shown.{shown_at, list_shown, contents_shown}
 use Rattle.bq_value_text.proofs.Steps.{tuple_step, cell_step}

@@ -1,6 +1,6 @@
 use Rattle.std.proofs.Common.{subst}
 use Rattle.std.specs.Prelude.{IfErr, OnOk}
-use Rattle.bq_base_limits.specs.declared.limits.Limits.{Limits}
+use Rattle.bq_base.specs.declared.limits.Limits.{Limits}
 use Rattle.bq_board_plan.specs.Graph.{Fits, lists}
 use Rattle.bq_board_plan.specs.Refusal.{RefusedWithin}
 use Rattle.bq_board_plan.proofs.graph.Graph.new.Goals as goal

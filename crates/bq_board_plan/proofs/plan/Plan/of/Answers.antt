@@ -3,7 +3,7 @@ use Rattle.std.specs.Prelude.{replicate, vec_len}
 use Rattle.std.proofs.lemmas.List.{take_all}
 use Rattle.std.proofs.lemmas.Grind.{common_steps}
 use Rattle.bq_board_plan.specs.Graph.{Loads, row, sources, edges, lists}
-use Rattle.bq_base_limits.specs.Limits.{number_bound}
+use Rattle.bq_base.specs.Limits.{number_bound}
 use Rattle.bq_board_plan.specs.Plan.{start, OutsOf, StartsBelow, TargetsBelow}
 use Rattle.bq_board_plan.proofs.Edges.{start_next, start_le}
 use Rattle.bq_board_plan.proofs.Outs.{sources_next, sources_start}

@@ -3,8 +3,8 @@ use Rattle.bq_base.specs.declared.fault.EvalFault.{EvalFault}
 use Rattle.bq_value.specs.declared.error.EvalErr.TheVariants.{Bad}
 use Rattle.bq_builtin_machine.specs.Action.{stopped}
 use Rattle.bq_builtin_machine.specs.State.{stop_at}
-use Rattle.bq_eval_language_spec.specs.Comprehensions.{first_clauses}
-use Rattle.bq_eval_language_spec.specs.Slots.{by_slots}
+use Rattle.bq_eval_spec.specs.Comprehensions.{first_clauses}
+use Rattle.bq_eval_spec.specs.Slots.{by_slots}
 use Rattle.bq_eval_frame.specs.Slots.{slots_of}
 use Rattle.bq_eval_rules.specs.ComprehensionClauses.{element_in}
 use Rattle.bq_eval_rules.specs.Evaluators.{evals_in, frame_of}

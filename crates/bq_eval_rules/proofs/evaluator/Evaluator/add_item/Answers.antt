@@ -1,6 +1,6 @@
 use Rattle.bq_value.specs.Contents.{Contents}
-use Rattle.bq_eval_meaning_spec.specs.Frame.{Frame}
-use Rattle.bq_eval_language_spec.specs.Comprehensions.{element}
+use Rattle.bq_eval_spec.specs.Frame.{Frame}
+use Rattle.bq_eval_spec.specs.Comprehensions.{element}
 use Rattle.bq_eval_rules.specs.Evaluators.{frame_of, value_inside}
 use Rattle.bq_eval_rules.proofs.Answering.{goes_on_with}
 use Rattle.bq_eval_rules.proofs.evaluator.Evaluator.add_item.Goals as goal

@@ -2,7 +2,7 @@ use Rattle.std.proofs.Common.{rules, ◌≡◌, arith, sym, subst, ℤ, w64, to_
 use Rattle.std.proofs.lemmas.Grind.{common_steps}
 use Rattle.bq_value.specs.Datum.{Datum, int}
 use Rattle.bq_builtin_machine.specs.Action.{Run, following}
-use Rattle.bq_eval_language_spec.specs.Expressions.{literal}
+use Rattle.bq_eval_spec.specs.Expressions.{literal}
 use Rattle.bq_eval_frame.specs.Slots.{slots_of}
 use Rattle.bq_eval_rules.specs.Acts.{Acts}
 use Rattle.bq_eval_rules.specs.Round.{inside, round_of}

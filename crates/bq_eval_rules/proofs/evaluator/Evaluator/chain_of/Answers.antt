@@ -1,7 +1,7 @@
 use Rattle.std.proofs.Common.{sym, subst}
 use Rattle.bq_value.specs.Datum.{Datum}
 use Rattle.bq_builtin_machine.specs.Action.{Run, following}
-use Rattle.bq_eval_language_spec.specs.Expressions.{operations}
+use Rattle.bq_eval_spec.specs.Expressions.{operations}
 use Rattle.bq_eval_rules.specs.Acts.{Acts}
 use Rattle.bq_eval_rules.specs.Answers.{answer_of}
 use Rattle.bq_eval_rules.specs.Evaluators.{evals_in, frame_of, value_inside}

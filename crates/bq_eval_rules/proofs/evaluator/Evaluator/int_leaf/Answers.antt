@@ -1,6 +1,6 @@
 use Rattle.std.proofs.Common.{rules, ◌≡◌, ap, ◌∙◌, sym, subst, arith, Some, ℤ, w64, to_z, of_z}
 use Rattle.bq_value.specs.Datum.{int}
-use Rattle.bq_eval_language_spec.specs.Expressions.{literal}
+use Rattle.bq_eval_spec.specs.Expressions.{literal}
 use Rattle.bq_eval_frame.specs.Slots.{slots_of}
 use Rattle.bq_eval_rules.specs.Evaluators.{value_inside}
 use Rattle.bq_eval_rules.specs.Round.{inside, round_of}

@@ -1,7 +1,7 @@
 use Rattle.std.proofs.Common.{rules, ◌≡◌, sym, subst, ℤ, w64, to_z, of_z}
 use Rattle.bq_value.specs.Datum.{Datum, int}
 use Rattle.bq_builtin_machine.specs.Action.{Run}
-use Rattle.bq_eval_language_spec.specs.Expressions.{operation, operations}
+use Rattle.bq_eval_spec.specs.Expressions.{operation, operations}
 use Rattle.bq_eval_frame.specs.Slots.{slots_of}
 use Rattle.bq_eval_rules.specs.Acts.{Acts}
 use Rattle.bq_eval_rules.specs.Answers.{answer_of}

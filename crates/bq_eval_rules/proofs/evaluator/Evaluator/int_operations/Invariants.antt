@@ -1,6 +1,6 @@
 use Rattle.std.proofs.Common.{◌≡◌, length}
 use Rattle.bq_value.specs.Datum.{int}
-use Rattle.bq_eval_language_spec.specs.Expressions.{operations}
+use Rattle.bq_eval_spec.specs.Expressions.{operations}
 use Rattle.bq_eval_frame.specs.Slots.{slots_of}
 use Rattle.bq_eval_rules.specs.Nests.{nested}
 use Rattle.bq_eval_rules.proofs.evaluator.Evaluator.int_operations.Given as goal

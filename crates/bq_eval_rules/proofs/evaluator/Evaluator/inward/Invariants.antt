@@ -1,6 +1,6 @@
 use Rattle.std.proofs.Common.{◌≡◌, length}
-use Rattle.bq_eval_language_spec.specs.Comprehensions.{clauses}
-use Rattle.bq_eval_language_spec.specs.Slots.{by_slots}
+use Rattle.bq_eval_spec.specs.Comprehensions.{clauses}
+use Rattle.bq_eval_spec.specs.Slots.{by_slots}
 use Rattle.bq_eval_frame.specs.Slots.{slots_of}
 use Rattle.bq_eval_rules.specs.ComprehensionClauses.{element_in}
 use Rattle.bq_eval_rules.specs.Nests.{nested}

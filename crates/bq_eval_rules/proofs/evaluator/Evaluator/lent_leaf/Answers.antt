@@ -1,7 +1,7 @@
 use Rattle.std.proofs.Common.{◌≡◌, Some, arith}
 use Rattle.std.specs.Borrow.{Bor}
 use Rattle.bq_value.specs.Datum.{Datum}
-use Rattle.bq_eval_language_spec.specs.Expressions.{literal}
+use Rattle.bq_eval_spec.specs.Expressions.{literal}
 use Rattle.bq_eval_frame.specs.Slots.{slots_of}
 use Rattle.bq_eval_rules.specs.Evaluators.{value_inside}
 use Rattle.bq_eval_rules.specs.Round.{inside, round_of}

@@ -1,6 +1,6 @@
 use Rattle.std.proofs.Common.{arith}
 use Rattle.std.proofs.lemmas.Grind.{common_steps}
-use Rattle.bq_eval_language_spec.specs.Expressions.{operations}
+use Rattle.bq_eval_spec.specs.Expressions.{operations}
 use Rattle.bq_eval_rules.proofs.evaluator.Evaluator.long_chain.Goals as goal
 
 pub returns-in_err-share-in-empty : goal.returns-in_err-share-in-empty

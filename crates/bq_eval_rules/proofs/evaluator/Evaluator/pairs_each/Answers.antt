@@ -1,6 +1,6 @@
 use Rattle.std.proofs.Common.{arith}
 use Rattle.std.proofs.lemmas.Grind.{common_steps}
-use Rattle.bq_eval_language_spec.specs.Expressions.{pairs_each}
+use Rattle.bq_eval_spec.specs.Expressions.{pairs_each}
 use Rattle.bq_eval_rules.proofs.evaluator.Evaluator.pairs_each.Goals as goal
 
 pub loop-pair-init : goal.loop-pair-init

@@ -1,6 +1,6 @@
 use Rattle.std.proofs.Common.{arith}
 use Rattle.std.proofs.lemmas.Grind.{common_steps}
-use Rattle.bq_eval_language_spec.specs.Expressions.{suffixes}
+use Rattle.bq_eval_spec.specs.Expressions.{suffixes}
 use Rattle.bq_eval_rules.proofs.evaluator.Evaluator.suffixes.Goals as goal
 
 pub loop-suffix-init : goal.loop-suffix-init

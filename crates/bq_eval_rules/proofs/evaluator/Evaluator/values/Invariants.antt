@@ -1,5 +1,5 @@
 use Rattle.std.proofs.Common.{◌≡◌, drop, []}
-use Rattle.bq_eval_language_spec.specs.Expressions.{values}
+use Rattle.bq_eval_spec.specs.Expressions.{values}
 use Rattle.bq_eval_frame.specs.Slots.{slots_of}
 use Rattle.bq_eval_rules.specs.Nests.{nested}
 use Rattle.bq_eval_rules.proofs.evaluator.Evaluator.values.Given as goal

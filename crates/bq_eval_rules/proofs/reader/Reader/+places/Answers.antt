@@ -1,5 +1,5 @@
 use Rattle.std.proofs.Common.{arith}
-use Rattle.bq_eval_language_spec.specs.Targets.{places_each, places_to}
+use Rattle.bq_eval_spec.specs.Targets.{places_each, places_to}
 use Rattle.bq_eval_frame.specs.Slots.{slots_of}
 use Rattle.bq_eval_rules.specs.Round.{evals}
 use Rattle.bq_eval_rules.proofs.Assigning.{no_places, index_places, tuple_places, list_places}

@@ -1,9 +1,9 @@
 use Rattle.bq_value.specs.Datum.{Datum}
 use Rattle.bq_builtin_machine.specs.Action.{Action, following, pure}
-use Rattle.bq_eval_meaning_spec.specs.Frame.{Frame}
-use Rattle.bq_eval_language_spec.specs.Slots.{by_slots}
-use Rattle.bq_eval_language_spec.specs.Statements.{Flow, assign_stmt, next}
-use Rattle.bq_eval_language_spec.specs.Targets.{assign}
+use Rattle.bq_eval_spec.specs.Frame.{Frame}
+use Rattle.bq_eval_spec.specs.Slots.{by_slots}
+use Rattle.bq_eval_spec.specs.Statements.{Flow, assign_stmt, next}
+use Rattle.bq_eval_spec.specs.Targets.{assign}
 use Rattle.bq_eval_frame.specs.Slots.{slots_of}
 use Rattle.bq_eval_rules.specs.Flows.{flow_of}
 use Rattle.bq_eval_rules.specs.Readers.{evals_of}

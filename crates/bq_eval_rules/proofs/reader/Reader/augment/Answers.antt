@@ -1,9 +1,9 @@
 use Rattle.std.proofs.Common.{rules, ◌≡◌, Some, ℕ, sym, subst, ℤ, w64, to_z, of_z}
 use Rattle.bq_value.specs.Datum.{Datum, int}
 use Rattle.bq_builtin_machine.specs.Action.{Action, Run, following, pure}
-use Rattle.bq_eval_meaning_spec.specs.Frame.{Frame, fill}
-use Rattle.bq_eval_language_spec.specs.Slots.{slot_of}
-use Rattle.bq_eval_language_spec.specs.Statements.{Flow, next}
+use Rattle.bq_eval_spec.specs.Frame.{Frame, fill}
+use Rattle.bq_eval_spec.specs.Slots.{slot_of}
+use Rattle.bq_eval_spec.specs.Statements.{Flow, next}
 use Rattle.bq_eval_frame.specs.Slots.{slots_of}
 use Rattle.bq_eval_rules.specs.Acts.{Acts, ActsOn}
 use Rattle.bq_eval_rules.specs.Answers.{answer_of}

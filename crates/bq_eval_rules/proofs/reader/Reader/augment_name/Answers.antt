@@ -1,7 +1,7 @@
 use Rattle.std.proofs.Common.{◌≡◌, ℕ, arith, subst}
 use Rattle.std.proofs.lemmas.Grind.{common_steps}
 use Rattle.bq_builtin_machine.specs.Action.{done}
-use Rattle.bq_eval_language_spec.specs.Targets.{bound}
+use Rattle.bq_eval_spec.specs.Targets.{bound}
 use Rattle.bq_eval_frame.specs.Slots.{slots_of}
 use Rattle.bq_eval_rules.specs.Round.{evals}
 use Rattle.bq_eval_rules.proofs.Assigning.{name_augmented}

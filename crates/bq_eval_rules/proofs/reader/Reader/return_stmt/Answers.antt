@@ -1,8 +1,8 @@
 use Rattle.std.proofs.Common.{Option, sym, subst}
 use Rattle.bq_parse_grammar.specs.declared.tree.Expr.{Expr}
-use Rattle.bq_eval_meaning_spec.specs.Frame.{Frame}
-use Rattle.bq_eval_language_spec.specs.Slots.{by_slots}
-use Rattle.bq_eval_language_spec.specs.Statements.{Flow, return_stmt}
+use Rattle.bq_eval_spec.specs.Frame.{Frame}
+use Rattle.bq_eval_spec.specs.Slots.{by_slots}
+use Rattle.bq_eval_spec.specs.Statements.{Flow, return_stmt}
 use Rattle.bq_eval_frame.specs.Slots.{slots_of}
 use Rattle.bq_eval_rules.specs.declared.flow.Flow.TheVariants as variants
 use Rattle.bq_eval_rules.specs.Acts.{Acts}

@@ -1,6 +1,6 @@
 use Rattle.std.proofs.Common.{arith}
 use Rattle.std.proofs.lemmas.Grind.{common_steps}
-use Rattle.bq_eval_language_spec.specs.Module.{top_levels}
+use Rattle.bq_eval_spec.specs.Module.{top_levels}
 use Rattle.bq_eval_rules.proofs.reader.Reader.top_levels.Goals as goal
 
 pub loop-stmt-init : goal.loop-stmt-init

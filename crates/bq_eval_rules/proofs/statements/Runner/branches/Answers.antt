@@ -1,6 +1,6 @@
 use Rattle.std.proofs.Common.{arith}
 use Rattle.std.proofs.lemmas.Grind.{common_steps}
-use Rattle.bq_eval_language_spec.specs.Statements.{branches}
+use Rattle.bq_eval_spec.specs.Statements.{branches}
 use Rattle.bq_eval_rules.proofs.statements.Runner.branches.Goals as goal
 
 pub loop-branch-init : goal.loop-branch-init

@@ -1,6 +1,6 @@
 use Rattle.std.proofs.Common.{◌≡◌, Some, None, subst}
 use Rattle.std.specs.Prelude.{MatchResult}
-use Rattle.bq_base_limits.specs.declared.limits.Limits.{Limits}
+use Rattle.bq_base.specs.declared.limits.Limits.{Limits}
 use Rattle.bq_label.specs.Workspace.{workspace_within}
 use Rattle.bq_label.proofs.workspace.Workspace.new.Goals as goal
 

@@ -5,7 +5,7 @@ use Rattle.bq_value.specs.Datum.{Datum}
 use Rattle.bq_base.specs.declared.fault.FaultKind.{FaultKind}
 use Rattle.bq_base.specs.declared.fault.Fault.{Fault}
 use Rattle.bq_base.specs.Fault.{fault_as, kind_of_load}
-use Rattle.bq_load_order.specs.Shown.{told}
+use Rattle.bq_load_order.specs.SharedOutcomes.{told}
 use Rattle.bq_load.specs.Views.{module_view, failed_view, module_views, not_evaluated}
 use Rattle.bq_load.specs.Loading.{loading_of}
 use Rattle.bq_load.specs.Evaluation.{evaluation, module_after}

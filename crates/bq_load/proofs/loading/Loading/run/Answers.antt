@@ -1,7 +1,7 @@
 use Rattle.std.proofs.Common.{◌≡◌, IfOk, subst}
 use Rattle.bq_load_module.specs.Outcomes.{run_of}
 use Rattle.bq_load_module.specs.Calls.{HeldPackage, meaning}
-use Rattle.bq_load_order.specs.Shown.{told}
+use Rattle.bq_load_order.specs.SharedOutcomes.{told}
 use Rattle.bq_load.specs.Views.{module_view, failed_view}
 use Rattle.bq_load.specs.Evaluation.{module_after}
 use Rattle.bq_load.proofs.loading.Loading.run.Goals as goal

@@ -1,5 +1,5 @@
 use Rattle.std.proofs.Common.{◌≡◌, ◌∙◌, ◌<◌, length, get_or, refl, ap, subst, arith}
-use Rattle.bq_load_order.specs.Shown.{shown}
+use Rattle.bq_load_order.specs.SharedOutcomes.{shown}
 use Rattle.bq_load.specs.declared.loading.Loading.{Loading}
 use Rattle.bq_load.specs.Views.{module_view, failed_view}
 use Rattle.bq_load.specs.Loading.{loading_of}

@@ -1,8 +1,8 @@
 use Rattle.std.proofs.Common.{ℕ, List, [], ◌∷◌, ◌++◌, length, sym, subst, ap, ◌∙◌, arith}
 use Rattle.bq_board.specs.Graph.{Loads}
 use Rattle.bq_board.specs.Plan.{IsOut}
-use Rattle.bq_load_outcome_spec.specs.Outcome.{outcome}
-use Rattle.bq_load_order.specs.Shown.{value_in}
+use Rattle.bq_load_order.specs.Outcome.{outcome}
+use Rattle.bq_load_order.specs.SharedOutcomes.{value_in}
 use Rattle.bq_load_workers.specs.Brought.{Brought}
 use Rattle.bq_load_workers.specs.declared.pool.FinishedModule.{FinishedModule}
 use Rattle.bq_load_workers.proofs.Bringing.{brought_more}

@@ -5,8 +5,8 @@ use Rattle.std.specs.Option.{option_to_list}
 use Rattle.bq_board.specs.Counts.{Has}
 use Rattle.bq_board.proofs.Conditions.{delivers_none, not_yet_posted, delivers_more}
 use Rattle.bq_board.proofs.Lemmas.{Has-get_or}
-use Rattle.bq_load_outcome_spec.specs.Outcome.{outcome}
-use Rattle.bq_load_order.specs.Shown.{value_in}
+use Rattle.bq_load_order.specs.Outcome.{outcome}
+use Rattle.bq_load_order.specs.SharedOutcomes.{value_in}
 use Rattle.bq_load_workers.specs.Work.{IsImport}
 use Rattle.bq_load_workers.proofs.Bringing.{if_some}
 use Rattle.bq_load_workers.proofs.pool.WorkerPool.deliver.Goals as goal

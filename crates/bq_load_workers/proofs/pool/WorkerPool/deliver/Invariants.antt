@@ -1,7 +1,7 @@
 use Rattle.std.proofs.Common.{◌≡◌, ◌+◌, length, All}
 use Rattle.bq_board.specs.Seats.{IsSeatOf, view_of}
 use Rattle.bq_board.specs.Conditions.{Delivers}
-use Rattle.bq_load_outcome_spec.specs.Outcome.{outcome}
+use Rattle.bq_load_order.specs.Outcome.{outcome}
 use Rattle.bq_load_workers.specs.Work.{IsImport}
 use Rattle.bq_load_workers.proofs.pool.WorkerPool.deliver.Given as goal
 

@@ -3,7 +3,7 @@ use Rattle.std.proofs.lemmas.List.{get_or_read}
 use Rattle.bq_board.specs.Counts.{Has}
 use Rattle.bq_board.specs.Cycles.{is_cyclic}
 use Rattle.bq_board.proofs.Lemmas.{loads_not_cyclic}
-use Rattle.bq_load_order.specs.Shown.{seen, shown}
+use Rattle.bq_load_order.specs.SharedOutcomes.{seen, shown}
 use Rattle.bq_load_order.proofs.Filled.{deep_outcome}
 use Rattle.bq_load_workers.proofs.Finding.{found_cyclic, found_evaluated}
 use Rattle.bq_load_workers.proofs.pool.WorkerPool.find.Goals as goal

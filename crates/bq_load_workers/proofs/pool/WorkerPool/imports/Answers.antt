@@ -4,8 +4,8 @@ use Rattle.bq_board.specs.Graph.{Loads}
 use Rattle.bq_board.specs.Plan.{start, source, Into}
 use Rattle.bq_board.proofs.Conditions.{collects_none, collects_more, collects_all, may_fetch}
 use Rattle.bq_board.proofs.Edges.{are_loads}
-use Rattle.bq_load_outcome_spec.specs.Outcome.{outcome}
-use Rattle.bq_load_order.specs.Shown.{seen_value, value_in}
+use Rattle.bq_load_order.specs.Outcome.{outcome}
+use Rattle.bq_load_order.specs.SharedOutcomes.{seen_value, value_in}
 use Rattle.bq_load_workers.proofs.Imports.{Came, into_here, came_none, came_next, came_stop, came_all}
 use Rattle.bq_load_workers.proofs.pool.WorkerPool.imports.Goals as goal
 

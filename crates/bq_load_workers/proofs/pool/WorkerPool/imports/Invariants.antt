@@ -1,7 +1,7 @@
 use Rattle.std.proofs.Common.{map}
 use Rattle.bq_board.specs.Seats.{IsSeatOf, view_of}
 use Rattle.bq_board.specs.Conditions.{Collects}
-use Rattle.bq_load_outcome_spec.specs.Outcome.{outcome}
+use Rattle.bq_load_order.specs.Outcome.{outcome}
 use Rattle.bq_load_workers.proofs.Imports.{Came}
 use Rattle.bq_load_workers.proofs.pool.WorkerPool.imports.Given as goal
 

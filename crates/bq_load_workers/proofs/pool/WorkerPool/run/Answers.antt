@@ -1,5 +1,5 @@
 use Rattle.std.proofs.Common.{ℕ, List, length, sym, subst, ap, arith}
-use Rattle.bq_load_outcome_spec.specs.Outcome.{outcome}
+use Rattle.bq_load_order.specs.Outcome.{outcome}
 use Rattle.bq_load_workers.specs.Brought.{Brought}
 use Rattle.bq_load_workers.specs.declared.pool.FinishedModule.{FinishedModule}
 use Rattle.bq_load_workers.proofs.Bringing.{brought_none, counted_all}

@@ -1,6 +1,6 @@
 use Rattle.std.proofs.Common.{length}
 use Rattle.bq_board.specs.Seats.{IsSeatOf, view_of}
-use Rattle.bq_load_outcome_spec.specs.Outcome.{outcome}
+use Rattle.bq_load_order.specs.Outcome.{outcome}
 use Rattle.bq_load_workers.specs.Brought.{Brought}
 use Rattle.bq_load_workers.proofs.pool.WorkerPool.run.Given as goal
 

@@ -1,7 +1,7 @@
 use Rattle.std.proofs.Common.{List, ℕ, Ok, subst}
 use Rattle.bq_base.specs.Gives.{Gives}
 use Rattle.bq_value.specs.declared.error.EvalErr.TheVariants.{Bad}
-use Rattle.bq_package_typed_value.specs.Steps.{and_then}
+use Rattle.bq_package_values.specs.Steps.{and_then}
 use Rattle.bq_package.specs.Place.{place_of}
 use Rattle.bq_package.specs.Groups.{group, group_labels, group_of}
 use Rattle.bq_package.proofs.place.Place.group_of.Goals as goal

@@ -1,7 +1,7 @@
 -- the arguments that are left decide
 use Rattle.std.proofs.Common.{◌≡◌, drop}
 use Rattle.bq_package_attributes.specs.Arguments.{with_arguments}
-use Rattle.bq_package_attributes.specs.Named.{pairs}
+use Rattle.bq_package_attributes.specs.KeywordArguments.{pairs}
 use Rattle.bq_package_attributes.proofs.arguments.Given.take_few.Given as goal
 
 abbrev pub invariant-loop-argument : goal.invariant-loop-argument

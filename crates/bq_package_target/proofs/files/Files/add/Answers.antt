@@ -1,6 +1,6 @@
 use Rattle.std.proofs.Common.{◌≡◌, ◌∙◌, refl, ap, sym, true, false}
 use Rattle.bq_package_target.specs.Names.{with_name}
-use Rattle.bq_base_names.specs.Names.{has}
+use Rattle.bq_base_texts.specs.NameSet.{has}
 use Rattle.bq_package_target.proofs.Taking.{was_there, was_new}
 use Rattle.bq_package_target.proofs.Finding.{finds_old, finds_new}
 use Rattle.bq_package_target.proofs.files.Files.add.Goals as goal

@@ -1,6 +1,6 @@
 use Rattle.std.proofs.Common.{subst, List}
 use Rattle.bq_label.specs.Label.{LabelParts}
-use Rattle.bq_value_rule_class.specs.Value.{labels_of}
+use Rattle.bq_value_datum.specs.AttributeValue.{labels_of}
 use Rattle.bq_package_target.specs.Files.{FindsOwn}
 use Rattle.bq_package_target.specs.Value.{labels_in}
 use Rattle.bq_package_target.proofs.Finding.{finds_nothing, own_each, own_all}

@@ -2,7 +2,7 @@ use Rattle.std.proofs.Common.{◌≡◌, Some, rules, arith}
 use Rattle.std.proofs.lemmas.Grind.{common_steps}
 use Rattle.bq_source.specs.declared.token.TokenKind.TheVariants as k
 use Rattle.bq_parse_grammar.specs.Reading.{var_to}
-use Rattle.bq_parse_cursor.specs.Tokens.{kind_ahead}
+use Rattle.bq_parse_grammar.specs.Tokens.{kind_ahead}
 use Rattle.bq_parse_expression.proofs.Ahead.{word_is_var}
 use Rattle.bq_parse_expression.proofs.variables.Variables.var.Goals as goal
 

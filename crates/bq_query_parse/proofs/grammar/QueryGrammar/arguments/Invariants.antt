@@ -1,7 +1,7 @@
 use Rattle.std.proofs.Common.{◌≡◌, ◌-◌, Some}
 use Rattle.bq_query_lex.specs.declared.token.QueryTokenKind.TheVariants as k
-use Rattle.bq_query_tree.specs.Turns.{◌>>=◌, sees, expect, turns, repeat_turn}
-use Rattle.bq_query_tree.specs.Reading.{after_comma, arguments, query_to}
+use Rattle.bq_query_parse.specs.Turns.{◌>>=◌, sees, expect, turns, repeat_turn}
+use Rattle.bq_query_parse.specs.Reading.{after_comma, arguments, query_to}
 use Rattle.bq_query_parse.proofs.grammar.QueryGrammar.arguments.Given as goal
 
 abbrev pub invariant-loop-turn : goal.invariant-loop-turn

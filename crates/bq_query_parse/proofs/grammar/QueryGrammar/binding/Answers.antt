@@ -1,6 +1,6 @@
 use Rattle.std.proofs.Common.{arith}
 use Rattle.std.proofs.lemmas.Grind.{common_steps}
-use Rattle.bq_query_tree.specs.Reading.{binding}
+use Rattle.bq_query_parse.specs.Reading.{binding}
 use Rattle.bq_query_parse.proofs.grammar.QueryGrammar.binding.Goals as goal
 
 pub returns-in_err-value : goal.returns-in_err-value

@@ -1,6 +1,6 @@
 use Rattle.std.proofs.Common.{arith}
 use Rattle.std.proofs.lemmas.Grind.{common_steps}
-use Rattle.bq_query_tree.specs.Reading.{operations}
+use Rattle.bq_query_parse.specs.Reading.{operations}
 use Rattle.bq_query_parse.proofs.LoopTurns.{turns_more, turns_over}
 use Rattle.bq_query_parse.proofs.grammar.QueryGrammar.operations.Goals as goal
 

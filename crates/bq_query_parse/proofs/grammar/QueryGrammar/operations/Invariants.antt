@@ -1,6 +1,6 @@
 use Rattle.std.proofs.Common.{◌≡◌, ◌-◌, []}
-use Rattle.bq_query_tree.specs.Turns.{turns}
-use Rattle.bq_query_tree.specs.Reading.{operation_turn, operations, query_to}
+use Rattle.bq_query_parse.specs.Turns.{turns}
+use Rattle.bq_query_parse.specs.Reading.{operation_turn, operations, query_to}
 use Rattle.bq_query_parse.proofs.grammar.QueryGrammar.operations.Given as goal
 
 abbrev pub invariant-loop-turn : goal.invariant-loop-turn

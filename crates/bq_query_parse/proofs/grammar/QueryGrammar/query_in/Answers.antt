@@ -1,6 +1,6 @@
 use Rattle.std.proofs.Common.{arith}
 use Rattle.std.proofs.lemmas.Grind.{common_steps}
-use Rattle.bq_query_tree.specs.Reading.{query_in}
+use Rattle.bq_query_parse.specs.Reading.{query_in}
 use Rattle.bq_query_parse.proofs.grammar.QueryGrammar.query_in.Goals as goal
 
 pub returns-then-eat : goal.returns-then-eat

@@ -2,7 +2,7 @@ use Rattle.std.proofs.Common.{◌≡◌, ◌∙◌, ◌≤◌, length, Ok, lengt
 use Rattle.std.proofs.lemmas.Grind.{common_steps}
 use Rattle.bq_resolve_scope.specs.Statements.{branch}
 use Rattle.bq_resolve.specs.Inner.{inner}
-use Rattle.bq_resolve_expression.proofs.Each.{each_more, each_fault, each_end}
+use Rattle.bq_resolve.proofs.Each.{each_more, each_fault, each_end}
 use Rattle.bq_resolve.proofs.blocks.BlockResolver.branches.Goals as goal
 
 pub loop-at-preserved : goal.loop-at-preserved

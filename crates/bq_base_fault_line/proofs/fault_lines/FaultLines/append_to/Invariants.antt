@@ -1,8 +1,0 @@
-use Rattle.std.proofs.Common.{◌≡◌, ◌++◌}
-use Rattle.std.specs.List.{flat_map}
-use Rattle.bq_base_fault_line.specs.LineText.{line_text}
-use Rattle.bq_base_fault_line.proofs.fault_lines.FaultLines.append_to.Given as goal
-
--- what is appended, and what is printed of the lines that are left
-abbrev pub invariant-loop-line : goal.invariant-loop-line
-invariant-loop-line l = l.text ++ flat_map line_text l.line-iterator ≡ l.fn.text ++ flat_map line_text l.fn.self

@@ -1,8 +1,0 @@
-use Rattle.std.proofs.Common.{arith}
-use Rattle.std.proofs.lemmas.Grind.{common_steps}
-use Rattle.bq_base_fault_line.specs.LineText.{line_text}
-use Rattle.bq_base_fault_line.proofs.line_text.push_line.Goals as goal
-
-pub returns : goal.returns
-unfolding line_text
-returns c = grind (arith, common_steps)

@@ -1,5 +1,0 @@
-use Rattle.bq_builtin_collections.proofs.Defaults.{default_found}
-use Rattle.bq_builtin_collections.proofs.laws.a_default_is_the_value.Goals as goal
-
-pub returns : goal.returns
-returns c = default_found

@@ -1,8 +1,0 @@
-pub mod Arguments
-pub mod Search
-pub mod List
-pub mod PairsGiven
-pub mod GivenOf
-pub mod Dict
-pub mod Calling
-pub mod Laws

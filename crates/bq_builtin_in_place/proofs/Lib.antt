@@ -1,2 +1,0 @@
--- a content that is changed as a definition says
-pub mod Changes

@@ -1,0 +1,8 @@
+use Rattle.bq_builtin_methods.specs.List.{on_items, edited}
+use Rattle.bq_builtin_methods.proofs.Changes.{content_changed}
+use Rattle.bq_builtin_methods.proofs.list.change_list.Goals as goal
+
+pub returns : goal.returns
+returns c =
+    content_changed c.args.list.module c.args.list.number (on_items (edited c.args.edit)) c.args.machine.now c.in_ok-content.content.now c.edit_content.new.content c.edit_content.result
+    c.in_ok-content.ensures.says c.in_ok-content.ensures.now c.edit_content.ensures

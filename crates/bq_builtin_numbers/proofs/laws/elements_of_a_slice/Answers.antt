@@ -1,6 +1,0 @@
-use Rattle.std.proofs.Common.{ℕ}
-use Rattle.bq_builtin_numbers.proofs.Slices.{elements_of_slice}
-use Rattle.bq_builtin_numbers.proofs.laws.elements_of_a_slice.Goals as goal
-
-pub returns : goal.returns
-returns c = elements_of_slice {A = ℕ}

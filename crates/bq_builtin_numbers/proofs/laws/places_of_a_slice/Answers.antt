@@ -1,5 +1,0 @@
-use Rattle.bq_builtin_numbers.proofs.Slices.{places_within}
-use Rattle.bq_builtin_numbers.proofs.laws.places_of_a_slice.Goals as goal
-
-pub returns : goal.returns
-returns c = places_within

@@ -1,2 +1,0 @@
--- the first of several checks that finds a fault
-pub mod First

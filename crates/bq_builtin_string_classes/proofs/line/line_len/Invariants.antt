@@ -1,6 +1,0 @@
-use Rattle.std.proofs.Common.{◌≡◌, ◌+◌, drop}
-use Rattle.bq_builtin_string_classes.specs.Line.{line_len}
-use Rattle.bq_builtin_string_classes.proofs.line.line_len.Given as goal
-
-abbrev pub invariant-loop-at : goal.invariant-loop-at
-invariant-loop-at l = l.at + line_len (drop l.at l.text) ≡ line_len l.text

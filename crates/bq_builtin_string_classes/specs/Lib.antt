@@ -1,4 +1,0 @@
-pub mod Class
-pub mod Case
-pub mod Word
-pub mod Line

@@ -1,5 +1,0 @@
-use Rattle.bq_builtin_string_parts.proofs.Separated.{separated}
-use Rattle.bq_builtin_string_parts.proofs.laws.no_part_has_the_separator.Goals as goal
-
-pub returns : goal.returns
-returns c = λ separator text part most some enough among at stands. separated separator text part most some enough among at stands

@@ -1,5 +1,0 @@
-use Rattle.bq_builtin_string_parts.proofs.Places.{rfind_is}
-use Rattle.bq_builtin_string_parts.proofs.search.rfind.Goals as goal
-
-pub returns-clause-place : goal.returns-clause-place
-returns-clause-place c = rfind_is c.args.sub.now c.args.text.now c.rfind.result c.rfind.ensures

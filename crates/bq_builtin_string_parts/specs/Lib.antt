@@ -1,3 +1,0 @@
-pub mod Search
-pub mod Parts
-pub mod Trim

@@ -1,0 +1,14 @@
+pub mod Integer
+pub mod Division
+pub mod Shift
+pub mod Length
+pub mod Place
+pub mod RangeItem
+pub mod Slice
+pub mod Search
+pub mod Parts
+pub mod Trim
+pub mod Class
+pub mod Case
+pub mod Word
+pub mod Line

@@ -1,3 +1,0 @@
-pub mod Units
-pub mod Agreement
-pub mod Ends

@@ -1,4 +1,0 @@
-pub mod Names
-pub mod Files
-pub mod Module
-pub mod Laws

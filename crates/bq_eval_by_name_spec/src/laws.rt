@@ -1,8 +1,0 @@
-//! What holds of environments. The function does nothing: its contract is the law.
-
-ghost use Rattle.bq_eval_by_name_spec.specs.Laws.{BindingIsOfOneName};
-
-/// A name that is bound has its value, and every other name what it had.
-pub fn binding_is_of_one_name()
-    ensures { BindingIsOfOneName }
-{}

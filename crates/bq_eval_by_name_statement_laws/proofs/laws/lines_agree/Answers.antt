@@ -1,5 +1,0 @@
-use Rattle.bq_eval_by_name_statement_laws.proofs.Agreement.{lines_agree}
-use Rattle.bq_eval_by_name_statement_laws.proofs.laws.lines_agree.Goals as goal
-
-pub returns : goal.returns
-returns c w m file eval other evals = lines_agree m file eval other evals

@@ -1,3 +1,0 @@
-pub mod Referents
-pub mod Fits
-pub mod Depth

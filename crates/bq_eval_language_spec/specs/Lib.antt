@@ -1,9 +1,0 @@
-pub mod Environment
-pub mod Trees
-pub mod Targets
-pub mod Comprehensions
-pub mod Expressions
-pub mod Statements
-pub mod Calls
-pub mod Module
-pub mod Slots

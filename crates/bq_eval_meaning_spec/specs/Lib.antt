@@ -1,3 +1,0 @@
-pub mod Frame
-pub mod Primitives
-pub mod Laws

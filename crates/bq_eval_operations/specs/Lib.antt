@@ -1,8 +1,0 @@
-pub mod Comparing
-pub mod Making
-pub mod Passing
-pub mod Unpacking
-pub mod Calling
-pub mod Runtime
--- a few arguments, which no limit stops
-pub mod FewArguments

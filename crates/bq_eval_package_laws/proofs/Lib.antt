@@ -1,6 +1,0 @@
--- calls of build functions
-pub mod BuildFunctions
--- calls of rules
-pub mod RuleCalls
--- the evaluation of BUILD files
-pub mod BuildFiles

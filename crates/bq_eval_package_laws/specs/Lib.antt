@@ -1,4 +1,0 @@
--- calls of build functions
-pub mod BuildFunctions
--- calls of rules
-pub mod RuleCalls

@@ -1,0 +1,16 @@
+pub mod Frame
+pub mod Primitives
+pub mod FrameLaws
+pub mod Environment
+pub mod Trees
+pub mod Targets
+pub mod Comprehensions
+pub mod Expressions
+pub mod Statements
+pub mod Calls
+pub mod Module
+pub mod Slots
+pub mod Names
+pub mod Files
+pub mod ModuleByName
+pub mod EnvironmentLaws

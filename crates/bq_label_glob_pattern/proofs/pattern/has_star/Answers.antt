@@ -1,5 +1,0 @@
-use Rattle.bq_label_glob_pattern.proofs.Pieces.{has_star_by}
-use Rattle.bq_label_glob_pattern.proofs.pattern.has_star.Goals as goal
-
-pub returns : goal.returns
-returns c = has_star_by c.args.text.now c.memchr.result c.is_some.result c.memchr.ensures c.is_some.ensures

@@ -1,6 +1,0 @@
-pub mod Matching
-pub mod Segment
-pub mod Step
-pub mod Pattern
-pub mod PatternSet
-pub mod Unmatched

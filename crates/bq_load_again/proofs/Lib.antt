@@ -1,4 +1,0 @@
--- why a module keeps its outcome
-pub mod Keeping
--- which modules are unchanged
-pub mod Unchanged

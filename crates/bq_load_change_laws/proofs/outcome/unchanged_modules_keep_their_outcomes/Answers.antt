@@ -1,5 +1,0 @@
-use Rattle.bq_load_change_laws.proofs.Kept.{unchanged_keep}
-use Rattle.bq_load_change_laws.proofs.outcome.unchanged_modules_keep_their_outcomes.Goals as goal
-
-pub returns : goal.returns
-returns c = unchanged_keep

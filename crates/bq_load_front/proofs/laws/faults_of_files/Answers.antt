@@ -1,5 +1,0 @@
-use Rattle.bq_load_front.proofs.ResolvedFiles.{faults_of_files}
-use Rattle.bq_load_front.proofs.laws.faults_of_files.Goals as goal
-
-pub returns : goal.returns
-returns c = faults_of_files

@@ -1,5 +1,0 @@
-use Rattle.bq_load_front.proofs.Texts as texts
-use Rattle.bq_load_front.proofs.laws.files_of_texts.Goals as goal
-
-pub returns : goal.returns
-returns c = texts.files_of_texts

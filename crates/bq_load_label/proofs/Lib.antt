@@ -1,3 +1,0 @@
-pub mod Tests
-pub mod Unread
-pub mod Loads

@@ -1,0 +1,29 @@
+-- Which modules of a workspace that changed come to what they came to.
+use Rattle.std.specs.Prelude.{◌≡◌, ℕ, ◌<◌, List, length, Some, Ok, slice_get}
+use Rattle.bq_board.specs.Cycles.{Reaches}
+use Rattle.bq_board.specs.Graph.{Loads, Known, row}
+use Rattle.bq_load_discover.specs.declared.modules.Module.{Module}
+use Rattle.bq_load_order.specs.Outcome.{outcome, load_values}
+use Rattle.bq_load_order.specs.declared.outcome.Outcome.{Outcome}
+use Rattle.bq_load_order.specs.Slots.{Tabulates}
+use Rattle.bq_load_order.specs.Again.{had, EvaluatesAs}
+use Rattle.bq_load.specs.Evaluation.{kept_first, means}
+use Rattle.bq_load.specs.Loading.{LoadingParts}
+use Rattle.bq_load.specs.Views.{ModuleView, FailedView}
+
+-- The modules that loads lead to from this one are what they were, with their labels, numbers and what their files are on their own; its host
+-- begins with what it began with; and so are the names of the rules, and the limit of steps.
+pub record IsUnchanged (x y : LoadingParts) (p : Loads) (m : ℕ) : Type 0 where
+  pub names : y.names ≡ x.names
+  pub limit : y.limit ≡ x.limit
+  pub read : (l : ℕ) → Reaches p m l → slice_get y.modules l ≡ slice_get x.modules l
+  pub host : (s : Module) → slice_get x.modules m ≡ Some s → kept_first y s.label ≡ kept_first x s.label
+
+abbrev pub UnchangedModulesEvaluateAlike : Type 0
+UnchangedModulesEvaluateAlike =
+    (x y : LoadingParts) (p : Loads) (m : ℕ) → IsUnchanged x y p m → (modules : List ModuleView) → load_values (outcome (means x) p) (row p m) ≡ Ok modules → means y m modules ≡ means x m modules
+
+abbrev pub UnchangedModulesKeepTheirOutcomes : Type 0
+UnchangedModulesKeepTheirOutcomes =
+    (x y : LoadingParts) (p : Loads) → Known p → (outcomes : List (Outcome ModuleView FailedView)) → Tabulates (length p) (outcome (means x) p) outcomes
+    → (m : ℕ) → m < length p → IsUnchanged x y p m → EvaluatesAs (had outcomes) p m (means y) m

@@ -1,5 +1,0 @@
-use Rattle.bq_load_outcome_spec.proofs.Cases.{cyclic_says}
-use Rattle.bq_load_outcome_spec.proofs.laws.cyclic_outcome.Goals as goal
-
-pub returns : goal.returns
-returns g c means p = cyclic_says means p (c.cyclic_loads_a_cyclic.ensures p)

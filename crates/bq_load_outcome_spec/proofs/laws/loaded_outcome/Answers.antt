@@ -1,5 +1,0 @@
-use Rattle.bq_load_outcome_spec.proofs.Cases.{loaded_says}
-use Rattle.bq_load_outcome_spec.proofs.laws.loaded_outcome.Goals as goal
-
-pub returns : goal.returns
-returns g c means p = loaded_says means p

@@ -1,2 +1,0 @@
--- the type that a name finds has the name
-pub mod Named

@@ -1,2 +1,0 @@
-pub mod AttributeType
-pub mod Laws

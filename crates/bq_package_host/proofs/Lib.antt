@@ -1,3 +1,0 @@
-pub mod Cases
--- built-in functions and their names
-pub mod Named

@@ -1,5 +1,0 @@
-use Rattle.bq_package_host.proofs.Named.{each_is}
-use Rattle.bq_package_host.proofs.laws.each_is_what_it_is_called.Goals as goal
-
-pub returns : goal.returns
-returns c = each_is c.each_name_is_found.ensures

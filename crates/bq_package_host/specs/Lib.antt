@@ -1,3 +1,0 @@
-pub mod Host
-pub mod BuiltIns
-pub mod Laws

@@ -1,5 +1,0 @@
-use Rattle.bq_package_rule_functions.proofs.Orders.{none_in_build}
-use Rattle.bq_package_rule_functions.proofs.laws.no_rule_is_declared_in_a_build_file.Goals as goal
-
-pub returns : goal.returns
-returns c = none_in_build

@@ -1,8 +1,0 @@
-use Rattle.std.proofs.Common.{◌≡◌, ◌++◌, drop}
-use Rattle.std.specs.List.{flat_map}
-use Rattle.bq_facts_json.specs.Values.{comma}
-use Rattle.bq_package_typed_value.specs.Json.{json_label}
-use Rattle.bq_package_typed_value.proofs.json.push_further.Given as goal
-
-abbrev pub invariant-loop-label : goal.invariant-loop-label
-invariant-loop-label l = l.text.items ++ flat_map (λ x. comma ++ json_label x) (drop l.label-index l.labels) ≡ l.initial.text.items ++ flat_map (λ x. comma ++ json_label x) l.labels

@@ -1,5 +1,0 @@
-use Rattle.bq_package_typed_value.proofs.Taken.{each_type_refuses_other_values}
-use Rattle.bq_package_typed_value.proofs.laws.each_type_refuses_other_values.Goals as goal
-
-pub returns : goal.returns
-returns c = each_type_refuses_other_values

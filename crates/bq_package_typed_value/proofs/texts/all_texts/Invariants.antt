@@ -1,8 +1,0 @@
--- the values that are left decide
-use Rattle.std.proofs.Common.{◌≡◌, drop}
-use Rattle.bq_package_typed_value.specs.Steps.{in_turn}
-use Rattle.bq_package_typed_value.specs.Texts.{text_in, all_texts}
-use Rattle.bq_package_typed_value.proofs.texts.all_texts.Given as goal
-
-abbrev pub invariant-loop-value : goal.invariant-loop-value
-invariant-loop-value l = all_texts l.why l.values ≡ in_turn (text_in l.why) l.texts.items (drop l.value-index l.values)

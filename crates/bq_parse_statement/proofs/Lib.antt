@@ -1,4 +1,0 @@
-pub mod LoopTurns
-pub mod Reversed
-pub mod Strings
-pub mod Taken

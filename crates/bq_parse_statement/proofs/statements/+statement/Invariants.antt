@@ -1,4 +1,0 @@
-use Rattle.bq_parse_statement.proofs.statements.+statement.Given as goal
-
-abbrev pub decreases-statement : goal.decreases-statement
-decreases-statement l = l.depth

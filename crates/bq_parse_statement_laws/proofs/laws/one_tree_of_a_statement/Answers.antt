@@ -1,5 +1,0 @@
-use Rattle.bq_parse_statement_laws.proofs.Verdicts.{one_statement, ends_there}
-use Rattle.bq_parse_statement_laws.proofs.laws.one_tree_of_a_statement.Goals as goal
-
-pub returns : goal.returns
-returns c depth ts rest plain h x y p q = one_statement depth ts rest x y plain (ends_there rest h) p q

@@ -1,5 +1,0 @@
-use Rattle.bq_parse_statement_laws.proofs.Verdicts.{statement_sound}
-use Rattle.bq_parse_statement_laws.proofs.laws.what_is_read_is_a_statement.Goals as goal
-
-pub returns : goal.returns
-returns c depth ts = statement_sound depth ts

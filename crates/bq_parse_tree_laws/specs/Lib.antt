@@ -1,4 +1,0 @@
-pub mod Parts
-pub mod Writes
-pub mod Depth
-pub mod LeftOut

@@ -1,5 +1,0 @@
-use Rattle.bq_query_laws.proofs.Queries.Missing.{missing_package_first}
-use Rattle.bq_query_laws.proofs.query.a_missing_package_is_named_before_a_missing_target.Goals as goal
-
-pub returns : goal.returns
-returns c = missing_package_first

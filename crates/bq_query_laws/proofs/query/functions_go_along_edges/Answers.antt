@@ -1,5 +1,0 @@
-use Rattle.bq_query_laws.proofs.Queries.Edges.{by_edges}
-use Rattle.bq_query_laws.proofs.query.functions_go_along_edges.Goals as goal
-
-pub returns : goal.returns
-returns c = by_edges

@@ -1,5 +1,0 @@
-use Rattle.bq_query_laws.proofs.Queries.Numbers.{numbers}
-use Rattle.bq_query_laws.proofs.query.numbers_are_decimal.Goals as goal
-
-pub returns : goal.returns
-returns c = numbers

@@ -1,5 +1,0 @@
-use Rattle.bq_query_laws.proofs.Queries.Missing.{fails_for_first}
-use Rattle.bq_query_laws.proofs.query.queries_fail_for_the_first_missing_word.Goals as goal
-
-pub returns : goal.returns
-returns c = fails_for_first

@@ -1,5 +1,0 @@
-use Rattle.bq_query_parse.proofs.Texts.{one_tree}
-use Rattle.bq_query_parse.proofs.laws.one_tree_of_a_text.Goals as goal
-
-pub returns : goal.returns
-returns c text = one_tree text

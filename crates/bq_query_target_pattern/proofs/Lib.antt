@@ -1,8 +1,0 @@
--- what a text names as a label
-pub mod Names
--- which words are patterns over all that is beneath a package
-pub mod Patterns
--- words that begin as patterns are patterns where they are labels
-pub mod Readable
--- words that are read, one after another
-pub mod Words

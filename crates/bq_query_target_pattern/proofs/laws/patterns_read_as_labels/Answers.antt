@@ -1,5 +1,0 @@
-use Rattle.bq_query_target_pattern.proofs.Readable as readable
-use Rattle.bq_query_target_pattern.proofs.laws.patterns_read_as_labels.Goals as goal
-
-pub returns : goal.returns
-returns c word begins = readable.patterns_read_as_labels word begins

@@ -1,5 +1,0 @@
-use Rattle.bq_query_target_sets.proofs.Packages as packages
-use Rattle.bq_query_target_sets.proofs.laws.words_name_labels_and_packages.Goals as goal
-
-pub returns : goal.returns
-returns c word p t h hl = packages.words_name_labels_and_packages word p t h hl

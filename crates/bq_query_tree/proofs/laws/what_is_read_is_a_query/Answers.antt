@@ -1,5 +1,0 @@
-use Rattle.bq_query_tree.proofs.Queries.{sound}
-use Rattle.bq_query_tree.proofs.laws.what_is_read_is_a_query.Goals as goal
-
-pub returns : goal.returns
-returns c depth ts rest = sound depth ts rest

@@ -1,0 +1,29 @@
+use Rattle.std.proofs.Common.{◌≡◌, ◌∙◌, ◌≤◌, length, Ok, length-set, arith}
+use Rattle.std.proofs.lemmas.Grind.{common_steps}
+use Rattle.bq_parse_grammar.specs.declared.tree.Suffix.{Suffix, out-Suffix}
+use Rattle.bq_resolve_scope.specs.Expressions.{suffix_by, suffixes, expr_to}
+use Rattle.bq_resolve_scope.specs.Visit.{Visit}
+use Rattle.bq_resolve.proofs.Each.{each_more, each_fault, each_end}
+use Rattle.bq_resolve.proofs.rules.Rules.suffixes_from.Goals as goal
+
+pub loop-at-preserved : goal.loop-at-preserved
+loop-at-preserved g c =
+    let one : Suffix → Visit Suffix = λ x. suffix_by c.args.self.now.scope.file.now (expr_to c.args.self.now.depth c.args.self.now.scope.file.now) c.args.self.now.scope.blocks.now (out-Suffix x) in
+    let went : one c.item_mut.result.now c.loop-at.walk ≡ Ok (c.suffix.new.suffix, c.suffix.new.walk) = grind (arith, common_steps) in
+    let len : c.len-at-end.result ≡ length c.loop-at.suffixes = c.loop-at.invariant.0 in
+    (grind (arith, common_steps, length-set), each_more one c.loop-at.suffixes c.loop-at.at c.item_mut.result.now c.loop-at.walk c.item_mut.ensures.value c.suffix.new.suffix c.suffix.new.walk went ∙ c.loop-at.invariant.1)
+
+pub returns-in_err-suffix : goal.returns-in_err-suffix
+unfolding suffixes
+returns-in_err-suffix g c =
+    let one : Suffix → Visit Suffix = λ x. suffix_by c.args.self.now.scope.file.now (expr_to c.args.self.now.depth c.args.self.now.scope.file.now) c.args.self.now.scope.blocks.now (out-Suffix x) in
+    let fault = each_fault one c.loop-at.suffixes c.loop-at.at c.item_mut.result.now c.loop-at.walk c.item_mut.ensures.value in
+    grind (arith, common_steps, fault)
+
+pub returns : goal.returns
+unfolding suffixes
+returns g c =
+    let one : Suffix → Visit Suffix = λ x. suffix_by c.args.self.now.scope.file.now (expr_to c.args.self.now.depth c.args.self.now.scope.file.now) c.args.self.now.scope.blocks.now (out-Suffix x) in
+    let past : length c.loop-at.suffixes ≤ c.loop-at.at = grind (arith, common_steps) in
+    let end = each_end one c.loop-at.suffixes c.loop-at.at c.loop-at.walk past in
+    grind (arith, common_steps, end)

@@ -1,4 +1,0 @@
-pub mod Walks
-pub mod Rules
-pub mod Comprehensions
-pub mod Members

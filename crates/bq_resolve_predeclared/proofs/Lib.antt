@@ -1,5 +1,0 @@
--- `Found`: a look-up by name finds what has the name, and nothing else. `AttrFound`: so does one of `attr.NAME`.
-pub mod Found
-mod AttrFound
--- Parts of definitions, as words that proofs name.
-pub mod Cases

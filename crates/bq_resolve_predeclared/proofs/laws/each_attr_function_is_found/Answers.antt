@@ -1,5 +1,0 @@
-use Rattle.bq_resolve_predeclared.proofs.AttrFound.{each_attr_function}
-use Rattle.bq_resolve_predeclared.proofs.laws.each_attr_function_is_found.Goals as goal
-
-pub returns : goal.returns
-returns c = each_attr_function

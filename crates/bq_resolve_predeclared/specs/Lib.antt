@@ -1,4 +1,0 @@
-pub mod RuleFunctions
-pub mod HostFunctions
-pub mod Predeclared
-pub mod Laws

@@ -1,4 +1,0 @@
--- What is left out of a file that is too long.
-pub mod Cuts
--- How many bytes the files of a workspace have.
-pub mod Bytes

@@ -1,2 +1,0 @@
--- How much a walk keeps.
-pub mod Walk

@@ -1,5 +1,0 @@
-use Rattle.bq_run_laws.proofs.Written.{bundle_first}
-use Rattle.bq_run_laws.proofs.laws.bundles_come_first.Goals as goal
-
-pub returns : goal.returns
-returns c = bundle_first

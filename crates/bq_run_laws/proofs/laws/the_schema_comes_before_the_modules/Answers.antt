@@ -1,5 +1,0 @@
-use Rattle.bq_run_laws.proofs.Order.{wrong_schema_first}
-use Rattle.bq_run_laws.proofs.laws.the_schema_comes_before_the_modules.Goals as goal
-
-pub returns : goal.returns
-returns c = wrong_schema_first

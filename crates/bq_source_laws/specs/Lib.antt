@@ -1,3 +1,0 @@
-pub mod InWords
-pub mod Strings
-pub mod Tables

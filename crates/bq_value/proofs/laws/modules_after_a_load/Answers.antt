@@ -1,5 +1,0 @@
-use Rattle.bq_value.proofs.Freezes.{at_loaded}
-use Rattle.bq_value.proofs.laws.modules_after_a_load.Goals as goal
-
-pub returns : goal.returns
-returns c = at_loaded

@@ -1,5 +1,0 @@
-use Rattle.bq_value_compare.proofs.Orders.{equal_keys}
-use Rattle.bq_value_compare.proofs.laws.equal_keys_are_one.Goals as goal
-
-pub returns : goal.returns
-returns c = equal_keys

@@ -1,5 +1,0 @@
-use Rattle.bq_value_compare.proofs.Elements.{ranges_by_elements}
-use Rattle.bq_value_compare.proofs.laws.ranges_are_equal_by_their_elements.Goals as goal
-
-pub returns : goal.returns
-returns c = ranges_by_elements

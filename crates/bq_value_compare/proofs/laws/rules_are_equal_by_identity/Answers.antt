@@ -1,5 +1,0 @@
-use Rattle.bq_value_compare.proofs.Identity.{rules_by_cell}
-use Rattle.bq_value_compare.proofs.laws.rules_are_equal_by_identity.Goals as goal
-
-pub returns : goal.returns
-returns c = rules_by_cell

@@ -1,8 +1,0 @@
--- Words of the laws.
-use Rattle.std.specs.Prelude.{◌≡◌, ◌↔◌, true}
-use Rattle.bq_value_rule_class.specs.Same.{same_attribute}
-use Rattle.bq_value_rule_class.specs.declared.attribute.Attribute.{Attribute}
-
--- two attributes are the same exactly where they are equal
-abbrev pub SameAttributesAreEqual : Type 0
-SameAttributesAreEqual = (a b : Attribute) → (same_attribute a b ≡ true) ↔ (a ≡ b)

@@ -1,6 +1,0 @@
-use Rattle.bq_value_seed.specs.Folding.{read_u32}
-use Rattle.bq_value_seed.proofs.folding.read_u32.Goals as goal
-
-pub returns : goal.returns
-unfolding read_u32
-returns c = c.from_le_bytes.ensures

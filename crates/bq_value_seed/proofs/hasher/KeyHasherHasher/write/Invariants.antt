@@ -1,9 +1,0 @@
-use Rattle.std.specs.Prelude.{◌≡◌, ◌-◌, ◌/◌, ◌%◌, ◌<◌}
-use Rattle.bq_value_seed.specs.Folding.{mix_blocks}
-use Rattle.bq_value_seed.proofs.hasher.KeyHasherHasher.write.Given as goal
-
-abbrev pub invariant-loop-at : goal.invariant-loop-at
-invariant-loop-at l = (l.at % 16 ≡ 0) × (l.at < l.len) × (l.state ≡ mix_blocks l.multiplier l.bytes l.initial.state (l.at / 16))
-
-abbrev pub decreases-loop-at : goal.decreases-loop-at
-decreases-loop-at l = l.len - l.at
