@@ -4,14 +4,16 @@ import os
 import re
 from collections import Counter, defaultdict
 
+from bzlq.overlay.arguments import ANY, SHOWN
 from bzlq.overlay.definitions import NO_ATTRIBUTES, definition, made_up, value_for
 from bzlq.overlay.extra_targets import text_of
 from bzlq.overlay.global_names import VALUE, GlobalNames
 from bzlq.overlay.guesses import by_values
 from bzlq.overlay.lost_values import lost_names
-from bzlq.overlay.reading import BUILD_FUNCTIONS, BUILT_INS, LEFT_OUT, Statement, read
+from bzlq.overlay.reading import BUILD_FUNCTIONS, BUILT_INS, IDENTIFIER, LEFT_OUT, Statement, read
 from bzlq.overlay.replaced import Replaced
 from bzlq.overlay.replacements import EXISTING, NATIVE_VALUES
+from bzlq.overlay.rule_attributes import VALUE as VALUE_OF_DEFAULT, RuleAttributes
 from bzlq.overlay.skylib import MEMBERS, REPOSITORY as SKYLIB
 from bzlq.workspace.files import MAX_SIZE, SCHEMA, content, files, has_content, is_path, own_name_in
 
@@ -172,6 +174,7 @@ class Facts:
         self.everywhere = defaultdict(Counter)  # keyword -> kinds
         self.refused = set()  # the paths of .bzl files that are loaded, and can't be laid over the tree
         self.struct_files = None  # once it is asked for: whether a file makes structs
+        self.rule_attributes = RuleAttributes(workspace, self.names)
         self.said = None  # once it is asked for: the types that rules of each name say, by attribute
         self.copies = None  # once they are made: by the path a text, and how many parts of each kind it has instead
         self.further = {}  # what else macros seem to declare, once it is known (extra_targets.py)
@@ -507,19 +510,28 @@ class Facts:
             return f"def {name}(name, visibility = None, **given): {function}(name = name, visibility = visibility, **dict({defaults}, **given))"
         if file.size > MAX_SIZE and file.kinds.get(name) == "dict":
             return f"{name} = {{}}"
-        return definition("", name, self.stub(place, name), self.lost_of(place, name), self.defaults_of(file, name)) + text_of(self.further.get((place, name)))
+        return definition("", name, self.stub(place, name), self.lost_of(place, name), *self.defaults_of(file, name)) + text_of(self.further.get((place, name)))
+
+    def types_of(self, path, name):
+        """The types that the attributes of a rule have which a file makes, as far as texts show them."""
+        return self.rule_attributes.of(path, name).named() if name in self.workspace.files[path].made else {}
 
     def defaults_of(self, file, name):
-        """The defaults of the attributes of a rule that a file makes, but for those that other rules of its name have with another type: the schema has one."""
-        if not file.defaults.get(name):
-            return {}
+        """The defaults of the attributes of a rule that a file makes, and the names of those that aren't shown, or aren't given since other rules of its
+        name have the attribute with another type: the schema has one. Where there may be other attributes, what says so is among the names."""
+        if name not in file.made:
+            return {}, []
         if self.said is None:
             self.said = defaultdict(lambda: defaultdict(set))
-            for it in self.workspace.files.values():
-                for symbol, types in it.made.items():
-                    for attribute, kind in types.items():
+            for path, it in self.workspace.files.items():
+                for symbol in it.made:
+                    for attribute, kind in self.types_of(path, symbol).items():
                         self.said[symbol][attribute].add(kind)
-        return {attribute: it for attribute, it in file.defaults[name].items() if len(self.said[name][attribute]) == 1 and attribute not in NO_ATTRIBUTES}
+        found = self.rule_attributes.of(file.path, name)
+        is_given = lambda it: len(self.said[name][it]) == 1 and it not in NO_ATTRIBUTES and IDENTIFIER.fullmatch(it)  # noqa: E731
+        given = {attribute: it[1] for attribute, it in found.defaults.items() if it[:1] == (VALUE_OF_DEFAULT,) and is_given(attribute)}
+        hidden = [attribute for attribute, it in found.defaults.items() if it and attribute not in given and not attribute.startswith("_")]
+        return given, hidden if found.is_whole else [*hidden, ANY, *(f"{SHOWN}{it}" for it in found.defaults if it not in hidden)]
 
     def makes_targets(self, file, name):
         """Whether a name stands for a macro or rule that isn't there."""

@@ -6,8 +6,9 @@ from collections import Counter, namedtuple
 
 from bzlq.bq import Facts, ended_by, where_of
 from bzlq.facts.query_text import TOKEN
-from bzlq.overlay.arguments import LOST, LOST_ATTRIBUTE
+from bzlq.overlay.arguments import ANY, DEFAULTS_ATTRIBUTE, LOST, LOST_ATTRIBUTE, SHOWN
 from bzlq.overlay.attribute_defaults import OF_MACROS, rules_with
+from bzlq.overlay.guesses import COMMON
 
 WORDS = {
     "kind": "kind made up", "targets": "one target for a macro", "value": "value that isn't there", "edges": "edges by a type that was guessed",
@@ -18,6 +19,7 @@ HEADER = re.compile(rb"=== (\d) (\d+) [^\n]*\n")
 USERS = ("rdeps", "allpaths")
 KINDS = re.compile(r"\b(?:kind|tests)\s*\(")
 VISIBILITY = re.compile(r"\battr\s*\(\s*[\"']?visibility\b")
+IDENTIFIER = re.compile(r"[A-Za-z_]\w*", re.ASCII)
 TESTONLY = re.compile(r"\battr\s*\(\s*[\"']?testonly\b")
 
 Ended = namedtuple("Ended", "stdout stderr returncode")
@@ -85,7 +87,16 @@ def ungiven_of(name, pattern, query, place):
         packages = packages_with("default_deprecation", place)
         return f'kind(" rule$", {query}) ^ {all_in(packages)}' if packages else ""
     rules = rules_with(name, pattern)
-    return f'kind("^({"|".join(rules)}) rule$", {query})' if rules else ""
+    found = [f'kind("^({"|".join(rules)}) rule$", {query})'] if rules else []
+    if IDENTIFIER.fullmatch(name) and name not in COMMON:
+        found += [hidden_of(name, query), lost_of(query, "kind", "targets")]
+    return " + ".join(found)
+
+
+def hidden_of(name, query):
+    """The query for the targets of a query whose rules have a default of this attribute that isn't known, or may have the attribute."""
+    of = lambda element: f'attr({DEFAULTS_ATTRIBUTE}, "[\\[ ]{element}[,\\]]", {query})'  # noqa: E731
+    return f"({of(f'({name}|[{ANY}])')} - {of(f'{SHOWN}{name}')})"
 
 
 def absent_of(query):

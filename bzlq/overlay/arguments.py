@@ -1,10 +1,11 @@
 """What stands between the calls of an overlay's files and the rules of its schema: the text of `@bzlq//:given.bzl`.
 
-For each rule `x` it has a function `bzlq_r_x`, which declares the target, and puts into two attributes of their own what the rule can't be given:
+For each rule `x` it has a function `bzlq_r_x`, which declares the target, and puts into three attributes of their own what the rule can't be given:
 
 - `bzlq_edges`: what Bazel's query makes edges of, and no other attribute has: conditions of a `select`, the branches of one value that aren't
   taken, labels among the keys of a dict;
-- `bzlq_lost`: what was made up or left out, as texts, each with one of the words of LOST and a colon before it.
+- `bzlq_lost`: what was made up or left out, as texts, each with one of the words of LOST and a colon before it;
+- `bzlq_defaults`: the attributes that aren't given and whose defaults aren't known.
 
 A `select` is a list of all of its branches with a mark before them, or the default branch with marks in it. Nothing that Bazel loads looks into
 a `select`, so the marks come to the calls as they are, and are taken out there.
@@ -27,7 +28,10 @@ LOST = {
     "select": False,  # the other branches of an attribute with one value
 }
 LOST_ATTRIBUTE = "bzlq_lost"
-ATTRIBUTES = {"bzlq_edges": "label_list", LOST_ATTRIBUTE: "string_list"}
+DEFAULTS_ATTRIBUTE = "bzlq_defaults"
+# in that, what says that a rule may have attributes that aren't shown, and what stands before the names of those that are
+ANY, SHOWN = "*", "-"
+ATTRIBUTES = {"bzlq_edges": "label_list", LOST_ATTRIBUTE: "string_list", DEFAULTS_ATTRIBUTE: "string_list"}
 # attributes whose dicts have texts as keys
 TEXTS = ("define_values", "env", "exec_properties", "rustc_env", "substitutions", "values")
 DIRECTORY = "external/bzlq"
@@ -195,7 +199,7 @@ def _unnamed(args):
     is_odd = [it for it in texts if it[:1] in (":", "@") or ("." in it or "/" in it) and " " not in it and it[:1] != "-"]
     return ["edges: arguments without a name"] if is_odd or _MARK in str(args) else []
 
-def bzlq_given(rule, lost, given, args = (), defaults = {}):
+def bzlq_given(rule, lost, given, args = (), defaults = {}, hidden = ()):
     found, edges = dict(given), {}
     lost = lost + (found.pop("bzlq_lost", None) or []) + (_unnamed(args) if args else [])
     text = str(given)
@@ -217,6 +221,8 @@ def bzlq_given(rule, lost, given, args = (), defaults = {}):
     for key, value in defaults.items():
         if found.get(key) == None:
             found[key] = value
+    if hidden:
+        found["bzlq_defaults"] = [it for it in hidden if found.get(it) == None]
     if _PASSED:
         lost = lost + _PASSED.get(native.package_name(), [])
     if lost:

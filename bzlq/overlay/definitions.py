@@ -59,8 +59,9 @@ def made_up(symbol, label):
     return [] if name in TYPES and name not in OTHER_KINDS and name not in ENDINGS else [f"kind: {symbol} of {label}, which isn't there"]
 
 
-def forwarded(symbol, lost, endings, defaults):
-    """The text of a macro that forwards to a rule, with these defaults of its attributes, and declares targets of these endings, each with its rule, beside it."""
+def forwarded(symbol, lost, endings, defaults, hidden):
+    """The text of a macro that forwards to a rule, with these defaults of its attributes, and the names of those whose defaults aren't known, and declares
+    targets of these endings, each with its rule, beside it."""
     texts = ", ".join(quoted(it) for it in lost)
 
     def call(rule, given, unnamed=""):
@@ -68,18 +69,19 @@ def forwarded(symbol, lost, endings, defaults):
 
     more = "".join(f'; {call(rule, f"""{{"name": name + "{ending}", "data": [":" + name]}}""")}' for ending, rule in endings.items())
     size = f', "size": "{SIZES[symbol]}"' if symbol in SIZES else ""
-    more_given = f", args, {starlark(defaults)}" if defaults else ", args"
+    more_given = ", args" + (f", {starlark(defaults)}" if defaults or hidden else "") + (f", {starlark(hidden)}" if hidden else "")
     return f"def {symbol}(name, *args, **given): " + call(rule_of(symbol), f'dict({{"name": name{size}}}, **given)', more_given) + more
 
 
-def definition(repository, symbol, stub, lost=(), defaults=()):
-    """The text that defines a symbol, in one line but for members of skylib's. `lost` says what is made up; `defaults` are those of a rule's attributes."""
+def definition(repository, symbol, stub, lost=(), defaults=(), hidden=()):
+    """The text that defines a symbol, in one line but for members of skylib's. `lost` says what is made up; `defaults` are those of a rule's attributes, and
+    `hidden` the names of those whose defaults aren't known."""
     if symbol in skylib.MEMBERS and repository:
         return f"def {symbol}{skylib.MEMBERS[symbol]}"
     if symbol in KNOWN.get(repository, {}):
         return f"def {symbol}{KNOWN[repository][symbol]}".replace("LOST", f"[{', '.join(quoted(it) for it in lost)}]")
     if stub.makes_targets:
-        return forwarded(symbol, lost, ENDINGS.get(symbol, {}) if repository else {}, defaults)
+        return forwarded(symbol, lost, ENDINGS.get(symbol, {}) if repository else {}, dict(defaults), hidden)
     if repository and symbol in LABELS_OF:
         return f"def {symbol}(name, *args, **kwargs): return {LABELS_OF[symbol].format(repository=repository)}"
     if not stub.is_called:

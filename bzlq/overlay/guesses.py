@@ -3,6 +3,7 @@ from collections import Counter
 
 from bzlq.overlay.rule_sets import OF_BAZEL, TYPES
 
+# attributes of all rules, whose defaults none of them chooses
 COMMON = set("name visibility tags features testonly deprecation".split())
 
 BY_NAME = {

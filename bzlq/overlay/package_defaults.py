@@ -5,6 +5,7 @@ import json
 import os
 import re
 
+from bzlq.overlay.literals import literal
 from bzlq.overlay.reading import parsed
 from bzlq.workspace.files import content, files, parts
 from bzlq.workspace.packages import NAMES as NAMES_OF_FILES
@@ -59,15 +60,3 @@ def shown(node):
     """The value of an expression that shows it; null for another one."""
     is_shown, value = literal(node)
     return value if is_shown and isinstance(value, str | bool | int | list) else None
-
-
-def literal(node):
-    """Whether an expression shows its value, and the value; lists may be joined by `+`."""
-    if isinstance(node, ast.BinOp) and isinstance(node.op, ast.Add):
-        (is_left, left), (is_right, right) = literal(node.left), literal(node.right)
-        is_shown = is_left and is_right and type(left) is type(right) and isinstance(left, str | list)
-        return is_shown, left + right if is_shown else None
-    try:
-        return True, ast.literal_eval(node)
-    except (ValueError, TypeError, SyntaxError, RecursionError, MemoryError):
-        return False, None

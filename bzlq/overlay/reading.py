@@ -11,6 +11,7 @@ from collections import defaultdict
 from dataclasses import dataclass, field, replace
 
 from bzlq.overlay.replacements import EXISTING, NAMES, REPLACED, asks_for_rules, label_in, labels_bound, replacement, struct_makers, structs_in
+from bzlq.overlay.rule_attributes import changed_parts, constant, global_parts, rule_parts
 from bzlq.overlay.rule_sets import BAZEL
 from bzlq.workspace.files import MAX_SIZE
 
@@ -49,7 +50,7 @@ FOR = re.compile(rb"for(?<!\wfor)\b")
 # how often a file is read again for its structs
 MOST_READ_AGAIN = 4
 # the parts of a `File` that its tree fills
-FILLED = """loads defs aliases natives made defaults macros tests kinds called plain statements globals calls uses members member_calls faults decisions""".split()
+FILLED = """loads defs aliases natives made attributes constants macros tests kinds called plain statements globals calls uses members member_calls faults decisions""".split()
 
 
 # what leaves a function, or a turn of a loop, and what it stands in
@@ -141,8 +142,9 @@ class File:
     defs: dict = field(default_factory=dict)
     aliases: dict = field(default_factory=dict)  # a global that is another name
     natives: dict = field(default_factory=dict)  # a global that is a member of `native`: a rule of Bazel's own
-    made: dict = field(default_factory=dict)  # a global that a call of `rule` gives: the types that it says, by attribute
-    defaults: dict = field(default_factory=dict)  # the same global: the defaults that the text shows, by attribute
+    made: dict = field(default_factory=dict)  # a global that a call of `rule` gives: what it shows of the rule's attributes (rule_attributes.py)
+    attributes: dict = field(default_factory=dict)  # another global of a .bzl file: what it shows of attributes that rules may have
+    constants: dict = field(default_factory=dict)  # a global of a .bzl file, and a tuple of its value, where an attribute may have that as its default
     macros: dict = field(default_factory=dict)  # a global that a call of `macro` gives: its function, and the text of its attributes' defaults
     size: int = 0
     tests: set = field(default_factory=set)  # those of them that say `test = True`
@@ -624,50 +626,6 @@ def set_keys(function):
     return found
 
 
-# the types of a schema, by the functions of `attr` in a rule's attributes
-ATTRIBUTE_TYPES = {name: name for name in "bool int label label_list output output_list string string_list".split()}
-
-
-def rule_attributes(value, dicts):
-    """The types that a call of `rule` gives its attributes, and their defaults, as far as the text and these globals show them; nothing for another value."""
-    match value:
-        case ast.Call(func=ast.Name(id="rule")):
-            pass
-        case ast.Call(func=ast.Attribute(value=ast.Name(id="analysistest" | "unittest"), attr="make")):
-            return {"target_under_test": "label"}, {}
-        case _:
-            return None, {}
-    shown = [part for key in value.keywords if key.arg == "attrs" for part in ast.walk(key.value)]
-    shown += [part for name in shown if isinstance(name, ast.Name) and name.id in dicts for part in ast.walk(dicts[name.id])]
-    pairs = [pair for part in shown if isinstance(part, ast.Dict) for pair in zip(part.keys, part.values)]
-    pairs += [(ast.Constant(key.arg), key.value) for part in shown if isinstance(part, ast.Call) for key in part.keywords if key.arg]
-    types, defaults = {}, {}
-    for name, kind in pairs:
-        match name, kind:
-            case ast.Constant(value=str() as name), ast.Call(func=ast.Attribute(value=ast.Name(id="attr"), attr=of), keywords=given):
-                types[name] = ATTRIBUTE_TYPES.get(of, "")
-                defaults[name] = default_shown(types[name], given, dicts)
-    return types, {name: it for name, it in defaults.items() if it and IDENTIFIER.fullmatch(name)}
-
-
-# the types of defaults that are given as data: those of labels would make edges, which Bazel counts as implicit
-GIVEN_TYPES = {"bool": bool, "int": int, "string": str, "string_list": list}
-MOST_OF_DEFAULT = 1000
-
-
-def default_shown(kind, given, dicts):
-    """The default of an attribute of this type, where these arguments or these globals show it, and it isn't what the type has anyway."""
-    value = next((key.value for key in given if key.arg == "default"), None)
-    value = dicts.get(value.id) if isinstance(value, ast.Name) else value
-    try:
-        found = ast.literal_eval(value) if isinstance(value, ast.Constant | ast.List | ast.UnaryOp) else None
-    except (ValueError, TypeError):
-        return None
-    texts = found if isinstance(found, list) else [found] if isinstance(found, str) else []
-    is_one = type(found) is GIVEN_TYPES.get(kind) and all(isinstance(it, str) and it.isprintable() for it in texts)
-    return found if is_one and found and len(str(found)) <= MOST_OF_DEFAULT else None
-
-
 # what attributes of a symbolic macro have where neither a call nor their definition says it
 NOTHING = {"bool": "False", "int": "0", "string": '""', "label": "None", "output": "None", "label_list": "[]", "string_list": "[]", "int_list": "[]", "output_list": "[]"}
 
@@ -730,6 +688,7 @@ def top_level(file, tree, may_bind):
     dicts, left = {}, MOST_ATTRIBUTES
     for node in tree.body:
         file.statements.append(Statement(node.lineno, node.end_lineno, bound_by(node), isinstance(node, ast.FunctionDef)))
+        change(file, node)
         match node:
             case ast.Expr(value=ast.Call(func=ast.Name(id="load")) as call):
                 if found := load_of(call):
@@ -754,18 +713,37 @@ def top_level(file, tree, may_bind):
                     dicts[part.id] = value
                     if found := symbolic(value, dicts):
                         file.macros[part.id] = found
-                    attributes, defaults = rule_attributes(value, dicts)
-                    if attributes is not None:
-                        file.made[part.id], file.defaults[part.id] = attributes, defaults
-                        left -= len(attributes)
+                    shown = rule_parts(value)
+                    if shown is not None:
+                        file.made[part.id] = shown
+                        left -= len(shown)
                         if left < 0:
                             raise ValueError(f"its rules have more than {MOST_ATTRIBUTES:,} attributes")
                         if any(key.arg == "test" and getattr(key.value, "value", False) is True for key in value.keywords):
                             file.tests.add(part.id)
+                    elif not file.is_build and isinstance(part.ctx, ast.Store):
+                        may_be_of_rules(file, part.id, value)
             case ast.Expr() if not may_bind:
                 pass
             case _:
                 file.globals.update(part.id for part in nodes_of(node) if isinstance(part, ast.Name) and isinstance(part.ctx, ast.Store))
+
+
+def may_be_of_rules(file, name, value):
+    """Has a file say what a global shows of attributes, and of a default."""
+    shown = global_parts(value)
+    if shown is not None:
+        file.attributes[name] = shown
+    if known := constant(value):
+        file.constants[name] = known
+
+
+def change(file, node):
+    """Has a file say no more than is sure of a global whose value a statement at the top changes."""
+    name, shown = changed_parts(node)
+    file.constants.pop(name, None)
+    if name in file.attributes:
+        file.attributes[name] = [*file.attributes[name], *shown]
 
 
 def one_by_one(error):

@@ -11,6 +11,7 @@ from bzlq.overlay import approximations
 from bzlq.overlay.arguments import LOST
 from histories import Project
 from mistakes import MISTAKES, WORKSPACE
+from more_mistakes import quoted
 
 PAGE = f"{ROOT}/docs/REAL_WORKSPACES.md"
 
@@ -479,6 +480,47 @@ def own_rules(bench):
     told(bench, "no default of own rules", changed(bench, "own", OWN_RULES, "tools/other.sh", "x"), "", ["affected: in no target: tools/other.sh\n"], 0)
 
 
+# rules whose definitions don't show all defaults: names and dicts of other files, sums, functions, labels, a rule that a function makes
+HIDDEN = {
+    "tools/BUILD": "", "tools/names.bzl": 'LEVEL = 3\nMODE = "fast"\nOPTS = ["-a"]\nOPTS.append("-b")\ndef text(x):\n    return x + "er"\n',
+    "tools/common.bzl": 'load(":names.bzl", "MODE")\nCOMMON = {"mode": attr.string(default = MODE), "speed": attr.string(default = "high")}\nPLAIN = {"mode": attr.string()}\nPLAIN["speed"] = attr.string(default = "low")\n'
+                        'SPEED = attr.string(default = "high")\ndef more_attrs():\n    return {"made": attr.string(default = "m")}\n',
+    "tools/defs.bzl": 'load(":names.bzl", "LEVEL", "MODE", "OPTS", "text")\nload(":common.bzl", "COMMON", "PLAIN", "SPEED", "more_attrs")\nload("@r//:m.bzl", "MORE")\ndef _impl(ctx):\n    pass\n'
+                      '_A = {"one": attr.string(default = "a1")}\n_B = dict(_A, two = attr.string(default = "b" + "2"))\ndef _make(d):\n    return rule(implementation = _impl, attrs = {"mode": attr.string(default = d)})\n'
+                      + "".join(f"{name} = rule(implementation = _impl, attrs = {attributes})\n" for name, attributes in {
+                          "loaded": '{"level": attr.int(default = LEVEL)}', "called": '{"mode": attr.string(default = text("fast"))}', "changed": '{"opts": attr.string_list(default = OPTS)}',
+                          "merged": 'dict(COMMON, level = attr.int(default = 4))', "joined": '{"speed": attr.string(), "level": attr.int(default = 5)} | COMMON', "splat": '{"one": attr.string(), "two": attr.string(), "speed": SPEED, "mode": MODE} | dict(**_B)',
+                          "added": "PLAIN", "by": "more_attrs()", "of": '{"mode": attr.string()} | MORE', "tool": '{"tool": attr.label(default = "//tools:gen"), "_other": attr.label(default = "//x"), "env": attr.string_dict(default = {"a": "b"})}',
+                      }.items()) + 'made_by = _make("fast")\n',
+    "a/BUILD": 'load("//tools:defs.bzl", "added", "by", "called", "changed", "joined", "loaded", "made_by", "merged", "of", "splat", "tool")\n'
+               + "".join(f'{it}(name = "{it}")\n' for it in ("loaded", "merged", "joined", "splat")),
+}
+# the rules of further targets, a query, its answer, and how many targets may have the attribute that it asks for
+HIDDEN_DEFAULTS = (
+    ((), "attr(level, 3, //...)", "loaded", 0), ((), "attr(mode, fast, //...)", "joined merged", 1), ((), "attr(speed, high, //...)", "joined merged splat", 0), ((), 'attr(level, "[45]", //...)', "joined merged", 0),
+    ((), "attr(one, a1, //...)", "splat", 0), ((), "attr(two, b2, //...)", "splat", 0), (("called",), "attr(mode, fast, //a:called)", "", 1), (("changed",), "attr(opts, b, //a:changed)", "", 1),
+    (("changed",), "attr(mode, b, //a:changed)", "", 0), (("added",), "attr(speed, low, //a:added)", "added", 0), (("added",), "attr(mode, fast, //a:added)", "", 0), (("by",), "attr(made, m, //a:by)", "", 1), (("by",), "attr(tags, m, //a:by)", "", 0),
+    (("of",), "attr(speed, m, //a:of)", "", 1), (("of",), "attr(mode, m, //a:of)", "", 1), (("tool",), "attr(tool, gen, //a:tool)", "", 1), (("tool",), "attr(env, a, //a:tool)", "", 1), (("tool",), "attr(_other, x, //a:tool)", "", 0), (("made_by",), "attr(mode, fast, //...)", "joined merged", 2),
+    (("made_by",), "attr(tags, x, //...)", "", 0),
+)
+
+
+def hidden_defaults(bench):
+    """Defaults of the workspace's own rules that aren't where the rule is made: attr(..) has them, or says that it leaves some out."""
+    for further, query, output, count in HIDDEN_DEFAULTS:
+        bench.lay_out("ws", {"WORKSPACE": "", **HIDDEN, "a/BUILD": HIDDEN["a/BUILD"] + "".join(f'{it}(name = "{it}")\n' for it in further)})
+        found = bench.run(f"bzlq {quoted(query)}", "ws")
+        said = [it for it in found[1].splitlines() if "and attr(..) leaves out" in it]
+        name = query.partition("(")[2].partition(",")[0]
+        line = f"bzlq: {count} of the targets that this query looks through {'gives' if count == 1 else 'give'} no {name}, and attr(..) leaves out what Bazel takes instead"
+        bench.compare(f"a default that isn't shown: {query}", (found[0].split(), said, found[2]), ([f"//a:{it}" for it in output.split()], [line] if count else [], 3 if count else 0))
+    bench.lay_out("ws", {"WORKSPACE": "", "a/BUILD": R + 'junit_tests(name = "t", srcs = ["T.java"])\njunit_tests(name = "u", size = "small")\n', "a/T.java": ""})
+    line = "bzlq: 1 of the targets that this query looks through gives no size, and attr(..) leaves out what Bazel takes instead\n"
+    told(bench, "a size of a kind that was made up", bench.run("bzlq 'attr(size, medium, //...)'", "ws"), "", [line], 3)
+    found = bench.run("bzlq queries -", "ws", b"attr(size, small, //...)\n")
+    told(bench, "such a size, in many queries", found, "=== 0 1 attr(size, small, //...)\n//a:u\n", [line.replace("that this query looks through", "of the workspace")], 3)
+
+
 REPLACED = {
     "WORKSPACE": "", "a/m.bzl": 'def m(name, srcs):\n    f = lambda: 0\n    native.filegroup(name = name, srcs = srcs)\n    native.filegroup(name = name + "_more")\n',
     "a/BUILD": 'load(":m.bzl", "m")\nm(name = "x", srcs = ["x.c"])\nfilegroup(name = "y", srcs = [":x_more"])\n', "b/BUILD": 'filegroup(name = "b", srcs = ["//a:x_more"])\n',
@@ -495,5 +537,5 @@ def replaced(bench):
 
 def check(bench):
     """Tries all of it."""
-    for part in (tests, settings, local, further, names, unreadable, losses, loops, more_answers, guessed, packages, defaults, mistakes, rows, replaced, own_rules, other_defaults, taken_away, prelude):
+    for part in (tests, settings, local, further, names, unreadable, losses, loops, more_answers, guessed, packages, defaults, mistakes, rows, replaced, own_rules, hidden_defaults, other_defaults, taken_away, prelude):
         part(bench)

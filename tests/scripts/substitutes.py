@@ -15,7 +15,7 @@ TYPES = {"bool": "attr.bool()", "int": "attr.int()", "string": "attr.string()", 
 # attributes that each rule of a .bzl file has by itself, and those that tests have (another rule can't have one called `size`)
 OWN = frozenset("""name visibility tags testonly features deprecation compatible_with restricted_to exec_compatible_with exec_properties licenses distribs
     target_compatible_with applicable_licenses toolchains transitive_configs expect_failure generator_name generator_function generator_location
-    bzlq_edges bzlq_lost""".split())
+    bzlq_edges bzlq_lost bzlq_defaults""".split())
 OF_TESTS = frozenset("args size timeout flaky shard_count local env_inherit".split())
 
 
