@@ -13,13 +13,16 @@ from bzlq.overlay.lost_values import lost_names
 from bzlq.overlay.reading import BUILD_FUNCTIONS, BUILT_INS, IDENTIFIER, LEFT_OUT, Statement, read
 from bzlq.overlay.replaced import Replaced
 from bzlq.overlay.replacements import EXISTING, NATIVE_VALUES
-from bzlq.overlay.rule_attributes import VALUE as VALUE_OF_DEFAULT, RuleAttributes
+from bzlq.overlay.rule_attributes import HIDDEN, NOTHING, VALUE as VALUE_OF_DEFAULT, RuleAttributes
 from bzlq.overlay.skylib import MEMBERS, REPOSITORY as SKYLIB
+from bzlq.overlay.starlark_text import starlark
 from bzlq.workspace.files import MAX_SIZE, SCHEMA, content, files, has_content, is_path, own_name_in
 
 REPOSITORY = re.compile(r"@([\w.+~-]+)(?://([^:]*)(?::(.*))?)?")
 # how often a keyword is passed on from macro to macro
 MOST_PASSED = 500_000
+# the types of defaults that rules are given as data: those of labels would make edges, which Bazel counts as implicit
+GIVEN_TYPES = {"bool": bool, "int": int, "string": str, "string_list": list}
 # methods of values that a stub may be, and of values that bq has
 VALUE_METHODS = set("get items keys values format".split())
 
@@ -506,8 +509,8 @@ class Facts:
         """The text that stands for what the statement of a name binds."""
         place, file = (None, path, ""), self.workspace.files[path]
         if name in file.macros:
-            function, defaults = file.macros[name]
-            return f"def {name}(name, visibility = None, **given): {function}(name = name, visibility = visibility, **dict({defaults}, **given))"
+            defaults = starlark(self.macro_defaults(file, name)[0])
+            return f"def {name}(name, visibility = None, **given): {file.macros[name][0]}(name = name, visibility = visibility, **dict({defaults}, **given))"
         if file.size > MAX_SIZE and file.kinds.get(name) == "dict":
             return f"{name} = {{}}"
         return definition("", name, self.stub(place, name), self.lost_of(place, name), *self.defaults_of(file, name)) + text_of(self.further.get((place, name)))
@@ -529,9 +532,27 @@ class Facts:
                         self.said[symbol][attribute].add(kind)
         found = self.rule_attributes.of(file.path, name)
         is_given = lambda it: len(self.said[name][it]) == 1 and it not in NO_ATTRIBUTES and IDENTIFIER.fullmatch(it)  # noqa: E731
-        given = {attribute: it[1] for attribute, it in found.defaults.items() if it[:1] == (VALUE_OF_DEFAULT,) and is_given(attribute)}
+        shown = {attribute: it[1] for attribute, it in found.defaults.items() if it[:1] == (VALUE_OF_DEFAULT,)}
+        given = {attribute: value for attribute, value in shown.items() if type(value) is GIVEN_TYPES.get(found.types[attribute]) and is_given(attribute)}
         hidden = [attribute for attribute, it in found.defaults.items() if it and attribute not in given and not attribute.startswith("_")]
         return given, hidden if found.is_whole else [*hidden, ANY, *(f"{SHOWN}{it}" for it in found.defaults if it not in hidden)]
+
+    def macro_defaults(self, file, name):
+        """The defaults of the attributes of a symbolic macro, and whether texts show all of them. (A label is one of the file's package.)"""
+        found, defaults = self.rule_attributes.of(file.path, name), {}
+        package = self.workspace.package_of(file.path)
+        full = lambda it: it if it.startswith(("//", "@")) else f"//{package}:{it.removeprefix(':')}"  # noqa: E731
+        for attribute, kind in found.types.items():
+            value = found.defaults[attribute][1] if found.defaults[attribute][:1] == (VALUE_OF_DEFAULT,) else NOTHING.get(kind, {})
+            if kind in ("label", "label_list"):
+                value = full(value) if isinstance(value, str) else [full(it) for it in value or ()] if kind == "label_list" else value
+            defaults[attribute] = value
+        return defaults, found.is_whole and HIDDEN not in found.defaults.values()
+
+    def hidden_macros(self):
+        """The functions of symbolic macros of which texts don't show all defaults, each a path and a name, with what is said of it."""
+        return {(path, function): f"value: defaults of {name} of {path}" for path in sorted(self.reached)
+                for name, (function, _) in self.workspace.files[path].macros.items() if not self.macro_defaults(self.workspace.files[path], name)[1]}
 
     def makes_targets(self, file, name):
         """Whether a name stands for a macro or rule that isn't there."""

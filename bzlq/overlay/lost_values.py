@@ -87,9 +87,10 @@ def macro_of(facts, file, call):
 
 
 def passed_on(facts):
-    """The packages whose macros are given a value that isn't there, with what is said of it: by a BUILD file, or by a macro that calls another one."""
+    """The packages whose macros are given a value that isn't there, with what is said of it: by a BUILD file, by a macro that calls another one, or by the
+    definition of a symbolic macro."""
     after = callers(facts)
-    giving = {it: facts.lost_names[it] for its in after.values() for it in its if it in facts.lost_names}
+    giving = {**facts.hidden_macros(), **{it: facts.lost_names[it] for its in after.values() for it in its if it in facts.lost_names}}
     spread(giving, after)
     found = {}
     for path in sorted(facts.reached):

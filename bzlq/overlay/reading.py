@@ -11,7 +11,7 @@ from collections import defaultdict
 from dataclasses import dataclass, field, replace
 
 from bzlq.overlay.replacements import EXISTING, NAMES, REPLACED, asks_for_rules, label_in, labels_bound, replacement, struct_makers, structs_in
-from bzlq.overlay.rule_attributes import changed_parts, constant, global_parts, rule_parts
+from bzlq.overlay.rule_attributes import changed_parts, constant, global_parts, macro_parts, rule_parts
 from bzlq.overlay.rule_sets import BAZEL
 from bzlq.workspace.files import MAX_SIZE
 
@@ -145,7 +145,7 @@ class File:
     made: dict = field(default_factory=dict)  # a global that a call of `rule` gives: what it shows of the rule's attributes (rule_attributes.py)
     attributes: dict = field(default_factory=dict)  # another global of a .bzl file: what it shows of attributes that rules may have
     constants: dict = field(default_factory=dict)  # a global of a .bzl file, and a tuple of its value, where an attribute may have that as its default
-    macros: dict = field(default_factory=dict)  # a global that a call of `macro` gives: its function, and the text of its attributes' defaults
+    macros: dict = field(default_factory=dict)  # a global that a call of `macro` gives: its function, and what it shows of the macro's attributes
     size: int = 0
     tests: set = field(default_factory=set)  # those of them that say `test = True`
     kinds: dict = field(default_factory=dict)  # what the value of a global is like
@@ -626,35 +626,6 @@ def set_keys(function):
     return found
 
 
-# what attributes of a symbolic macro have where neither a call nor their definition says it
-NOTHING = {"bool": "False", "int": "0", "string": '""', "label": "None", "output": "None", "label_list": "[]", "string_list": "[]", "int_list": "[]", "output_list": "[]"}
-
-
-def symbolic(value, dicts):
-    """The function of a symbolic macro, and the text of a dict of its attributes' defaults; nothing for another value."""
-    match value:
-        case ast.Call(func=ast.Name(id="macro"), keywords=keywords):
-            given = {key.arg: key.value for key in keywords}
-        case _:
-            return None
-    function, attributes = given.get("implementation"), given.get("attrs")
-    if isinstance(attributes, ast.Name):
-        attributes = dicts.get(attributes.id)
-    if not isinstance(function, ast.Name):
-        return None
-    pairs = zip(attributes.keys, attributes.values) if isinstance(attributes, ast.Dict) else ()
-    texts = [f"{key.value!r}: {default_of(kind)}" for key, kind in pairs if isinstance(key, ast.Constant) and isinstance(key.value, str)]
-    return function.id, "{" + ", ".join(texts) + "}"
-
-
-def default_of(kind):
-    """The text of the default of an attribute of a symbolic macro."""
-    said = [key.value for key in getattr(kind, "keywords", ()) if key.arg == "default"]
-    if said and is_plain(said[0]):
-        return ast.unparse(said[0])
-    return NOTHING.get(getattr(getattr(kind, "func", None), "attr", ""), "{}")
-
-
 def defaults_of(arguments):
     """What the defaults of a function's parameters are like."""
     positional = [*arguments.posonlyargs, *arguments.args]
@@ -685,7 +656,7 @@ def is_plain(node):
 
 def top_level(file, tree, may_bind):
     """Has a file say what its statements bind. `may_bind` says whether an expression of the file may bind names, as a comprehension does."""
-    dicts, left = {}, MOST_ATTRIBUTES
+    left = MOST_ATTRIBUTES
     for node in tree.body:
         file.statements.append(Statement(node.lineno, node.end_lineno, bound_by(node), isinstance(node, ast.FunctionDef)))
         change(file, node)
@@ -710,8 +681,7 @@ def top_level(file, tree, may_bind):
                         file.aliases[part.id] = value.id
                     if isinstance(value, ast.Attribute) and isinstance(value.value, ast.Name) and value.value.id == "native":
                         file.natives[part.id] = value.attr
-                    dicts[part.id] = value
-                    if found := symbolic(value, dicts):
+                    if found := macro_parts(value):
                         file.macros[part.id] = found
                     shown = rule_parts(value)
                     if shown is not None:

@@ -1,6 +1,7 @@
-"""The attributes of the rules that .bzl files make: takes what each file's text shows of them, follows names through loads, gives types and defaults.
+"""The attributes of the rules and symbolic macros that .bzl files make: takes what each file's text shows of them, follows names through loads, gives types
+and defaults.
 
-`rule_parts` and `dict_parts` take a value's tree and give a list of parts, of which later ones count: (ATTRIBUTE, its name, its type, its default),
+`rule_parts`, `macro_parts` and `dict_parts` take a value's tree and give a list of parts, of which later ones count: (ATTRIBUTE, its name, its type, its default),
 (GLOBAL, a name whose attributes are among them, or that is the attribute of the name after it), and (UNKNOWN,) for what the text doesn't show. A
 default is NONE where none is given, HIDDEN where it isn't shown, (VALUE, it) or (NAMED, a global).
 """
@@ -13,8 +14,8 @@ ATTRIBUTE, GLOBAL, UNKNOWN, VALUE, NAMED = "attribute", "global", "unknown", "va
 NONE, HIDDEN = (), ("hidden",)
 # the types of a schema, by the functions of `attr`
 TYPES = {name: name for name in "bool int label label_list output output_list string string_list".split()}
-# the types of defaults that are given as data: those of labels would make edges, which Bazel counts as implicit
-GIVEN_TYPES = {"bool": bool, "int": int, "string": str, "string_list": list}
+# what an attribute has where neither a call nor its definition says it, by its type; a dict for other types
+NOTHING = {"bool": False, "int": 0, "string": "", "label": None, "output": None, "label_list": [], "string_list": [], "output_list": []}
 # how many attributes all rules and dicts of a workspace may have together
 MOST_ATTRIBUTES = 1_000_000
 # how many entries of a dict are looked at: no rule has so many attributes
@@ -36,6 +37,17 @@ def rule_parts(node):
         found += dict_parts(value) if value else []
     # (a function that gives attributes their values)
     return found + ([(UNKNOWN,)] if "initializer" in given else [])
+
+
+def macro_parts(node):
+    """The function of a symbolic macro, and the parts of the attributes that the call shows which makes it; nothing for another value."""
+    match node:
+        case ast.Call(func=ast.Name(id="macro"), keywords=keywords):
+            given = {key.arg: key.value for key in keywords}
+        case _:
+            return None
+    function, attributes = given.get("implementation"), given.get("attrs")
+    return (function.id, dict_parts(attributes) if attributes else []) if isinstance(function, ast.Name) else None
 
 
 def dict_parts(node):
@@ -116,15 +128,24 @@ def attribute(name, call):
     elif isinstance(value, ast.Name):
         default = (NAMED, value.id)
     else:
-        default = default_of(kind, constant(value))
+        default = default_of(constant(labels_as_texts(value)))
     return ATTRIBUTE, name, kind, default
 
 
-def default_of(kind, value):
-    """The default of an attribute of this type, by the tuple of its value; none where that is what the type has anyway."""
-    if value and not value[0]:
-        return NONE
-    return (VALUE, value[0]) if value and type(value[0]) is GIVEN_TYPES.get(kind) else HIDDEN
+def labels_as_texts(node):
+    """The tree of a value with a text in the place of each `Label("..")`."""
+    match node:
+        case ast.Call(func=ast.Name(id="Label"), args=[ast.Constant(value=str()) as text], keywords=[]):
+            return text
+        case ast.List(elts=parts) if len(parts) <= MOST_ENTRIES:
+            return ast.List([labels_as_texts(it) for it in parts], ast.Load())
+        case _:
+            return node
+
+
+def default_of(value):
+    """The default that the tuple of a value is; none where types have that anyway."""
+    return HIDDEN if not value else (VALUE, value[0]) if value[0] else NONE
 
 
 @dataclass
@@ -168,8 +189,10 @@ class RuleAttributes:
 
     def parts(self, at):
         """What the file at a place shows of it."""
-        file = self.workspace.files[at[0]]
-        return file.made.get(at[1]) or file.attributes.get(at[1], [] if at[1] in file.made else [(UNKNOWN,)])
+        file, name = self.workspace.files[at[0]], at[1]
+        if name in file.macros:
+            return file.macros[name][1]
+        return file.made[name] if name in file.made else file.attributes.get(name, [(UNKNOWN,)])
 
     def of(self, path, name):
         """The `Attributes` of a global of a file."""
@@ -192,7 +215,7 @@ class RuleAttributes:
         for kind, *rest in self.parts(at):
             if kind == ATTRIBUTE:
                 name, of, default = rest
-                found.add(name, of, self.default(at[0], of, default))
+                found.add(name, of, self.default(at[0], default))
                 continue
             other = self.known.get(self.place(at[0], rest[0])) if kind == GLOBAL else None
             if rest[1:]:
@@ -204,9 +227,9 @@ class RuleAttributes:
                 return Attributes(is_whole=False)
         return found
 
-    def default(self, path, kind, default):
+    def default(self, path, default):
         """A default, by the value of the global that it names."""
         if default[:1] != (NAMED,):
             return default
         place = self.place(path, default[1])
-        return default_of(kind, self.workspace.files[place[0]].constants.get(place[1], ())) if place else HIDDEN
+        return default_of(self.workspace.files[place[0]].constants.get(place[1], ())) if place else HIDDEN

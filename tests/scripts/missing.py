@@ -521,6 +521,26 @@ def hidden_defaults(bench):
     told(bench, "such a size, in many queries", found, "=== 0 1 attr(size, small, //...)\n//a:u\n", [line.replace("that this query looks through", "of the workspace")], 3)
 
 
+# symbolic macros with defaults: labels, names and dicts of other files, and a sum with a name
+SYMBOLIC = {
+    "tools/BUILD": 'filegroup(name = "x")\nfilegroup(name = "d")\n', "tools/common.bzl": 'ATTRS = {"srcs": attr.label_list(), "extra": attr.string(default = "e")}\nMODE = "fast"\n',
+    "tools/defs.bzl": 'load(":common.bzl", "ATTRS", "MODE")\nD = [":d"]\ndef _impl(name, visibility, srcs = None, deps = None, mode = "none", extra = "none"):\n'
+                      '    native.filegroup(name = name, srcs = srcs, data = deps, tags = [mode, extra])\ndef _impl_n(**given):\n    _impl(**given)\n'
+                      'm = macro(implementation = _impl, attrs = {"deps": attr.label_list(default = [Label("//tools:x")]), "mode": attr.string(default = MODE)})\n'
+                      'n = macro(implementation = _impl_n, attrs = {"deps": attr.label_list(default = D), "mode": attr.string(default = "a" + MODE)})\n'
+                      'o = macro(implementation = _impl, attrs = ATTRS | {"mode": attr.string(default = "z")})\n',
+    "a/BUILD": 'load("//tools:defs.bzl", "m", "o")\nm(name = "m")\no(name = "o")\n', "b/BUILD": 'load("//tools:defs.bzl", "n")\nn(name = "n")\n',
+}
+
+
+def symbolic(bench):
+    """Defaults of symbolic macros: targets have them, or say that they lack some."""
+    bench.lay_out("ws", {"WORKSPACE": "", **SYMBOLIC})
+    for query, output in (("deps(//a:m)", "//a:m\n//tools:x\n"), ("attr(tags, fast, //a:all)", "//a:m\n"), ("attr(tags, \"z, e\", //a:all)", "//a:o\n"), ("attr(tags, none, //a:all)", "//a:m\n")):
+        told(bench, f"defaults of symbolic macros: {query}", bench.run(f"bzlq '{query}'", "ws"), output, [""], 0)
+    told(bench, "a default of a symbolic macro that isn't shown", bench.run("bzlq 'deps(//b:n)'", "ws"), "//b:n\n//tools:d\n", ["1 of 2 targets of this answer is an approximation: value that isn't there 1\n"], 3)
+
+
 REPLACED = {
     "WORKSPACE": "", "a/m.bzl": 'def m(name, srcs):\n    f = lambda: 0\n    native.filegroup(name = name, srcs = srcs)\n    native.filegroup(name = name + "_more")\n',
     "a/BUILD": 'load(":m.bzl", "m")\nm(name = "x", srcs = ["x.c"])\nfilegroup(name = "y", srcs = [":x_more"])\n', "b/BUILD": 'filegroup(name = "b", srcs = ["//a:x_more"])\n',
@@ -537,5 +557,5 @@ def replaced(bench):
 
 def check(bench):
     """Tries all of it."""
-    for part in (tests, settings, local, further, names, unreadable, losses, loops, more_answers, guessed, packages, defaults, mistakes, rows, replaced, own_rules, hidden_defaults, other_defaults, taken_away, prelude):
+    for part in (tests, settings, local, further, names, unreadable, losses, loops, more_answers, guessed, packages, defaults, mistakes, rows, replaced, own_rules, hidden_defaults, symbolic, other_defaults, taken_away, prelude):
         part(bench)
