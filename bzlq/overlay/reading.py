@@ -147,7 +147,7 @@ class File:
     constants: dict = field(default_factory=dict)  # a global of a .bzl file, and a tuple of its value, where an attribute may have that as its default
     macros: dict = field(default_factory=dict)  # a global that a call of `macro` gives: its function, and what it shows of the macro's attributes
     size: int = 0
-    tests: set = field(default_factory=set)  # those of them that say `test = True`
+    tests: set = field(default_factory=set)  # those of them that are tests
     kinds: dict = field(default_factory=dict)  # what the value of a global is like
     called: set = field(default_factory=set)  # globals whose values are calls
     plain: set = field(default_factory=set)  # globals whose values have neither a name nor a call but of `glob`
@@ -689,7 +689,8 @@ def top_level(file, tree, may_bind):
                         left -= len(shown)
                         if left < 0:
                             raise ValueError(f"its rules have more than {MOST_ATTRIBUTES:,} attributes")
-                        if any(key.arg == "test" and getattr(key.value, "value", False) is True for key in value.keywords):
+                        # (Bazel has a rule of such a name be a test, and no other one)
+                        if part.id.endswith("_test") or any(key.arg == "test" and getattr(key.value, "value", False) is True for key in value.keywords):
                             file.tests.add(part.id)
                     elif not file.is_build and isinstance(part.ctx, ast.Store):
                         may_be_of_rules(file, part.id, value)

@@ -517,6 +517,8 @@ def hidden_defaults(bench):
     bench.lay_out("ws", {"WORKSPACE": "", "a/BUILD": R + 'junit_tests(name = "t", srcs = ["T.java"])\njunit_tests(name = "u", size = "small")\n', "a/T.java": ""})
     line = "bzlq: 1 of the targets that this query looks through gives no size, and attr(..) leaves out what Bazel takes instead\n"
     told(bench, "a size of a kind that was made up", bench.run("bzlq 'attr(size, medium, //...)'", "ws"), "", [line], 3)
+    bench.lay_out("made", {"WORKSPACE": "", "a/BUILD": 'load(":m.bzl", "x_test")\nx_test(name = "x")\n', "a/m.bzl": 'load("@bazel_skylib//lib:unittest.bzl", "analysistest")\nx_test = analysistest.make(None)\n'})
+    told(bench, "a size of a test that skylib makes", bench.run("bzlq 'attr(size, medium, //...)'", "made"), "//a:x\n", [""], 0)
     found = bench.run("bzlq queries -", "ws", b"attr(size, small, //...)\n")
     told(bench, "such a size, in many queries", found, "=== 0 1 attr(size, small, //...)\n//a:u\n", [line.replace("that this query looks through", "of the workspace")], 3)
 
