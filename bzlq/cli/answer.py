@@ -217,9 +217,9 @@ class LostOfAll(threading.Thread):
             self.found.unmarked = self.lacking("testonly", unmarked_of(ALL, self.place.path))
         if self.found:
             asked = {(name, query): None for name, pattern in sorted(self.attributes) if (query := ungiven_of(name, pattern, ALL, self.place.path))}
-            for name, query in asked:
-                if count := self.lacking(name, query):
-                    self.found.ungiven[name] = max(count, self.found.ungiven.get(name, 0))
+            for (name, query), count in zip(asked, self.place.counts([query for _, query in asked])):
+                if count and (lacks := self.lacking(name, query)):
+                    self.found.ungiven[name] = max(lacks, self.found.ungiven.get(name, 0))
             self.found.absent = sorted(self.absent)
 
     def lacking(self, name, query):
