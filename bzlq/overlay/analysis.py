@@ -4,16 +4,15 @@ import os
 import re
 from collections import Counter, defaultdict
 
-from bzlq.overlay.arguments import ANY, SHOWN
-from bzlq.overlay.definitions import NO_ATTRIBUTES, definition, made_up, value_for
+from bzlq.overlay.definitions import definition, made_up, value_for
 from bzlq.overlay.extra_targets import text_of
 from bzlq.overlay.global_names import VALUE, GlobalNames
 from bzlq.overlay.guesses import by_values
 from bzlq.overlay.lost_values import lost_names
-from bzlq.overlay.reading import BUILD_FUNCTIONS, BUILT_INS, IDENTIFIER, LEFT_OUT, Statement, read
+from bzlq.overlay.reading import BUILD_FUNCTIONS, BUILT_INS, LEFT_OUT, Statement, read
 from bzlq.overlay.replaced import Replaced
 from bzlq.overlay.replacements import EXISTING, NATIVE_VALUES
-from bzlq.overlay.rule_attributes import HIDDEN, NOTHING, VALUE as VALUE_OF_DEFAULT, RuleAttributes
+from bzlq.overlay.rule_attributes import RuleAttributes
 from bzlq.overlay.skylib import MEMBERS, REPOSITORY as SKYLIB
 from bzlq.overlay.starlark_text import starlark
 from bzlq.workspace.files import MAX_SIZE, SCHEMA, content, files, has_content, is_path, own_name_in
@@ -21,8 +20,6 @@ from bzlq.workspace.files import MAX_SIZE, SCHEMA, content, files, has_content, 
 REPOSITORY = re.compile(r"@([\w.+~-]+)(?://([^:]*)(?::(.*))?)?")
 # how often a keyword is passed on from macro to macro
 MOST_PASSED = 500_000
-# the types of defaults that rules are given as data: those of labels would make edges, which Bazel counts as implicit
-GIVEN_TYPES = {"bool": bool, "int": int, "string": str, "string_list": list}
 # methods of values that a stub may be, and of values that bq has
 VALUE_METHODS = set("get items keys values format".split())
 
@@ -178,7 +175,6 @@ class Facts:
         self.refused = set()  # the paths of .bzl files that are loaded, and can't be laid over the tree
         self.struct_files = None  # once it is asked for: whether a file makes structs
         self.rule_attributes = RuleAttributes(workspace, self.names)
-        self.said = None  # once it is asked for: the types that rules of each name say, by attribute
         self.copies = None  # once they are made: by the path a text, and how many parts of each kind it has instead
         self.further = {}  # what else macros seem to declare, once it is known (extra_targets.py)
         self.further_left = 0  # how many labels more may be such targets, of a macro that has too many
@@ -509,50 +505,11 @@ class Facts:
         """The text that stands for what the statement of a name binds."""
         place, file = (None, path, ""), self.workspace.files[path]
         if name in file.macros:
-            defaults = starlark(self.macro_defaults(file, name)[0])
+            defaults = starlark(self.rule_attributes.of_macro(path, name)[0])
             return f"def {name}(name, visibility = None, **given): {file.macros[name][0]}(name = name, visibility = visibility, **dict({defaults}, **given))"
         if file.size > MAX_SIZE and file.kinds.get(name) == "dict":
             return f"{name} = {{}}"
-        return definition("", name, self.stub(place, name), self.lost_of(place, name), *self.defaults_of(file, name)) + text_of(self.further.get((place, name)))
-
-    def types_of(self, path, name):
-        """The types that the attributes of a rule have which a file makes, as far as texts show them."""
-        return self.rule_attributes.of(path, name).named() if name in self.workspace.files[path].made else {}
-
-    def defaults_of(self, file, name):
-        """The defaults of the attributes of a rule that a file makes, and the names of those that aren't shown, or aren't given since other rules of its
-        name have the attribute with another type: the schema has one. Where there may be other attributes, what says so is among the names."""
-        if name not in file.made:
-            return {}, []
-        if self.said is None:
-            self.said = defaultdict(lambda: defaultdict(set))
-            for path, it in self.workspace.files.items():
-                for symbol in it.made:
-                    for attribute, kind in self.types_of(path, symbol).items():
-                        self.said[symbol][attribute].add(kind)
-        found = self.rule_attributes.of(file.path, name)
-        is_given = lambda it: len(self.said[name][it]) == 1 and it not in NO_ATTRIBUTES and IDENTIFIER.fullmatch(it)  # noqa: E731
-        shown = {attribute: it[1] for attribute, it in found.defaults.items() if it[:1] == (VALUE_OF_DEFAULT,)}
-        given = {attribute: value for attribute, value in shown.items() if type(value) is GIVEN_TYPES.get(found.types[attribute]) and is_given(attribute)}
-        hidden = [attribute for attribute, it in found.defaults.items() if it and attribute not in given and not attribute.startswith("_")]
-        return given, hidden if found.is_whole else [*hidden, ANY, *(f"{SHOWN}{it}" for it in found.defaults if it not in hidden)]
-
-    def macro_defaults(self, file, name):
-        """The defaults of the attributes of a symbolic macro, and whether texts show all of them. (A label is one of the file's package.)"""
-        found, defaults = self.rule_attributes.of(file.path, name), {}
-        package = self.workspace.package_of(file.path)
-        full = lambda it: it if it.startswith(("//", "@")) else f"//{package}:{it.removeprefix(':')}"  # noqa: E731
-        for attribute, kind in found.types.items():
-            value = found.defaults[attribute][1] if found.defaults[attribute][:1] == (VALUE_OF_DEFAULT,) else NOTHING.get(kind, {})
-            if kind in ("label", "label_list"):
-                value = full(value) if isinstance(value, str) else [full(it) for it in value or ()] if kind == "label_list" else value
-            defaults[attribute] = value
-        return defaults, found.is_whole and HIDDEN not in found.defaults.values()
-
-    def hidden_macros(self):
-        """The functions of symbolic macros of which texts don't show all defaults, each a path and a name, with what is said of it."""
-        return {(path, function): f"value: defaults of {name} of {path}" for path in sorted(self.reached)
-                for name, (function, _) in self.workspace.files[path].macros.items() if not self.macro_defaults(self.workspace.files[path], name)[1]}
+        return definition("", name, self.stub(place, name), self.lost_of(place, name), *self.rule_attributes.of_rule(path, name)) + text_of(self.further.get((place, name)))
 
     def makes_targets(self, file, name):
         """Whether a name stands for a macro or rule that isn't there."""

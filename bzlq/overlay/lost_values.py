@@ -86,11 +86,17 @@ def macro_of(facts, file, call):
     return found[1:] if found and found[0] == "def" else None
 
 
+def hidden_macros(facts):
+    """The functions of symbolic macros of which texts don't show all defaults, each a path and a name, with what is said of it."""
+    return {(path, function): f"value: defaults of {name} of {path}" for path in sorted(facts.reached)
+            for name, (function, _) in facts.workspace.files[path].macros.items() if not facts.rule_attributes.of_macro(path, name)[1]}
+
+
 def passed_on(facts):
     """The packages whose macros are given a value that isn't there, with what is said of it: by a BUILD file, by a macro that calls another one, or by the
     definition of a symbolic macro."""
     after = callers(facts)
-    giving = {**facts.hidden_macros(), **{it: facts.lost_names[it] for its in after.values() for it in its if it in facts.lost_names}}
+    giving = {**hidden_macros(facts), **{it: facts.lost_names[it] for its in after.values() for it in its if it in facts.lost_names}}
     spread(giving, after)
     found = {}
     for path in sorted(facts.reached):

@@ -10,8 +10,9 @@ import warnings
 from collections import defaultdict
 from dataclasses import dataclass, field, replace
 
+from bzlq.overlay.attribute_parts import changed_parts, global_parts, macro_parts, rule_parts
+from bzlq.overlay.literals import constant
 from bzlq.overlay.replacements import EXISTING, NAMES, REPLACED, asks_for_rules, label_in, labels_bound, replacement, struct_makers, structs_in
-from bzlq.overlay.rule_attributes import changed_parts, constant, global_parts, macro_parts, rule_parts
 from bzlq.overlay.rule_sets import BAZEL
 from bzlq.workspace.files import MAX_SIZE
 
@@ -142,7 +143,7 @@ class File:
     defs: dict = field(default_factory=dict)
     aliases: dict = field(default_factory=dict)  # a global that is another name
     natives: dict = field(default_factory=dict)  # a global that is a member of `native`: a rule of Bazel's own
-    made: dict = field(default_factory=dict)  # a global that a call of `rule` gives: what it shows of the rule's attributes (rule_attributes.py)
+    made: dict = field(default_factory=dict)  # a global that a call of `rule` gives: what it shows of the rule's attributes (attribute_parts.py)
     attributes: dict = field(default_factory=dict)  # another global of a .bzl file: what it shows of attributes that rules may have
     constants: dict = field(default_factory=dict)  # a global of a .bzl file, and a tuple of its value, where an attribute may have that as its default
     macros: dict = field(default_factory=dict)  # a global that a call of `macro` gives: its function, and what it shows of the macro's attributes

@@ -1,151 +1,25 @@
-"""The attributes of the rules and symbolic macros that .bzl files make: takes what each file's text shows of them, follows names through loads, gives types
-and defaults.
-
-`rule_parts`, `macro_parts` and `dict_parts` take a value's tree and give a list of parts, of which later ones count: (ATTRIBUTE, its name, its type, its default),
-(GLOBAL, a name whose attributes are among them, or that is the attribute of the name after it), and (UNKNOWN,) for what the text doesn't show. A
-default is NONE where none is given, HIDDEN where it isn't shown, (VALUE, it) or (NAMED, a global).
+"""The attributes of the rules and symbolic macros that .bzl files make: takes what each file shows of them (attribute_parts.py), follows names through
+loads, gives types and defaults, and what isn't known.
 """
-import ast
+from collections import defaultdict
 from dataclasses import dataclass, field
 
-from bzlq.overlay.literals import constant, summed
+from bzlq.overlay.arguments import ANY, SHOWN
+from bzlq.overlay.attribute_parts import ATTRIBUTE, GLOBAL, HIDDEN, NAMED, UNKNOWN, VALUE, default_of
+from bzlq.overlay.definitions import NO_ATTRIBUTES
+from bzlq.overlay.reading import IDENTIFIER
 
-ATTRIBUTE, GLOBAL, UNKNOWN, VALUE, NAMED = "attribute", "global", "unknown", "value", "named"
-NONE, HIDDEN = (), ("hidden",)
-# the types of a schema, by the functions of `attr`
-TYPES = {name: name for name in "bool int label label_list output output_list string string_list".split()}
+# the types of defaults that data may have: those of labels would make edges, which Bazel counts as implicit
+GIVEN_TYPES = {"bool": bool, "int": int, "string": str, "string_list": list}
 # what an attribute has where neither a call nor its definition says it, by its type; a dict for other types
 NOTHING = {"bool": False, "int": 0, "string": "", "label": None, "output": None, "label_list": [], "string_list": [], "output_list": []}
 # how many attributes all rules and dicts of a workspace may have together
 MOST_ATTRIBUTES = 1_000_000
-# how many entries of a dict are looked at: no rule has so many attributes
-MOST_ENTRIES = 1000
 
 
-def rule_parts(node):
-    """The parts of the attributes that a call of `rule` shows, or one that makes a test of skylib's; nothing for another value."""
-    match node:
-        case ast.Call(func=ast.Name(id="rule")):
-            found = []
-        case ast.Call(func=ast.Attribute(value=ast.Name(id="analysistest" | "unittest"), attr="make")):
-            found = [(ATTRIBUTE, "target_under_test", "label", NONE)]
-        case _:
-            return None
-    given = {key.arg: key.value for key in node.keywords}
-    found += [(UNKNOWN,)] if None in given else []
-    for value in (given.get("parent"), *node.args[2:3], given.get("attrs")):
-        found += dict_parts(value) if value else []
-    # (a function that gives attributes their values)
-    return found + ([(UNKNOWN,)] if "initializer" in given else [])
-
-
-def macro_parts(node):
-    """The function of a symbolic macro, and the parts of the attributes that the call shows which makes it; nothing for another value."""
-    match node:
-        case ast.Call(func=ast.Name(id="macro"), keywords=keywords):
-            given = {key.arg: key.value for key in keywords}
-        case _:
-            return None
-    function, attributes = given.get("implementation"), given.get("attrs")
-    return (function.id, dict_parts(attributes) if attributes else []) if isinstance(function, ast.Name) else None
-
-
-def dict_parts(node):
-    """The parts that a dict of attributes shows, or dicts that are put together."""
-    match node:
-        case ast.Name(id=name):
-            return [(GLOBAL, name)]
-        case ast.Dict(keys=keys, values=values):
-            return [part for key, value in zip(keys, values) for part in ([entry(key, value)] if key else dict_parts(value))]
-        case ast.Call(func=ast.Name(id="dict") | ast.Attribute(value=ast.Name(id="dicts"), attr="add"), args=args, keywords=keywords):
-            found = [part for it in args for part in dict_parts(it)]
-            return found + [part for key in keywords for part in ([entry(ast.Constant(key.arg), key.value)] if key.arg else dict_parts(key.value))]
-        case ast.BinOp(op=ast.BitOr()):
-            return [part for it in summed(node) for part in dict_parts(it)]
-        case ast.Constant(value=None):
-            return []
-        case _:
-            # (what a function makes of dicts mostly has what they have)
-            within = [it for it in ast.walk(node) if isinstance(it, ast.Dict | ast.Name)]
-            pairs = [pair for it in within if isinstance(it, ast.Dict) for pair in zip(it.keys, it.values)]
-            called = {id(it.func) for it in ast.walk(node) if isinstance(it, ast.Call)}
-            names = [(GLOBAL, it.id) for it in within if isinstance(it, ast.Name) and id(it) not in called and it.id != "attr"]
-            return [(UNKNOWN,), *names, *(entry(key, value) for key, value in pairs if is_attribute(value))]
-
-
-def global_parts(node):
-    """The parts that the value of a global shows; nothing where it doesn't look like a dict of attributes, or one of them."""
-    match node:
-        case ast.Call() if is_attribute(node):
-            return [attribute("", node)]
-        case ast.Dict(keys=keys, values=values) if len(keys) <= MOST_ENTRIES:
-            is_one = any(key is None or isinstance(value, ast.Name) or is_attribute(value) for key, value in zip(keys, values))
-            return dict_parts(node) if is_one or not keys else None
-        case ast.Call(func=ast.Name(id="dict") | ast.Attribute(value=ast.Name(id="dicts"), attr="add")):
-            return dict_parts(node)
-        case ast.BinOp(op=ast.BitOr()):
-            return dict_parts(node)
-        case _:
-            return None
-
-
-def changed_parts(node):
-    """The global that a statement changes, and the parts that it adds: `x["a"] = ..`, `x.update(..)`, `x += ..`; no global for another statement."""
-    match node:
-        case ast.Assign(targets=[ast.Subscript(value=ast.Name(id=name), slice=key)], value=value):
-            return name, [entry(key, value)]
-        case ast.Expr(value=ast.Call(func=ast.Attribute(value=ast.Name(id=name), attr="update"), args=args, keywords=keywords)):
-            return name, dict_parts(ast.Call(ast.Name("dict"), args, keywords))
-        case ast.AugAssign(target=ast.Name(id=name)) | ast.Expr(value=ast.Call(func=ast.Attribute(value=ast.Name(id=name)))):
-            return name, [(UNKNOWN,)]
-        case _:
-            return "", []
-
-
-def is_attribute(node):
-    """Whether a value is a call of a member of `attr`."""
-    return isinstance(node, ast.Call) and isinstance(node.func, ast.Attribute) and isinstance(node.func.value, ast.Name) and node.func.value.id == "attr"
-
-
-def entry(key, value):
-    """The part that an entry of a dict is."""
-    name = key.value if isinstance(key, ast.Constant) and isinstance(key.value, str) else ""
-    if not name:
-        return (UNKNOWN,)
-    if isinstance(value, ast.Name):
-        return GLOBAL, value.id, name
-    return attribute(name, value) if is_attribute(value) else (ATTRIBUTE, name, None, HIDDEN)
-
-
-def attribute(name, call):
-    """The part that a call of a member of `attr` makes."""
-    given, kind = {key.arg: key.value for key in call.keywords}, TYPES.get(call.func.attr, "")
-    value = given.get("default")
-    if None in given:
-        default = HIDDEN
-    elif value is None or getattr(given.get("mandatory"), "value", False) is True:
-        default = NONE
-    elif isinstance(value, ast.Name):
-        default = (NAMED, value.id)
-    else:
-        default = default_of(constant(labels_as_texts(value)))
-    return ATTRIBUTE, name, kind, default
-
-
-def labels_as_texts(node):
-    """The tree of a value with a text in the place of each `Label("..")`."""
-    match node:
-        case ast.Call(func=ast.Name(id="Label"), args=[ast.Constant(value=str()) as text], keywords=[]):
-            return text
-        case ast.List(elts=parts) if len(parts) <= MOST_ENTRIES:
-            return ast.List([labels_as_texts(it) for it in parts], ast.Load())
-        case _:
-            return node
-
-
-def default_of(value):
-    """The default that the tuple of a value is; none where types have that anyway."""
-    return HIDDEN if not value else (VALUE, value[0]) if value[0] else NONE
+def in_full(label, package):
+    """The label that a default of a file in this package is."""
+    return label if label.startswith(("//", "@")) else f"//{package}:{label.removeprefix(':')}"
 
 
 @dataclass
@@ -174,10 +48,48 @@ class Attributes:
 
 
 class RuleAttributes:
-    """The attributes of all rules of a workspace."""
+    """The attributes of all rules and symbolic macros of a workspace. (A symbolic macro calls its function with them.)"""
 
     def __init__(self, workspace, names):
         self.workspace, self.names, self.known, self.left = workspace, names, {}, MOST_ATTRIBUTES
+        self.said = None  # once it is asked for: the types that rules of each name say, by attribute
+
+    def types(self, path, name):
+        """The types of the attributes of a rule that a file makes, as far as texts show them; none for what is no rule."""
+        return self.of(path, name).named() if name in self.workspace.files[path].made else {}
+
+    def of_rule(self, path, name):
+        """The defaults of a rule's attributes that data may have, and what isn't known: the names of attributes with others, and, if the rule may have more
+        attributes, ANY and the names of those that it shows. None of these for what is no rule. (Rules of one name that give an attribute several types
+        share one in the schema.)"""
+        if name not in self.workspace.files[path].made:
+            return {}, []
+        if self.said is None:
+            self.said = defaultdict(lambda: defaultdict(set))
+            for other, symbol in ((other, symbol) for other, file in self.workspace.files.items() for symbol in file.made):
+                for attribute, kind in self.types(other, symbol).items():
+                    self.said[symbol][attribute].add(kind)
+        found, given, hidden = self.of(path, name), {}, []
+        for attribute, default in found.defaults.items():
+            may_be = IDENTIFIER.fullmatch(attribute) and attribute not in NO_ATTRIBUTES and len(self.said[name][attribute]) == 1
+            if may_be and default[:1] == (VALUE,) and type(default[1]) is GIVEN_TYPES.get(found.types[attribute]):
+                given[attribute] = default[1]
+            elif default and not attribute.startswith("_"):
+                hidden.append(attribute)
+        return given, hidden if found.is_whole else [*hidden, ANY, *(f"{SHOWN}{it}" for it in found.defaults if it not in hidden)]
+
+    def of_macro(self, path, name):
+        """What a symbolic macro gives its function where a call gives less, and whether texts show all of that."""
+        found, given, package = self.of(path, name), {}, self.workspace.package_of(path)
+        for attribute, kind in found.types.items():
+            default = found.defaults[attribute]
+            value = default[1] if default[:1] == (VALUE,) else NOTHING.get(kind, {})
+            if kind == "label" and isinstance(value, str):
+                value = in_full(value, package)
+            if kind == "label_list" and isinstance(value, list):
+                value = [in_full(it, package) for it in value]
+            given[attribute] = value
+        return given, found.is_whole and HIDDEN not in found.defaults.values()
 
     def place(self, path, name):
         """The file that binds a global, and its name there; nothing where that isn't there."""

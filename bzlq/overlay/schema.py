@@ -113,7 +113,7 @@ def schema_of(facts):
                     schema.add(rule, {})
                 if place[0] is None:
                     file = facts.workspace.files[place[1]]
-                    schema.said[rule_of(symbol)].update(facts.types_of(file.path, symbol))
+                    schema.said[rule_of(symbol)].update(facts.rule_attributes.types(file.path, symbol))
                     if symbol in file.tests:
                         schema.tests.add(rule_of(symbol))
     schema.find_types()
