@@ -162,6 +162,9 @@ def replacement(node, bound=(), labels=(), structs=(frozenset(), frozenset())):
             return Replacement("a member of a label", [f"[({LABEL_MEMBERS[member]}) for t in [", of, "]][0]"])
         case ast.Call() if fields and is_struct(node) and "struct" not in bound and "dict" not in bound and fields_of(node) <= fields:
             return struct(node)
+        case ast.Call(func=ast.Name(id="struct"), args=[], keywords=[]) if "struct" not in bound:
+            # (it counts as true, so the dict isn't empty)
+            return Replacement("a struct", ['{"": None}'])
         case ast.Attribute(value=of, attr=member, ctx=ast.Load()) if member in fields and root_name(of) in bound and is_of_own(root_name(of), others):
             return Replacement("a struct", [of, f'["{member}"]'])
         case ast.Call(func=ast.Name(id="abs"), args=[of], keywords=[]) if "abs" not in bound:

@@ -136,14 +136,23 @@ cargo_build_script: string edition links crate_name
 pkg_tar pkg_zip: label_list srcs deps
 pkg_tar pkg_zip: string package_dir package_dir_file mode mtime owner ownername strip_prefix extension compression_type out_name
 pkg_tar pkg_zip: bool portable_mtime stamp include_runfiles allow_duplicates_with_different_content create_parents
-pkg_tar pkg_zip: output out
+pkg_tar pkg_zip pkg_deb: output out
+pkg_tar pkg_zip pkg_deb: string package_file_name
+pkg_tar pkg_zip pkg_deb: label package_variables
+pkg_tar: label compressor
+pkg_tar: string_list empty_dirs empty_files
+pkg_tar pkg_zip: string compressor_args
+pkg_tar pkg_zip: int compression_level timestamp
+pkg_files pkg_mkdirs pkg_mklink: string attributes
 pkg_files: label_list srcs excludes
 pkg_files: string prefix strip_prefix
 pkg_filegroup: label_list srcs
 pkg_filegroup: string prefix
 pkg_mkdirs: string_list dirs
 pkg_mklink: string link_name target
-pkg_deb: label data
+pkg_deb: label data architecture_file built_using_file changelog config depends_file description_file md5sums postinst postrm preinst prerm templates triggers version_file
+pkg_deb: string_list breaks conffiles conflicts depends enhances predepends provides recommends replaces suggests
+pkg_deb: string built_using distribution license
 pkg_deb: string architecture description homepage maintainer package section priority version urgency
 # rules_oci
 oci_image: label base entrypoint_file cmd_file labels_file env_file

@@ -255,6 +255,7 @@ OTHER_LOOPS = {
     "another argument of a macro": ('load("@r//:m.bzl", "SOME")\nload(":m.bzl", "m")\nm("x", SOME, True)\n', "def m(name, srcs, more = False):\n    if more:\n        native.filegroup(name = name, srcs = srcs)\n    "
                                     'if not name:\n        return\n    native.filegroup(name = name + "_2")\n'),
     "a macro that isn't called": ('load(":m.bzl", "m")\nm("x")\n', L + "def m(name):\n    native.filegroup(name = name)\ndef n(name):\n    for it in SOME:\n        native.filegroup(name = name + it)\n"),
+    "a loop of structs without a field": ('load(":m.bzl", "m")\nm()\n', 'def o(fast = True):\n    return struct()\nSOME = {"x": o()}\ndef m():\n    for it, options in SOME.items():\n        native.filegroup(name = it, tags = ["true"] if options else [])\n'),
     "a condition on a check": ('load(":m.bzl", "m")\nm("x")\n', L + 'def c(name):\n    fail(name)\ndef m(name):\n    if SOME:\n        c(name)\n    native.filegroup(name = name)\n'),
 }
 
@@ -364,11 +365,16 @@ def mistakes(bench):
         bench.lay_out("w", {**WORKSPACE, **files})
         wanted = bench.run(f"bq --dir w '{query}' 2>&1 >/dev/null | bzlq hints w")[0].replace("w/", "").splitlines()[0]
         told(bench, f"bzlq, {what}", bench.run(f"bzlq '{query}' 2>&1 >/dev/null | grep '{wanted[:12]}'", "w"), f"{wanted}\n", [""], 0)
+    bench.lay_out("w", {**WORKSPACE, "app/BUILD": PACKED})
+    told(bench, "bzlq, attributes of rules_pkg", bench.run("bzlq //app:all", "w"), "//app:d\n//app:t\n//app:z\n", [""], 0)
     for what, text, line in OTHERS:
         bench.lay_out("w", {**WORKSPACE, "app/BUILD": text})
         told(bench, f"bzlq, {what}", bench.run("bzlq //app:all 2>&1 >/dev/null | grep app/BUILD", "w"), f"{line}\n", [""], 0)
 
 
+# attributes that are near others by their names
+PACKED = ('load("@rules_pkg//pkg:pkg.bzl", "pkg_deb", "pkg_tar", "pkg_zip")\n'
+          + "".join(f'pkg_{kind}(name = "{kind[0]}", package_file_name = "x-{{version}}", package_variables = "//log")\n' for kind in ("deb", "tar", "zip")))
 OTHERS = (
     ("a mandatory attribute", 'genrule(name = "g", cmd = "x")\n', "app/BUILD:1:1: F72 MissingAttribute: the rule genrule misses the attribute 'outs'"),
     ("a select in a list", 'filegroup(name = "x", srcs = ["a", select({"//conditions:default": "b"})])\n', 'app/BUILD:1:1: F56 Fail: "a select in a list: write [..] + select(..)"'),
