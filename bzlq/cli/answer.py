@@ -14,7 +14,7 @@ from bzlq.cli.formats import FORMS
 from bzlq.cli.labels import ALL, Labels
 from bzlq.cli.process import Unwritten, write, write_bytes
 from bzlq.cli.relative_labels import BadWord, absolute
-from bzlq.overlay.approximations import KINDS, TESTONLY, VISIBILITY, Place, absent_of, attributes_in, looking_through, unmarked_of, ungiven_of, unseen_of
+from bzlq.overlay.approximations import IDENTIFIER, KINDS, TESTONLY, VISIBILITY, Place, absent_of, attributes_in, looking_through, lost_values_of, unmarked_of, ungiven_of, unseen_of
 from bzlq.overlay.assembly import MAX_STEPS, run_options
 from bzlq.workspace.root import folder_of, root_of
 from bzlq.workspace.taken_away import TakenAway
@@ -220,7 +220,13 @@ class LostOfAll(threading.Thread):
             for (name, query), count in zip(asked, self.place.counts([query for _, query in asked])):
                 if count and (lacks := self.lacking(name, query)):
                     self.found.ungiven[name] = max(lacks, self.found.ungiven.get(name, 0))
+            self.found.partial = self.partial()
             self.found.absent = sorted(self.absent)
+
+    def partial(self):
+        """How many targets may have more in each attribute that queries ask for than is known."""
+        names = sorted({name for name, _ in self.attributes if IDENTIFIER.fullmatch(name)})
+        return {name: count for name, count in zip(names, self.place.counts([lost_values_of(name, ALL) for name in names])) if count}
 
     def lacking(self, name, query):
         """How many targets of a query don't give an attribute."""

@@ -28,12 +28,12 @@ Ended = namedtuple("Ended", "stdout stderr returncode")
 class Lost:
     """How many of an answer's targets are approximations, in all and by the words of LOST; of how many of those that a query looks through edges may be
     missing; how many have a kind that was made up, and are left out for it; how many give no visibility, where one is asked for; how many may be
-    testonly by a default, where that is asked for; and how many give none of each other attribute that is asked for and may have a default. `absent` are
-    attributes of the query that bq doesn't have."""
+    testonly by a default, where that is asked for; how many give none of each other attribute that is asked for and may have a default; and how many
+    may have more in such an attribute than is known. `absent` are attributes of the query that bq doesn't have."""
 
-    def __init__(self, query, count, some, by_word, inner=0, others=0, unseen=0, unmarked=0, ungiven=None):
+    def __init__(self, query, count, some, by_word, inner=0, others=0, unseen=0, unmarked=0, ungiven=None, partial=None):
         self.query, self.count, self.some, self.by_word, self.inner, self.unseen, self.unmarked = query, count, some, by_word, inner, unseen, unmarked
-        self.others, self.ungiven, self.absent = max(0, others - by_word["kind"]), ungiven or {}, absent_of(query)
+        self.others, self.ungiven, self.partial, self.absent = max(0, others - by_word["kind"]), ungiven or {}, partial or {}, absent_of(query)
 
     def without_own(self):
         """The same without what the targets of the answer say themselves."""
@@ -43,7 +43,7 @@ class Lost:
     def may_lack(self):
         """Whether the answer may lack a target."""
         is_lacking = any(self.by_word[word] for word, lacks in LOST.items() if lacks or word == "kind" and KINDS.search(self.query))
-        return is_lacking or bool(self.inner or self.others or self.unseen or self.unmarked or self.ungiven or self.absent)
+        return is_lacking or bool(self.inner or self.others or self.unseen or self.unmarked or self.ungiven or self.partial or self.absent)
 
     def lines(self, of="this answer"):
         """The lines that say it."""
@@ -58,6 +58,8 @@ class Lost:
         for name, count in [("visibility", self.unseen), *self.ungiven.items()]:
             if count:
                 yield f"{count} of the targets {where} {'gives' if count == 1 else 'give'} no {name}, and attr(..) leaves out what Bazel takes instead"
+        for name, count in self.partial.items():
+            yield f"{count} of the targets {where} may have more in {name} than is known (by a select, a dict, or a value that isn't there), and attr(..) leaves that out"
         for name in self.absent:
             yield f"bq has no {name}, which Bazel gives the targets of macros, and attr(..) leaves these out: bzlq users MACRO lists them"
         if self.unmarked:
@@ -69,7 +71,7 @@ def lost_of(query, *words):
     return f'attr({LOST_ATTRIBUTE}, "(^.|, )({"|".join(words)}): ", {query})'
 
 
-def lost_labels_of(name, query):
+def lost_values_of(name, query):
     """The query for the targets of a query of which an attribute may name more than it has."""
     return f'attr({LOST_ATTRIBUTE}, "(^.|, )((value|files): |(select|dict|edges): {re.escape(name)}([^a-zA-Z0-9_]|$))", {query})'
 
@@ -138,27 +140,33 @@ def arguments_of(query, function):
                 break
 
 
-class LookedThrough(namedtuple("LookedThrough", "edges kinds seen only given")):
+class LookedThrough(namedtuple("LookedThrough", "edges kinds seen only given partial")):
     """The queries for what was lost of the targets that a query looks through: those by whose edges it goes, those of whose kinds, those of whose
-    visibility, those of which it asks whether they are testonly, and those of which it asks for another attribute that may have a default, with its name."""
+    visibility, those of which it asks whether they are testonly, those of which it asks for another attribute that may have a default, with its name, and
+    those of which it asks for one that may have more than is known."""
 
     def all(self):
         """All of them."""
-        return [*self.edges, *self.kinds, *self.seen, *self.only, *(query for _, query in self.given)]
+        return [*self.edges, *self.kinds, *self.seen, *self.only, *(query for _, query in (*self.given, *self.partial))]
 
     def counts(self, counts, targets):
         """By how many targets each has: of how many edges may be missing, how many have a kind that was made up, how many give no visibility, how many may be
-        testonly, and how many give none of each other attribute. `targets` gives the facts of a query's targets, for what a query can't tell."""
+        testonly, how many give none of each other attribute, and how many may have more in one. `targets` gives the facts of a query's targets, for what a
+        query can't tell."""
         found, at = [], 0
         for part in self:
             found.append(counts[at:at + len(part)])
             at += len(part)
-        edges, kinds, seen, only, given = found
+        edges, kinds, seen, only, given, more = found
         lacking = lambda name, query: sum(name not in it.attributes for it in targets(query))  # noqa: E731
         unmarked, ungiven = max((lacking("testonly", it) for it, count in zip(self.only, only) if count), default=0), {}
         for name, lacks in ((name, lacking(name, query)) for (name, query), count in zip(self.given, given) if count):
             ungiven[name] = max(lacks, ungiven.get(name, 0))
-        return sum(edges), max(kinds, default=0), max(seen, default=0), unmarked, {name: count for name, count in ungiven.items() if count}
+        partial = {}
+        for (name, _), count in zip(self.partial, more):
+            partial[name] = max(count, partial.get(name, 0))
+        without_none = lambda counted: {name: count for name, count in counted.items() if count}  # noqa: E731
+        return sum(edges), max(kinds, default=0), max(seen, default=0), unmarked, without_none(ungiven), without_none(partial)
 
 
 def attributes_in(query):
@@ -178,13 +186,15 @@ def looking_through(query, place=""):
     edges = [lost_of(f"deps({it})", *lacking) for it in sorted({it[0] for name in USERS for it in arguments_of(query, name)})]
     # (those that the answer has say it themselves)
     edges += [lost_of(f"deps({it}) - ({query})", *lacking) for it in sorted({", ".join(it) for it in arguments_of(query, "deps")}) if f"deps({it})" != query]
-    edges += [lost_labels_of(*it) for it in sorted({(it[0].strip("\"'"), it[1]) for it in arguments_of(query, "labels") if len(it) == 2 and it[1]})]
+    edges += [lost_values_of(*it) for it in sorted({(it[0].strip("\"'"), it[1]) for it in arguments_of(query, "labels") if len(it) == 2 and it[1]})]
     kinds = {it[1] for it in arguments_of(query, "kind") if len(it) == 2 and it[1]}
     attributes = attributes_in(query)
     seen, only = ({of for name, _, of in attributes if name == asked} for asked in ("visibility", "testonly"))
     given = [(name, asked) for name, pattern, of in sorted({*attributes}) if (asked := ungiven_of(name, pattern, of, place))]
+    # (those that the answer has say it themselves)
+    partial = [(name, lost_values_of(name, f"({of}) - ({query})")) for name, of in sorted({(name, of) for name, _, of in attributes}) if IDENTIFIER.fullmatch(name)]
     return LookedThrough(edges, [lost_of(it, "kind") for it in sorted(kinds)], [unseen_of(it) for it in sorted(seen)],
-                         [unmarked_of(it, place) for it in sorted(only)], given)
+                         [unmarked_of(it, place) for it in sorted(only)], given, partial)
 
 
 class Queries:

@@ -175,6 +175,14 @@ LOSSES = {
                                        "1 of the targets that this query looks through may lack edges", 3),
     "select, under a query of labels": ({"a/BUILD": 'alias(name = "t", actual = select({":c": ":x", "//conditions:default": ":y"}))\nfilegroup(name = "c")\nfilegroup(name = "x")\nfilegroup(name = "y")\n'},
                                         "labels(actual, //a:t)", "//a:y\n", "1 of the targets that this query looks through may lack edges", 3),
+    "select, under a query of attributes": ({"a/BUILD": 'cc_binary(name = "t", linkstatic = select({":c": True, "//conditions:default": False}))\nfilegroup(name = "c")\n'}, "attr(linkstatic, 1, //...)", "",
+                                            "1 of the targets that this query looks through may have more in linkstatic than is known (by a select, a dict, or a value that isn't there), and attr(..) leaves that out", 3),
+    "dict, under a query of attributes": ({"a/BUILD": 'config_setting(name = "t", values = {"cpu": "arm"})\nfilegroup(name = "c")\n'}, "//a:c + attr(values, arm, //...)", "//a:c\n",
+                                          "1 of the targets that this query looks through may have more in values than is known", 3),
+    "value, under a query of attributes": ({"a/BUILD": 'load("@r//:m.bzl", "files")\nfilegroup(name = "t", srcs = files("a"))\nfilegroup(name = "u", srcs = ["a"])\n'}, "attr(srcs, a, //...)", "//a:u\n",
+                                           "1 of the targets that this query looks through may have more in srcs than is known", 3),
+    "select, under a query of other attributes": ({"a/BUILD": 'cc_binary(name = "t", linkstatic = select({":c": True, "//conditions:default": False}))\nfilegroup(name = "c", srcs = ["x"])\n'}, "attr(srcs, x, //...)", "//a:c\n",
+                                                  "bzlq: reading the workspace\n", 0),
     "testonly, of a kind that was made up": ({"a/BUILD": R + 'junit_tests(name = "t", srcs = ["T.java"])\nfilegroup(name = "x", testonly = 1)\n'}, "attr(testonly, 1, //a:all)", "//a:x\n",
                                              "1 of the targets that this query looks through may be testonly by a default", 3),
     "edges": ({"a/BUILD": 'load("@r//:m.bzl", "pack")\npack(name = "t", odd_of = ["a.txt"])\n'}, "//a:t", "//a:t\n", "kind made up 1, edges by a type that was guessed 1", 3),
@@ -215,6 +223,9 @@ def losses(bench):
              ["kind(..) leaves them out"], 3)
     told(bench, "lost, in a workspace that is asked many queries", bench.run("bzlq queries -", "ws", b"//a:x\n"), "=== 0 1 //a:x\n//a:x\n",
          ["bzlq: 2 of 5 targets of the workspace are approximations: kind made up 2\n"], 0)
+    bench.lay_out("ws", {"WORKSPACE": "", **LOSSES["dict, under a query of attributes"][0]})
+    told(bench, "lost, an attribute in many queries", bench.run("bzlq queries -", "ws", b"attr(values, arm, //...)\n"), "=== 0 0 attr(values, arm, //...)\n",
+         ["bzlq: 1 of the targets of the workspace may have more in values than is known (by a select, a dict, or a value that isn't there), and attr(..) leaves that out\n"], 3)
     for what in ("kind, of others than are asked for", "kind, by a variable", "value, under a query of users"):
         files, query, _, line, _ = LOSSES[what]
         bench.lay_out("ws", {"WORKSPACE": "", **files})
