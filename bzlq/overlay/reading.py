@@ -20,8 +20,8 @@ from bzlq.workspace.files import MAX_SIZE
 BUILT_INS = set("""None True False all any bool dict enumerate fail int len list max min print range repr reversed select sorted str tuple
     type zip""".split())
 BUILD_FUNCTIONS = set("glob package_name package licenses exports_files package_group".split())
-# what Bazel knows and `bq` leaves out
-LEFT_OUT = set("""abs analysis_test_transition apple_common apple_support aspect attr bytes cc_common config configuration_field coverage_common
+# what Bazel knows and `bq` leaves out; and a function of Buck, which reads some of the same files, and that Bazel misses only where it is called
+LEFT_OUT = set("""read_config abs analysis_test_transition apple_common apple_support aspect attr bytes cc_common config configuration_field coverage_common
     DefaultInfo depset distribs CcInfo exec_group existing_rule existing_rules float getattr hasattr hash InstrumentedFilesInfo
     JavaInfo java_common json Label module_extension native OutputGroupInfo platform_common proto provider ProtoInfo PyInfo PyRuntimeInfo
     repository_name repository_rule rule RunEnvironmentInfo set struct subpackages tag_class testing transition workspace dir

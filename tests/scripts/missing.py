@@ -378,6 +378,8 @@ def mistakes(bench):
         told(bench, f"bzlq, {what}", bench.run(f"bzlq '{query}' 2>&1 >/dev/null | grep '{wanted[:12]}'", "w"), f"{wanted}\n", [""], 0)
     bench.lay_out("w", {**WORKSPACE, "app/BUILD": PACKED})
     told(bench, "bzlq, attributes of rules_pkg", bench.run("bzlq //app:all", "w"), "//app:d\n//app:t\n//app:z\n", [""], 0)
+    bench.lay_out("w", {**WORKSPACE, "app/BUILD": 'load("//tools:defs.bzl", "SRCS")\nfilegroup(name = "x", srcs = SRCS)\n', "tools/defs.bzl": WORKSPACE["tools/defs.bzl"] + 'SRCS = ["a"]\ndef other(name):\n    if native.read_config("a", "b", None):\n        fail(name)\n'})
+    told(bench, "bzlq, a function of Buck in one that isn't called", bench.run("bzlq 'deps(//app:x)'", "w"), "//app:a\n//app:x\n", [""], 0)
     for what, text, line in OTHERS:
         bench.lay_out("w", {**WORKSPACE, "app/BUILD": text})
         told(bench, f"bzlq, {what}", bench.run("bzlq //app:all 2>&1 >/dev/null | grep app/BUILD", "w"), f"{line}\n", [""], 0)
