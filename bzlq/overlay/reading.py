@@ -655,6 +655,33 @@ def is_plain(node):
     return not any(isinstance(it, UNSHOWN) and getattr(getattr(it, "func", it), "id", "") != "glob" for it in nodes_of(node))
 
 
+def bind(file, part, value):
+    """Has a file say what an assignment binds a name to; gives how many attributes that shows of a rule."""
+    name = part.id
+    file.globals.add(name)
+    file.kinds[name] = kind_of(value)
+    if is_plain(value):
+        file.plain.add(name)
+    if isinstance(value, ast.Call):
+        file.called.add(name)
+    if isinstance(value, ast.Name):
+        file.aliases[name] = value.id
+    if isinstance(value, ast.Attribute) and isinstance(value.value, ast.Name) and value.value.id == "native":
+        file.natives[name] = value.attr
+    if found := macro_parts(value):
+        file.macros[name] = found
+    shown = rule_parts(value)
+    if shown is None:
+        if not file.is_build and isinstance(part.ctx, ast.Store):
+            may_be_of_rules(file, name, value)
+        return 0
+    file.made[name] = shown
+    # (Bazel has a rule of such a name be a test, and no other one)
+    if name.endswith("_test") or any(key.arg == "test" and getattr(key.value, "value", False) is True for key in value.keywords):
+        file.tests.add(name)
+    return len(shown)
+
+
 def top_level(file, tree, may_bind):
     """Has a file say what its statements bind. `may_bind` says whether an expression of the file may bind names, as a comprehension does."""
     left = MOST_ATTRIBUTES
@@ -672,29 +699,9 @@ def top_level(file, tree, may_bind):
                 file.globals.add(name)
             case ast.Assign(targets=targets, value=value):
                 for part in (part for target in targets for part in nodes_of(target) if isinstance(part, ast.Name)):
-                    file.globals.add(part.id)
-                    file.kinds[part.id] = kind_of(value)
-                    if is_plain(value):
-                        file.plain.add(part.id)
-                    if isinstance(value, ast.Call):
-                        file.called.add(part.id)
-                    if isinstance(value, ast.Name):
-                        file.aliases[part.id] = value.id
-                    if isinstance(value, ast.Attribute) and isinstance(value.value, ast.Name) and value.value.id == "native":
-                        file.natives[part.id] = value.attr
-                    if found := macro_parts(value):
-                        file.macros[part.id] = found
-                    shown = rule_parts(value)
-                    if shown is not None:
-                        file.made[part.id] = shown
-                        left -= len(shown)
-                        if left < 0:
-                            raise ValueError(f"its rules have more than {MOST_ATTRIBUTES:,} attributes")
-                        # (Bazel has a rule of such a name be a test, and no other one)
-                        if part.id.endswith("_test") or any(key.arg == "test" and getattr(key.value, "value", False) is True for key in value.keywords):
-                            file.tests.add(part.id)
-                    elif not file.is_build and isinstance(part.ctx, ast.Store):
-                        may_be_of_rules(file, part.id, value)
+                    left -= bind(file, part, value)
+                    if left < 0:
+                        raise ValueError(f"its rules have more than {MOST_ATTRIBUTES:,} attributes")
             case ast.Expr() if not may_bind:
                 pass
             case _:
