@@ -111,7 +111,7 @@ pub fn steps_come_first<S, R, V>()
 {}
 
 /// A name and a literal take one step, and then they have their value: nothing else is done. A name that is not bound yet is
-/// F49, and one that is known nowhere F20.
+/// F49. One that is known nowhere isn't evaluated, since resolving refuses its file (F20): it has no meaning here.
 pub fn names_and_literals_take_one_step<S, R, V>()
     ensures names { (m : Primitives S) (scoping : Scoping R V) → NamesAreRead m scoping }
     ensures literals { (m : Primitives S) (scoping : Scoping R V) → LiteralsAreValues m scoping }

@@ -9,6 +9,7 @@ use Rattle.bq_base_texts.specs.declared.fault_line.FaultLine.{FaultLine}
 use Rattle.bq_package_values.specs.JsonParts.{Member, json_object}
 use Rattle.bq_facts.specs.Members.{string_member}
 
+-- the path in the workspace that the label names; empty where there is no label
 abbrev pub path_by : Option LabelParts → List ℕ
 path_by None = []
 path_by (Some l) = label_path l
@@ -21,9 +22,11 @@ file_labelled label = path_by (label_of (package_at [] []) label)
 abbrev pub fault_code : FaultLine → List ℕ
 fault_code l = codes "F" ++ decimal (fault_number l.kind)
 
+-- which fault it is: its number (`F74`), its name, and the label of its file
 abbrev pub what_members : FaultLine → List Member
 what_members l = string_member (codes "fault") (fault_code l) ∷ string_member (codes "name") (fault_name l.kind) ∷ string_member (codes "label") l.label ∷ []
 
+-- where it is: the path of the label's file, the line, and the detail
 abbrev pub where_members : FaultLine → List Member
 where_members l =
     string_member (codes "file") (file_labelled l.label) ∷ record { key = codes "line"; value = decimal l.line } ∷ string_member (codes "detail") l.detail ∷ []

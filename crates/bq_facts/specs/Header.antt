@@ -10,13 +10,16 @@ use Rattle.bq_facts.specs.Members.{number_member, string_member}
 abbrev pub format : ℕ
 format = 2
 
+-- the most files, directories and modules of a workspace
 abbrev pub workspace_limits : Limits → List Member
 workspace_limits l =
     number_member (codes "files") l.files ∷ number_member (codes "directories") l.directories ∷ number_member (codes "modules") l.modules ∷ []
 
+-- the most loads (edges of the load graph), bytes of a bundle, and steps of an evaluation
 abbrev pub further_limits : Limits → List Member
 further_limits l = number_member (codes "loads") l.edges ∷ number_member (codes "bytes") l.bundle_bytes ∷ number_member (codes "steps") l.steps ∷ []
 
+-- the text of the object of all six limits
 unfoldable pub json_limits : Limits → List ℕ
 json_limits l = json_object (workspace_limits l ++ further_limits l)
 
@@ -25,6 +28,7 @@ abbrev pub origin_members : Origin → List Member
 origin_members o =
     number_member (codes "facts") format ∷ string_member (codes "version") o.version ∷ record { key = codes "limits"; value = json_limits o.limits } ∷ []
 
+-- how many lines of targets, of modules and of faults follow
 abbrev pub count_members : Counts → List Member
 count_members c = number_member (codes "targets") c.targets ∷ number_member (codes "modules") c.modules ∷ number_member (codes "faults") c.faults ∷ []
 

@@ -4,6 +4,7 @@ use Rattle.std.specs.List.{flat_map}
 use Rattle.bq_label.specs.Label.{LabelParts}
 use Rattle.bq_package_target.specs.declared.target.Target.{Target}
 
+-- a list with the target's label; empty where no target has the number
 abbrev pub label_by : Option Target → List LabelParts
 label_by None = []
 label_by (Some t) = t.label ∷ []

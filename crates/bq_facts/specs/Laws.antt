@@ -40,11 +40,14 @@ PathsOfLabels = (l : LabelParts) → IsLabel l → file_labelled (full_form l) �
 abbrev pub HeadersAreObjects : Type 0
 HeadersAreObjects = (o : Origin) (c : Counts) → header_line o c ≡ value_text (header_value o c) ++ 10 ∷ []
 
+-- the line of a target is the text of its object and a newline
 abbrev pub TargetLinesAreObjects : Type 0
 TargetLinesAreObjects = (t : Target) (file : List ℕ) (deps : List LabelParts) → target_line t file deps ≡ value_text (target_value t file deps) ++ 10 ∷ []
 
+-- the line of a module is the text of its object and a newline
 abbrev pub ModuleLinesAreObjects : Type 0
 ModuleLinesAreObjects = (l : LabelParts) (loads : List LoadStmt) (files : List LabelParts) → module_line l loads files ≡ value_text (module_value l loads files) ++ 10 ∷ []
 
+-- the line of a fault is the text of its object and a newline
 abbrev pub FaultLinesAreObjects : Type 0
 FaultLinesAreObjects = (l : FaultLine) → fault_object l ≡ value_text (fault_value l) ++ 10 ∷ []

@@ -14,6 +14,7 @@ use Rattle.bq_facts.specs.Members.{string_member}
 abbrev pub symbol_member : LoadedSymbol → Member
 symbol_member c = string_member c.local c.symbol
 
+-- the text of the object of a load's symbols, in the order in which they are written
 abbrev pub json_symbols : List LoadedSymbol → List ℕ
 json_symbols cs = json_object (map symbol_member cs)
 
@@ -21,6 +22,7 @@ json_symbols cs = json_object (map symbol_member cs)
 abbrev pub file_members : List ℕ → LabelParts → List Member
 file_members key l = string_member key (full_form l) ∷ string_member (codes "file") (label_path l) ∷ []
 
+-- the line of a load, from 1, and its symbols
 abbrev pub clause_members : LoadStmt → List Member
 clause_members s = record { key = codes "line"; value = decimal s.line } ∷ record { key = codes "symbols"; value = json_symbols s.clauses } ∷ []
 
@@ -36,6 +38,7 @@ comma_before n = if n == 0 then [] else comma
 abbrev pub json_loads : List LoadStmt → List LabelParts → List ℕ
 json_loads loads files = json_array load_object (zip loads files)
 
+-- the member `loads`: an array with an object for each load
 abbrev pub load_members : List LoadStmt → List LabelParts → List Member
 load_members loads files = record { key = codes "loads"; value = json_loads loads files } ∷ []
 

@@ -29,9 +29,11 @@ file_of packages t = if is_source t.kind then label_path t.label else build_path
 abbrev pub named : Target → List ℕ → List Member
 named t file = string_member (codes "target") (full_form t.label) ∷ string_member (codes "kind") (kind_text t.kind) ∷ string_member (codes "file") file ∷ []
 
+-- the member `names`: the labels of what the target's declaration names, in order, each once
 abbrev pub names_member : Target → Member
 names_member t = record { key = codes "names"; value = json_labels (named_labels t) }
 
+-- the members that no source file has: line of the declaration, from 1, attributes, `names`, and `deps` by these labels
 abbrev pub declared_members : Target → List LabelParts → List Member
 declared_members t deps =
     record { key = codes "line"; value = decimal t.line }

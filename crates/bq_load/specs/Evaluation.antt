@@ -33,6 +33,7 @@ use Rattle.bq_load.specs.Imports.{LoadedParts, imports}
 
 -- ---- a file that is evaluated
 
+-- what the host of a file of this kind keeps at first: for .bzl the packages, for BUILD a package without targets
 abbrev pub kept_by : LoadingParts → LabelParts → FileKind → HeldPackage
 kept_by x l kinds.Bzl = outside (package_of l) x.packages
 kept_by x l kinds.Build = declaring (record { place = record { own = package_of l; paths = x.paths; packages = x.packages; rules = x.rules }; «package» = no_targets l })
@@ -55,13 +56,16 @@ file_after x m l file modules values = module_after file values (evaluation x m 
 
 -- ---- a module
 
+-- what a module loads: the files that its loads name, each once, a module for each, and the resolved files of all modules
 abbrev pub loaded_parts : LoadingParts → Front → List ModuleView → LoadedParts
 loaded_parts x front modules = record { files = with_labels [] front.loads; modules = modules; resolved = resolved_files x.modules }
 
+-- a file's outcome by the values of its load clauses: the fault of the first bad clause (F33, F34), else what its statements give
 abbrev pub by_imports : LoadingParts → ℕ → LabelParts → ResolvedFile → List ModuleView → Result (List Datum) (Fault LoadFault) → Result ModuleView FailedView
 by_imports x m l file modules (Err why) = Err (not_evaluated (fault_as kind_of_load why))
 by_imports x m l file modules (Ok values) = file_after x m l file modules values
 
+-- the outcome of module m with this label, file and loaded modules: first the values of its load clauses, then its statements
 unfoldable pub file_means : LoadingParts → ℕ → LabelParts → Front → List ModuleView → Result ModuleView FailedView
 file_means x m l front modules = by_imports x m l front.file modules (imports (loaded_parts x front modules) [] front.file.loads front.loads)
 

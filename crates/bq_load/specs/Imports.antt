@@ -28,6 +28,7 @@ pub record LoadedParts : Type 0 where
   pub modules : List ModuleView
   pub resolved : List (Option ResolvedFile)
 
+-- the files that a file loads, with their modules and all resolved files, as contracts see them
 abbrev pub loaded_of : LoadedFiles → LoadedParts
 loaded_of x = record { files = with_labels [] x.named.now; modules = module_views x.modules.now; resolved = lent_files x.resolved.now }
 
@@ -43,6 +44,7 @@ value_named name [] vs = None
 value_named name (n ∷ ns) [] = None
 value_named name (n ∷ ns) (v ∷ vs) = if bytes_eq name n then Some v else value_named name ns vs
 
+-- the names of the globals of a resolved file; none where no module has the number or the module has no such file
 abbrev pub globals_by : Option (Option ResolvedFile) → List Name
 globals_by None = []
 globals_by (Some None) = []
@@ -52,10 +54,12 @@ globals_by (Some (Some file)) = file.globals
 abbrev pub names_in : List (Option ResolvedFile) → ModuleView → List Name
 names_in resolved m = globals_by (slice_get resolved m.frozen.own)
 
+-- the names of the globals of a module that may be missing; none where it is
 abbrev pub names_by : List (Option ResolvedFile) → Option ModuleView → List Name
 names_by resolved None = []
 names_by resolved (Some m) = names_in resolved m
 
+-- the names of each module's globals, by the resolved files of all modules
 abbrev pub names_of : List (Option ResolvedFile) → List (Arc LoadedModule Global) → List (List Name)
 names_of resolved ms = map (λ m. names_in resolved (module_view m.value)) ms
 
@@ -63,6 +67,7 @@ names_of resolved ms = map (λ m. names_in resolved (module_view m.value)) ms
 abbrev pub global_of : List (Option ResolvedFile) → ModuleView → Name → Option Datum
 global_of resolved m name = value_named name (globals_by (slice_get resolved m.frozen.own)) m.frozen.cells.globals
 
+-- the value of the global of this name in a module; None where the module is missing or has no such global
 abbrev pub global_by : List (Option ResolvedFile) → Option ModuleView → Name → Option Datum
 global_by resolved None name = None
 global_by resolved (Some m) name = global_of resolved m name

@@ -20,6 +20,7 @@ pub record LoadingParts : Type 0 where
   pub names : List Name
   pub limit : ℕ
 
+-- what decides the outcomes, as contracts see it: of the files of the workspace the paths alone
 abbrev pub loading_of : Loading → LoadingParts
 loading_of l = record { modules = l.modules.now; paths = paths_of l.workspace.now; packages = l.packages.now; rules = l.schema.now; names = l.built_ins; limit = l.limit }
 

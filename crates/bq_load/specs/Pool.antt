@@ -20,6 +20,7 @@ parts_of pool = loading_of pool.shared.evaluator
 abbrev pub loads_of : Pool → Loads
 loads_of pool = pool.shared.graph
 
+-- the package of a module whose file is of this kind: None for a .bzl file
 abbrev pub package_by_kind : FileKind → OutcomeView → Option PackageTargets
 package_by_kind kinds.Bzl o = None
 package_by_kind kinds.Build o = package_by o.label o.result

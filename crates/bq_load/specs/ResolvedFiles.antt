@@ -14,6 +14,7 @@ abbrev pub front_file : Result Front (Fault FaultKind) → Option ResolvedFile
 front_file (Err why) = None
 front_file (Ok front) = Some front.file
 
+-- the resolved file, by the kind of the module's file: None for a BUILD file
 abbrev pub file_by_kind : FileKind → Result Front (Fault FaultKind) → Option ResolvedFile
 file_by_kind kinds.Bzl r = front_file r
 file_by_kind kinds.Build r = None

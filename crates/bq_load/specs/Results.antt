@@ -30,6 +30,7 @@ abbrev pub line_by : LabelParts → Result Front (Fault FaultKind) → ℕ
 line_by l (Err why) = 0
 line_by l (Ok front) = line_of_load l front.file.loads front.loads
 
+-- the fault of a load: its line, and the label of the loaded module; in line 0 without a label where there is no such module
 abbrev pub load_fault_by : LoadFault → Result Front (Fault FaultKind) → Option Module → Fault FaultKind
 load_fault_by kind front None = fault_at (kind_of_load kind) 0
 load_fault_by kind front (Some loaded) = record { kind = kind_of_load kind; line = line_by loaded.label front; detail = full_form loaded.label }
@@ -38,6 +39,7 @@ load_fault_by kind front (Some loaded) = record { kind = kind_of_load kind; line
 unfoldable pub load_fault : LoadingParts → Result Front (Fault FaultKind) → LoadFault → ℕ → Fault FaultKind
 load_fault x front kind k = load_fault_by kind front (slice_get x.modules k)
 
+-- a value or an own fault as it is; else the fault of the load of module k: F35 cyclic, F38 too deep, F36 without a value
 abbrev pub result_of : LoadingParts → Result Front (Fault FaultKind) → Outcome ModuleView FailedView → Result ModuleView FailedView
 result_of x front (o.Loaded v) = Ok v
 result_of x front (o.Faulty e) = Err e

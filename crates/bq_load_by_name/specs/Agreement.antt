@@ -23,6 +23,7 @@ use Rattle.bq_load_by_name.specs.Results.{outcomes, LoadsByNames}
 abbrev pub IsReadAs : ParsedModule → Module → Type 0
 IsReadAs s m = (m.label ≡ s.label) × IsFrontOf s.front m.front
 
+-- as many modules as files, and each is read, in the same order, as what its file is
 abbrev pub AreReadAs : List ParsedModule → List Module → Type 0
 AreReadAs ss ms = InOrder IsReadAs ss ms
 

@@ -18,6 +18,7 @@ module_of inputs l = record { label = l; front = front_of inputs l }
 abbrev pub IsRead : InputParts → Module → Type 0
 IsRead inputs m = m ≡ module_of inputs m.label
 
+-- the label of each module, in the modules' order
 abbrev pub labels_of : List Module → List LabelParts
 labels_of ms = map (λ m. m.label) ms
 
@@ -29,6 +30,7 @@ AreValid ms = All (λ m. IsLabel m.label) ms
 abbrev pub label_cmp : LabelParts → LabelParts → Ordering
 label_cmp = on full_form (slice_cmp nat_cmp)
 
+-- the order of labels is total: reversed where two are swapped, transitive, and alike for those that compare as equal
 pub label_cmp_total : IsTotalOrder label_cmp
 label_cmp_total = on_texts full_form
 
@@ -36,5 +38,6 @@ label_cmp_total = on_texts full_form
 abbrev pub module_cmp : Module → Module → Ordering
 module_cmp = on (λ m. full_form m.label) (slice_cmp nat_cmp)
 
+-- the order of modules is total: reversed where two are swapped, transitive, and alike for those that compare as equal
 pub module_cmp_total : IsTotalOrder module_cmp
 module_cmp_total = on_texts (λ m. full_form m.label)

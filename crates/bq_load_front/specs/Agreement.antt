@@ -16,6 +16,7 @@ IsFrontOf (Ok x) (Ok front) = ResolvesTo x.file front.file × (front.loads ≡ x
 IsFrontOf (Err why) (Err told) = told ≡ why
 IsFrontOf _ _ = ⊥
 
+-- the file of each label is resolved to what its trees resolve to, with the same loads, or has the same fault
 abbrev pub FrontsAgree : Type 0
 FrontsAgree = (inputs : InputParts) (l : LabelParts) → IsFrontOf (parsed_of inputs l) (front_of inputs l)
 

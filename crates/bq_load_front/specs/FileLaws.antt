@@ -40,6 +40,7 @@ pub data HasFault (universe : UniverseParts) (text : List ℕ) (why : Fault Faul
   of_names : (tokens : List Token) (trees : List TopLevel) (at : Fault NameFault) → Lexes text (Ok tokens) → Parses universe.kind (lexemes text tokens) (Ok trees) → resolved universe trees ≡ Err at
       → why ≡ fault_as kind_of_name at → HasFault universe text why
 
+-- `file_of_text` gives what a text reads as, and a text reads as nothing else
 abbrev pub FilesOfTexts : Type 0
 FilesOfTexts = (universe : UniverseParts) (text : List ℕ) (r : Result ParsedFile (Fault FaultKind)) → (file_of_text universe text ≡ r) ↔ ReadsAsFile universe text r
 
@@ -47,12 +48,15 @@ FilesOfTexts = (universe : UniverseParts) (text : List ℕ) (r : Result ParsedFi
 abbrev pub FrontsOfLabels : Type 0
 FrontsOfLabels = (inputs : InputParts) (l : LabelParts) (r : Result ParsedFront (Fault FaultKind)) → (parsed_of inputs l ≡ r) ↔ IsFront inputs l r
 
+-- `resolved_file` gives a file exactly where the text's tokens, statements and names resolve to it
 abbrev pub ResolvedFilesOfTexts : Type 0
 ResolvedFilesOfTexts = (universe : UniverseParts) (text : List ℕ) (file : ResolvedFile) → (resolved_file universe text ≡ Ok file) ↔ TextResolvesTo universe text file
 
+-- `resolved_file` gives a fault exactly where the text's tokens, statements or names have it
 abbrev pub FaultsOfFiles : Type 0
 FaultsOfFiles = (universe : UniverseParts) (text : List ℕ) (why : Fault FaultKind) → (resolved_file universe text ≡ Err why) ↔ HasFault universe text why
 
+-- what is read of a load that names the file of this label
 abbrev pub named : LabelParts → Result LabelParts (Fault LoadFault)
 named l = Ok l
 
@@ -86,5 +90,6 @@ AreRead read loads =
     ((ls : List LabelParts) → (labels_of read [] loads ≡ Ok ls) ↔ NameFiles read loads ls)
     × ((why : Fault LoadFault) → (labels_of read [] loads ≡ Err why) ↔ IsFirstBadLoad read loads why)
 
+-- the loads of a file in the package `own` are read as the files that they name, or for the first bad one
 abbrev pub LoadsOfFiles : Type 0
 LoadsOfFiles = (inputs : InputParts) (own : PackageParts) (loads : List WrittenLoad) → AreRead (file_named inputs own) loads

@@ -20,6 +20,7 @@ pub record NamesFile (files : List File) (packages : List BuildFile) (own : Pack
   pub owned : (b : BuildFile) → owner_of packages (label_path l) ≡ Some b → b.id ≡ package_of l
   pub file : (f : File) × IsFileOf files l f
 
+-- a load is read as this label exactly where its text names a .bzl file of the workspace by it
 abbrev pub LoadsNameFiles : Type 0
 LoadsNameFiles =
     (files : List File) (packages : List BuildFile) (own : PackageParts) (line : ℕ) (text : List ℕ) (l : LabelParts)

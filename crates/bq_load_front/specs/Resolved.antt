@@ -11,8 +11,8 @@ use Rattle.bq_resolve_scope.specs.declared.file.ResolvedFile.{ResolvedFile}
 use Rattle.bq_resolve_scope.specs.Universe.{UniverseParts}
 use Rattle.bq_resolve_scope.specs.Files.{resolved}
 
--- one step after another
 infixl 10 ◌>>=◌
+-- a step, and then another on its result; the first fault ends both
 abbrev pub ◌>>=◌ : {A B K : Type 0} → Result A (Fault K) → (A → Result B (Fault K)) → Result B (Fault K)
 (Err why) >>= go = Err why
 (Ok x) >>= go = go x
@@ -26,5 +26,6 @@ resolved_file universe text =
 abbrev pub itself : {A : Type 0} → A → A
 itself x = x
 
+-- a vector as a list of its items
 abbrev pub items : {A : Type 0} → Vec A Global → List A
 items v = v.items

@@ -19,10 +19,12 @@ pub record IsUnchanged (x y : LoadingParts) (p : Loads) (m : ℕ) : Type 0 where
   pub read : (l : ℕ) → Reaches p m l → slice_get y.modules l ≡ slice_get x.modules l
   pub host : (s : Module) → slice_get x.modules m ≡ Some s → kept_first y s.label ≡ kept_first x s.label
 
+-- an unchanged module evaluates in y to what it does in x, by the values that its loads had in x
 abbrev pub UnchangedModulesEvaluateAlike : Type 0
 UnchangedModulesEvaluateAlike =
     (x y : LoadingParts) (p : Loads) (m : ℕ) → IsUnchanged x y p m → (modules : List ModuleView) → load_values (outcome (means x) p) (row p m) ≡ Ok modules → means y m modules ≡ means x m modules
 
+-- the value or own fault that an unchanged module had in x is what it evaluates to in y, by the values that its loads had
 abbrev pub UnchangedModulesKeepTheirOutcomes : Type 0
 UnchangedModulesKeepTheirOutcomes =
     (x y : LoadingParts) (p : Loads) → Known p → (outcomes : List (Outcome ModuleView FailedView)) → Tabulates (length p) (outcome (means x) p) outcomes

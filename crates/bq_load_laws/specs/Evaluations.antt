@@ -19,10 +19,12 @@ use Rattle.bq_load.specs.Views.{ModuleView}
 abbrev pub AgreeOn : List FrozenView → (files others : List (Option ResolvedFile)) → Type 0
 AgreeOn loaded files others = (n : ℕ) → IsSome (globals_among n loaded) → slice_get files n ≡ slice_get others n
 
+-- a module runs alike with two lists of resolved files that agree on the modules that the loaded ones reach
 abbrev pub EvaluationsSeeWhatIsReached : Type 0 → Type 0
 EvaluationsSeeWhatIsReached W =
     (names : List Name) (host : HostCalls W) (loaded : List FrozenView) (files others : List (Option ResolvedFile)) → AgreeOn loaded files others
     → (number : ℕ) (file : ResolvedFile) (imports : List Datum) (limit : ℕ) (kept : W) → module_run names host files number file loaded imports limit kept ≡ module_run names host others number file loaded imports limit kept
 
+-- the value of module m reaches the globals of no module but m and those that loads lead to from m
 abbrev pub ValuesReachWhatIsLoaded : Type 0
 ValuesReachWhatIsLoaded = (x : LoadingParts) (p : Loads) (m : ℕ) (v : ModuleView) → outcome (means x) p m ≡ Loaded v → (n : ℕ) → IsSome (globals_at v.frozen n) → Reaches p m n

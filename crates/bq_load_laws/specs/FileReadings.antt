@@ -16,9 +16,11 @@ text_of files l = option_map (λ f. f.content) (label_file files l)
 abbrev pub AreThereAlike : List File → List File → Type 0
 AreThereAlike files others = (l : LabelParts) → is_some (label_file files l) ≡ is_some (label_file others l)
 
+-- workspaces with the same paths in the same order have a file for the same labels, whatever is in their files
 abbrev pub FilesAreThereByPaths : Type 0
 FilesAreThereByPaths = (files others : List File) → paths_of files ≡ paths_of others → AreThereAlike files others
 
+-- a file reads alike where its text, the rules and the packages are the same, and the same labels name files
 abbrev pub FrontsAreByText : Type 0
 FrontsAreByText =
     (inputs others : InputParts) → inputs.rules ≡ others.rules → inputs.packages ≡ others.packages → AreThereAlike inputs.files others.files

@@ -18,9 +18,11 @@ pub record FailedView : Type 0 where
   pub fault : Fault FaultKind
   pub prints : List (List ℕ)
 
+-- what contracts see of a module that was evaluated: its cells and globals, its prints, and its package
 abbrev pub module_view : LoadedModule → ModuleView
 module_view m = record { frozen = m.frozen.value; prints = m.prints.items; «package» = m.package }
 
+-- what contracts see of a module that failed: its fault, and its prints
 abbrev pub failed_view : FailedModule → FailedView
 failed_view m = record { fault = m.fault; prints = m.prints.items }
 

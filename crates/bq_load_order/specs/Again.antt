@@ -48,10 +48,12 @@ module _ {V F : Type 0} where
   abbrev pub Keeps : (before after : ℕ → Outcome V F) → (m k : ℕ) → Type 0
   Keeps before after m k = is_own (before k) ≡ true → after m ≡ before k
 
+-- the number that a module had, if it had one, is k
 abbrev pub is_number : Option ℕ → ℕ → Bool
 is_number None k = false
 is_number (Some j) k = j == k
 
+-- there are no numbers in the list
 abbrev pub is_nothing : List ℕ → Bool
 is_nothing [] = true
 is_nothing (k ∷ ks) = false

@@ -27,10 +27,12 @@ abbrev pub seen : {M V : Type 0} → (M → V) → Result (Vec (Arc M Global) Gl
 seen see (Ok vs) = Ok (map (λ a. see a.value) vs.items)
 seen see (Err l) = Err l
 
+-- the value behind a shared one, if there is one
 abbrev pub seen_value : {M V : Type 0} → (M → V) → Option (Arc M Global) → Option V
 seen_value see (Some a) = Some (see a.value)
 seen_value see None = None
 
+-- the value of an outcome; None where there is a fault or a load has no value
 abbrev pub value_in : {V F : Type 0} → Outcome V F → Option V
 value_in (Loaded v) = Some v
 value_in (Faulty e) = None

@@ -8,6 +8,7 @@ use Rattle.bq_load_discover.specs.declared.modules.Module.{Module}
 use Rattle.bq_load_discover.specs.Module.{module_of}
 use Rattle.bq_load_order.specs.Again.{number_at}
 
+-- there are no labels in the list
 abbrev pub no_label : List LabelParts → Bool
 no_label [] = true
 no_label (l ∷ ls) = false

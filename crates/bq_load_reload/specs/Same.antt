@@ -14,6 +14,7 @@ same_content None (Some g) = false
 same_content (Some f) None = false
 same_content (Some f) (Some g) = bytes_eq f.content g.content
 
+-- there are no files in the list
 abbrev pub no_file : List File → Bool
 no_file [] = true
 no_file (f ∷ fs) = false

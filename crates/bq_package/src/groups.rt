@@ -14,7 +14,7 @@ use crate::place::Place;
 use bq_base::Bytes;
 use bq_builtin_machine::{Args, Bound, Signature, SingleParameter, bind};
 use bq_label::Label;
-use bq_package_target::{GivenAttribute, Target, TargetKind};
+use bq_package_target::{AttributeList, GivenAttribute, Target, TargetKind};
 use bq_package_values::{TextKind, label, labels};
 use bq_value::{EvalErr, Store, Value};
 use bq_value_datum::{AttributeValue, Seed, SharedList};
@@ -89,7 +89,7 @@ fn group(
     Ok(Target {
         label,
         kind: TargetKind::Group,
-        attributes,
+        attributes: AttributeList::of(alloc, attributes)?,
         line,
     })
 }

@@ -10,7 +10,7 @@ use crate::arguments::{Callee, Given, is_none};
 use crate::keyword_arguments::Keywords;
 use bq_base::{Bytes, EvalFault};
 use bq_builtin_machine::Args;
-use bq_package_target::{GivenAttribute, Target, TargetKind};
+use bq_package_target::{AttributeList, GivenAttribute, Target, TargetKind};
 use bq_value::EvalErr;
 use bq_value_datum::{Attribute, RuleClass};
 use sqlite_items::Items;
@@ -112,10 +112,11 @@ fn target(
     let Some(label) = given.name.take() else {
         return Err(EvalErr::Bad(EvalFault::MissingAttribute));
     };
+    let attributes = mem::replace(&mut given.attributes, Items::new(alloc));
     Ok(Target {
         label,
         kind: TargetKind::Rule(kind, class),
-        attributes: mem::replace(&mut given.attributes, Items::new(alloc)),
+        attributes: AttributeList::of(alloc, attributes)?,
         line,
     })
 }

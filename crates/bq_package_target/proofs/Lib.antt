@@ -4,7 +4,8 @@ pub mod Finding
 pub mod States
 pub mod Made
 pub mod Accepted
-pub mod PutBack
+-- a list of no elements
+pub mod Empty
 -- Parts of definitions, as words that proofs name.
 pub mod Cases
 mod ByNames

@@ -1,3 +1,4 @@
+pub mod AttributeList
 pub mod Value
 pub mod Target
 pub mod Names

@@ -81,12 +81,12 @@ impl TargetsByName {
     }
 
     /// Puts shares of the targets to the end of others, in the order of their names.
-    pub(crate) fn share_to(&self, alloc: Global, all: &mut Vec<Target>) -> Result<(), AllocError>
+    pub(crate) fn share_to(&self, all: &mut Vec<Target>) -> Result<(), AllocError>
         ensures { OnOk result (all.new.items ≡ all.old.items ++ by_name self.now) }
     {
         let placed = self.placed.as_slice();
         for each in placed {
-            all.push(each.target.share(alloc)?)?;
+            all.push(each.target.share()?)?;
         }
         Ok(())
     }

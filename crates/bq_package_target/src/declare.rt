@@ -15,7 +15,6 @@ use std::alloc::{AllocError, Global};
 
 /// Appends files that the rule makes.
 fn add_generated(
-    alloc: Global,
     rule: &Target,
     labels: &[Label],
     made: &mut Items<Target>,
@@ -23,7 +22,7 @@ fn add_generated(
     ensures { OnOk result (made.new ≡ made.old ++ map (generated rule.now) labels.now) }
 {
     for label in labels {
-        made.push(Target::generated(alloc, rule, label)?)?;
+        made.push(Target::generated(rule, label)?)?;
     }
     Ok(())
 }
@@ -34,7 +33,7 @@ fn outputs(alloc: Global, rule: &Target) -> Result<Items<Target>, AllocError>
 {
     let mut made = Items::new(alloc);
     for given in rule.attributes.as_slice() {
-        add_generated(alloc, rule, given.value.outputs(), &mut made)?;
+        add_generated(rule, given.value.outputs(), &mut made)?;
     }
     Ok(made)
 }
@@ -89,7 +88,7 @@ fn add_target(
     ensures names { IfOk result (λ new. names.new ≡ (if new then names.old ++ names_of (declares target) else names.old)) }
 {
     let mut target = target;
-    kept.share_long(&mut target.attributes)?;
+    kept.share_long(alloc, &mut target.attributes)?;
     let made = outputs(alloc, &target)?;
     if !take_all_names(names, &target, made.as_slice())? {
         return Ok(false);

@@ -61,7 +61,7 @@ fn add_files(
         names,
         found: Items::new(alloc),
     };
-    files.add_all(alloc, labels, line)?;
+    files.add_all(labels, line)?;
     let Files { names, found } = files;
     targets.append(found)?;
     Ok(names)
@@ -128,8 +128,8 @@ impl PackageState {
             names,
             found: Items::new(alloc),
         };
-        files.add(alloc, &build_file, 0)?;
-        files.add_named(alloc, build_file.package_id(), targets.as_slice())?;
+        files.add(&build_file, 0)?;
+        files.add_named(build_file.package_id(), targets.as_slice())?;
         let Files { names: _, found } = files;
         targets.append(found)?;
         Package::of(alloc, build_file, targets)

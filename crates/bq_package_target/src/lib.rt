@@ -13,6 +13,7 @@
 //! In reading order:
 //!
 //! - `value`: attributes with their values, and the types of the attributes of a rule;
+//! - `attribute_list`: the attributes of a target, with many owners;
 //! - `target`: what a target is, and which targets it names;
 //! - `names`: the names that are taken;
 //! - `shared_values`: long values that stand once, however many targets or defaults have them;
@@ -28,6 +29,7 @@
 //! - `package_list`: the packages of a workspace.
 #![tactic(auto)]
 
+mod attribute_list;
 mod by_name;
 mod declare;
 mod files;
@@ -43,6 +45,7 @@ mod target;
 mod target_laws;
 mod value;
 
+pub use attribute_list::AttributeList;
 pub use files::is_of;
 pub use laws::{
     calls_come_first, calls_keep_their_order, distinct_names_are_accepted,

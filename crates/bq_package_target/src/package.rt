@@ -94,9 +94,8 @@ impl Package {
         self.targets.len()
     }
 
-    /// Appends the targets in the order of their names: these themselves if this is their only owner, else shares of them, in time
-    /// linear in what they name. No two of them have one name.
-    pub fn append_by_name(self, alloc: Global, all: &mut Vec<Target>) -> Result<(), AllocError>
+    /// Appends the targets in the order of their names: these themselves if this is their only owner, else shares of them. No two of them have one name.
+    pub fn append_by_name(self, all: &mut Vec<Target>) -> Result<(), AllocError>
         ensures appended { OnOk result (all.new.items ≡ all.old.items ++ by_name self.targets) }
         ensures valid { AreTargetsOf (package_of self.build_file) self.targets }
     {
@@ -106,7 +105,7 @@ impl Package {
         } = self;
         match Arc::try_unwrap(targets) {
             Ok(targets) => targets.move_to(all),
-            Err(shared) => shared.share_to(alloc, all),
+            Err(shared) => shared.share_to(all),
         }
     }
 }

@@ -4,21 +4,7 @@ ghost use Rattle.std.specs.Prelude.{◌≡◌, IfOk};
 
 use crate::target::{Target, TargetKind};
 use crate::value::GivenAttribute;
-use sqlite_items::Items;
-use std::alloc::{AllocError, Global};
-
-fn attributes(
-    alloc: Global,
-    attributes: &[GivenAttribute],
-) -> Result<Items<GivenAttribute>, AllocError>
-    ensures { IfOk result (λ shared. shared ≡ attributes.now) }
-{
-    let mut shared = Vec::with_capacity(alloc, attributes.len())?;
-    for attribute in attributes {
-        shared.push(attribute.share()?)?;
-    }
-    Ok(Items::from_vec(shared))
-}
+use std::alloc::AllocError;
 
 impl GivenAttribute {
     /// Shares the attribute with its value.
@@ -48,15 +34,13 @@ impl TargetKind {
 
 impl Target {
     /// Shares the target.
-    pub fn share(&self, alloc: Global) -> Result<Target, AllocError>
+    pub fn share(&self) -> Result<Target, AllocError>
         ensures { IfOk result (λ t. t ≡ self.now) }
     {
-        let attributes = attributes(alloc, self.attributes.as_slice())?;
-        let label = self.label.share()?;
         Ok(Target {
-            label,
+            label: self.label.share()?,
             kind: self.kind.share()?,
-            attributes,
+            attributes: self.attributes.share()?,
             line: self.line,
         })
     }

@@ -2,6 +2,7 @@
 
 ghost use Rattle.std.specs.Prelude.{◌≡◌, IfOk, OnOk};
 
+use crate::attribute_list::AttributeList;
 use crate::value::GivenAttribute;
 use bq_base::Bytes;
 use bq_label::Label;
@@ -62,6 +63,11 @@ fn hash(value: &AttributeValue) -> u64 {
     hasher.finish()
 }
 
+/// Returns whether an attribute has a long value.
+fn has_long(attributes: &[GivenAttribute]) -> bool {
+    attributes.iter().any(|given| is_long(&given.value))
+}
+
 impl KeptValues {
     /// Makes the values of a module in which none is kept yet.
     pub fn new(alloc: Global) -> KeptValues {
@@ -96,24 +102,38 @@ impl KeptValues {
         self.share(&value)
     }
 
+    /// Returns a share of an attribute. Its value, if it is long, is a share of an equal one that is kept.
+    fn share_given(&mut self, given: &GivenAttribute) -> Result<GivenAttribute, AllocError>
+        ensures { IfOk result (λ a. a ≡ given.now) }
+    {
+        let value = if is_long(&given.value) {
+            self.share(&given.value)?
+        } else {
+            given.value.share()?
+        };
+        Ok(GivenAttribute {
+            name: given.name.share()?,
+            value,
+        })
+    }
+
     /// Has long values of attributes be shares of equal ones that are kept.
     pub(crate) fn share_long(
         &mut self,
-        attributes: &mut Items<GivenAttribute>,
+        alloc: Global,
+        attributes: &mut AttributeList,
     ) -> Result<(), AllocError>
         ensures { OnOk result (attributes.new ≡ attributes.old) }
     {
-        for at in 0..attributes.len() {
-            let Some(given) = attributes.get(at) else {
-                return Ok(());
-            };
-            if !is_long(&given.value) {
-                continue;
-            }
-            let value = self.share(&given.value)?;
-            let name = given.name.share()?;
-            attributes.set(at, GivenAttribute { name, value });
+        let all = attributes.as_slice();
+        if !has_long(all) {
+            return Ok(());
         }
+        let mut shared = Vec::with_capacity(alloc, all.len())?;
+        for given in all {
+            shared.push(self.share_given(given)?)?;
+        }
+        *attributes = AttributeList::of(alloc, Items::from_vec(shared))?;
         Ok(())
     }
 }

@@ -3,12 +3,11 @@
 ghost use Rattle.std.specs.Prelude.{◌≡◌, IfOk};
 ghost use Rattle.bq_package_target.specs.Target.{is_source, generated};
 
-use crate::value::GivenAttribute;
+use crate::attribute_list::AttributeList;
 use bq_base::Bytes;
 use bq_label::Label;
 use bq_value_datum::RuleClass;
-use sqlite_items::Items;
-use std::alloc::{AllocError, Global};
+use std::alloc::AllocError;
 
 /// What a target is.
 #[derive(Drop)]
@@ -28,7 +27,7 @@ pub struct Target {
     pub label: Label,
     pub kind: TargetKind,
     /// What its call gives, and the defaults of what it doesn't give; a file has none.
-    pub attributes: Items<GivenAttribute>,
+    pub attributes: AttributeList,
     /// The line of the call that declares it, or 0 if none does.
     pub line: u32,
 }
@@ -58,18 +57,14 @@ impl TargetKind {
 
 impl Target {
     /// Makes a file that a rule makes.
-    pub(crate) fn generated(
-        alloc: Global,
-        rule: &Target,
-        label: &Label,
-    ) -> Result<Target, AllocError>
+    pub(crate) fn generated(rule: &Target, label: &Label) -> Result<Target, AllocError>
         ensures { IfOk result (λ t. t ≡ generated rule.now label.now) }
     {
         let label = label.share()?;
         Ok(Target {
             label,
             kind: TargetKind::Generated(rule.label.share()?),
-            attributes: Items::new(alloc),
+            attributes: AttributeList::none(),
             line: rule.line,
         })
     }

@@ -66,6 +66,7 @@ IsClosed n (combined o x y) = IsClosed n x × IsClosed n y
 IsClosed n (one s x) = IsClosed n x
 IsClosed n (two s x y) = IsClosed n x × IsClosed n y
 
+-- that each variable is bound is proved in one way at most
 pub IsClosed-prop : (n : ℕ) (x : Formula) → IsProp (IsClosed n x)
 IsClosed-prop n (named patterns) = Unit-prop
 IsClosed-prop n (variable k) = le_prop

@@ -107,6 +107,7 @@ query_step (tree.Chain x os) = record { word = None; at_first = x.at_first; all 
 abbrev pub part_of : Query → Part
 part_of = fold-Query Part Part query_step operation_step
 
+-- what is known of an operator's right operand
 abbrev pub operation_part : SetOperation → Part
 operation_part = fold-SetOperation Part Part query_step operation_step
 

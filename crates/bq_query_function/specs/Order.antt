@@ -15,13 +15,15 @@ text_of t = full_form t.label
 abbrev pub is_text : List ℕ → Target → Bool
 is_text text t = bytes_eq (text_of t) text
 
+-- the labels of targets in full, in the order of the targets
 abbrev pub texts_of : List Target → List (List ℕ)
 texts_of targets = map text_of targets
 
--- each label is below the next
+-- targets by the bytes of their labels in full
 abbrev pub by_text : Target → Target → Ordering
 by_text a b = slice_cmp nat_cmp (text_of a) (text_of b)
 
+-- the label in full of each target is below that of the next, by its bytes
 abbrev pub AreInOrder : List Target → Type 0
 AreInOrder targets = IsStrictlySortedBy by_text targets
 

@@ -41,6 +41,7 @@ NamesBy form.All part t = (p : PackageParts) × (package_of_text part ≡ Some p
 NamesBy form.RulesBeneath part t = (p : PackageParts) × (package_of_text part ≡ Some p) × IsWithin p (package_of t.label) × (is_rule t ≡ true)
 NamesBy form.AllBeneath part t = (p : PackageParts) × (package_of_text part ≡ Some p) × IsWithin p (package_of t.label)
 
+-- a word that is read as a pattern names just the targets that its form and the part of it say
 abbrev pub WordsNameLabelsAndPackages : Type 0
 WordsNameLabelsAndPackages =
     (word : List ℕ) (p : TargetPattern) (t : Target) → pattern_of word ≡ Some p → IsLabel t.label → (names p t ≡ true) ↔ NamesBy (word_form word).0 (word_form word).1 t

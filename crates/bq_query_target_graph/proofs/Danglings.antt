@@ -1,5 +1,5 @@
 -- The lines that are put are those of the labels that name no target.
-use Rattle.std.proofs.Common.{◌≡◌, ◌<◌, ◌+◌, ◌∙◌, ◌↔◌, ℕ, Bool, true, false, cond, nat_lt, List, [], ◌∷◌, ◌++◌, Option, Some, None, length, take, drop, position, if◌then◌else◌, refl, sym, ap, subst, inl, inr, arith, append-nil, if◌then◌else◌}
+use Rattle.std.proofs.Common.{◌≡◌, ◌<◌, ◌∙◌, ◌↔◌, ℕ, Bool, true, false, cond, nat_lt, List, [], ◌∷◌, ◌++◌, Option, Some, None, length, take, drop, position, if◌then◌else◌, refl, sym, ap, subst, inl, inr, arith, append-nil, if◌then◌else◌}
 use Rattle.std.specs.List.{flat_map, find, position_or_len, Contains, All}
 use Rattle.std.specs.List.Sorted.{IsPermutation}
 use Rattle.std.specs.Option.{unwrap_or}

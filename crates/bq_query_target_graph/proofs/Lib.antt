@@ -8,6 +8,7 @@ pub mod Whole
 pub mod Files
 pub mod Danglings
 pub mod Parts
+pub mod Runs
 -- what may cross threads
 pub mod Crossing
 -- Parts of definitions, as words that proofs name.

@@ -14,7 +14,7 @@ use Rattle.bq_package_target.specs.declared.value.GivenAttribute.{GivenAttribute
 use Rattle.bq_package_target.specs.Value.{labels_in}
 use Rattle.bq_package_target.specs.Target.{dependencies}
 use Rattle.bq_package_target.proofs.Cases.{dependencies_by}
-use Rattle.bq_label_set.specs.Labels.{same_label, same_label-Decides}
+use Rattle.bq_label_set.specs.Labels.{same_label-Decides}
 use Rattle.bq_query_target_graph.specs.Edges.{repeats, unrepeated, looked_up}
 
 -- ---- elements of lists that elements give

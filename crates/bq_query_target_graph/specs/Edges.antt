@@ -46,6 +46,7 @@ looked_up t = elim t.kind [ k.Generated rule ↦ rule ∷ [] | _ ↦ flat_map (�
 
 -- ---- the list of edges
 
+-- a list with the edge from target `a` to target b, by number; empty where no target has the label
 abbrev pub edge_by : ℕ → Option ℕ → List Edge
 edge_by a None = []
 edge_by a (Some b) = record { from = a; to = b } ∷ []
@@ -61,6 +62,7 @@ edges_from ls a (t ∷ ts) = edges_to ls a (looked_up t) ++ edges_from ls (a + 1
 
 -- ---- the rows of the graph
 
+-- a list with the number; empty where no target has the label
 abbrev pub number_by : Option ℕ → List ℕ
 number_by None = []
 number_by (Some b) = b ∷ []
@@ -73,5 +75,6 @@ numbers_of ls named = flat_map (λ l. number_by (position (same_label l) ls)) na
 abbrev pub row_of : List LabelParts → Target → List ℕ
 row_of ls t = numbers_of ls (looked_up t)
 
+-- the row of each target, in the order of the targets, by the labels of all targets
 abbrev pub rows_of : List LabelParts → List Target → List (List ℕ)
 rows_of ls ts = map (row_of ls) ts

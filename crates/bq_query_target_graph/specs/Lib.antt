@@ -4,4 +4,5 @@ pub mod Edges
 pub mod BuildFiles
 pub mod Dangling
 pub mod Parts
+pub mod Runs
 pub mod Nodes

@@ -14,7 +14,7 @@ ghost use Rattle.bq_query_target_graph.specs.Order.{target_labels, target_cmp};
 
 use crate::build_files::BuildFiles;
 use crate::edges::{Found, edges, edges_by};
-use crate::order::in_order;
+use crate::order::{in_order, in_order_by};
 use bq_base_texts::FaultLines;
 use bq_label::PackageId;
 use bq_package_target::{PackageList, Target};
@@ -106,6 +106,26 @@ fn nodes_of(alloc: Global, packages: PackageList) -> Result<Nodes, AllocError>
     Ok(Nodes { targets, files })
 }
 
+/// Takes the targets out of packages, by at most `threads` threads.
+fn nodes_by<R: Threads + Sync>(
+    rt: &R,
+    alloc: Global,
+    packages: PackageList,
+    threads: usize,
+) -> Result<Nodes, AllocError>
+    ensures { IfOk result (AreNodesOf packages) }
+{
+    let Ok(files) = BuildFiles::of(alloc, packages.as_slice()) else {
+        drop(packages); // PROOF: one call lets the packages go
+        return Err(AllocError);
+    };
+    let Ok(targets) = in_order_by(rt, alloc, packages.into_vec(), threads) else {
+        drop(files); // PROOF: and the files
+        return Err(AllocError);
+    };
+    Ok(Nodes { targets, files })
+}
+
 /// What there is beside the targets of packages.
 #[derive(Drop)]
 struct Linked {
@@ -178,7 +198,7 @@ pub fn build_graph(
     graph_by(alloc, nodes, found)
 }
 
-/// Makes what [`build_graph`] does. At most `threads` threads look for edges.
+/// Makes what [`build_graph`] does. At most `threads` threads take the targets out of the packages, and then look for edges.
 pub fn build_graph_by<R: Threads + Sync>(
     rt: &R,
     alloc: Global,
@@ -188,7 +208,7 @@ pub fn build_graph_by<R: Threads + Sync>(
     ensures graph { IfOk result (λ made. IsGraphOf packages made.0) }
     ensures lines { IfOk result (λ made. made.1 ≡ dangling_lines packages) }
 {
-    let nodes = nodes_of(alloc, packages)?;
+    let nodes = nodes_by(rt, alloc, packages, threads)?;
     let found = edges_by(rt, alloc, &nodes.files, &nodes.targets, threads);
     graph_by(alloc, nodes, found)
 }

@@ -3,7 +3,8 @@
 //! The promise: the targets are those of all packages in the order of their labels, so that a target's number orders it; an edge leads
 //! from one to another exactly where the first depends on the second (`specs/Edges.antt`). A label of another package that names no
 //! target there is fault F79 (`specs/Dangling.antt`). It takes time n log n in the targets and in the labels that they name.
-//! `build_graph` returns for every input; `build_graph_by` has several threads find edges, each along a part of the targets.
+//! `build_graph` returns for every input; `build_graph_by` has several threads take the targets out of a part of the packages each, and then
+//! find the edges along a part of the targets.
 //!
 //! In reading order:
 //!

@@ -18,6 +18,7 @@ abbrev pub subject_entry : NumberMeaning → List ℕ × List ℕ
 subject_entry (subject.Fault kind) = fault_entry kind
 subject_entry (subject.Error number name) = (number.now, name.now)
 
+-- the number and the name of what an explanation is about
 abbrev pub entry_of : Explanation → List ℕ × List ℕ
 entry_of e = subject_entry e.subject
 

@@ -60,6 +60,7 @@ pub record FurtherView : Type 0 where
   pub modules : ℕ
   pub faults : ℕ
 
+-- the lines after those of targets, as contracts see them
 abbrev pub further_view : Further → FurtherView
 further_view f = record { text = f.text; modules = f.modules; faults = f.faults }
 
@@ -76,6 +77,7 @@ TellsBy None origin packages w asked further status reply =
     × (reply ≡ record { text = facts_text origin packages w numbers further; end = Ok status })
 TellsBy (Some why) origin packages w asked further status reply = reply ≡ record { text = []; end = Err (Query why) }
 
+-- the facts with these further lines and this status, or no text and Q5 or Q6 where the query names what is not there
 abbrev pub Tells : Origin → List BuildFile → GraphParts → Option CheckedQuery → FurtherView → Status → ReplyView → Type 0
 Tells origin packages w asked further status reply = TellsBy (fault_by w asked) origin packages w asked further status reply
 
@@ -91,9 +93,11 @@ pub record LoadSummaryView : Type 0 where
   pub modules : List ℕ
   pub count : ℕ
 
+-- what is read of a workspace before its modules are evaluated, as contracts see it
 abbrev pub before_view : LoadSummary → LoadSummaryView
 before_view b = record { origin = b.origin; packages = b.packages; modules = b.modules; count = b.count }
 
+-- the report's answer and ending, by what is read before, the graph, what is asked, and all fault lines, which decide the status
 abbrev pub TellsAll : LoadSummaryView → GraphParts → Option CheckedQuery → List FaultLine → ReportView → Type 0
 TellsAll b w asked faults r =
     Tells b.origin b.packages w asked (further_lines b.modules b.count faults) (status_by faults) (record { text = r.answer; end = r.end })

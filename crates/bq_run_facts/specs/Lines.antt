@@ -27,6 +27,7 @@ depends w x y = list_any (nat_eq y) (row w.edges x) && not (nat_eq y x)
 unfoldable pub direct : GraphParts → ℕ → List ℕ
 direct w x = filter (depends w x) (range_with_len 0 (length w.targets))
 
+-- the line of this target, which has the number x; empty where no target has it
 abbrev pub line_by : List BuildFile → GraphParts → ℕ → Option Target → List ℕ
 line_by packages w x None = []
 line_by packages w x (Some t) = target_line t (file_of packages t) (labels_at w.targets (direct w x))
@@ -35,6 +36,7 @@ line_by packages w x (Some t) = target_line t (file_of packages t) (labels_at w.
 unfoldable pub line_at : List BuildFile → GraphParts → ℕ → List ℕ
 line_at packages w x = line_by packages w x (slice_get w.targets x)
 
+-- the lines of the targets of these numbers, one after another
 abbrev pub target_lines : List BuildFile → GraphParts → List ℕ → List ℕ
 target_lines packages w numbers = flat_map (line_at packages w) numbers
 
@@ -45,13 +47,16 @@ abbrev pub statements_by : Result Front (Fault FaultKind) → List LoadStmt
 statements_by (Err why) = []
 statements_by (Ok front) = front.file.loads
 
+-- the line of a module, with each load beside the label of the file that it names
 abbrev pub line_of_module : Module → List ℕ
 line_of_module m = module_line m.label (statements_by m.front) (loads_by m.front)
 
+-- the lines of modules, one after another
 abbrev pub module_lines : List Module → List ℕ
 module_lines modules = flat_map line_of_module modules
 
 -- ---- faults
 
+-- a line with the object of each fault line, one after another
 abbrev pub fault_objects : List FaultLine → List ℕ
 fault_objects lines = flat_map fault_object lines

@@ -34,6 +34,7 @@ pub record Inside : Type 0 where
   -- its packages in order
   pub packages : List PackageTargets
 
+-- what loading gave, as a report needs it: prints, fault lines and packages
 abbrev pub inside : Loaded → Inside
 inside l = record { prints = l.prints; faults = l.faults; packages = l.packages }
 
@@ -63,6 +64,7 @@ pub record ReplyView : Type 0 where
   pub text : List ℕ
   pub end : Result Status NoAnswer
 
+-- the text and the ending of a reply, as contracts see them
 abbrev pub reply_view : Reply → ReplyView
 reply_view r = record { text = r.text; end = r.end }
 

@@ -30,3 +30,5 @@ pub mod Changed
 pub mod Once
 -- the commands of edits are read as these edits
 pub mod ReadBack
+-- texts without commands
+pub mod PlainTexts

@@ -34,6 +34,7 @@ run_block line text end = header (status_code end) (line_count (body text end)) 
 abbrev pub block : List ℕ → ReplyView → List ℕ
 block query reply = run_block query reply.text (run_end reply.end)
 
+-- the run ends with an error rather than a status
 abbrev pub is_refused : Result Status RunErr → Bool
 is_refused (Ok status) = false
 is_refused (Err why) = true

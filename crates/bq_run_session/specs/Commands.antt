@@ -6,6 +6,7 @@ use Rattle.bq_run_session.specs.declared.commands.Command.{Command}
 use Rattle.bq_run_session.specs.declared.commands.Command.TheVariants.{Nothing, Answer, Put, Remove, Reload, Facts, Bad}
 use Rattle.bq_run_session.specs.Queries.{is_skipped, max_query_bytes}
 
+-- the byte is one of `0` to `9`
 abbrev pub is_digit : ℕ → Bool
 is_digit b = nat_le 48 b && nat_le b 57
 
@@ -24,6 +25,7 @@ abbrev pub put_words : ℕ → List ℕ → Option (ℕ × List ℕ)
 put_words limit [] = None
 put_words limit (b ∷ bs) = if b == 32 then None else count_and_path limit 0 (b ∷ bs)
 
+-- the command `put` of a count of bytes and a path; `Bad` where these aren't read so, or the path isn't valid
 abbrev pub put_at : Option (ℕ × List ℕ) → Command
 put_at None = Bad
 put_at (Some words) = if is_path words.1 then Put words.0 words.1 else Bad

@@ -1,6 +1,5 @@
 -- The items of what a session reads, along its bytes.
 use Rattle.std.specs.Prelude.{◌≡◌, ◌≢◌, ◌≤◌, ◌<◌, ◌++◌, ℕ, List, [], ◌∷◌, length}
-use Rattle.bq_label.specs.declared.workspace.File.{File}
 use Rattle.bq_run.specs.Bundle.{lines}
 use Rattle.bq_run_session.specs.declared.commands.Command.{Command}
 use Rattle.bq_run_session.specs.declared.commands.Command.TheVariants as command

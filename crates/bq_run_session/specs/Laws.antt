@@ -1,15 +1,17 @@
--- What edits do to the files of a workspace, in words of files and their paths, and how their commands are read.
-use Rattle.std.specs.Prelude.{◌≡◌, ◌≢◌, ◌≤◌, ◌<◌, ◌^◌, ◌++◌, true, ℕ, List, ◌∷◌, Some, None, IsSome, codes, length, map}
+-- What edits do to the files of a workspace, in words of files and their paths; how their commands are read; and what a text without commands asks for.
+use Rattle.std.specs.Prelude.{◌≡◌, ◌≢◌, ◌≤◌, ◌<◌, ◌^◌, ◌⊎◌, ◌++◌, true, false, ℕ, List, [], ◌∷◌, Some, None, IsSome, codes, length, map, nat_eq, take}
 use Rattle.std.specs.Fmt.{decimal}
-use Rattle.std.specs.List.{AllByRecursion, Contains}
+use Rattle.std.specs.List.{AllByRecursion, Contains, starts_with}
 use Rattle.bq_base.specs.declared.limits.Limits.{Limits}
 use Rattle.bq_label.specs.declared.workspace.File.{File}
 use Rattle.bq_label.specs.Paths.{is_path}
 use Rattle.bq_label.specs.Workspace.{IsWorkspace, are_distinct, file_at, workspace_within}
+use Rattle.bq_run.specs.Bundle.{lines}
 use Rattle.bq_run_session.specs.declared.edits.Edit.{Edit}
 use Rattle.bq_run_session.specs.declared.edits.Edit.TheVariants.{Put, Remove}
+use Rattle.bq_run_session.specs.declared.items.Request.{Request}
 use Rattle.bq_run_session.specs.declared.items.Request.TheVariants as request
-use Rattle.bq_run_session.specs.Queries.{max_query_bytes}
+use Rattle.bq_run_session.specs.Queries.{max_queries_bytes, max_query_bytes, queries_of, query_of}
 use Rattle.bq_run_session.specs.Edits.{edited, path_of}
 use Rattle.bq_run_session.specs.Items.{ItemView, AreItems}
 use Rattle.bq_run_session.specs.Changes.{changes, edits_text}
@@ -52,3 +54,32 @@ item_of e = record { line = command_line e; request = request.Edit e }
 -- the commands of edits are read as just these edits, one after another, whatever comes after them
 abbrev pub CommandsAreReadBack : Type 0
 CommandsAreReadBack = (limit : ℕ) (edits : List Edit) (rest : List ℕ) → limit < 2 ^ 64 → AllByRecursion (IsTaken limit) edits → AreItems limit (edits_text edits ++ rest) (map item_of edits) rest
+
+-- the line doesn't begin as commands do
+abbrev pub IsNoCommand : List ℕ → Type 0
+IsNoCommand line = starts_with nat_eq (query_of line) (codes "=== ") ≡ false
+
+-- the query, if an answer is asked for
+abbrev pub query_by : Request → List ℕ → List (List ℕ)
+query_by request.Answer line = line ∷ []
+query_by request.Nothing line = []
+query_by (request.Edit e) line = []
+query_by request.Reload line = []
+query_by (request.Facts query) line = []
+query_by request.Bad line = []
+query_by request.Cut line = []
+
+-- the queries that items ask to be answered, in order
+abbrev pub queries_among : List ItemView → List (List ℕ)
+queries_among [] = []
+queries_among (a ∷ rest) = query_by a.request a.line ++ queries_among rest
+
+-- the item asks for an answer, or for nothing
+abbrev pub AsksAtMost : ItemView → Type 0
+AsksAtMost a = (a.request ≡ request.Nothing) ⊎ (a.request ≡ request.Answer)
+
+-- a text of which no line begins with `=== ` asks for the answers to its queries, in order, and for nothing else
+abbrev pub PlainTextsAskQueries : Type 0
+PlainTextsAskQueries =
+    (limit : ℕ) (input : List ℕ) (items : List ItemView) → AllByRecursion IsNoCommand (lines (take max_queries_bytes input)) → AreItems limit (take max_queries_bytes input) items []
+    → (queries_among items ≡ queries_of input) × AllByRecursion AsksAtMost items

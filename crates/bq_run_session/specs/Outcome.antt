@@ -24,6 +24,7 @@ session_status status true = Refused
 session_status run_status.Answered false = Answered
 session_status run_status.WithFaults false = WithFaults
 
+-- the exit status: 0 answered, 2 refused, 3 with fault lines
 abbrev pub session_code : SessionStatus → ℕ
 session_code Answered = 0
 session_code Refused = 2

@@ -29,6 +29,7 @@ abbrev pub is_skipped : List ℕ → Bool
 is_skipped [] = true
 is_skipped (b ∷ bs) = b == 35
 
+-- the query before the others, unless it is skipped
 abbrev pub onto : List ℕ → List (List ℕ) → List (List ℕ)
 onto query queries = if is_skipped query then queries else query ∷ queries
 

@@ -31,6 +31,7 @@ IsRefused limits files run.Write = ⊥
 IsRefused limits files run.Bundle = ⊥
 IsRefused limits files (run.Query why) = ⊥
 
+-- the result of opening these files within these limits: a session over them, or the error for which there is none
 abbrev pub Opens : List File → Limits → Result Session RunErr → Type 0
 Opens files limits (Ok s) = IsOn files limits s
 Opens files limits (Err why) = IsRefused limits files why

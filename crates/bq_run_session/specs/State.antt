@@ -19,6 +19,7 @@ use Rattle.bq_run_session.specs.Edits.{edited}
 use Rattle.bq_run_session.specs.Items.{ItemView}
 use Rattle.bq_run_session.specs.Session.{IsRefused}
 
+-- a session between two items: what was loaded last, and what was asked to change since
 pub record State : Type 0 where
   -- the files as they were when they were loaded last
   pub files : List File

@@ -1,6 +1,7 @@
-//! What the edits that are listed make, and how their commands are read. The functions do nothing: their contracts are the laws.
+//! What the edits that are listed make, how their commands are read, and what a text without commands asks for. The functions do
+//! nothing: their contracts are the laws.
 
-ghost use Rattle.bq_run_session.specs.Laws.{CommandsAreReadBack, EachEditIsNeeded, EachPathHasOneEdit, EditsMakeTheFiles};
+ghost use Rattle.bq_run_session.specs.Laws.{CommandsAreReadBack, EachEditIsNeeded, EachPathHasOneEdit, EditsMakeTheFiles, PlainTextsAskQueries};
 
 /// The edits that are listed of two looks turn the files of the first into the workspace of the second.
 pub fn edits_make_the_files()
@@ -21,4 +22,10 @@ pub fn each_path_has_one_edit()
 /// its content within the limit, and its line no longer than a query may be.
 pub fn commands_are_read_back()
     ensures { CommandsAreReadBack }
+{}
+
+/// A text of which no line begins with `=== ` asks for the answers to its queries, in order, and for nothing else: the lines that
+/// are not empty and don't begin with `#`.
+pub fn plain_texts_ask_queries()
+    ensures { PlainTextsAskQueries }
 {}

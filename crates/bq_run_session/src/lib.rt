@@ -48,6 +48,7 @@ pub use ending::{SessionStatus, session_code};
 pub use followed::FollowedText;
 pub use laws::{
     commands_are_read_back, each_edit_is_needed, each_path_has_one_edit, edits_make_the_files,
+    plain_texts_ask_queries,
 };
 pub use lines::MAX_QUERY_BYTES;
 pub use options::{SessionOptions, SessionRun};

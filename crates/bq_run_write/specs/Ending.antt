@@ -24,6 +24,7 @@ abbrev pub status_by : List FaultLine → Status
 status_by [] = Answered
 status_by (l ∷ ls) = WithFaults
 
+-- the query was refused for lack of memory
 abbrev pub is_memory : QueryErr → Bool
 is_memory e.Memory = true
 is_memory e.Syntax = false

@@ -6,6 +6,7 @@ use Rattle.bq_run_write.specs.declared.ending.NoAnswer.TheVariants as refusal
 use Rattle.bq_run_write.specs.declared.error.RunErr.{RunErr}
 use Rattle.bq_run_write.specs.declared.error.RunErr.TheVariants.{Memory, Read, Write, Bundle, Query, Schema, TooManyModules}
 
+-- the number and the name of a run's error, with a space between; those of a query's error where that is the reason
 abbrev pub run_title : RunErr → List ℕ
 run_title Memory = codes "E1 Memory"
 run_title Read = codes "E2 Read"

@@ -8,6 +8,7 @@ use Rattle.bq_run_write.specs.Error.{run_title}
 use Rattle.bq_run_write.specs.declared.error.RunErr.{RunErr}
 use Rattle.bq_run_write.specs.declared.error.RunErr.TheVariants.{Memory, Read, Write, Bundle, Query, Schema, TooManyModules}
 
+-- the exit status: 0 answered, 3 with fault lines, 2 refused, 4 out of memory, 5 where reading or writing fails
 abbrev pub status_code : Result Status RunErr → ℕ
 status_code (Ok Answered) = 0
 status_code (Ok WithFaults) = 3

@@ -40,7 +40,7 @@ fn evaluated<R: Threads + Wait + RandomSource + Sync>(
     let mut writer = make_sip(alloc, 0, false);
     let mut faults = make_sip(alloc, 0, false);
     let by = SessionOptions {
-        version: b"1.9.2",
+        version: b"1.9.3",
         options: &asked,
     };
     let run = SessionRun { workspace, by };

@@ -25,6 +25,7 @@ use Rattle.bq_load_laws.specs.Faults.Parts.{FailsIn}
 abbrev pub FaultsStandOnLines : Type 0
 FaultsStandOnLines = (inputs : InputParts) (l : LabelParts) (why : Fault FaultKind) → FailsIn inputs l why → 1 ≤ why.line
 
+-- if the module failed, the line of its fault is at least 1
 abbrev pub StandsOnALine : OutcomeView → Type 0
 StandsOnALine o = IfErr o.result (λ m. 1 ≤ m.fault.line)
 

@@ -16,6 +16,7 @@ abbrev pub finding : List File → List BuildFile → LabelParts → List (Optio
 finding files packages l =
     when (not (is_some (package_named packages (package_of l)))) NoPackage ∷ when (crosses packages l) CrossesPackage ∷ when (not (is_some (label_file files l))) NoSuchFile ∷ []
 
+-- the first of F32, F37 and F31 that a load of this label has; None where it has none of them or there is no label
 abbrev pub finding_any : List File → List BuildFile → Option LabelParts → Option LoadFault
 finding_any files packages None = None
 finding_any files packages (Some l) = first_fault (finding files packages l)

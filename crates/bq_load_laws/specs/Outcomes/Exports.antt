@@ -20,6 +20,7 @@ pub record ExportsItsOwn (resolved : List (Option ResolvedFile)) (m : ModuleView
   pub own : exported resolved (Some m) name ≡ Ok v → (is_private name ≡ false) × IsNamed name file.globals m.frozen.cells.globals v
   pub all : is_private name ≡ false → IsNamed name file.globals m.frozen.cells.globals v → exported resolved (Some m) name ≡ Ok v
 
+-- a module whose resolved file is this exports the globals that the file binds and that don't begin with `_`, and no more
 abbrev pub ModulesExportTheirOwn : Type 0
 ModulesExportTheirOwn =
     (resolved : List (Option ResolvedFile)) (m : ModuleView) (file : ResolvedFile) (name : Name) (v : Datum) → slice_get resolved m.frozen.own ≡ Some (Some file) → ExportsItsOwn resolved m file name v

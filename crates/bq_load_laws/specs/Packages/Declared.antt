@@ -64,6 +64,7 @@ abbrev pub DeclaresAllIn : InputParts → LabelParts → Option PackageTargets �
 DeclaresAllIn inputs l None = Unit {0}
 DeclaresAllIn inputs l (Some p) = (p.build_file ≡ l) × DeclaresIn inputs l p
 
+-- if the module was evaluated and has a package, the package is that of its own BUILD file, which declares its targets
 abbrev pub DeclaresItsTargets : InputParts → OutcomeView → Type 0
 DeclaresItsTargets inputs o = IfOk o.result (λ v. DeclaresAllIn inputs o.label v.package)
 

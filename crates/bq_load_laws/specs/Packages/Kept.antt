@@ -19,9 +19,11 @@ abbrev pub frozen_by : FrozenView → ModuleView → Option PackageTargets → M
 frozen_by made v None = v
 frozen_by made v (Some p) = record v { frozen = made }
 
+-- the module with this for its globals and cells where it has a package, else the module as it is
 abbrev pub with_frozen : FrozenView → ModuleView → ModuleView
 with_frozen made v = frozen_by made v v.package
 
+-- a module's result with this for its globals and cells where it has a package; a failure as it is
 abbrev pub result_with : FrozenView → Result ModuleView FailedView → Result ModuleView FailedView
 result_with made (Ok v) = Ok (with_frozen made v)
 result_with made (Err why) = Err why
@@ -30,6 +32,7 @@ result_with made (Err why) = Err why
 abbrev pub keeping : (ℕ → FrozenView) → (ℕ → List ModuleView → Result ModuleView FailedView) → ℕ → List ModuleView → Result ModuleView FailedView
 keeping kept means m vs = result_with (kept m) (means m vs)
 
+-- an outcome whose value has this for its globals and cells where it has a package; any outcome without a value as it is
 abbrev pub outcome_with : FrozenView → Outcome ModuleView FailedView → Outcome ModuleView FailedView
 outcome_with made (o.Loaded v) = o.Loaded (with_frozen made v)
 outcome_with made (o.Faulty e) = o.Faulty e
@@ -50,5 +53,6 @@ pub record TellsTheSame (l : LabelParts) (a b : Result ModuleView FailedView) : 
   pub lines : lines_by l a ≡ lines_by l b
   pub prints : prints_by a ≡ prints_by b
 
+-- other globals and cells of a BUILD file's module change neither its package nor its fault line nor its prints
 abbrev pub ResultsTellTheSame : Type 0
 ResultsTellTheSame = (l : LabelParts) (made : FrozenView) (r : Result ModuleView FailedView) → TellsTheSame l (result_with made r) r

@@ -18,10 +18,12 @@ IsOwnOf kinds.Bzl l p = p ≡ None
 IsOwnOf kinds.Build l None = ⊥
 IsOwnOf kinds.Build l (Some p) = p.build_file ≡ l
 
+-- a file that evaluates gives the package of its own label if it is a BUILD file, none if it is a .bzl file
 abbrev pub FilesMakeTheirPackages : Type 0
 FilesMakeTheirPackages =
     (x : LoadingParts) (m : ℕ) (modules : List ModuleView) (s : Module) → slice_get x.modules m ≡ Some s → IfOk (means x m modules) (λ v. IsOwnOf (kind_of s.label) s.label v.package)
 
+-- the same of each module that has a value by the recursion along loads
 abbrev pub OutcomesHaveTheirPackages : Type 0
 OutcomesHaveTheirPackages =
     (x : LoadingParts) (p : Loads) (m : ℕ) (s : Module) → slice_get x.modules m ≡ Some s → IfOk (outcome_of x p m s).result (λ v. IsOwnOf (kind_of s.label) s.label v.package)

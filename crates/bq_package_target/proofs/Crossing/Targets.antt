@@ -2,6 +2,7 @@
 use denote.Param.Send.{IsSend, IsSync, sendable}
 use Rattle.std.proofs.Crossing.{crosses}
 use Rattle.bq_package_target.specs.contracts.value.GivenAttribute as GivenAttribute
+use Rattle.bq_package_target.specs.contracts.attribute_list.AttributeList as AttributeList
 use Rattle.bq_package_target.specs.contracts.target.TargetKind as TargetKind
 use Rattle.bq_package_target.specs.contracts.target.Target as Target
 use Rattle.bq_package_target.specs.contracts.by_name.PlacedTarget as PlacedTarget
@@ -15,6 +16,12 @@ given_send = let v = value_send in search (crosses, sendable) depth 60 fits 2000
 pub given_sync : IsSync (GivenAttribute.the_field).row
 given_sync = let v = value_sync in search (crosses, sendable) depth 60 fits 20000
 
+pub attributes_send : IsSend (AttributeList.the_field).row
+attributes_send = let g = given_send in let y = given_sync in search (crosses, sendable) depth 60 fits 20000
+
+pub attributes_sync : IsSync (AttributeList.the_field).row
+attributes_sync = let g = given_send in let y = given_sync in search (crosses, sendable) depth 60 fits 20000
+
 pub kind_send : IsSend (TargetKind.the_field).row
 kind_send = let l = label_send in let c = class_send in search (crosses, sendable) depth 60 fits 20000
 
@@ -22,10 +29,10 @@ pub kind_sync : IsSync (TargetKind.the_field).row
 kind_sync = let l = label_sync in let c = class_sync in search (crosses, sendable) depth 60 fits 20000
 
 pub target_send : IsSend (Target.the_field).row
-target_send = let l = label_send in let k = kind_send in let g = given_send in search (crosses, sendable) depth 60 fits 20000
+target_send = let l = label_send in let k = kind_send in let g = attributes_send in search (crosses, sendable) depth 60 fits 20000
 
 pub target_sync : IsSync (Target.the_field).row
-target_sync = let l = label_sync in let k = kind_sync in let g = given_sync in search (crosses, sendable) depth 60 fits 20000
+target_sync = let l = label_sync in let k = kind_sync in let g = attributes_sync in search (crosses, sendable) depth 60 fits 20000
 
 pub placed_send : IsSend (PlacedTarget.the_field).row
 placed_send = let t = target_send in search (crosses, sendable) depth 60 fits 20000

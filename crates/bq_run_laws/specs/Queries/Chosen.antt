@@ -79,6 +79,7 @@ pub record RuleNames (name : List ℕ) (r t : Target) : Type 0 where
 
 -- ---- what they stand for
 
+-- what `kind`, `filter`, `attr` and `labels` stand for, by the target of number `y`: `bound` has what the lets around bind
 pub record Choose (w : GraphParts) (a : Formula) (pattern name : List ℕ) (bound : Bound) (y : ℕ) : Type 0 where
   -- kind(pattern, a)
   pub kind : Stands w (one (set_of_one f.Kind None (Some pattern) None) a) bound y ↔ (Stands w a bound y × IsTargetWith w.targets y (KindMatches pattern))

@@ -49,5 +49,6 @@ pub record AreByEdges (w : GraphParts) (a b : Formula) (n : ℕ) (bound : Bound)
   -- allpaths(a, b)
   pub allpaths : Stands w (two (set_of_two f.Allpaths None None None) a b) bound y ↔ (Stands w (one (set_of_one f.Deps None None None) a) bound y × ((k : ℕ) × LeadsInto w.targets k (Stands w b bound) y))
 
+-- over the graph of any packages, `deps`, `rdeps` and `allpaths` stand for what the edges say
 abbrev pub FunctionsByEdges : Type 0
 FunctionsByEdges = (ps : List PackageTargets) (w : GraphParts) (a b : Formula) (n : ℕ) (bound : Bound) (y : ℕ) → IsGraphOf ps w → AreByEdges w a b n bound y

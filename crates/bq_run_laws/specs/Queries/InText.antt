@@ -27,5 +27,6 @@ pub record TextWrites (text : List ℕ) (patterns : List TargetPattern) : Type 0
   pub reads : tokens.Reads text 0 (Some cut)
   pub write : WriteWords (lexemes text cut) [] words
 
+-- the target patterns of a query are words of its text, in its order
 abbrev pub WordsInTextOrder : Type 0
 WordsInTextOrder = (text : List ℕ) (tree : Query) (x : Formula) → IsQuery text tree → IsFormulaOf [] tree x → TextWrites text (target_patterns x)

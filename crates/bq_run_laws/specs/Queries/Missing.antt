@@ -38,6 +38,7 @@ pub record IsFirstMissing (w : GraphParts) (x : Formula) (why : QueryErr) : Type
   pub there : AreThere w before
   pub missing : missing_of w pattern ≡ Some why
 
+-- the query fails for the first of its patterns that names what is not there, and else has an answer
 pub record FailsForFirstMissing (w : GraphParts) (x : Formula) : Type 0 where
   pub first : (why : QueryErr) → fault_in w x ≡ Some why → IsFirstMissing w x why
   pub fails : (why : QueryErr) → IsFirstMissing w x why → fault_in w x ≡ Some why

@@ -7,5 +7,6 @@ pub data IsDecimal : List ℕ → ℕ → Type 0 where
   digit : {word : List ℕ} {d : ℕ} → d < 10 → word ≡ (48 + d) ∷ [] → IsDecimal word d
   more : {word before : List ℕ} {n m d : ℕ} → IsDecimal before n → d < 10 → word ≡ before ++ (48 + d) ∷ [] → m ≡ n * 10 + d → IsDecimal word m
 
+-- decimal digits are read as their number, and as 2^32 where that is greater
 abbrev pub NumbersAreDecimal : Type 0
 NumbersAreDecimal = (word : List ℕ) (n : ℕ) → IsDecimal word n → number word ≡ min n (2 ^ 32)

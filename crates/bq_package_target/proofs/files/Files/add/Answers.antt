@@ -18,4 +18,4 @@ returns c =
     let label = c.args.label.now in
     let lacks : has names label.name ≡ false = sym (ap (has names) c.name.ensures.value) ∙ was_new (has names c.name.result.now) c.in_ok-add.field-0 c.in_ok-add.ensures.added c.if-not-branch.false in
     finds_new c.args.line label c.args.self.now c.add.new.self c.push.new.self lacks (c.in_ok-add.ensures.after ∙ ap (with_name names) c.name.ensures.value)
-    (c.in_ok-push.ensures.ok ∙ rw (c.in_ok-label.ensures, c.new-attributes.ensures) refl)
+    (c.in_ok-push.ensures.ok ∙ rw (c.in_ok-label.ensures, c.none.ensures) refl)

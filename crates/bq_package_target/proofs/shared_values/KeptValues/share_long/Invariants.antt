@@ -1,5 +1,5 @@
-use Rattle.std.proofs.Common.{◌≡◌}
+use Rattle.std.proofs.Common.{◌≡◌, take}
 use Rattle.bq_package_target.proofs.shared_values.KeptValues.share_long.Given as goal
 
-abbrev pub invariant-loop-at : goal.invariant-loop-at
-invariant-loop-at l = l.attributes ≡ l.initial.attributes
+abbrev pub invariant-loop-given : goal.invariant-loop-given
+invariant-loop-given l = l.shared.items ≡ take l.given-index l.all
