@@ -17,7 +17,7 @@ import kit
 RESULTS = f"{kit.ROOT}/bench/results"
 PAGE = f"{kit.ROOT}/docs/MEASURED.md"
 # columns that say what is measured, beside the first one; the others have what was measured
-SAYS_WHAT = {"jobs", "turns", "targets", "query", "over"}
+SAYS_WHAT = {"jobs", "turns", "targets", "query", "over", "edit of"}
 # a figure that changed by more than this is printed by itself
 CHANGED = 1.1
 # a bar between cells: none that is in backquotes

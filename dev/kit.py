@@ -89,8 +89,9 @@ def module_of(path):
 Run = collections.namedtuple("Run", "clock seconds peak answer")
 
 
-def timed(command, stdin=os.devnull, folder=None):
-    """Runs a command: its seconds by the clock, its processor seconds, its bytes at the peak, and what it writes."""
+def timed(command, stdin=os.devnull, folder=None, statuses=(0,)):
+    """Runs a command, which has to end with one of these statuses: its seconds by the clock, its processor seconds, its bytes at the peak, and what
+    it writes."""
     # GNU time starts the program: a child of this process would be charged with the interpreter's memory
     with open(stdin, "rb") as given, tempfile.NamedTemporaryFile() as report:
         before, start = processor_seconds(), time.monotonic()
@@ -98,9 +99,15 @@ def timed(command, stdin=os.devnull, folder=None):
             ["/usr/bin/time", "-q", "-f", "%M", "-o", report.name, *command], stdin=given, capture_output=True, cwd=folder
         )
         clock, seconds = time.monotonic() - start, processor_seconds() - before
-        if ended.returncode != 0:
-            sys.exit(f"{command[0]}: status {ended.returncode}: {ended.stderr.decode()[-300:]}")
+        if ended.returncode not in statuses:
+            sys.exit(f"{command[0]}: status {ended.returncode}: {ended.stderr.decode(errors='replace')[-300:]}")
         return Run(clock, seconds, int(report.read()) * 1024, ended.stdout)
+
+
+def peak_of(pid):
+    """The bytes of a process at its peak, while it runs."""
+    with open(f"/proc/{pid}/status", encoding="ascii") as lines:
+        return next(int(line.split()[1]) * 1024 for line in lines if line.startswith("VmHWM:"))
 
 
 def instructions(program, bundle, words, statuses=(0,)):

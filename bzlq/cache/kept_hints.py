@@ -15,6 +15,7 @@ class KeptHints:
 
     def __init__(self, path, version, around, sources):
         self.path, self.version, self.around, self.sources, self.now = path, version, [around, sources.sum_of_schema()], sources, {}
+        self.answers = {}  # those to questions about names now: many hints ask the same ones
         kept = kept_at(path, version) or {}
         self.before = kept["lines"] if kept.get("around") == self.around else {}
 
@@ -24,10 +25,16 @@ class KeptHints:
             return None
         found, texts, asked, names = self.before[line]
         is_same = all(self.sources.sum_of(path) == it for path, it in texts.items()) and (not names or names == self.sources.sum_of_names())
-        if not is_same or any(self.sources.again(name, given) != answer for name, given, answer in asked):
+        if not is_same or any(self.answer(name, given) != answer for name, given, answer in asked):
             return None
         self.now[line] = self.before[line]
         return found
+
+    def answer(self, name, given):
+        """The answer to a question about names now."""
+        if (name, given) not in self.answers:
+            self.answers[name, given] = self.sources.again(name, given)
+        return self.answers[name, given]
 
     def put(self, line, found, seen):
         """Keeps the hint of a line, and what was seen while it was made; not where that was nearly all."""

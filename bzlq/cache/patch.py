@@ -26,8 +26,8 @@ from bzlq.workspace.files import SCHEMA, Unreadable, content, has_content, is_pa
 
 DANGLING = re.compile(rb" F79 DanglingLabel ([^\n]+)$", re.M)
 HEADER = re.compile(rb"^=== ([^\n]*)\n", re.M)
-# an answer's line, with a kind or without
-LINE = re.compile(rb"(?:(?:source file|generated file|package group|\S+ rule) )?([^\n]*)\n?")
+# the label of each line of an answer, with a kind before it or without
+LINE = re.compile(r"^(?:(?:source file|generated file|package group|\S+ rule) )?([^\n]+)$", re.M)
 # a regular expression for the tags of a test that a suite of all leaves out
 MANUAL = r"[\[ ]manual[,\]]"
 # a BUILD file of the overlay that has a target for each label that is named
@@ -250,7 +250,7 @@ class Patch:
         made = self.made
         if len(blocks) != len(self.queries()):
             return False
-        answers = iter([LINE.fullmatch(it)[1].decode("utf-8", "surrogateescape") for it in lines] if status != 2 else [] for status, lines in blocks)
+        answers = iter(LINE.findall(b"".join(lines).decode("utf-8", "surrogateescape")) if status != 2 else [] for status, lines in blocks)
         made_up = {*made["named"], *made["further"]}
         led_to = set(next(answers)) if made_up else set()
         dangling = {it.decode("utf-8", "surrogateescape") for it in DANGLING.findall(faults)}

@@ -89,6 +89,12 @@ class Affected:
         is_like_one = "test" in what.rpartition(":")[2] or any(name in target.attributes for name in OF_TESTS)
         return "test" in self.kind.pattern and is_like_one and any(text.startswith(("kind: ", "targets: ")) for text in target.lost)
 
+    def unlikely(self, is_all):
+        """The targets that aren't listed where tests are looked for, and whose kind was made up, so that a macro may declare a test all the same."""
+        targets = self.all() if is_all else {label: self.head.facts.targets[label] for label in self.before}
+        made = (label for label, it in sorted(targets.items()) if not label.startswith("@") and any(text.startswith(("kind: ", "targets: ")) for text in it.lost))
+        return [label for label in made if "test" in self.kind.pattern and not self.may_be_test(targets[label]) and not self.matches(targets[label])]
+
     def matches(self, target):
         """Whether a target is of the kinds that are asked for."""
         return bool(self.kind.search(target.kind)) or self.has_made and self.may_be_test(target)
@@ -166,6 +172,10 @@ def told(found, labels, unsafe, is_all):
     if not is_all and (odd := unlisted(change, found.head, found.before)):
         names = ", ".join(odd[:SHOWN]) + (", .." if odd[SHOWN:] else "")
         yield f"{len(odd)} of the other targets may have edges that aren't known, so that more may be concerned: {names}"
+    if odd := found.unlikely(is_all):
+        names, is_one = ", ".join(odd[:SHOWN]) + (", .." if odd[SHOWN:] else ""), len(odd) == 1
+        how = ("1 target", "isn't", "it", "a test", "its macro declares") if is_one else (f"{len(odd)} targets", "aren't", "they", "tests", "their macros declare")
+        yield f"{how[0]} of a kind that was made up {how[1]} listed: {how[2]} would be {how[3]} only if {how[4]} one, which neither a name nor an attribute says: {names}"
     for it in unsafe[:SHOWN]:
         yield f"targets may be missing{', so all are listed' if is_all else ''}: {it}"
     if unsafe[SHOWN:]:

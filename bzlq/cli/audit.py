@@ -73,8 +73,9 @@ def audit(words, name, room, affected):
     for it in steps(words, room, affected):
         write([json.dumps(it.data(), separators=(",", ":"))] if words.json else it.lines(), sys.stdout)
         write([f"{name}: {it.commit[:DIGITS]}: {reason}" for reason in it.unsafe[:1]], sys.stderr)
-        figures.update(commits=1, listed=len(it.labels), of=it.count, unsafe=bool(it.unsafe), bazel=it.missing is not None, missing=len(it.missing or ()),
-                       more=len(it.more or ()), lacking=it.is_lacking())
+        # (numbers: an empty counter takes what it is given as it is)
+        figures.update(commits=1, listed=len(it.labels), of=it.count, unsafe=int(bool(it.unsafe)), bazel=int(it.missing is not None), missing=len(it.missing or ()),
+                       more=len(it.more or ()), lacking=int(it.is_lacking()))
     share = f" ({100 * figures['listed'] / figures['of']:.1f} %)" if figures["of"] else ""
     write([f"{name}: {figures['commits']} commit{'s' * (figures['commits'] != 1)}: {figures['listed']} of {figures['of']} targets listed{share}; "
            f"{figures['unsafe']} where targets may be missing"], sys.stderr)

@@ -5,7 +5,8 @@
     lib/BUILD:2: //lib:BUILD loads //tools:more.bzl, which loads //tools:defs.bzl
 
 FILE.bzl is a path or a label. The list has the BUILD and .bzl files that load it, directly or through others, each with the place of its
-load and a shortest path. With --direct only those that load it themselves.
+load and a shortest path. With --direct only those that load it themselves. Lines with `names` are of WORKSPACE, MODULE.bazel, .bazelrc, and of
+.bzl files that only these load.
 
 Status: 0; 3 if files have faults; 2 if nothing can be answered; 4, 5 as for bq.
 """
@@ -19,9 +20,12 @@ def loads(asked):
     """The lines of the files that load the one that is asked for."""
     modules = asked.facts().modules
     label = asked.label(asked.words.file)
-    if label not in modules:
-        known = [it for it in modules if it.endswith(".bzl")]
-        raise Refused(f"no BUILD file loads {label}{did_you_mean(label, known)}")
+    path = modules[label].file if label in modules else label.removeprefix("//").replace(":", "/").lstrip("/")
+    # (a module says its own loads; the others are of WORKSPACE, MODULE.bazel and .bazelrc)
+    known = {it.file for it in modules.values()}
+    namings = sorted({(one, line) for one, line, other in asked.namings() if other == path and one not in known})
+    if label not in modules and not namings:
+        raise Refused(f"no BUILD file loads {label}{did_you_mean(label, [it for it in modules if it.endswith('.bzl')])}")
     loaders = {}
     for module in modules.values():
         for load in module.loads:
@@ -33,6 +37,7 @@ def loads(asked):
             continue
         line = next(it.line for it in modules[loader].loads if it.label == way[1])
         yield f"{asked.path(modules[loader].file)}:{line}: {loader} loads {', which loads '.join(way[1:])}"
+    yield from (f"{asked.path(one)}:{line}: {one} names {label}" for one, line in namings)
 
 
 def main():

@@ -70,6 +70,14 @@ class Asked:
         from bzlq.hints.sources import Sources
         return Sources.of_bundle(self.bundle) if self.bundle else Sources.of_directories([self.root])
 
+    def namings(self):
+        """What WORKSPACE, MODULE.bazel and .bazelrc name, and the files that these load: (the path of the one, a line, the path of the other)."""
+        if not self.root:
+            self.unknown.append("what WORKSPACE and MODULE.bazel load, which a bundle doesn't hold")
+            return []
+        from bzlq.diff.settings import OnDisk, namings
+        return namings(OnDisk(self.root, self.sources().paths))
+
     def query(self, text):
         """A query with labels in full."""
         return relative.absolute(text, self.root, self.folder) if self.root else text

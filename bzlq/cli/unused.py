@@ -4,8 +4,8 @@
     log/BUILD:8: //log:old (filegroup rule)
 
 Tests, binaries and test suites are left out, since nothing needs to depend on them (--roots gives another pattern for such kinds). --kind
-lists only the kinds that match a pattern, and these too. --bzl lists the .bzl files that nothing loads instead. With QUERY only its targets
-are listed. Other workspaces may use a target, and so may a part of an attribute that bq leaves out: look before you remove one.
+lists only the kinds that match a pattern, and these too. --bzl lists the .bzl files instead that no BUILD file loads, directly or not, and that
+WORKSPACE, MODULE.bazel, .bazelrc and what these load don't name. With QUERY only its targets are listed. Other workspaces may use a target, and so may a part of an attribute that bq leaves out: look before you remove one.
 
 --deps lists dependencies instead that a rule may not need: no word of its sources is the name of one of their files (C and C++, Go, Java,
 Python, protocol buffers, Rust). These are candidates, by names alone; how many dependencies can't be judged so is said.
@@ -23,8 +23,8 @@ ROOTS = r"_test rule$|_binary rule$|^test_suite rule$"
 
 
 def unloaded(asked):
-    """The .bzl files that nothing loads."""
-    loaded = {it.file for it in asked.facts().modules.values()}
+    """The .bzl files that nothing loads, and that no file of settings names."""
+    loaded = {*(it.file for it in asked.facts().modules.values()), *(it for *_, it in asked.namings())}
     asked.lost = None  # (what was made up of targets changes nothing here)
     files = [path for path in sorted(asked.sources().paths) if path.endswith(".bzl") and path not in loaded]
     return [asked.path(path) for path in files if not asked.overlay or os.path.lexists(os.path.join(asked.root, path))]

@@ -1,14 +1,15 @@
 """Which files say what other repositories there are, and how all is built: those that Bazel reads for it, and those that these name, as lock
 files, lists of requirements, .bzl files and imported .bazelrc files; and which folders of the workspace they say to be other repositories. Takes the
 tree of a revision, gives their paths."""
+import contextlib
 import os
 import re
 
-from bzlq.workspace.files import ROOT_FILES
+from bzlq.workspace.files import ROOT_FILES, Refused, read_file
 
 ROOTS = (*ROOT_FILES, "MODULE.bazel.lock", "WORKSPACE.bzlmod", ".bazelrc", ".bazelversion")
-# a text that may name a file: a label, a path, or what a .bazelrc imports
-NAMED = re.compile(rb"""["'](?:@@?)?(?://|:)?([^"'\n]+)["']|^(?:try-)?import +(?:%workspace%/)?(\S+)""", re.M)
+# a text that may name a file: a label, a path, or what a .bazelrc imports, or of which it names an aspect
+NAMED = re.compile(rb"""["'](?:@@?)?(?://|:)?([^"'\n]+)["']|^(?:try-)?import +(?:%workspace%/)?(\S+)|[=,](?:@@?)?//([^\s"',%]+)(?=%)""", re.M)
 # files that belong to one that is named, and stand beside it
 BESIDE = {
     "go.mod": ("go.sum",), "go.work": ("go.work.sum",), "Cargo.toml": ("Cargo.lock",),
@@ -22,14 +23,36 @@ KNOWN = re.compile(rb"\bbazel_dep\(((?:[^()#]|#[^\n]*)*)")
 GIVEN = re.compile(rb"""\b(name|module_name|repo_name|path)\s*=\s*["']([^"'\n]+)["']""")
 
 
+class OnDisk:
+    """The files of a folder as a tree: `paths` are those that are there, beside the roots of settings."""
+
+    def __init__(self, root, paths):
+        there = [*paths, *(it for it in ROOTS if os.path.isfile(os.path.join(root, it)))]
+        self.root, self.entries = root, dict.fromkeys(there, ("",))
+        self.reals = self.entries
+
+    def texts(self, paths):
+        """The bytes of those of these files that can be read."""
+        found = {}
+        for path in paths:
+            with contextlib.suppress(OSError, Refused):
+                found[path] = read_file(self.root, path)
+        return found
+
+
 def settings_of(tree):
     """These files of a tree, links not followed."""
-    found, pending = set(), [path for path in ROOTS if path in tree.entries]
+    return {*(path for path in ROOTS if path in tree.entries), *(it for *_, it in namings(tree))}
+
+
+def namings(tree):
+    """What these files name: (the path of the one, a line, the path of the other)."""
+    found, seen, pending = [], set(), [path for path in ROOTS if path in tree.entries]
     while pending:
-        found |= set(pending)
-        named = {it for path, text in tree.texts([it for it in pending if it in tree.reals]).items() for it in files_named(path, text, tree)}
-        pending = sorted(it for it in named - found if it.endswith(READ))
-        found |= named
+        seen |= set(pending)
+        here = [(path, *it) for path, text in tree.texts([it for it in pending if it in tree.reals]).items() for it in files_named(path, text, tree)]
+        pending = sorted({it for *_, it in here if it.endswith(READ)} - seen)
+        found += here
     return found
 
 
@@ -47,12 +70,12 @@ def local_repositories(texts, tree):
 
 
 def files_named(path, text, tree):
-    """The files that a text names, each with what belongs to it."""
+    """The lines of a text, each with a file that it names, or one that belongs to that."""
     folder = os.path.dirname(path)
-    for one, other in NAMED.findall(text):
-        word = os.fsdecode(one or other).replace(":", "/").lstrip("/")
+    for found in NAMED.finditer(text):
+        word, line = os.fsdecode(found[found.lastindex]).replace(":", "/").lstrip("/"), text.count(b"\n", 0, found.start()) + 1
         for place in {word, os.path.normpath(os.path.join(folder, word))}:
             if tree.entries.get(place, (FOLDER,))[0] != FOLDER:
-                yield place
+                yield line, place
                 directory, name = os.path.split(place)
-                yield from (it for it in (os.path.join(directory, beside) for beside in BESIDE.get(name, ())) if it in tree.entries)
+                yield from ((line, it) for it in (os.path.join(directory, beside) for beside in BESIDE.get(name, ())) if it in tree.entries)

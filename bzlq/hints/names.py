@@ -85,6 +85,7 @@ def unknown_name(sources, fault, tree):
     node = node or next((it for it in ast.walk(tree) if isinstance(it, ast.Attribute) and it.attr == name and it.lineno >= fault.line), None)
     place = at(node, "") if node else (fault.line, 1, "")
     known = {*UNIVERSE, *bound(tree), *(it[0] for _, _, clauses in loads(tree) for it in clauses), "True", "False", "None"}
+    known |= bound_around(node, tree) if isinstance(node, ast.Name) else {*BUILD_NAMES, *sources.schema}
     if is_build:
         known |= {*BUILD_NAMES, *sources.schema}
     near = did_you_mean(name, known)
@@ -101,6 +102,13 @@ def unknown_name(sources, fault, tree):
     elif not near and is_build:
         near = ": load it, or declare the rule in rules.schema (bzlq stubs writes one)"
     return (*place[:2], f"name '{name}' is not defined{near}")
+
+
+def bound_around(node, tree):
+    """The names that the function around a node binds, or takes as parameters."""
+    around = statement_of(tree, node.lineno)
+    within = list(ast.walk(around)) if isinstance(around, ast.FunctionDef) else []
+    return {it.arg for it in within if isinstance(it, ast.arg)} | {it.id for it in within if isinstance(it, ast.Name) and isinstance(it.ctx, ast.Store)}
 
 
 def file_with(sources, name, label):

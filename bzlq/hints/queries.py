@@ -16,6 +16,8 @@ LEFT_OUT = {
     "visible": "`bzlq visible a b` says whether b is visible to a", "executables": "kinds alone are known", "same_pkg_direct_rdeps": "write rdeps(//package:all, x, 1)",
 }
 OPERATORS = "except intersect union + ^ -".split()
+# all of a repository
+ALL = re.compile(r"(|@[^/]*)//\.\.\.(:.*)?")
 KEYWORDS = [*OPERATORS, "in", "let", "set"]
 # how many steps of a BUILD file are evaluated for the names of its targets, of which one may be meant: a large one names most of them in its text
 STEPS = 30_000
@@ -146,8 +148,9 @@ def wrong_arguments(query):
     for at, text in tokens(query):
         inner = text.strip("\"'")
         if inner.startswith(("//", "@")):
+            repository = ALL.fullmatch(inner)
             try:
-                labels.split(re.sub(r"/?\.\.\.(:.*)?$", "", inner).replace(":*", ":all") or "//:x")
+                labels.split(f"{repository[1]}//:x" if repository else re.sub(r"/?\.\.\.(:.*)?$", "", inner).replace(":*", ":all") or "//:x")
             except labels.BadLabel as error:
                 return pointed(query, at, f"this is no target pattern: {error}")
     return ""

@@ -1,7 +1,27 @@
 """All lines of a run: takes what `bq` wrote to standard error, and the sources; gives the lines to write in its place."""
+from collections import Counter
+
 from bzlq.hints.fault_lines import Error, Fault, read
 from bzlq.hints.faults import SECONDS, Hints
 from bzlq.hints.queries import explained
+
+# of more lines than these the causes are counted, and so many of them named
+MANY, CAUSES = 20, 3
+
+
+def cause(hint):
+    """What many faults may have in common: the place in a macro, or else the reason."""
+    if hint.inner:
+        path, line, column, function = hint.inner[0]
+        return f"{hint.fault.number} at {path}:{line}:{column} in {function}"
+    return f"{hint.fault.number}: {hint.reason or hint.fault.detail or hint.fault.name}"
+
+
+def ranked(hints):
+    """The lines that name what most of these have in common, where they are many."""
+    if len(hints) <= MANY:
+        return []
+    return [f"{count} of these by {what}" for what, count in Counter(map(cause, hints)).most_common(CAUSES) if count > 1]
 
 
 def hinted(texts, sources, query="", is_all=False, is_brief=False, kept=None):
@@ -26,6 +46,7 @@ def hinted(texts, sources, query="", is_all=False, is_brief=False, kept=None):
             data.append({"text": text})
     following = [it for it in found if it.follows]
     written = [it.text() for it in found if not it.follows or is_all] + written
+    written += ranked([it for it in found if not it.follows])
     if following and not is_all:
         written.append(f"and {len(following)} that follow{'s' * (len(following) == 1)} from these")
     if hints.skipped:

@@ -145,7 +145,8 @@ def syntax(text, line):
     try:
         with warnings.catch_warnings():
             warnings.simplefilter("ignore")
-            ast.parse(part)
+            if found := left_out(ast.parse(part)):
+                return found
     except SyntaxError as error:
         message = error.msg.replace("invalid syntax. Perhaps you forgot a comma?", "a comma is missing").replace(" here. Maybe you meant '==' instead of '='?", ": is '==' meant?")
         return missing_comma(part) or wrong_sign(part) or (error.lineno or line, error.offset or 1, message)
@@ -155,6 +156,19 @@ def syntax(text, line):
         if it.kind == "word" and it.text in RESERVED and it.line >= line:
             return it.line, it.column, f"'{it.text}' is reserved, and no part of Starlark"
     return letter_before(part) or missing_comma(part) or trailing(part, line)
+
+
+def left_out(tree):
+    """The place of what Python's grammar has and Starlark's hasn't; nothing where there is none."""
+    for node in ast.walk(tree):
+        match node:
+            case ast.Compare(comparators=[first, _, *_]):
+                return first.lineno, first.col_offset + 1, "one comparison doesn't follow another: write a < b and b < c"
+            case ast.Call(func=ast.Name(id="load"), args=[_, *symbols]):
+                for it in symbols:
+                    if isinstance(it, ast.Constant) and it.value == "*":
+                        return it.lineno, it.col_offset + 1, "load takes no '*': name each symbol"
+    return None
 
 
 def missing_comma(text):

@@ -19,6 +19,7 @@ STANDARD = {
     "test_suite": {"tests": "label_list"},
 }
 COMMON = {"name": "string", "visibility": "label_list", "tags": "string_list", "features": "string_list", "testonly": "bool", "deprecation": "string"}
+BUILD_NAMES = ("BUILD", "BUILD.bazel")
 MANDATORY = {("alias", "actual"), ("genrule", "outs")}
 
 
@@ -46,7 +47,7 @@ class Sources:
 
     def __init__(self, paths, read, place):
         self.all_paths, self.read, self.place = set(paths), read, place
-        self.all_packages = {os.path.dirname(path) for path in self.all_paths if os.path.basename(path) in ("BUILD", "BUILD.bazel")}
+        self.all_packages = {directory_of(path) for path in self.all_paths if path.endswith(BUILD_NAMES) and path.rpartition("/")[2] in BUILD_NAMES}
         self.texts, self.trees, self.owned, self.above, self.bound, self.sums = {}, {}, None, None, {}, {}
         # the .bzl files that were evaluated, by their paths, each with what was looked at for it; what is frozen, by identity; and the values, so
         # that no other gets their identity
@@ -169,7 +170,7 @@ class Sources:
     def has_directory(self, directory):
         """Whether a file lies below a directory."""
         if self.above is None:
-            self.above = {path[:at] for path in self.all_paths for at, letter in enumerate(path) if letter == "/"}
+            self.above = directories_above(self.all_paths)
         return self.asked("has_directory", directory, directory in self.above)
 
     def has_file(self, path):
@@ -183,32 +184,28 @@ class Sources:
 
     def owner(self, path):
         """The package that owns a path: the nearest above it, in its repository."""
-        directory = os.path.dirname(path)
+        return self.asked("owner", path, self.nearest_package(directory_of(path)))
+
+    def nearest_package(self, directory):
+        """A directory, or the nearest one above it in its repository, that is a package."""
         while directory and directory not in self.all_packages and not (directory.startswith("external/") and directory.count("/") == 1):
-            directory = os.path.dirname(directory)
-        return self.asked("owner", path, directory)
+            directory = directory_of(directory)
+        return directory
 
     def files_of(self, directory):
         """The files that a package owns, by their paths in it."""
         if self.owned is None:
-            self.owned = {}
-            with self.apart():
-                for path in sorted(self.all_paths):
-                    self.owned.setdefault(self.owner(path), []).append(path)
+            self.owned, owners = {}, {}
+            for path in sorted(self.all_paths):
+                inside = directory_of(path)
+                if inside not in owners:
+                    owners[inside] = self.nearest_package(inside)
+                self.owned.setdefault(owners[inside], []).append(path)
         before = f"{directory}/" if directory else ""
         is_main = not directory.startswith("external/")
         found = [path[len(before):] for path in self.owned.get(directory, ()) if not (is_main and path.startswith("external/"))]
         self.asked("files_of", directory, sum_of(found))
         return found
-
-    @contextlib.contextmanager
-    def apart(self):
-        """Leaves what is looked at meanwhile without a note: it is noted otherwise."""
-        self.seen.append(Seen())
-        try:
-            yield
-        finally:
-            self.seen.pop()
 
     def file_of(self, label):
         """The path of a label's file; nothing where there is none."""
@@ -235,6 +232,21 @@ class Sources:
                 if words[3:] == ["mandatory"]:
                     mandatory.add((rule, words[1]))
         return found, mandatory
+
+
+def directory_of(path):
+    """The directory of a path in a workspace. (Large ones have many paths, and os.path takes longer.)"""
+    return path.rpartition("/")[0]
+
+
+def directories_above(paths):
+    """The directories that paths lie below."""
+    found = set()
+    for directory in set(map(directory_of, paths)):
+        while directory and directory not in found:
+            found.add(directory)
+            directory = directory_of(directory)
+    return found
 
 
 def sum_of(names):

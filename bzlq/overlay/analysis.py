@@ -9,7 +9,7 @@ from bzlq.overlay.extra_targets import text_of
 from bzlq.overlay.global_names import VALUE, GlobalNames
 from bzlq.overlay.guesses import by_values
 from bzlq.overlay.lost_values import lost_names
-from bzlq.overlay.reading import BUILD_FUNCTIONS, BUILT_INS, LEFT_OUT, Statement, read
+from bzlq.overlay.reading import BUILD_FUNCTIONS, BUILT_INS, LEFT_OUT, MEMBER, OTHER_NAMES, PROVIDER, Statement, read
 from bzlq.overlay.replaced import Replaced
 from bzlq.overlay.replacements import EXISTING, NATIVE_VALUES
 from bzlq.overlay.rule_attributes import RuleAttributes
@@ -201,7 +201,7 @@ class Facts:
             "stubs": [(place, symbol, it.kept()) for place, symbols in self.stubs.items() for symbol, it in symbols.items()],
             "everywhere": {keyword: {kind: count for kind, count in kinds.items() if count} for keyword, kinds in self.everywhere.items()},
             "further": [(place, found) for place, found in self.further.items()],
-            "lost_names": sorted(self.lost_names.items()),
+            "lost_names": sorted(self.lost_names.items()), "struct_files": self.has_structs(),
         }
 
     @classmethod
@@ -213,7 +213,7 @@ class Facts:
             for it in listed:
                 found.replaced.add(path, Statement(*it))
         found.names.stand_ins.update((path, set(names)) for path, names in kept["stand_ins"].items())
-        found.stubs, found.left_out, found.inner_calls, found.taken, found.struct_files = defaultdict(dict), defaultdict(list), {}, {}, None
+        found.stubs, found.left_out, found.inner_calls, found.taken, found.struct_files = defaultdict(dict), defaultdict(list), {}, {}, kept["struct_files"]
         for place, symbol, it in kept["stubs"]:
             found.stubs[place][symbol] = Stub.of_kept(it)
         found.everywhere = defaultdict(Counter, {keyword: Counter(kinds) for keyword, kinds in kept["everywhere"].items()})
@@ -323,11 +323,43 @@ class Facts:
                 pending += [(other, it) for other, statements in (waiting.pop(led, ()) if waiting else ()) for it in statements]
 
     def faulty_lines(self, file):
-        """The lines with something that the language leaves out, or a name that a .bzl file hasn't."""
-        found = {line for line, what in file.faults if what != "select"}
-        found |= {call.line for call in file.calls if self.is_unknown(file, call.name, call.is_native)}
-        found |= {line for name, _, line in file.uses if self.is_unknown(file, name, False)}
+        """The lines with something that the language leaves out, or a name that a .bzl file hasn't here: one that nothing binds, in Bazel neither, is bq's to tell."""
+        known = self.lines_of_records(file)
+        found = {line for line, what in file.faults if what != "select" and not (what == MEMBER and line in known)}
+        found |= {call.line for call in file.calls if self.is_unknown(file, call.name, call.is_native) and (call.is_native or not self.is_unbound(file, call.name))}
+        found |= {line for name, _, line in file.uses if self.is_unknown(file, name, False) and not self.is_unbound(file, name)}
         return found | {line for name, _, line, _ in file.members if self.is_unknown(file, name, False)}
+
+    def records_loaded(self, file):
+        """The names that a .bzl file loads which are structs of data, each with their fields."""
+        found = {}
+        for name in {name for _, _, clauses in file.loads for name in clauses} if file.loaded_members else ():
+            bound = self.names.binding(file, name)
+            if bound and bound[1] in bound[0].records and not bound[0].is_build:
+                found[name] = set(bound[0].records[bound[1]])
+        return found
+
+    def lines_of_records(self, file):
+        """The lines in which all members that aren't called are fields of structs of data that the file loads."""
+        records, asked = self.records_loaded(file), Counter()
+        for name, members, line in file.loaded_members if records else ():
+            if records.get(name, set()).issuperset(members):
+                asked[line] += len(members)
+        left = Counter(line for line, what in file.faults if what == MEMBER and line in asked)
+        return {line for line, count in asked.items() if left[line] == count}
+
+    @staticmethod
+    def is_unbound(file, name):
+        """Whether nothing binds a name that a .bzl file uses, nor does Bazel."""
+        is_known = name in file.globals or name in BUILT_INS or name in BUILD_FUNCTIONS or name in LEFT_OUT or name in OTHER_NAMES
+        return not file.is_build and not is_known and not PROVIDER.fullmatch(name)
+
+    def unbound(self, file):
+        """The lines of a .bzl file with names that nothing binds, each with the first of these, in order."""
+        if file.is_build:
+            return []
+        used = [(it.line, it.name) for it in file.calls if not it.is_native] + [(line, name) for name, _, line in file.uses]
+        return sorted({(line, name) for line, name in used if self.is_unbound(file, name)})
 
     @staticmethod
     def is_unknown(file, name, is_native):
@@ -487,11 +519,15 @@ class Facts:
                 found[call.inside].append(call)
         return self.inner_calls[path].get(function, ())
 
-    def fields_loaded(self, file):
-        """The fields of structs that files make which a file loads, directly or not."""
+    def has_structs(self):
+        """Whether a file makes structs."""
         if self.struct_files is None:
             self.struct_files = any(it.structs[0] for it in self.workspace.files.values())
-        found, seen, pending = set(), {file.path}, [file] if self.struct_files else []
+        return self.struct_files
+
+    def fields_loaded(self, file):
+        """The fields of structs that files make which a file loads, directly or not."""
+        found, seen, pending = set(), {file.path}, [file] if self.has_structs() else []
         while pending:
             it = pending.pop()
             for path in {self.workspace.resolve(label, it.path)[0] for label, *_ in it.loads} - seen:
@@ -509,7 +545,7 @@ class Facts:
             return f"def {name}(name, visibility = None, **given): {file.macros[name][0]}(name = name, visibility = visibility, **dict({defaults}, **given))"
         if file.size > MAX_SIZE and file.kinds.get(name) == "dict":
             return f"{name} = {{}}"
-        return definition("", name, self.stub(place, name), self.lost_of(place, name), *self.rule_attributes.of_rule(path, name)) + text_of(self.further.get((place, name)))
+        return definition("", name, self.stub(place, name), self.lost_of(place, name), *self.rule_attributes.of_rule(path, name), self.rule_attributes.limits_of(path, name)) + text_of(self.further.get((place, name)))
 
     def makes_targets(self, file, name):
         """Whether a name stands for a macro or rule that isn't there."""

@@ -93,6 +93,15 @@ def bzlq_files():
     found = _LEFT_OUT.get(native.package_name())
     return ["files: " + found] if found else []
 
+def bzlq_r_glob(*args, **given):
+    """Without the schema of the overlay, which is no file of the workspace."""
+    found = native.glob(*args, **given)
+    if native.package_name() or "rules.schema" not in found:
+        return found
+    if len(found) == 1 and given.get("allow_empty", True) == False:
+        fail("no file matches " + str(args[0] if args else given.get("include")) + ", and allow_empty is False")
+    return [it for it in found if it != "rules.schema"]
+
 def bzlq_patterns(patterns):
     return [it for it in patterns if type(it) == "string" and it and not [part for part in it.split("/") if part in ("", ".", "..") or "**" in part and part != "**"]]
 
@@ -199,7 +208,19 @@ def _unnamed(args):
     is_odd = [it for it in texts if it[:1] in (":", "@") or ("." in it or "/" in it) and " " not in it and it[:1] != "-"]
     return ["edges: arguments without a name"] if is_odd or _MARK in str(args) else []
 
-def bzlq_given(rule, lost, given, args = (), defaults = {}, hidden = ()):
+def _check(rule, given, mandatory, values):
+    """What the rule can't do without is given, and no text that it doesn't take: of what isn't known nothing is said."""
+    if native.package_name() in _PASSED:
+        return
+    for key in mandatory:
+        if key not in given:
+            fail("the rule " + rule + " misses the attribute '" + key + "'")
+    for key, texts in values.items():
+        value = given.get(key)
+        if type(value) == "string" and value and value not in texts:
+            fail("'" + key + "' of " + rule + " is one of '" + "', '".join(texts) + "', and not '" + value + "'")
+
+def bzlq_given(rule, lost, given, args = (), defaults = {}, hidden = (), mandatory = (), values = {}):
     found, edges = dict(given), {}
     lost = lost + (found.pop("bzlq_lost", None) or []) + (_unnamed(args) if args else [])
     text = str(given)
@@ -209,8 +230,13 @@ def bzlq_given(rule, lost, given, args = (), defaults = {}, hidden = ()):
     if rule in _GUESSED:
         _guesses(rule, found, lost)
     if rule == "genrule":
+        if _MARK in str(given.get("outs")):
+            fail("a select in 'outs' of genrule, which takes none")
         _outputs(found)
+    if mandatory or values:
+        _check(rule, given | found, mandatory, values)
     if rule in _TESTS:
+        _check(rule, found, (), _OF_TESTS)
         _test(found)
     if rule == "test_suite" and not found.get("tests"):
         _suite(found, lost)
@@ -243,6 +269,8 @@ def _suite(given, lost):
         given["tests"] = [":" + it for it in _TESTS_IN[native.package_name()] if it != given.get("name")]
     else:
         lost.append("edges: tests")
+
+_OF_TESTS = {"size": ["small", "medium", "large", "enormous"], "timeout": ["short", "moderate", "long", "eternal"]}
 
 def _test(given):
     """What Bazel takes where a test gives none."""

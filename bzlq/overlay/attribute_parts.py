@@ -1,8 +1,9 @@
 """What the text of a .bzl file shows of the attributes of rules and symbolic macros: takes a value's tree, gives a list of parts, of which later ones count.
 
-A part is (ATTRIBUTE, its name, its type, its default), (GLOBAL, a name whose attributes are among them), (GLOBAL, a name that is an attribute, its own name),
+A part is (ATTRIBUTE, its name, its type, its default, its limits), (GLOBAL, a name whose attributes are among them), (GLOBAL, a name that is an attribute, its own name),
 or (UNKNOWN,) for what the text doesn't show. A type is empty where a schema has none such, and None where it isn't shown. A default is NONE where none is
-given, HIDDEN where it isn't shown, (VALUE, it), or (NAMED, a global).
+given, HIDDEN where it isn't shown, (VALUE, it), or (NAMED, a global). Limits are whether each call has to give it, and the texts that it takes, if
+not all.
 """
 import ast
 
@@ -10,6 +11,7 @@ from bzlq.overlay.literals import constant, summed
 
 ATTRIBUTE, GLOBAL, UNKNOWN, VALUE, NAMED = "attribute", "global", "unknown", "value", "named"
 NONE, HIDDEN = (), ("hidden",)
+NO_LIMITS = (False, ())
 # the types of a schema, by the functions of `attr`
 TYPES = {name: name for name in "bool int label label_list output output_list string string_list".split()}
 # how many entries of a dict are looked at: no rule has so many attributes
@@ -22,7 +24,7 @@ def rule_parts(node):
         case ast.Call(func=ast.Name(id="rule")):
             found = []
         case ast.Call(func=ast.Attribute(value=ast.Name(id="analysistest" | "unittest"), attr="make")):
-            found = [(ATTRIBUTE, "target_under_test", "label", NONE)]
+            found = [(ATTRIBUTE, "target_under_test", "label", NONE, NO_LIMITS)]
         case _:
             return None
     given = {key.arg: key.value for key in node.keywords}
@@ -108,7 +110,7 @@ def entry(key, value):
         return (UNKNOWN,)
     if isinstance(value, ast.Name):
         return GLOBAL, value.id, name
-    return attribute(name, value) if is_attribute(value) else (ATTRIBUTE, name, None, HIDDEN)
+    return attribute(name, value) if is_attribute(value) else (ATTRIBUTE, name, None, HIDDEN, NO_LIMITS)
 
 
 def attribute(name, call):
@@ -123,7 +125,14 @@ def attribute(name, call):
         default = (NAMED, value.id)
     else:
         default = default_of(constant(labels_as_texts(value)))
-    return ATTRIBUTE, name, kind, default
+    return ATTRIBUTE, name, kind, default, limits_of(given)
+
+
+def limits_of(given):
+    """The limits that a call of a member of `attr` gives."""
+    texts = getattr(given.get("values"), "elts", ())
+    values = [it.value for it in texts if isinstance(it, ast.Constant) and isinstance(it.value, str)]
+    return getattr(given.get("mandatory"), "value", False) is True, tuple(values) if len(values) == len(texts) else ()
 
 
 def labels_as_texts(node):

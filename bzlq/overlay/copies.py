@@ -1,6 +1,8 @@
 """Copies of a workspace's files in which stands, in place of what `bq` leaves out, something that it reads. Lines keep their numbers."""
 import ast
 import bisect
+import difflib
+import fnmatch
 import re
 from collections import Counter, defaultdict
 
@@ -9,14 +11,21 @@ from bzlq.overlay.arguments import LABEL as GIVEN, PREFIX
 from bzlq.overlay.definitions import value_for
 from bzlq.overlay.guesses import BY_NAME, type_of
 from bzlq.overlay.reading import BUILD_FUNCTIONS, PLACEHOLDER, TRISTATES, Either, bound_by, children_of, has_name, kind_of, makers_of, names_bound, nodes_of, parsed, why_not
-from bzlq.overlay.replacements import EXISTING, NATIVE_VALUES, REPLACED, asks_for_rules, label_in, labels_bound, replacement
-from bzlq.overlay.rule_sets import BAZEL, TESTS
+from bzlq.overlay.replacements import EXISTING, NATIVE_VALUES, REPLACED, asks_for_rules, field, label_in, labels_bound, replacement, root_name
+from bzlq.overlay.rule_sets import BAZEL, TESTS, TYPES
 from bzlq.overlay.starlark_text import quoted
+from bzlq.workspace.files import SCHEMA
 
 LISTS = ("labels", "strings", "list")
 # what the language takes of escapes, beside a backslash before a line end
 ESCAPES = set("nrt\\'\"\n\r")
 
+# the BUILD files of the package that has the overlay's schema, and what globs there without it
+ROOT_BUILDS, GLOB = ("BUILD", "BUILD.bazel"), PREFIX + "glob"
+# the arguments of `package(..)`, and how near to one of them a misspelt one is
+OF_PACKAGES = """default_applicable_licenses default_compatible_with default_copts default_deprecation default_hdrs_check default_package_metadata
+    default_restricted_to default_testonly default_visibility distribs features licenses transitive_visibility""".split()
+NEAR = 0.8
 # halves of characters
 HALVES = re.compile("[\ud800-\udfff]")
 # a line that can't be in a bundle: mostly one of a docstring or a comment
@@ -46,6 +55,7 @@ class Copy:
         if file.is_build and (fields := facts.fields_loaded(file)):
             # (members of what isn't there are none)
             self.structs = fields, {it for it in file.globals if facts.value_lost(file, it) or facts.is_stub(file, it)}
+        self.records = {} if file.is_build else facts.records_loaded(file)
         self.more = ""  # a line at the end
         self.has_escapes = b"\\" in text
         own = facts.workspace.name
@@ -67,15 +77,21 @@ class Copy:
 
     def result(self):
         """The text with its parts replaced; nothing where none is."""
-        early = used_early(self.file)
+        refused, unbound = refused_in(self.file), self.facts.unbound(self.file)
         for node, statement in zip(parsed(self.text).body, self.file.statements):
-            at = bisect.bisect_left(early, (node.lineno,))
-            if at < len(early) and early[at][0] <= node.end_lineno:
-                found = early[at]
-                self.replace(*self.span(node), f'fail("{found[1]} is used before it is loaded, in line {found[2]}")')
-                self.counts["a use before a load"] += 1
+            at = bisect.bisect_left(refused, (node.lineno,))
+            if at < len(refused) and refused[at][0] <= node.end_lineno:
+                _, kind, why = refused[at]
+                self.replace(*self.span(node), f'fail({quoted(why)})')
+                self.counts[kind] += 1
             elif self.facts.replaced.has(self.file.path, statement):
-                self.stand_in(node, statement)
+                at = bisect.bisect_left(unbound, (node.lineno,))
+                if at < len(unbound) and unbound[at][0] <= node.end_lineno:
+                    line, name = unbound[at]
+                    self.replace(*self.span(node), f'fail("name \'{name}\' is not defined, in line {line}")')
+                    self.counts["a name that nothing binds"] += 1
+                else:
+                    self.stand_in(node, statement)
             else:
                 self.statement(node)
         for node in parsed(self.text).body if self.loads_more else []:
@@ -142,6 +158,9 @@ class Copy:
             return
         if found := replacement(node, self.all_names, self.labels, self.structs) if isinstance(node, REPLACED) else None:
             self.put(node, found)
+            return
+        if self.records and isinstance(node, ast.Attribute) and self.is_field(node):
+            self.put(node, field(node))
             return
         match node:
             case ast.Call():
@@ -222,6 +241,14 @@ class Copy:
             case ast.Name(id=name) if name not in self.locals and self.facts.makes_targets(self.file, name):
                 self.tell_lost(node)
                 self.arguments(node)
+            case ast.Attribute(value=ast.Name(id="native"), attr="glob") if not self.file.is_build and self.may_match_schema(node):
+                self.given(node.func, GLOB)
+                self.counts["a glob"] += 1
+                self.arguments(node)
+            case ast.Name(id="glob") if self.file.path in ROOT_BUILDS and "glob" not in self.file.globals and self.may_match_schema(node):
+                self.uses_given["glob"] = GLOB
+                self.counts["a glob"] += 1
+                self.arguments(node)
             case ast.Attribute(value=ast.Name(id="native"), attr=member) if member in NATIVE_VALUES:
                 self.replace(*self.span(node), "", NATIVE_VALUES[member])
                 self.counts["a member"] += 1
@@ -241,6 +268,14 @@ class Copy:
             case _:
                 self.visit(node.func)
                 self.arguments(node)
+
+    def may_match_schema(self, node):
+        """Whether a glob may match the overlay's schema, which is no file of the workspace."""
+        include = [*node.args[:1], *(key.value for key in node.keywords if key.arg == "include")]
+        parts = include[0].elts if include and isinstance(include[0], ast.List) else [None]
+        patterns = [getattr(it, "value", None) for it in parts]
+        may = (not isinstance(it, str) or fnmatch.fnmatchcase(SCHEMA, it.replace("**/", "")) for it in patterns)
+        return SCHEMA not in self.facts.workspace.paths and any(may)
 
     def label(self, node, text):
         """The text of a label in place of the label."""
@@ -267,6 +302,11 @@ class Copy:
         else:
             return False
         return True
+
+    def is_field(self, node):
+        """Whether a node is a field of a struct of data that the file loads, or of a struct in such a field."""
+        name = root_name(node.value)
+        return name not in self.locals and node.attr in self.records.get(name, ())
 
     def empty(self, node, wanted):
         """An empty value for a member."""
@@ -499,7 +539,8 @@ def names_own(facts, file):
 
 def may_change(facts, file):
     """Whether something in a file may be replaced; there is nothing in most BUILD files."""
-    return not file.is_build or names_own(facts, file) or file.is_odd or bool(file.members) or declares_tests(file) or has_unknown_values(facts, file) or bool(used_early(file))
+    return not file.is_build or names_own(facts, file) or file.is_odd or bool(file.members) or declares_tests(file) or has_unknown_values(facts, file) or bool(refused_in(file)) \
+        or file.path in ROOT_BUILDS and any(it.name == "glob" for it in file.calls)
 
 
 def has_unknown_values(facts, file):
@@ -539,9 +580,35 @@ def has_output_as_input(call):
     return call.func.id == "genrule" and not given.get("srcs", set()).isdisjoint(given.get("outs", ()))
 
 
+def refused_in(file):
+    """What Bazel refuses in a BUILD file and bq takes: the line, its kind, and why."""
+    empty = [(line, "a load of nothing", "load(..) names no symbol") for _, line, clauses in file.loads if not clauses] if file.is_build else []
+    return sorted([*used_early(file), *odd_packages(file), *labels_twice(file), *empty])
+
+
+def labels_twice(file):
+    """The lists of labels in a BUILD file that have one twice, of Bazel's own rules. (Macros of others may take each once.)"""
+    loaded = {name: label for label, _, clauses in file.loads for name in clauses}
+    for line, rule, name, text in file.twice:
+        is_known = loaded[rule].startswith("@") if rule in loaded else rule not in file.globals
+        if is_known and rule in BAZEL and TYPES.get(rule, {}).get(name) == "label_list":
+            yield line, "a label twice in a list", f"'{text}' is twice in '{name}' of {rule}"
+
+
+def odd_packages(file):
+    """The calls of `package(..)` that Bazel refuses: a second one, and one with a misspelt argument."""
+    calls = sorted((it.line, [*it.keywords]) for it in file.calls if it.name == "package" and not it.is_native and not it.inside and it.is_statement)
+    if not file.is_build or not calls or "package" in file.globals:
+        return
+    for line, keywords in calls:
+        for name in keywords:
+            if name not in OF_PACKAGES and (near := difflib.get_close_matches(name, OF_PACKAGES, 1, NEAR)):
+                yield line, "a package with a misspelt argument", f"package has no argument '{name}' (did you mean '{near[0]}'?)"
+    yield from ((line, "a package that is declared twice", f"package(..) is called a second time, after line {calls[0][0]}") for line, _ in calls[1:])
+
+
 def used_early(file):
-    """The uses of names in a BUILD file before they are loaded, which Bazel refuses (bq binds what is loaded first): the line, the name, and the
-    line of the load."""
+    """The uses of names in a BUILD file before they are loaded. (bq binds what is loaded first.)"""
     if not file.is_build or len(file.loads) < 1:
         return []
     lines = {}
@@ -549,7 +616,8 @@ def used_early(file):
         for name in clauses:
             lines.setdefault(name, line)
     used = [(it.line, it.name) for it in file.calls if not it.is_native] + [(line, name) for name, _, line in file.uses]
-    return sorted({(line, name, lines[name]) for line, name in used if name in lines and line < lines[name]})
+    early = {(line, name) for line, name in used if name in lines and line < lines[name]}
+    return [(line, "a use before a load", f"{name} is used before it is loaded, in line {lines[name]}") for line, name in early]
 
 
 def copied(facts, file):

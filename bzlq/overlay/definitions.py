@@ -44,6 +44,10 @@ def value_for(stub):
     return "None" if not shapes["list"] and any(stub.wanted) else "[]"
 
 
+# what a function gives that chooses between its arguments: all parts of lists; where texts are wanted of it too, the latter of two, which is mostly
+# what is taken by default
+OF_LISTS = '[part for value in list(args) + list(kwargs.values()) if type(value) == "list" for part in value]'
+OF_TEXTS = f'args[1] if len(args) == 2 and type(args[0]) == "string" and type(args[1]) == "string" else {OF_LISTS}'
 # functions of rules_python and rules_jvm_external that give labels
 LABELS_OF = {
     "requirement": '"@{repository}//" + name.lower().partition("[")[0].replace("-", "_").replace(".", "_")',
@@ -59,9 +63,9 @@ def made_up(symbol, label):
     return [] if name in TYPES and name not in OTHER_KINDS and name not in ENDINGS else [f"kind: {symbol} of {label}, which isn't there"]
 
 
-def forwarded(symbol, lost, endings, defaults, hidden):
-    """The text of a macro that forwards to a rule, with these defaults of its attributes, and the names of those whose defaults aren't known, and declares
-    targets of these endings, each with its rule, beside it."""
+def forwarded(symbol, lost, endings, defaults, hidden, limits):
+    """The text of a macro that forwards to a rule, with these defaults of its attributes, the names of those whose defaults aren't known, and their limits, and
+    declares targets of these endings, each with its rule, beside it."""
     texts = ", ".join(quoted(it) for it in lost)
 
     def call(rule, given, unnamed=""):
@@ -69,27 +73,29 @@ def forwarded(symbol, lost, endings, defaults, hidden):
 
     more = "".join(f'; {call(rule, f"""{{"name": name + "{ending}", "data": [":" + name]}}""")}' for ending, rule in endings.items())
     size = f', "size": "{SIZES[symbol]}"' if symbol in SIZES else ""
-    more_given = ", args" + (f", {starlark(defaults)}" if defaults or hidden else "") + (f", {starlark(hidden)}" if hidden else "")
+    others = [defaults, hidden, *limits]
+    while others and not others[-1]:
+        others.pop()
+    more_given = ", args" + "".join(f", {starlark(it)}" for it in others)
     return f"def {symbol}(name, *args, **given): " + call(rule_of(symbol), f'dict({{"name": name{size}}}, **given)', more_given) + more
 
 
-def definition(repository, symbol, stub, lost=(), defaults=(), hidden=()):
-    """The text that defines a symbol, in one line but for members of skylib's. `lost` says what is made up; `defaults` are those of a rule's attributes, and
-    `hidden` the names of those whose defaults aren't known."""
+def definition(repository, symbol, stub, lost=(), defaults=(), hidden=(), limits=()):
+    """The text that defines a symbol, in one line but for members of skylib's. `lost` says what is made up; `defaults` are those of a rule's attributes,
+    `hidden` the names of those whose defaults aren't known, and `limits` what calls have to give and what they may."""
     if symbol in skylib.MEMBERS and repository:
         return f"def {symbol}{skylib.MEMBERS[symbol]}"
     if symbol in KNOWN.get(repository, {}):
         return f"def {symbol}{KNOWN[repository][symbol]}".replace("LOST", f"[{', '.join(quoted(it) for it in lost)}]")
     if stub.makes_targets:
-        return forwarded(symbol, lost, ENDINGS.get(symbol, {}) if repository else {}, dict(defaults), hidden)
+        return forwarded(symbol, lost, ENDINGS.get(symbol, {}) if repository else {}, dict(defaults), list(hidden), limits)
     if repository and symbol in LABELS_OF:
         return f"def {symbol}(name, *args, **kwargs): return {LABELS_OF[symbol].format(repository=repository)}"
     if not stub.is_called:
         return f"{symbol} = {value_for(stub)}"
     value = value_for(stub)
     if value == "[]":
-        # (of what mostly is a choice between lists)
-        value = "[part for value in list(args) + list(kwargs.values()) if type(value) == \"list\" for part in value]"
+        value = OF_TEXTS if any(count and shape(place) == "text" for place, count in stub.wanted.items()) else OF_LISTS
     if value == '""':
         # a label, so that it may stand where a label is wanted
         value = f'"@{repository}//:{symbol}"' if repository else f'":{symbol}"'

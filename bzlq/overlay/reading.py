@@ -5,6 +5,7 @@ Starlark is near enough to Python that Python's own parser reads it; nothing is 
 import ast
 import bisect
 import codecs
+import os
 import re
 import warnings
 from collections import defaultdict
@@ -12,7 +13,7 @@ from dataclasses import dataclass, field, replace
 
 from bzlq.overlay.attribute_parts import changed_parts, global_parts, macro_parts, rule_parts
 from bzlq.overlay.literals import constant
-from bzlq.overlay.replacements import EXISTING, NAMES, REPLACED, asks_for_rules, label_in, labels_bound, replacement, struct_makers, structs_in
+from bzlq.overlay.replacements import EXISTING, NAMES, REPLACED, asks_for_rules, label_in, labels_bound, records_in, replacement, struct_makers, structs_in
 from bzlq.overlay.rule_sets import BAZEL
 from bzlq.workspace.files import MAX_SIZE
 
@@ -26,6 +27,11 @@ LEFT_OUT = set("""read_config abs analysis_test_transition apple_common apple_su
     JavaInfo java_common json Label module_extension native OutputGroupInfo platform_common proto provider ProtoInfo PyInfo PyRuntimeInfo
     repository_name repository_rule rule RunEnvironmentInfo set struct subpackages tag_class testing transition workspace dir
     CcToolchainConfigInfo CcSharedLibraryInfo DebugPackageInfo ErlangInfo macro module_name module_version repo_name symbolic_macro visibility""".split())
+
+# other names that .bzl files have in some release of Bazel, or in Buck, and what providers are called
+OTHER_NAMES = set("""android_common builtins cc_internal config_common exec_transition host_info java_internal materializer_rule objc_internal PACKAGE_NAME
+    proto_common proto_common_do_not_use py_internal repository_ctx REPOSITORY_NAME rule_extension select subrule use_extension use_repo use_repo_rule""".split())
+PROVIDER = re.compile(r"_*[A-Z]\w*[a-z]\w*|_builtins")
 
 
 # attributes that are numbers, and may be given True and False
@@ -48,10 +54,13 @@ IDENTIFIER = re.compile(r"[A-Za-z_]\w*", re.ASCII)
 FOR = re.compile(rb"for(?<!\wfor)\b")
 
 
+# what is noted of a member of a value, which bq has of none
+MEMBER = "a member that isn't called"
 # how often a file is read again for its structs
 MOST_READ_AGAIN = 4
 # the parts of a `File` that its tree fills
-FILLED = """loads defs aliases natives made attributes constants macros tests kinds called plain statements globals calls uses members member_calls faults decisions""".split()
+FILLED = """loads defs aliases natives made attributes constants macros tests kinds called plain statements globals calls uses members member_calls loaded_members faults decisions
+    twice""".split()
 
 
 # what leaves a function, or a turn of a loop, and what it stands in
@@ -158,12 +167,22 @@ class File:
     uses: list = field(default_factory=list)  # (name, how it is used, line)
     members: list = field(default_factory=list)  # (name, member, line, whether it is called)
     member_calls: list = field(default_factory=list)  # (name, member, keywords, line), of those that are statements
+    loaded_members: list = field(default_factory=list)  # of a .bzl file: (name, members, line), for members, and members of these, of a name that it loads
     faults: list = field(default_factory=list)  # (line, what bq leaves out)
     decisions: list = field(default_factory=list)  # what decides which calls are made: (its names, and parameters in parentheses, the function around, the first of the calls, the one after the last, line)
+    twice: list = field(default_factory=list)  # (line, rule or macro, attribute, text) of a list in a call of a BUILD file that has a label twice
     labels: list = field(default_factory=list)  # the labels of other repositories that its text names, each as (repository, package, name)
     existing: list = field(default_factory=list)  # the lines of calls that ask which rules there are
-    structs: tuple = (frozenset(), frozenset())  # the fields of structs that its functions make, and names whose members aren't such
+    structs: tuple = (frozenset(), frozenset())  # the fields of structs that it makes, and names whose members aren't such
+    records: dict = field(default_factory=dict)  # a global that is a struct of data, or has such structs: their fields
     is_odd: bool = False  # whether its text has what a copy may have something else for
+
+
+def in_full(text, package):
+    """The label that a text of a file in this package is."""
+    if not text.startswith("//"):
+        return f"//{package}:{text.removeprefix(':')}"
+    return text if ":" in text else f"{text}:{text.rpartition('/')[2]}"
 
 
 def is_label(text):
@@ -411,11 +430,25 @@ class Reader(ast.NodeVisitor):
         kinds.add(self.bound.get(node.id, "other") if isinstance(node, ast.Name) else kind_of(node))
         return first_known(kinds)
 
+    def labels_twice(self, node):
+        """The attributes that a call gives a list with a label twice, as its text shows it, each with the second one."""
+        for key in node.keywords:
+            parts = key.value.elts if isinstance(key.value, ast.List) else ()
+            texts = [it.value for it in parts if isinstance(it, ast.Constant) and isinstance(it.value, str)]
+            seen = set()
+            for text in texts if len(texts) > 1 else ():
+                label = text if text.startswith("@") else in_full(text, os.path.dirname(self.file.path))
+                if label in seen:
+                    yield key.arg, text
+                    break
+                seen.add(label)
+
     def named_call(self, node, name, is_native, is_statement):
         """Notes a call of a name."""
         if name in self.locals and not is_native:
             return
         keywords = {key.arg: self.kind_here(key.value) for key in node.keywords if key.arg}
+        self.file.twice += [(node.lineno, name, *it) for it in self.labels_twice(node)] if self.file.is_build and not is_native else []
         splats = []
         for key in node.keywords:
             if key.arg is None:
@@ -441,11 +474,23 @@ class Reader(ast.NodeVisitor):
         if isinstance(node.value, ast.Name) and node.value.id == "native" and not self.known("native") and node.attr in BAZEL:
             self.file.calls.append(Call(node.attr, True, node.lineno, self.inside, {}, [], [], False, "", {}, ""))
             return
-        self.left_out(node, "a member that isn't called")
+        self.left_out(node, MEMBER)
+        self.loaded_member(node)
         if isinstance(node.value, ast.Name):
             self.member(node, node.value.id, node.attr, False)
         else:
             self.visit(node.value)
+
+    def loaded_member(self, node):
+        """Notes a member of a name that a .bzl file loads, or a member of such a member."""
+        members, inner = [], node
+        while isinstance(inner, ast.Attribute):
+            members.append(inner.attr)
+            inner = inner.value
+            inner.is_inner = True
+        if not self.file.is_build and not hasattr(node, "is_inner") and isinstance(inner, ast.Name) and inner.id not in self.locals:
+            if any(inner.id in clauses for _, _, clauses in self.file.loads):
+                self.file.loaded_members.append((inner.id, members, node.lineno))
 
     def visit_Name(self, node):
         """Notes the use of a name that isn't a local one."""
@@ -785,7 +830,7 @@ def filled(file, tree, may_bind, makers):
     them, and all is read again."""
     for left in range(MOST_READ_AGAIN, -1, -1):
         structs = structs_in(tree, makers) if makers else (frozenset(), frozenset())
-        found = replace(file, structs=structs, **{name: type(it)() for name, it in vars(file).items() if name in FILLED})
+        found = replace(file, structs=structs, records=records_in(makers) if structs[0] else {}, **{name: type(it)() for name, it in vars(file).items() if name in FILLED})
         fill(found, tree, may_bind)
         lines = sorted(line for line, _ in found.faults)
         sure = [it for it in makers if bisect.bisect_left(lines, it.lineno) == bisect.bisect_right(lines, it.end_lineno)]

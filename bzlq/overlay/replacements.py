@@ -25,13 +25,50 @@ NAMES = ("Label", "abs", "depset", "hasattr", "json", *NATIVE_VALUES)
 CONTEXTS = ("ctx", "native", "repository_ctx", "module_ctx", "target")
 
 
+# functions that give data of data
+OF_DATA = frozenset("bool dict enumerate int len list max min range repr reversed sorted str struct tuple zip".split())
+# what values have as methods: a struct with a field of such a name isn't read as a dict
+METHODS = frozenset(name for kind in (str, list, dict) for name in dir(kind) if not name.startswith("_"))
+
+
 def struct_makers(tree):
-    """The functions of a file that make structs."""
-    return [node for node in tree.body if isinstance(node, ast.FunctionDef) and any(map(is_struct, ast.walk(node)))]
+    """The functions of a file that make structs, and the statements that bind structs of data."""
+    return [node for node in tree.body if isinstance(node, ast.FunctionDef) and any(map(is_struct, ast.walk(node)))] + data_structs(tree)
+
+
+def data_structs(tree):
+    """The statements at the top of a file that bind a name to structs, in which are data alone: no functions, and nothing of other files."""
+    data, found = set(OF_DATA), []
+    called = {it.func.attr for it in ast.walk(tree) if isinstance(it, ast.Call) and isinstance(it.func, ast.Attribute)} | METHODS
+    for node in tree.body:
+        match node:
+            case ast.Assign(targets=[ast.Name(id=name)], value=value) if is_data(value, data):
+                data.add(name)
+                structs = [it for it in ast.walk(value) if is_struct(it)]
+                if structs and all(called.isdisjoint(fields_of(it)) for it in structs):
+                    found.append(node)
+    return found
+
+
+def is_data(value, names):
+    """Whether a value is made of constants and of data with these names."""
+    nodes = list(ast.walk(value))
+    names = names | {it.id for it in nodes if isinstance(it, ast.Name) and isinstance(it.ctx, ast.Store)}
+    return not any(isinstance(it, ast.Lambda) or isinstance(it, ast.Name) and it.id not in names
+                   or isinstance(it, ast.Call) and getattr(it.func, "id", "") == "struct" and not (is_struct(it) and all(key.arg for key in it.keywords)) for it in nodes)
+
+
+def records_in(makers):
+    """The names that statements bind to structs of data, each with the fields of these, inner ones too."""
+    found = {}
+    for node in makers:
+        if isinstance(node, ast.Assign):
+            found[node.targets[0].id] = sorted({name for it in ast.walk(node.value) if is_struct(it) for name in fields_of(it)})
+    return found
 
 
 def structs_in(tree, makers):
-    """The fields of the structs that these functions of a file make, and the names whose members aren't fields: those that it loads, or that are structs
+    """The fields of the structs that these functions and statements of a file make, and the names whose members aren't fields: those that it loads, or that are structs
     of other fields. No fields where one is called, as a function that a struct has: a dict has no such member."""
     fields = {name for node in makers for it in ast.walk(node) if is_struct(it) for name in fields_of(it)}
     called = {it.func.attr for it in ast.walk(tree) if isinstance(it, ast.Call) and isinstance(it.func, ast.Attribute)} if fields else set()
@@ -58,6 +95,11 @@ def struct(call):
     for key in call.keywords:
         pieces += [f"{key.arg} = " if key.arg else "**", key.value, ", "]
     return Replacement("a struct", [*pieces[:-1], ")"])
+
+
+def field(node):
+    """An element of a dict in the place of a field of a struct."""
+    return Replacement("a struct", [node.value, f'["{node.attr}"]'])
 
 
 def is_of_own(name, others):
@@ -166,7 +208,7 @@ def replacement(node, bound=(), labels=(), structs=(frozenset(), frozenset())):
             # (it counts as true, so the dict isn't empty)
             return Replacement("a struct", ['{"": None}'])
         case ast.Attribute(value=of, attr=member, ctx=ast.Load()) if member in fields and root_name(of) in bound and is_of_own(root_name(of), others):
-            return Replacement("a struct", [of, f'["{member}"]'])
+            return field(node)
         case ast.Call(func=ast.Name(id="abs"), args=[of], keywords=[]) if "abs" not in bound:
             return Replacement("a function", ["max([sign * (", of, ") for sign in (1, -1)])"])
         case ast.Call(func=ast.Name(id="hasattr"), args=[ast.Name(id=name), ast.Constant()]) if "hasattr" not in bound:

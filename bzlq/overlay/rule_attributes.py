@@ -5,7 +5,7 @@ from collections import defaultdict
 from dataclasses import dataclass, field
 
 from bzlq.overlay.arguments import ANY, SHOWN
-from bzlq.overlay.attribute_parts import ATTRIBUTE, GLOBAL, HIDDEN, NAMED, UNKNOWN, VALUE, default_of
+from bzlq.overlay.attribute_parts import ATTRIBUTE, GLOBAL, HIDDEN, NAMED, NO_LIMITS, UNKNOWN, VALUE, default_of
 from bzlq.overlay.definitions import NO_ATTRIBUTES
 from bzlq.overlay.reading import IDENTIFIER
 
@@ -28,11 +28,12 @@ class Attributes:
 
     types: dict = field(default_factory=dict)
     defaults: dict = field(default_factory=dict)
+    limits: dict = field(default_factory=dict)
     is_whole: bool = True  # whether it has no other attributes
 
-    def add(self, name, kind, default):
+    def add(self, name, kind, default, limits):
         """Adds an attribute, or has it in the place of another of its name."""
-        self.types[name], self.defaults[name] = kind, default
+        self.types[name], self.defaults[name], self.limits[name] = kind, default, limits
 
     def merge(self, other):
         """Adds the attributes of a dict, which may have the place of others if it doesn't show all."""
@@ -41,6 +42,7 @@ class Attributes:
         self.is_whole &= other.is_whole
         self.types |= other.types
         self.defaults |= other.defaults
+        self.limits |= other.limits
 
     def named(self):
         """The types that the text shows, by attribute."""
@@ -57,6 +59,18 @@ class RuleAttributes:
     def types(self, path, name):
         """The types of the attributes of a rule that a file makes, as far as texts show them; none for what is no rule."""
         return self.of(path, name).named() if name in self.workspace.files[path].made else {}
+
+    def names_of(self, path, name):
+        """The names of all attributes that a rule declares; None for one that may have more, and for what is no rule."""
+        found = self.of(path, name) if name in self.workspace.files[path].made else None
+        return {*found.types} if found and found.is_whole else None
+
+    def limits_of(self, path, name):
+        """The attributes of a rule that each call has to give, and those that take some texts alone, with these."""
+        if self.names_of(path, name) is None:
+            return [], {}
+        limits = {key: it for key, it in self.of(path, name).limits.items() if IDENTIFIER.fullmatch(key) and key not in NO_ATTRIBUTES}
+        return [key for key, (is_mandatory, _) in limits.items() if is_mandatory], {key: list(values) for key, (_, values) in limits.items() if values}
 
     def of_rule(self, path, name):
         """The defaults of a rule's attributes that data may have, and what isn't known: the names of attributes with others, and, if the rule may have more
@@ -126,12 +140,12 @@ class RuleAttributes:
         found = Attributes()
         for kind, *rest in self.parts(at):
             if kind == ATTRIBUTE:
-                name, of, default = rest
-                found.add(name, of, self.default(at[0], default))
+                name, of, default, limits = rest
+                found.add(name, of, self.default(at[0], default), limits)
                 continue
             other = self.known.get(self.place(at[0], rest[0])) if kind == GLOBAL else None
             if rest[1:]:
-                found.add(rest[1], other and other.types.get(""), other.defaults.get("", HIDDEN) if other else HIDDEN)
+                found.add(rest[1], *((other.types.get(""), other.defaults.get("", HIDDEN), other.limits.get("", NO_LIMITS)) if other else (None, HIDDEN, NO_LIMITS)))
             else:
                 found.merge(other or Attributes(is_whole=False))
             self.left -= len(other.types) if other else 0

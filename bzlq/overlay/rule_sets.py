@@ -16,8 +16,8 @@ cc_library cc_binary cc_test: string include_prefix strip_include_prefix nocopts
 cc_import: label_list objects pic_objects
 cc_import: label static_library shared_library interface_library pic_static_library
 cc_import: bool alwayslink system_provided linkstatic
-cc_shared_library: label_list dynamic_deps roots static_deps
-cc_shared_library: string_list user_link_flags exports_filter
+cc_shared_library: label_list dynamic_deps preloaded_deps roots
+cc_shared_library: string_list user_link_flags exports_filter static_deps
 cc_shared_library: string shared_lib_name
 cc_proto_library java_proto_library java_lite_proto_library py_proto_library: label_list deps exports
 cc_toolchain: label all_files ar_files as_files compiler_files compiler_files_without_includes coverage_files dwp_files dynamic_runtime_lib libc_top linker_files objcopy_files static_runtime_lib strip_files toolchain_config
@@ -245,8 +245,15 @@ BAZEL = frozenset("""action_listener alias android_binary android_device android
 # those that take what a test takes, with Bazel's defaults
 TESTS = frozenset(rule for rule in TYPES if rule.endswith("_test"))
 TEST_TYPES = {"size": "string", "timeout": "string", "flaky": "bool", "shard_count": "int", "args": "string_list", "local": "bool", "env_inherit": "string_list"}
+# those of them that no other rule has
+OF_TESTS_ALONE = ("size", "timeout", "flaky", "shard_count")
+# the attributes that each rule in Starlark has, or may have, without declaring them
+OF_RULES = frozenset("""name visibility tags features testonly deprecation applicable_licenses args aspect_hints build_setting_default compatible_with distribs env
+    exec_compatible_with exec_group_compatible_with exec_properties expect_failure generator_function generator_location generator_name licenses
+    on_leave_scope output_licenses package_metadata restricted_to scope target_compatible_with toolchains transitive_configs""".split()) | {*TEST_TYPES}
 # attributes without which a call is refused
-MANDATORY = {"genrule": ("outs",), "alias": ("actual",), "toolchain": ("toolchain", "toolchain_type"), "constraint_value": ("constraint_setting",)}
+MANDATORY = {"genrule": ("outs",), "alias": ("actual",), "toolchain": ("toolchain", "toolchain_type"), "constraint_value": ("constraint_setting",),
+             "genquery": ("expression", "scope"), "label_flag": ("build_setting_default",), "label_setting": ("build_setting_default",)}
 # macros among the rules of the table: those that declare targets of another kind, those that declare more targets, and those of which it is known
 # which more: the endings of their names, each with the rule that is nearest
 OTHER_KINDS = frozenset("build_test copy_directory copy_file diff_test go_grpc_library pkg_deb pkg_mklink pkg_tar pkg_zip write_file".split())

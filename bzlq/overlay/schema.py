@@ -7,7 +7,7 @@ from bzlq.overlay.arguments import ATTRIBUTES
 from bzlq.overlay.definitions import NO_ATTRIBUTES, rule_of
 from bzlq.overlay.guesses import BASE, COMMON, DICTS, FAMILIES, attributes_of, type_of
 from bzlq.overlay.reading import IDENTIFIER
-from bzlq.overlay.rule_sets import BAZEL, CLOSED, DICTS_OF, ENDINGS, LATER, MANDATORY, OF_BAZEL, TESTS, TEST_TYPES, TYPES
+from bzlq.overlay.rule_sets import BAZEL, CLOSED, DICTS_OF, ENDINGS, LATER, MANDATORY, OF_BAZEL, OF_RULES, OF_TESTS_ALONE, TESTS, TEST_TYPES, TYPES
 
 # how near a name is to one that it may have been meant for: `sources` to `srcs` is
 NEAR = 0.72
@@ -22,6 +22,7 @@ class Schema:
     def __init__(self):
         self.given = {rule: defaultdict(Counter) for rule in STANDARD}
         self.said = defaultdict(dict)  # the types that calls of `rule` say
+        self.own = {}  # the attributes of rules of the workspace's own, where texts show all of them; None where they don't
         self.tests = set(TESTS)
         self.guesses = []
         self.dicts = []
@@ -60,13 +61,21 @@ class Schema:
         return kind
 
     def is_misspelt(self, rule, name):
-        """Whether a rule that its documents tell of lacks this attribute: one that is closed by them, or that has one nearly of this name."""
+        """Whether a rule that its documents tell of, or its own definition, lacks this attribute: one that is closed by them, or that has one nearly of this
+        name."""
+        if self.own.get(rule) is not None:
+            return name not in self.own[rule] and name not in OF_RULES
         if rule not in TYPES or name in self.said[rule]:
             return False
         known = {*TYPES[rule], *OF_BAZEL.get(rule, ()), *COMMON, *DICTS, *LATER}
         if rule not in OF_BAZEL:
             known |= {*BASE, *TEST_TYPES, *(it for family, names in FAMILIES.items() if rule.startswith(family) for it in names.split())}
-        return name not in known and (rule in CLOSED or bool(difflib.get_close_matches(name, known, 1, NEAR)))
+        return name not in known and (rule in CLOSED or rule in OF_BAZEL and name in OF_TESTS_ALONE or bool(difflib.get_close_matches(name, known, 1, NEAR)))
+
+    def define(self, rule, names):
+        """Notes the attributes that a definition of a rule declares, if they are all there is; definitions of one name share them."""
+        before = self.own.get(rule, set())
+        self.own[rule] = None if names is None or before is None else before | names
 
     def text(self):
         """The text of the schema."""
@@ -111,6 +120,8 @@ def schema_of(facts):
                 schema.add(rule_of(symbol), facts.given.get(("stub", place, symbol), {}))
                 for rule in declared_beside(place[0], symbol):
                     schema.add(rule, {})
+                own = place[0] is None and symbol not in facts.workspace.files[place[1]].macros
+                schema.define(rule_of(symbol), facts.rule_attributes.names_of(place[1], symbol) if own else None)
                 if place[0] is None:
                     file = facts.workspace.files[place[1]]
                     schema.said[rule_of(symbol)].update(facts.rule_attributes.types(file.path, symbol))

@@ -65,6 +65,8 @@ def check(bench):
                   ("affected: Bazel has answered for 3 of them: 3 missing, 0 more; 1 list said to be whole lacks one", 1, True))
     for words in ("--audit 0", "--audit x", "--audit 2 --base HEAD", "--audit 2 --why"):
         bench.compare(f"affected {words}", bench.run(f"bzlq affected {words}", "project")[::2], ("", 2))
+    errors = bench.run("bzlq affected --audit 1", "project")[1]
+    bench.compare("one commit is counted", errors.splitlines()[-1], "affected: 1 commit: 0 of 6 targets listed (0.0 %); 1 where targets may be missing")
     bench.compare("the repository is as it was", [project.git(*it) for it in (("status", "--porcelain"), ("worktree", "list", "--porcelain"))][0], b"")
     bench.compare("one commit alone", bench.run(f"{' '.join(GIT)} init -q one; cd one; touch WORKSPACE BUILD; git add -A; {' '.join(GIT)} commit -qm x; bzlq affected --audit 2")[1:],
                   ("affected: there is no commit with one before it\n", 2))

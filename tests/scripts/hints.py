@@ -117,6 +117,17 @@ def slow(bench):
     bench.compare("labels of packages that take long", written, said)
 
 
+def ranked(bench):
+    """Of many lines the causes are counted."""
+    defs = "def m(name, n):\n    native.filegroup(name = name, srcs = n)\n"
+    texts = {"one": 'load("//t:d.bzl", "m")\nm(name = "a", n = 3)\n', "two": 'load("//t:e.bzl", "m")\n', "three": 'filegroup(name = "x", srcs = y)\n'}
+    for count, wanted in ((15, ["15 of these by F73 at t/d.bzl:2:35 in m", "5 of these by F31: there is no file t/e.bzl (did you mean 'd.bzl'?)"]), (14, [])):
+        folders = {f"{it}{n}/BUILD": text for it, text in texts.items() for n in range({"one": count, "two": 5, "three": 1}[it])}
+        bench.lay_out("ranked", {"WORKSPACE": "", "t/BUILD": "", "t/d.bzl": defs, **folders})
+        found = bench.run("bzlq //...", "ranked")[1].splitlines()
+        bench.compare(f"{count + 6} lines", [it for it in found if "of these" in it], wanted)
+
+
 LONG = {
     "brackets": ("F7 F10 F11", "x = " + "[" * 40000 + "\n"),
     "calls": ("F10", "x = f" + "()" * 30000 + "\n"),
@@ -146,5 +157,5 @@ def linear(bench):
 
 def check(bench):
     """Tries all of it."""
-    for part in (rows, interface, syntax, hostile, slow, linear):
+    for part in (rows, interface, syntax, hostile, slow, ranked, linear):
         part(bench)

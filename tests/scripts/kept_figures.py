@@ -46,5 +46,5 @@ def check(bench):
         bench.compare("two files", list(figures.compare(TABLES, LATER)), DIFFERENCE)
     finally:
         figures.RESULTS, figures.PAGE = before
-    for words, status in (("run --write --only text", 2), ("hostile --write --only pop", 2), (f"crates --write --only files {bench.program}", 2), ("compare bench/none", 1)):
+    for words, status in (("run --write --only text", 2), ("reloads --write --only text", 2), ("hostile --write --only pop", 2), (f"crates --write --only files {bench.program}", 2), ("compare bench/none", 1)):
         bench.compare(f"bench/{words}", bench.run(f"{kit.ROOT}/bench/{words} > /dev/null 2> errors; s=$?; grep -c Traceback errors; exit $s")[::2], ("0\n", status))

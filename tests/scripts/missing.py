@@ -36,6 +36,7 @@ SUITES = {"a/BUILD": 'load("@r//:m.bzl", "other", "suite")\nsuite(name = "t", si
 # a test that no call declares: a label alone names it, as a further target of a macro
 NAMED_TEST = {"a/BUILD": 'load("@r//:m.bzl", "checked")\nchecked(name = "x", srcs = ["T.java"])\ntest_suite(name = "all", tests = [":x_test"])\n', "a/T.java": ""}
 UNLISTED = "affected: targets may be missing: 1 target of a kind that was made up (junit_tests) may be a test, and isn't listed: --tests lists it\n"
+UNLIKELY = "affected: 1 target of a kind that was made up isn't listed: it would be a test only if its macro declares one, which neither a name nor an attribute says: //a:u\n"
 SETTINGS = {
     "MODULE.bazel": 'pip.parse(hub_name = "pip", requirements_lock = "//third_party:requirements_lock.txt")\ngo_deps.from_file(go_mod = "//:go.mod")\n',
     ".bazelrc": "import %workspace%/tools/other.bazelrc\ntry-import none.bazelrc\n", "tools/other.bazelrc": "", "go.mod": "", "go.sum": "",
@@ -52,6 +53,10 @@ def tests(bench):
     told(bench, "tests of a made-up kind, by kind", run("--kind", "'_test rule'"), "", [UNLISTED], 3)
     told(bench, "tests of a made-up kind, by --tests", run("--tests"), "//a:t\n", ["1 affected\n"], 0)
     told(bench, "what is given what tests alone are given", changed(bench, "suites", SUITES, "a/T.java", "x", "--tests"), "//a:t\n", ["1 affected\n"], 0)
+    told(bench, "what nothing says to be a test", changed(bench, "suites", SUITES, "a/T.java", "x", "--tests"), "//a:t\n", [UNLIKELY], 0)
+    told(bench, "the same by kind", changed(bench, "suites", SUITES, "a/T.java", "x", "--kind", "'_test rule'", "--all-on-fault"), "//a:t\n", [UNLIKELY], 0)
+    quiet = changed(bench, "suites", SUITES, "a/T.java", "x", "--kind", "'other rule'")
+    bench.compare("where no tests are looked for", (quiet[0], UNLIKELY in quiet[1]), ("//a:u\n", False))
     told(bench, "tests of a made-up kind, where all are listed", run("--kind", "'_test rule'", "--all-on-fault"), "//a:t\n", ["1 affected\n"], 0)
     run = lambda *words: changed(bench, "named", NAMED_TEST, "a/T.java", "x", *words)  # noqa: E731
     told(bench, "a test that a label alone names, by kind", run("--kind", "'_test rule'"), "", [UNLISTED.replace("junit_tests", "filegroup")], 3)

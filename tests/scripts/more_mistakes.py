@@ -13,6 +13,8 @@ BASE = {
     "app/BUILD": "filegroup(\n    name = \"app\",\n    srcs = [\"main.c\"],\n    data = [\"//lib\"],\n)\n",
     "app/main.c": "",
 }
+# a rule of the workspace's own
+OWN = "def _compiled(ctx):\n    return [DefaultInfo()]\n\ncompiled = rule(_compiled, attrs = {\"srcs\": attr.label_list(mandatory = True), \"mode\": attr.string(values = [\"fast\", \"small\"], default = \"fast\")})\n"
 # what it is: (files that differ, the first line of what bzlq says)
 FILES = {
     "a name without quotes": (
@@ -90,6 +92,66 @@ FILES = {
     "a private symbol": (
         {"tools/defs.bzl": "def _library(name, **kwargs):\n    native.filegroup(name = name)\n", "lib/BUILD": "load(\"//tools:defs.bzl\", \"_library\")\n_library(name = \"lib\")\n"},
         "lib/BUILD:1:26: F34 PrivateSymbol: '_library' is private to its file, since it begins with '_'"),
+    "an attribute that a rule of the workspace hasn't": (
+        {"tools/defs.bzl": OWN, "lib/BUILD": "load(\"//tools:defs.bzl\", \"compiled\")\ncompiled(\n    name = \"lib\",\n    srcs = [\"a.c\"],\n    moed = \"fast\",\n)\n"},
+        "lib/BUILD:2:1: F71 NoAttribute: no attribute 'moed' in rule 'compiled' (did you mean 'mode'?), at tools/defs.bzl:4:37 in compiled"),
+    "the same in a macro": (
+        {"tools/defs.bzl": OWN + "def library(name, **kwargs):\n    compiled(name = name, scrs = [], **kwargs)\n", "lib/BUILD": "load(\"//tools:defs.bzl\", \"library\")\nlibrary(name = \"lib\", srcs = [])\n"},
+        "lib/BUILD:2:1: F71 NoAttribute: no attribute 'scrs' in rule 'compiled' (did you mean 'srcs'?), at tools/defs.bzl:4:37 in compiled, called at tools/defs.bzl:6:5 in library"),
+    "an attribute that a rule of the workspace can't do without": (
+        {"tools/defs.bzl": OWN, "lib/BUILD": "load(\"//tools:defs.bzl\", \"compiled\")\ncompiled(name = \"lib\")\n"},
+        "lib/BUILD:2:1: F56 Fail: \"the rule compiled misses the attribute 'srcs'\", at tools/defs.bzl:4:55 in compiled"),
+    "a value that an attribute doesn't take": (
+        {"tools/defs.bzl": OWN, "lib/BUILD": "load(\"//tools:defs.bzl\", \"compiled\")\ncompiled(name = \"lib\", srcs = [], mode = \"fsat\")\n"},
+        "lib/BUILD:2:1: F56 Fail: \"'mode' of compiled is one of 'fast', 'small', and not 'fsat'\", at tools/defs.bzl:4:55 in compiled"),
+    "a name that nothing binds, in a macro": (
+        {"tools/defs.bzl": "def library(name, deps = [], **kwargs):\n    native.filegroup(name = nmae, srcs = deps)\n"},
+        "tools/defs.bzl:2:29: F20 UnknownName: name 'nmae' is not defined (did you mean 'name'?)"),
+    "in a function that none calls": (
+        {"tools/defs.bzl": "def library(name, deps):\n    native.filegroup(name = name, srcs = deps)\n\ndef other(x):\n    return x + [y for y in SORCES]\n"},
+        "tools/defs.bzl:5:28: F20 UnknownName: name 'SORCES' is not defined: write \"SORCES\" if a text is meant"),
+    "in what a rule does": (
+        {"tools/defs.bzl": OWN.replace("DefaultInfo()", "DefaultInfo(files = depset(outs))") + "def library(name, deps):\n    compiled(name = name, srcs = deps)\n"},
+        "tools/defs.bzl:1:1: F56 Fail: \"name 'outs' is not defined, in line 2\""),
+    "a function that nothing binds": (
+        {"tools/defs.bzl": "def library(name, deps):\n    native.filegroup(name = name, srcs = filtered(deps))\n"},
+        "tools/defs.bzl:2:42: F20 UnknownName: name 'filtered' is not defined"),
+    "a misspelt argument of a package": (
+        {"app/BUILD": "package(defualt_visibility = [\"//visibility:public\"])\n\nfilegroup(name = \"app\")\n"},
+        "app/BUILD:1:1: F56 Fail: \"package has no argument 'defualt_visibility' (did you mean 'default_visibility'?)\""),
+    "a package that is declared twice": (
+        {"app/BUILD": "package(default_testonly = 1)\n\nfilegroup(name = \"app\")\n\npackage(features = [])\n"},
+        "app/BUILD:5:1: F56 Fail: \"package(..) is called a second time, after line 1\""),
+    "a select of outputs": (
+        {"app/BUILD": "genrule(\n    name = \"g\",\n    outs = select({\"//conditions:default\": [\"a.h\"]}),\n    cmd = \"touch $@\",\n)\n"},
+        "app/BUILD:1:1: F56 Fail: \"a select in 'outs' of genrule, which takes none\""),
+    "a misspelt rule in a macro": (
+        {"tools/defs.bzl": "def library(name, deps):\n    native.filegruop(name = name, srcs = deps)\n"},
+        "tools/defs.bzl:2:5: F20 UnknownName: name 'filegruop' is not defined (did you mean 'filegroup'?)"),
+    "a flag without a default": (
+        {"app/BUILD": "label_flag(name = \"f\")\n"},
+        "app/BUILD:1:1: F72 MissingAttribute: the rule label_flag misses the attribute 'build_setting_default'"),
+    "a label twice": (
+        {"app/BUILD": "filegroup(\n    name = \"app\",\n    srcs = [\"main.c\", \"//lib\", \"//app:main.c\"],\n)\n"},
+        "app/BUILD:1:1: F56 Fail: \"'//app:main.c' is twice in 'srcs' of filegroup\""),
+    "a chain of comparisons": (
+        {"tools/defs.bzl": "def library(name, deps):\n    if 0 < len(deps) < 3:\n        native.filegroup(name = name, srcs = deps)\n"},
+        "tools/defs.bzl:2:12: F10 Syntax: one comparison doesn't follow another: write a < b and b < c"),
+    "a load of all": (
+        {"app/BUILD": "load(\"//tools:defs.bzl\", \"*\")\n\nfilegroup(name = \"app\")\n"},
+        "app/BUILD:1:1: F56 Fail: \"load(..) names no symbol\""),
+    "a load of nothing": (
+        {"app/BUILD": "load(\"//tools:defs.bzl\")\n\nfilegroup(name = \"app\")\n"},
+        "app/BUILD:1:1: F56 Fail: \"load(..) names no symbol\""),
+    "a size that no test has": (
+        {"app/BUILD": "sh_test(name = \"t\", srcs = [\"t.sh\"], size = \"tiny\")\n"},
+        "app/BUILD:1:1: F56 Fail: \"'size' of sh_test is one of 'small', 'medium', 'large', 'enormous', and not 'tiny'\""),
+    "a timeout that no test has": (
+        {"app/BUILD": "sh_test(name = \"t\", srcs = [\"t.sh\"], timeout = \"small\")\n"},
+        "app/BUILD:1:1: F56 Fail: \"'timeout' of sh_test is one of 'short', 'moderate', 'long', 'eternal', and not 'small'\""),
+    "a size of what is no test": (
+        {"app/BUILD": "sh_binary(\n    name = \"b\",\n    srcs = [\"t.sh\"],\n    size = \"small\",\n)\n"},
+        "app/BUILD:4:5: F71 NoAttribute: no attribute 'size' in rule 'sh_binary'"),
 }
 # the query, and what bzlq says, by its last line
 QUERIES = {
@@ -112,6 +174,9 @@ QUERIES = {
     "//App:app": "bq: Q6 NoSuchPackage: //App:app: there is no package 'App' (did you mean 'app'?)",
     "kind('filegroup', deps(//app)": "^ this parenthesis is never closed",
     "labels(src, //app)": "bzlq: nothing matches: no rule of the workspace has an attribute 'src' (did you mean 'srcs'?)",
+    "rdeps(//..., //app::x)": "^ this is no target pattern: the name ':x' has the character ':'",
+    "rdeps(//..., lib/ünï.txt)": "^ 'lib/ünï.txt' is no part of a query: put words with it in quotes",
+    "rdeps(//..., 'lib/ünï.txt')": "^ this is no target pattern: the name 'ünï.txt' has the character 'ü'",
     "deps(\"//app\" //lib)": "^ an operator is missing between '\"//app\"' and '//lib'",
 }
 

@@ -111,6 +111,24 @@ def places(bench):
     bench.compare("no workspace", bench.run("bzlq why //a //b")[::2], ("", 2))
 
 
+def settings(bench):
+    """What WORKSPACE and MODULE.bazel load is loaded."""
+    files = {"WORKSPACE": '# the first line\nload("//tools:ws.bzl", "repositories")\n', "MODULE.bazel": 'e = use_extension("//tools:extension.bzl", "e")\n',
+             ".bazelrc": "build --aspects=//tools:aspect.bzl%a\n", "BUILD": 'load("//tools:both.bzl", "x")\n', "tools/BUILD": "",
+             "tools/ws.bzl": 'load(":inner.bzl", "x")\nload("both.bzl", "x")\n'}
+    bench.lay_out("set", {**files, **{f"tools/{it}.bzl": "x = 1\n" for it in ("inner", "extension", "aspect", "both", "dead")}})
+    bench.compare("unused --bzl, by files of settings", bench.run("bzlq unused --bzl", "set"), ("tools/dead.bzl\n", "bzlq: reading the workspace\n", 0))
+    bench.compare("unused --bzl --dir", bench.run("bzlq unused --bzl --dir set")[::2], ("set/tools/dead.bzl\n", 0))
+    bench.run("bzlq bundle set > set.bundle")
+    bench.compare("unused --bzl of a bundle", bench.run("bzlq unused --bzl --bundle set.bundle")[1:],
+                  ("unused: not known: what WORKSPACE and MODULE.bazel load, which a bundle doesn't hold\n", 3))
+    for word, lines in (("ws", ["WORKSPACE:2: WORKSPACE"]), ("inner", ["tools/ws.bzl:1: tools/ws.bzl"]), ("extension", ["MODULE.bazel:1: MODULE.bazel"]),
+                        ("aspect", [".bazelrc:1: .bazelrc"]), ("both", ["BUILD:1: //:BUILD loads //tools:both.bzl", "tools/ws.bzl:2: tools/ws.bzl"])):
+        wanted = "".join(it + "\n" if " loads " in it else f"{it} names //tools:{word}.bzl\n" for it in lines)
+        bench.compare(f"loads of {word}", bench.run(f"bzlq loads tools/{word}.bzl", "set"), (wanted, "", 0))
+    bench.compare("loads of nothing", bench.run("bzlq loads tools/dead.bzl", "set")[1:], ("loads: no BUILD file loads //tools:dead.bzl (did you mean '//tools:both.bzl'?)\n", 2))
+
+
 def module(bench):
     """`facts` of bzlq/bq.py, with a process beside it and without."""
     program = bench.environment["BZLQ_BQ"]
@@ -195,6 +213,7 @@ def check(bench):
     """Tries all of it."""
     scripts(bench)
     places(bench)
+    settings(bench)
     module(bench)
     formats(bench)
     graphs(bench)

@@ -10,6 +10,7 @@ use Rattle.bq_base.specs.Fault.{fault_number, fault_name}
 abbrev pub shown_byte : ℕ → List ℕ
 shown_byte b = encode_utf8_all (escape_ascii b)
 
+-- a text as `{:?}` shows it: each byte in turn, with no quotes around them
 abbrev pub shown_text : List ℕ → List ℕ
 shown_text bs = flat_map shown_byte bs
 

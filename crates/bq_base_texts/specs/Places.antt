@@ -6,6 +6,7 @@ use Rattle.std.specs.Hash.FoldHasher.{initial, write, finish}
 use Rattle.std.specs.Ordering.{nat_cmp}
 use Rattle.std.specs.declared.alloc.Global.{Global}
 
+-- the hash of a name: what a hasher gives that begins anew and takes the name's bytes
 abbrev pub hash_of : List ℕ → ℕ
 hash_of name = finish (write initial name)
 

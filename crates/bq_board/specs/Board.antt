@@ -18,6 +18,7 @@ module_word m = 1 + m
 abbrev pub edge_word : Loads → ℕ → ℕ
 edge_word p e = 1 + length p + e
 
+-- the word of an edge that is posted, whether it is fetched since then or not
 abbrev pub Posted : ℕ → Type 0
 Posted w = (1 ≤ w) × (w ≤ 2)
 

@@ -21,5 +21,6 @@ pub record CutsBelow (p : Loads) (i : ℕ) (q : Loads) : Type 0 where
   pub wide : length q ≡ i
   pub each : (m : ℕ) → m < i → IsCutRow p m (row q m)
 
+-- a load graph without the loads of its cyclic and too deep modules is a plan: it has no cyclic modules
 abbrev pub CutsToPlan : Loads → Loads → Type 0
 CutsToPlan p q = IsGraph p → IsCut p q → IsPlan q

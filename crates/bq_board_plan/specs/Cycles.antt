@@ -22,6 +22,7 @@ is_cyclic p m = starts_path p (suc (length p)) m
 abbrev pub TestsPaths : Loads → Type 0
 TestsPaths p = (n m : ℕ) → (starts_path p n m ≡ true → HasPath p n m) × (HasPath p n m → starts_path p n m ≡ true)
 
+-- none of the modules is cyclic
 abbrev pub IsAcyclic : Loads → Type 0
 IsAcyclic p = (m : ℕ) → m < length p → is_cyclic p m ≡ false
 

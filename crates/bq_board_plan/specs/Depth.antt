@@ -45,6 +45,7 @@ TooDeepByPaths p = (m : ℕ) → (is_too_deep p m ≡ true) ↔ ((is_cyclic p m 
 abbrev pub DeepEnough : Loads → Type 0
 DeepEnough p = (m : ℕ) → HasPath p max_load_depth m → ¬ HasPath p (suc max_load_depth) m → is_too_deep p m ≡ false
 
+-- no module is both cyclic and too deep
 abbrev pub NotBoth : Loads → Type 0
 NotBoth p = (m : ℕ) → ¬ ((is_cyclic p m ≡ true) × (is_too_deep p m ≡ true))
 

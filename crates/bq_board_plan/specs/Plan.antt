@@ -4,6 +4,7 @@ use Rattle.bq_board_plan.specs.Graph.{Loads, row, sources, edges, IsGraph}
 use Rattle.bq_board_plan.specs.Counts.{times, Has}
 use Rattle.bq_board_plan.specs.Cycles.{IsAcyclic}
 
+-- the module that edge e comes from: the one that is loaded
 abbrev pub source : Loads → ℕ → ℕ
 source p e = slice_index (sources p) e
 

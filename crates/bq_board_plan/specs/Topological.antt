@@ -5,6 +5,7 @@ use Rattle.bq_board_plan.specs.Counts.{times, Has}
 use Rattle.bq_board_plan.specs.Graph.{Loads, row}
 use Rattle.bq_board_plan.specs.Cycles.{is_cyclic}
 
+-- 1 for 0, and 0 for any other number
 abbrev pub is_zero : ℕ → ℕ
 is_zero n = cond (n == 0) 1 0
 

@@ -31,6 +31,7 @@ pub data IsCutInto : List ℕ → List Piece → Type 0 where
 abbrev pub is_brace : ℕ → Bool
 is_brace b = (b == 123) || (b == 125)
 
+-- a byte that stands for itself in a format: no brace
 abbrev pub is_plain : ℕ → Bool
 is_plain b = not (is_brace b)
 
@@ -77,6 +78,7 @@ literal d (byte b ∷ ps) = literal (and_write d (b ∷ [])) ps
 literal d (lone ∷ ps) = literal (spoiled d) ps
 literal d (field name ∷ ps) = (d, field name ∷ ps)
 
+-- what is written after a piece: its byte too, for a field no more; a lone brace makes the format malformed
 abbrev pub piece_written : DraftView → Piece → DraftView
 piece_written d (byte b) = and_write d (b ∷ [])
 piece_written d lone = spoiled d

@@ -67,6 +67,7 @@ abbrev pub Ends : {S A B : Type 0} → (A → B) → Result A EvalErr → S → 
 Ends view (Ok x) after machine run = run ≡ done (view x) after
 Ends view (Err e) after machine run = (why : EvalFault) → e ≡ Bad why → run ≡ stopped (stop_at why machine)
 
+-- what a call did that left the machine in this state: the run that the definition gives, unless memory ran out
 abbrev pub Does : {A B : Type 0} → (A → B) → Result A EvalErr → State → Run State B → Type 0
 Does view result machine run = Ends view result machine machine run
 

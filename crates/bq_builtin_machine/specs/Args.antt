@@ -13,6 +13,7 @@ pub record Passed : Type 0 where
 abbrev pub nothing_passed : Passed
 nothing_passed = record { positional = []; named = [] }
 
+-- a code of what a call passes, which nothing else that is passed has
 abbrev pub coded_passed : Coded Passed
 coded_passed =
     code_by (List Datum × List (List ℕ × Datum)) (coded× (coded_list coded_datum) (coded_list (coded× (coded_list coded_ℕ) coded_datum)))

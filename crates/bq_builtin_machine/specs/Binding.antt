@@ -92,6 +92,7 @@ if_complete s b = cond (is_complete s.parameters b.values) (Ok b) (Err Args)
 unfoldable pub bind : SignatureView → Passed → Binding
 bind s p = cond (too_many s p.positional) (Err Args) (and_bind (take_all_named s p.named (placed s p.positional)) (if_complete s))
 
+-- a code of what arguments are bound to, which nothing else that they are bound to has
 abbrev pub coded_bound : Coded BoundView
 coded_bound =
     code_by (List (Option Datum) × (List Datum × List (Datum × Datum))) (coded× (coded_list (coded_option coded_datum)) (coded× (coded_list coded_datum) coded_pairs))

@@ -22,13 +22,16 @@ pub record SignatureView : Type 0 where
   pub takes_rest : Bool
   pub takes_keywords : Bool
 
+-- the name of a parameter, where named arguments may go to it
 abbrev pub name_of : Option (Bor (List ℕ)) → Option (List ℕ)
 name_of None = None
 name_of (Some name) = Some name.now
 
+-- a parameter's name, and whether it has no default
 abbrev pub parameter_of : SingleParameter → ParameterView
 parameter_of p = record { name = name_of p.name; is_required = p.is_required }
 
+-- the parameters that take one argument, how many take positional ones, and whether there is a `*` and a `**`
 abbrev pub signature_of : Signature → SignatureView
 signature_of s = record { parameters = map parameter_of s.parameters.now; placed = s.placed; takes_rest = s.takes_rest; takes_keywords = s.takes_keywords }
 

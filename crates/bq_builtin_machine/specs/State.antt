@@ -32,9 +32,11 @@ stop_at kind s = record { kind = kind; line = s.line; message = s.message; print
 abbrev pub started : StoreView → ℕ → State
 started store limit = record { store = store; steps = limit; prints = []; active = []; walks = []; line = 0; message = [] }
 
+-- a code of each cell, by its module and its number; no other cell has it
 abbrev pub coded_cell : Coded Cell
 coded_cell = code_by (ℕ × ℕ) (coded× coded_ℕ coded_ℕ) (λ c. (c.module, c.number)) (λ p. record { «module» = p.0; number = p.1 }) (λ _. refl)
 
+-- a code of each state, which no other state has
 abbrev pub coded_state : Coded State
 coded_state =
     code_by (StoreView × (ℕ × (List (List ℕ) × (List (ℕ × ℕ) × (List Cell × (ℕ × List ℕ))))))

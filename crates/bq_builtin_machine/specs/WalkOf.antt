@@ -15,10 +15,12 @@ walked (items xs) = xs
 walked (pairs ps) = keys ps
 walked (rule c) = []
 
+-- the elements that are still to come: what is shared, from the place `at` on, counted from 0
 abbrev pub shared_left : SharedElements → List Datum
 shared_left (shared.Values values at) = drop at values.value.items
 shared_left (shared.Content body at) = drop at (walked (contents_of body.value))
 
+-- the elements that are still to come, the next one first; a few values are held in reverse
 abbrev pub walk_left : Over → List Datum
 walk_left (over.Few values) = reverse values.items
 walk_left (over.Range integers) = map int integers

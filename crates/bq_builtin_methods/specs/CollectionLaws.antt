@@ -7,6 +7,7 @@ use Rattle.bq_builtin_machine.specs.Action.{done}
 use Rattle.bq_builtin_machine.specs.State.{State}
 use Rattle.bq_builtin_methods.specs.Dict.{update}
 
+-- the pairs of a dict, keys with values, in the order in which the keys were inserted
 abbrev pub Dict : Type 0
 Dict = List (Datum × Datum)
 

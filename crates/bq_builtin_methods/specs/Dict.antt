@@ -66,6 +66,7 @@ first_out (p ∷ ps) = Ok (pair_tuple p, ps)
 unfoldable pub with_default : Datum → Datum → DictChange
 with_default k d ps = elim (found k ps) [ Some v ↦ Ok (v, ps) | None ↦ and_then (within (length ps + 1)) (λ n. Ok (d, put k d ps)) ]
 
+-- which change of a dict each of the four edits is
 abbrev pub edited : DictEdit → DictChange
 edited edit.Clear = emptied
 edited (edit.Pop k d) = taken_out k d

@@ -55,6 +55,7 @@ cleared xs = Ok (none, [])
 unfoldable pub dropped : ℕ → ListChange
 dropped at xs = elim (slice_get xs at) [ Some v ↦ Ok (none, remove xs at) | None ↦ Err Index ]
 
+-- which change of a list each of the six edits is
 abbrev pub edited : ListEdit → ListChange
 edited (edit.Append v) = appended v
 edited (edit.Extend ys) = extended ys

@@ -109,6 +109,7 @@ make_keys (p ∷ ps) made = make_key p made >>= λ now. make_keys ps now
 unfoldable pub all_pairs : GivenView → Action State Pairs
 all_pairs g = make_keys g.unkeyed g.keyed >>= λ ps. given (cond g.all_have_two (Ok (ps ++ g.keywords)) (Err BadValue))
 
+-- a code of what is read of given pairs, which nothing else that is read has
 abbrev pub coded_given : Coded GivenView
 coded_given =
     code_by (Pairs × (Pairs × (Bool × Pairs))) (coded× coded_pairs (coded× coded_pairs (coded× coded_bool coded_pairs)))

@@ -7,6 +7,7 @@ use Rattle.bq_builtin_strings.specs.declared.class.ByteClass.TheVariants.{NonSpa
 
 -- ---- in words
 
+-- each byte is space; there may be none
 abbrev pub IsSpace : List ℕ → Type 0
 IsSpace text = All (λ b. is_space b ≡ true) text
 
@@ -43,6 +44,7 @@ unfoldable pub word_within : ℕ → List ℕ → Option (List ℕ × List ℕ)
 word_within zero text = None
 word_within (suc left) text = first_word text
 
+-- what is before the word that a text ends in, and the word, where some cuts are left; None where none is
 unfoldable pub last_word_within : ℕ → List ℕ → Option (List ℕ × List ℕ)
 last_word_within zero text = None
 last_word_within (suc left) text = last_word text

@@ -43,7 +43,7 @@ Exit status:
   5  reading the input or writing the output failed"#;
 
 /// The version of the program. The man page and the packages take it from this line (`dev/release`).
-pub const VERSION: &str = "1.9.3";
+pub const VERSION: &str = "1.9.4";
 
 pub const MAX_STEPS: u64 = 1_000_000_000;
 

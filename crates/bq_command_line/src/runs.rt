@@ -13,11 +13,10 @@ use bq_run::{
     ByteSource, Metered, Options, RunErr, Status, WorkspaceRun, end_run, read_bundle_within, run,
     run_files,
 };
+use bq_run_commands::FollowedText;
 use bq_run_device::{DirectoryErr, read_directory};
 use bq_run_facts::run_facts;
-use bq_run_session::{
-    FollowedText, SessionOptions, SessionRun, SessionStatus, run_queries, session_code,
-};
+use bq_run_session::{SessionOptions, SessionRun, SessionStatus, run_queries, session_code};
 use std::alloc::Global;
 use std::fs::File;
 use std::io;

@@ -21,6 +21,7 @@ joined : {W : Type 0} (t : Bool) (q : Passed) (s : State × W) → t ≡ true �
 joined true q s h = refl
 joined false q s h = absurd (cc h)
 
+-- in the operations of the machine one more argument joins those that there are, while they are fewer than 16
 pub no_limit : {W : Type 0} (names : List Name) (host : HostCalls W) → PassesFew (primitives names host)
 unfolding primitives pass pass_named
 no_limit names host = (

@@ -46,6 +46,7 @@ detail_of kind message = cond (eval_fault_number kind == eval_fault_number f.Fai
 abbrev pub fault_of : Stop → Fault EvalFault
 fault_of why = record { kind = why.kind; line = why.line; detail = detail_of why.kind why.message }
 
+-- what the run of a file ends in: its frozen module, in which loaded values come after globals, or its fault; and its prints
 abbrev pub ended : {W : Type 0} → ResolvedFile → List Datum → Run (State × W) Frame → Ended
 ended file imports (done globals s) = evaluated (frozen s.0.store file.globals (frozen_values file imports globals)) s.0.prints
 ended file imports (stopped why) = failed (fault_of why) why.prints

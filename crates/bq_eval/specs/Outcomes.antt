@@ -17,6 +17,7 @@ use Rattle.bq_eval.specs.declared.module.ResolvedModule.{ResolvedModule}
 use Rattle.bq_eval.specs.declared.outcome.FileOutcome.{FileOutcome}
 use Rattle.bq_eval.specs.declared.outcome.FileOutcome.TheVariants as o
 
+-- the outcome of a file, as contracts see it
 abbrev pub ended_of : FileOutcome → Ended
 ended_of (o.Module frozen prints) = evaluated frozen prints.items
 ended_of (o.Failed fault prints) = failed fault prints.items

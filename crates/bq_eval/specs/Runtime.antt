@@ -58,6 +58,7 @@ primitives names host = record {
   leave = of_machine calls.leave;
 }
 
+-- the machine's state, as the operations see it, is the first part of the state
 pub machine_of : {W : Type 0} (rules : List Name) (host : HostCalls W) (s : State × W) → (primitives rules host).machine s ≡ s.0
 unfolding primitives
 machine_of rules host s = refl

@@ -20,6 +20,7 @@ Nested (b ∷ bs) = Below bs b.base × Nested bs
 abbrev pub Places : Type 0
 Places = Name → Option ℕ
 
+-- what the frame has in a name's slot, if the name has one; Some None is an empty slot
 abbrev pub through : Frame → Option ℕ → Option (Option Datum)
 through frame None = None
 through frame (Some slot) = Some (frame slot)

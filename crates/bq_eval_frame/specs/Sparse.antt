@@ -2,6 +2,7 @@
 use Rattle.std.specs.Prelude.{◌≡◌, ℕ, ◌<◌, ◌≤◌, ◌==◌, List, [], ◌∷◌, length, slice_index_or, Option, Some, None, if◌then◌else◌}
 use Rattle.bq_value.specs.Datum.{Datum, none}
 
+-- slots, each with its value
 abbrev pub Pairs : Type 0
 Pairs = List (ℕ × Datum)
 

@@ -9,6 +9,7 @@ use Rattle.bq_builtin_machine.specs.State.{stop_at}
 use Rattle.bq_eval_spec.specs.Primitives.{Primitives}
 use Rattle.bq_eval_rules.specs.Answers.{AnswerPlace}
 
+-- a call's answer, seen by `view`, and the state after it are what the run ends in, out of memory aside
 abbrev pub Acts : {S A B : Type 0} → Primitives S → (A → B) → Result A EvalErr → S → Run S B → Type 0
 Acts m view result s run = Ends view result s (m.machine s) run
 

@@ -29,6 +29,7 @@ ending_of endings.Leave = leave
 ending_of endings.Again = again
 ending_of (endings.Answer v) = answer v
 
+-- what comes after the statements of a file, or the error that they ended with
 abbrev pub ending_in : Result Ending EvalErr → Result Flow EvalErr
 ending_in (Ok e) = Ok (ending_of e)
 ending_in (Err e) = Err e

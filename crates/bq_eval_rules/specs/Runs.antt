@@ -13,6 +13,7 @@ use Rattle.bq_eval_rules.specs.Answers.{AnswerPlace}
 use Rattle.bq_eval_rules.specs.Flows.{flow_of}
 use Rattle.bq_eval_rules.specs.Round.{evals}
 
+-- the call can be made where at most `bound` functions may still become active, and does what `run_to` says
 pub record Runs {R S C : Type 0} (m : Primitives S) (seen : R → S) (bound depth : ℕ) (call : C)
     (pre : Bor Context → ℕ → C → MutBor Slots → MutBor R → Bor Stmt → MutBor AnswerPlace → Type 0)
     (post : Bor Context → ℕ → C → MutBor Slots → MutBor R → Bor Stmt → MutBor AnswerPlace → flows.Flow → MutBor Slots → MutBor R → MutBor AnswerPlace → Type 0) : Type 0 where

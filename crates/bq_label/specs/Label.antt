@@ -33,10 +33,12 @@ package_of l = package_at l.repo l.package
 abbrev pub label_in : PackageParts → List ℕ → LabelParts
 label_in p n = label_at p.repo p.package n
 
+-- a valid package: the repository's name may be empty, for the main one, and the path too, for the root
 pub record IsPackage (p : PackageParts) : Type 0 where
   pub valid_repo : is_repository p.repo ≡ true
   pub valid_package : is_package p.package ≡ true
 
+-- a valid label: one of a valid package, whose name is a path without empty segments, `.` and `..`
 pub record IsLabel (l : LabelParts) : Type 0 where
   pub valid_repo : is_repository l.repo ≡ true
   pub valid_package : is_package l.package ≡ true

@@ -44,6 +44,7 @@ pub data IsPathOf (path repo rest : List ℕ) : Type 0 where
   main : repo ≡ [] → path ≡ rest → ((below : List ℕ) → path ≢ codes "external/" ++ below) → IsPathOf path repo rest
   other : repo ≢ [] → is_repository repo ≡ true → path ≡ codes "external/" ++ (repo ++ (codes "/" ++ rest)) → IsPathOf path repo rest
 
+-- the repository that a path was split into is this one; false where the path lies in none
 abbrev pub is_in : List ℕ → Option (List ℕ × List ℕ) → Bool
 is_in repo None = false
 is_in repo (Some found) = bytes_eq found.0 repo

@@ -22,6 +22,7 @@ second false b h = cc
 both : (a b : Bool) → a ≡ true → b ≡ true → (a && b) ≡ true
 both a b e f = cc
 
+-- labels are the same exactly where their repositories, packages and names are equal
 pub same_label-Decides : (a b : LabelParts) → Decides (same_label a b) (a ≡ b)
 unfolding same_label
 same_label-Decides a b = (
@@ -41,6 +42,7 @@ same_label-Decides a b = (
       ((bytes_decides a.repo b.repo).1 (ap (λ (l : LabelParts). l.repo) e))),
 )
 
+-- to be the same label is reflexive, symmetric and transitive
 pub same_label-equiv : IsEquivalence same_label
 same_label-equiv = decided same_label same_label-Decides
 

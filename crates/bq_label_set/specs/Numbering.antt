@@ -16,6 +16,7 @@ label_cmp =
     (on (λ l. l.package) (slice_cmp nat_cmp)))
     (on (λ l. l.repo) (slice_cmp nat_cmp))
 
+-- the order of labels is total: reversed where two are swapped, transitive, and alike for those that compare as equal
 pub label_cmp_total : IsTotalOrder label_cmp
 label_cmp_total =
     then_total (then_total
@@ -23,6 +24,7 @@ label_cmp_total =
     (on_total (λ l. l.package) nat_list_cmp_total))
     (on_total (λ l. l.repo) nat_list_cmp_total)
 
+-- the hash of a label: what a hasher gives that begins anew and takes the name, the package and the repository
 abbrev pub hash_of : LabelParts → ℕ
 hash_of l = finish (write (write (write initial l.name) l.package) l.repo)
 

@@ -1,8 +1,8 @@
 -- What a file reads as depends on its text, and on which files there are.
-use Rattle.std.proofs.Common.{◌≡◌, ◌∙◌, ℕ, Bool, List, [], ◌∷◌, Option, Some, None, Result, Ok, is_some, inl, inr, refl, sym, ap, if◌then◌else◌}
+use Rattle.std.proofs.Common.{◌≡◌, ◌∙◌, ℕ, Bool, List, [], ◌∷◌, Option, Some, None, Result, Ok, true, codes, is_some, nat_eq, inl, inr, refl, sym, ap, if◌then◌else◌}
 use Rattle.std.proofs.Math.Path.{fun_ext}
 use Rattle.std.proofs.lemmas.Bool.{cases_Bool}
-use Rattle.std.specs.List.{find, list_any}
+use Rattle.std.specs.List.{find, list_any, ends_with}
 use Rattle.std.specs.Option.{option_map}
 use Rattle.bq_base.specs.Fault.{kind_of_load, or_fault_as}
 use Rattle.bq_base.specs.declared.fault.Fault.{Fault}
@@ -19,17 +19,18 @@ use Rattle.bq_resolve_scope.specs.declared.loads.LoadStmt.{LoadStmt}
 use Rattle.bq_load_front.specs.Crossing.{crosses}
 use Rattle.bq_load_front.specs.NamedFile.{bzl_label, fault_of_file, load_label, unless_fault}
 use Rattle.bq_load_front.specs.NamedFile as named
+use Rattle.bq_load_front.proofs.LoadNames.{bzl_label_is}
 use Rattle.bq_load_front.specs.declared.front.Front.{Front}
 use Rattle.bq_load_front.specs.Resolved.{resolved_file, ◌>>=◌}
 use Rattle.bq_load_front.specs.Inputs.{InputParts}
 use Rattle.bq_load_front.specs.Parsed.{kind_of, labels_of}
 use Rattle.bq_load_front.specs.Front.{load_of, front_by, front_at, front_of}
-use Rattle.bq_load_laws.specs.FileReadings.{text_of, AreThereAlike, FilesAreThereByPaths, FrontsAreByText}
+use Rattle.bq_load_laws.specs.FileReadings.{text_of, AreLoadedAlike, FilesAreThereByPaths, FrontsAreByText}
 
 -- ---- which files there are
 
 -- a file of this path is the label's
-abbrev is_named : LabelParts → List ℕ → Bool
+abbrev pub is_named : LabelParts → List ℕ → Bool
 is_named l path = is_at l.repo (joined l.package l.name) (split_repository path)
 
 there : (test : List ℕ → Bool) (files : List File) → is_some (find (λ f. test f.path) files) ≡ list_any test (paths_of files)
@@ -39,7 +40,7 @@ there test (f ∷ fs) = elim (cases_Bool (test f.path)) [
   | inr n ↦ rw n (there test fs)
 ]
 
-there_by_paths : (l : LabelParts) (files : List File) → is_some (label_file files l) ≡ list_any (is_named l) (paths_of files)
+pub there_by_paths : (l : LabelParts) (files : List File) → is_some (label_file files l) ≡ list_any (is_named l) (paths_of files)
 unfolding label_file
 there_by_paths l files = there (is_named l) files
 
@@ -52,18 +53,18 @@ files_are_there files others e l = there_by_paths l files ∙ (ap (λ (ps : List
 abbrev fault_by : (listed crossing found : Bool) → Option LoadFault
 fault_by listed crossing found = if listed then (if crossing then Some f.CrossesPackage else (if found then None else Some f.NoSuchFile)) else Some f.NoPackage
 
-module _ (files others : List File) (packages : List BuildFile) (alike : AreThereAlike files others) where
-  fault_same : (l : LabelParts) → fault_of_file files packages l ≡ fault_of_file others packages l
+module _ (files others : List File) (packages : List BuildFile) (alike : AreLoadedAlike files others) where
+  fault_same : (l : LabelParts) → ends_with nat_eq l.name (codes ".bzl") ≡ true → fault_of_file files packages l ≡ fault_of_file others packages l
   unfolding fault_of_file
-  fault_same l = ap (fault_by (is_some (package_named packages (package_of l))) (crosses packages l)) (alike l)
+  fault_same l bzl = ap (fault_by (is_some (package_named packages (package_of l))) (crosses packages l)) (alike l bzl)
 
-  named_same : (line : ℕ) (o : Option LabelParts) → named.file_named files packages line o ≡ named.file_named others packages line o
-  named_same line None = refl
-  named_same line (Some l) = ap (unless_fault line l) (fault_same l)
+  named_same : (line : ℕ) (o : Option LabelParts) → ((l : LabelParts) → o ≡ Some l → ends_with nat_eq l.name (codes ".bzl") ≡ true) → named.file_named files packages line o ≡ named.file_named others packages line o
+  named_same line None bzl = refl
+  named_same line (Some l) bzl = ap (unless_fault line l) (fault_same l (bzl l refl))
 
   label_same : (own : PackageParts) (line : ℕ) (text : List ℕ) → load_label files packages own line text ≡ load_label others packages own line text
   unfolding load_label
-  label_same own line text = named_same line (bzl_label own text)
+  label_same own line text = named_same line (bzl_label own text) (λ l e. (bzl_label_is own text l e).bzl)
 
 -- ---- the file of a label
 
@@ -72,7 +73,7 @@ abbrev front_with : List (List ℕ) → (LoadStmt → Result LabelParts (Fault L
 front_with rules read l text =
     resolved_file (record { kind = kind_of l; rules = rules }) text >>= λ file. or_fault_as kind_of_load (labels_of read [] file.loads) >>= λ ls. Ok (record { file = file; loads = ls })
 
-module _ (inputs others : InputParts) (rules : inputs.rules ≡ others.rules) (packages : inputs.packages ≡ others.packages) (alike : AreThereAlike inputs.files others.files) (l : LabelParts) where
+module _ (inputs others : InputParts) (rules : inputs.rules ≡ others.rules) (packages : inputs.packages ≡ others.packages) (alike : AreLoadedAlike inputs.files others.files) (l : LabelParts) where
   abbrev own : PackageParts
   own = package_of l
 

@@ -21,6 +21,8 @@ pub mod Seen
 pub mod Imports
 -- what a value reaches
 pub mod Reached
+-- a BUILD file's evaluation sees of paths what `glob` gives
+pub mod Globbed
 -- modules that evaluate as before
 pub mod Alike
 pub mod Kept

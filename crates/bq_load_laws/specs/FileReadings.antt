@@ -1,5 +1,6 @@
 -- What a file reads as, and what that depends on.
-use Rattle.std.specs.Prelude.{◌≡◌, ℕ, List, Option, is_some}
+use Rattle.std.specs.Prelude.{◌≡◌, ℕ, List, Option, true, codes, is_some, nat_eq}
+use Rattle.std.specs.List.{ends_with}
 use Rattle.std.specs.Option.{option_map}
 use Rattle.bq_label.specs.declared.workspace.File.{File}
 use Rattle.bq_label.specs.Label.{LabelParts}
@@ -16,12 +17,16 @@ text_of files l = option_map (λ f. f.content) (label_file files l)
 abbrev pub AreThereAlike : List File → List File → Type 0
 AreThereAlike files others = (l : LabelParts) → is_some (label_file files l) ≡ is_some (label_file others l)
 
+-- the same labels of .bzl files name files
+abbrev pub AreLoadedAlike : List File → List File → Type 0
+AreLoadedAlike files others = (l : LabelParts) → ends_with nat_eq l.name (codes ".bzl") ≡ true → is_some (label_file files l) ≡ is_some (label_file others l)
+
 -- workspaces with the same paths in the same order have a file for the same labels, whatever is in their files
 abbrev pub FilesAreThereByPaths : Type 0
 FilesAreThereByPaths = (files others : List File) → paths_of files ≡ paths_of others → AreThereAlike files others
 
--- a file reads alike where its text, the rules and the packages are the same, and the same labels name files
+-- a file reads alike where its text, the rules and the packages are the same, and the same labels of .bzl files name files
 abbrev pub FrontsAreByText : Type 0
 FrontsAreByText =
-    (inputs others : InputParts) → inputs.rules ≡ others.rules → inputs.packages ≡ others.packages → AreThereAlike inputs.files others.files
+    (inputs others : InputParts) → inputs.rules ≡ others.rules → inputs.packages ≡ others.packages → AreLoadedAlike inputs.files others.files
     → (l : LabelParts) → text_of inputs.files l ≡ text_of others.files l → front_of inputs l ≡ front_of others l

@@ -8,7 +8,7 @@ pub fn files_are_there_by_paths()
 {}
 
 /// What the file of a label reads as depends on its own text, on the names of the rules, on the packages, and on which
-/// labels name files.
+/// labels of .bzl files name files.
 pub fn fronts_are_by_text()
     ensures { FrontsAreByText }
 {}

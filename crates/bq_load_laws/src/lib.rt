@@ -29,10 +29,11 @@
 //!   file evaluates to (`proofs/Calls/Values.antt`); and a module that loads it can call what it could
 //!   (`functions_stay_callable` of bq_eval_laws), and so on along the path (`proofs/Calls/Paths.antt`);
 //! - `changed_reading`, `changed_evaluation`, `changed_outcome`: of a workspace that changed, what a file reads as depends
-//!   on its own text, on which files there are, on the packages and on the names of the schema's rules; of all files an
+//!   on its own text, on which .bzl files there are, on the packages and on the names of the schema's rules; of all files an
 //!   evaluation sees those of the modules that its loads reach; a module's value reaches the modules that loads lead to,
-//!   and no other; and so a module comes to what it came to before, where these are what they were, with the names of the
-//!   rules, the limit of steps and what its host begins with. `bq_load_order` asks for just that.
+//!   and no other; of the paths of all files a BUILD file's evaluation sees what `glob` gives, which the names of the
+//!   package's own files decide (`proofs/Globbed.antt`); and so a module comes to what it came to before, where these are
+//!   what they were, with the names of the rules, the limit of steps and the packages. `bq_load_order` asks for just that.
 #![tactic(auto)]
 
 mod call;

@@ -19,7 +19,8 @@ use Rattle.bq_load.specs.declared.loaded.Loaded.{Loaded}
 use Rattle.bq_load.specs.Loaded.{IsLoaded}
 use Rattle.bq_load.specs.Views.{ModuleView, FailedView, module_view, failed_view}
 use Rattle.bq_load_reload.specs.declared.kept.Kept.{Kept}
-use Rattle.bq_load_reload.specs.Kept.{AreOutcomes, IsGraphOf, IsKept, Shared, WereLoaded}
+use Rattle.bq_load_changes.specs.Graph.{IsGraphOf}
+use Rattle.bq_load_reload.specs.Kept.{AreOutcomes, IsKept, Shared, WereLoaded}
 
 pub same_unchanged : (before : ℕ → Outcome ModuleView FailedView) (p : Loads) (x y : LoadingParts) (was : List (Option ℕ)) → x ≡ y → AreUnchanged before p (means y) was → AreUnchanged before p (means x) was
 same_unchanged before p x y was e h = subst (λ (z : LoadingParts). AreUnchanged before p (means z) was) (sym e) h

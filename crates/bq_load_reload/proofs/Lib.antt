@@ -1,12 +1,8 @@
--- files with the same paths, and with the same schema
-mod Frames
 -- what files read as whose texts are what they were
 mod Texts
 -- outcomes of what is the same, and what is kept with them
 mod Along
--- modules that have stayed what they were, one after another
-mod Stayed
 -- modules that have stayed what they were are unchanged
 mod Unchanged
--- the load graph after a change of texts alone
+-- the load graph after a change
 mod Renewed

@@ -1,4 +1,4 @@
--- The load graph of a workspace after a change of texts alone, where all modules load what they loaded.
+-- The load graph of a workspace after a change, where all modules load what they loaded.
 use Rattle.std.proofs.Common.{◌≡◌, ◌∙◌, ◌+◌, ◌&&◌, Bool, true, false, ℕ, zero, suc, List, [], ◌∷◌, ◌++◌, length, map, Option, Some, None, is_some, Ok, slice_get, inl, inr, refl, sym, ap, subst, arith}
 use Rattle.std.specs.List.{Contains}
 use Rattle.bq_label.specs.declared.packages.BuildFile.{BuildFile}
@@ -22,10 +22,10 @@ use Rattle.bq_load_discover.specs.Modules.{AreModules, IsModule, edges_from}
 use Rattle.bq_load_discover.specs.Schema.{schema_in}
 use Rattle.bq_load_discover.proofs.Lists.{none_in}
 use Rattle.bq_load_order.specs.Again.{number_at}
-use Rattle.bq_load_reload.specs.Kept.{IsGraphOf}
+use Rattle.bq_load_changes.specs.Graph.{IsGraphOf}
 use Rattle.bq_load_reload.specs.Renewal.{AreAsRead, all_loaded, have_same_labels, loaded_by_one, modules_in}
-use Rattle.bq_load_reload.specs.Same.{HasSameFrame, HasStayed, HaveStayed}
-use Rattle.bq_load_reload.proofs.Frames.{first, second}
+use Rattle.bq_load_changes.specs.Same.{HasSameFrame, HasStayed, HaveStayed}
+use Rattle.bq_load_changes.proofs.Frames.{first, second}
 use Rattle.bq_load_reload.proofs.Texts as texts
 
 -- ---- labels, one after another
@@ -96,23 +96,23 @@ pub packages_read : (files : List File) (rules : Rules) (g : GraphParts) → IsR
 packages_read files rules g read bs e = e ∙ read.packages
 
 -- those of files whose texts are what they were are
-module _ (before after : List File) (rules : Rules) (schema : schema_in after ≡ Ok rules) (frame : HasSameFrame before after) (g : GraphParts) (is : IsGraphOf before g) where
-  stays : (was : List (Option ℕ)) → HaveStayed before after g.labels g.labels was → (m : ℕ) (s : Module) → slice_get g.modules m ≡ Some s → is_some (number_at was m) ≡ true → s ≡ module_of (inputs_of after rules) s.label
+module _ (before after : List File) (touched : List BuildFile) (rules : Rules) (schema : schema_in after ≡ Ok rules) (frame : HasSameFrame before after touched) (g : GraphParts) (is : IsGraphOf before g) where
+  stays : (was : List (Option ℕ)) → HaveStayed before after touched g.labels g.labels was → (m : ℕ) (s : Module) → slice_get g.modules m ≡ Some s → is_some (number_at was m) ≡ true → s ≡ module_of (inputs_of after rules) s.label
   stays was stay m s at h =
       let k = a_number (number_at was m) h in
       let t = stay m k.0 k.1 in
       let l : LabelParts = t.0 in
       let had : s ≡ module_of (inputs_of before is.rules) l = one_module s (module_of (inputs_of before is.rules) l) (slice_get g.modules m) at (texts.read_at before is.rules g is.read m l t.1) in
-      let now : module_of (inputs_of after rules) l ≡ module_of (inputs_of before is.rules) l = texts.modules_same before after is.rules rules is.schema schema frame l (texts.text_same before after l t.2.text) in
+      let now : module_of (inputs_of after rules) l ≡ module_of (inputs_of before is.rules) l = texts.modules_same before after touched is.rules rules is.schema schema frame l (texts.text_same before after l t.2.text) in
       let label : s.label ≡ l = ap (λ (z : Module). z.label) had in
       had ∙ (sym now ∙ ap (module_of (inputs_of after rules)) (sym label))
 
-  pub as_read_stay : (was : List (Option ℕ)) → HaveStayed before after g.labels g.labels was → (ms : List Module) → ms ≡ g.modules → AreAsRead (inputs_of after rules) was 0 ms
+  pub as_read_stay : (was : List (Option ℕ)) → HaveStayed before after touched g.labels g.labels was → (ms : List Module) → ms ≡ g.modules → AreAsRead (inputs_of after rules) was 0 ms
   as_read_stay was stay ms e =
       subst (λ (z : List Module). AreAsRead (inputs_of after rules) was 0 z) (sym e) (from_each (inputs_of after rules) was 0 g.modules (λ m s at h. stays was stay m s at (subst (λ (k : ℕ). is_some (number_at was k) ≡ true) (place_zero m) h)))
 
   pub packages_stay : (bs : List BuildFile) → bs ≡ g.packages → bs ≡ packages_of after
-  packages_stay bs e = e ∙ (is.read.packages ∙ sym (texts.the_packages before after is.rules rules is.schema schema frame))
+  packages_stay bs e = e ∙ (is.read.packages ∙ sym (texts.the_packages before after touched is.rules rules is.schema schema frame))
 
 -- ---- one load graph of two workspaces
 
@@ -225,9 +225,9 @@ module _ (inputs : InputParts) (g : GraphParts) (ls : List LabelParts) (ms had :
       same : map (edges_from (parsed_of others)) g.labels ≡ map (edges_from (parsed_of inputs)) g.labels
       same = sym theirs ∙ (sym loaded ∙ mine)
 
--- those of files of which texts alone have changed
-pub is_renewed : (before after : List File) (rules : Rules) → schema_in after ≡ Ok rules → HasSameFrame before after → (g : GraphParts) → IsGraphOf before g
+-- those of files after a change
+pub is_renewed : (before after : List File) (touched : List BuildFile) (rules : Rules) → schema_in after ≡ Ok rules → HasSameFrame before after touched → (g : GraphParts) → IsGraphOf before g
     → (ls : List LabelParts) (ms had : List Module) (p : Loads) (bs : List BuildFile) → ls ≡ g.labels → ms ≡ modules_in (inputs_of after rules) had → had ≡ g.modules → p ≡ g.edges → bs ≡ g.packages → all_loaded ms ≡ all_loaded had
     → (r : GraphParts) → r ≡ record { labels = ls; modules = ms; edges = p; packages = bs } → IsReadGraph (inputs_of after rules) r
-is_renewed before after rules schema frame g is ls ms had p bs labels read modules edges packages loaded r e =
-    is_read (inputs_of after rules) g ls ms had p bs labels read modules edges (inputs_of before is.rules) is.read (texts.the_packages before after is.rules rules is.schema schema frame) packages loaded r e
+is_renewed before after touched rules schema frame g is ls ms had p bs labels read modules edges packages loaded r e =
+    is_read (inputs_of after rules) g ls ms had p bs labels read modules edges (inputs_of before is.rules) is.read (texts.the_packages before after touched is.rules rules is.schema schema frame) packages loaded r e

@@ -19,6 +19,7 @@ use Rattle.bq_load.specs.declared.loaded.Loaded.{Loaded}
 use Rattle.bq_load.specs.Views.{module_view, failed_view}
 use Rattle.bq_load.specs.Loading.{LoadingParts, loading_in}
 use Rattle.bq_load.specs.Evaluation.{means}
+use Rattle.bq_load_changes.specs.Graph.{IsGraphOf}
 use Rattle.bq_load_reload.specs.declared.kept.Kept.{Kept}
 use Rattle.bq_load_reload.specs.declared.kept.Reloaded.{Reloaded}
 
@@ -29,13 +30,6 @@ Shared = Outcome (Arc LoadedModule Global) (Arc FailedModule Global)
 -- these are the outcomes of the modules of a load graph, by the recursion along loads
 abbrev pub AreOutcomes : LoadingParts → Loads → List Shared → Type 0
 AreOutcomes x p outcomes = Tabulates (length p) (outcome (means x) p) (map (shown module_view failed_view) outcomes)
-
--- the load graph is that of these files
-pub record IsGraphOf (files : List File) (graph : GraphParts) : Type 0 where
-  pub rules : Rules
-  pub schema : schema_in files ≡ Ok rules
-  pub read : IsReadGraph (inputs_of files rules) graph
-  pub numbered : IsNumbered graph
 
 -- these files were loaded, with so many steps for each module: the modules had these labels and loads, and came to these outcomes
 pub record WereLoaded (files : List File) (limit : ℕ) (ls : List LabelParts) (p : Loads) (os : List Shared) : Type 0 where

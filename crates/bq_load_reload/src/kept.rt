@@ -3,7 +3,7 @@
 use bq_base::Limits;
 use bq_base_takeable::Takeable;
 use bq_board::Graph;
-use bq_label::{Label, Workspace};
+use bq_label::{BuildFile, Label, Workspace};
 use bq_load::{FailedModule, Loaded, LoadedModule};
 use bq_load_discover::LoadGraph;
 use bq_load_order::SharedOutcome;
@@ -27,11 +27,12 @@ pub struct PreviousLoad<'a> {
     pub kept: &'a Kept,
 }
 
-/// The outcomes of modules before a change: the files as they were, the labels of their modules in order, for each the numbers
-/// of those that it loads, and its outcome.
+/// The outcomes of modules before a change: the files as they were, the packages of which a file came or went, the labels of the modules in
+/// order, for each the numbers of those that it loads, and its outcome.
 #[derive(Clone, Copy)]
 pub(crate) struct Past<'a> {
     pub workspace: &'a Workspace,
+    pub touched: &'a [BuildFile],
     pub labels: &'a [Label],
     pub edges: &'a Graph,
     pub outcomes: &'a [KeptOutcome],

@@ -13,17 +13,18 @@ ghost use Rattle.bq_load.specs.Views.{failed_view, module_view, outcome_view};
 ghost use Rattle.bq_load.specs.Loading.{loading_in};
 ghost use Rattle.bq_load.specs.Results.{outcomes};
 ghost use Rattle.bq_load.specs.Loaded.{IsLoaded, LoadsWithin};
-ghost use Rattle.bq_load_reload.specs.Kept.{AreOutcomes, IsGraphOf, IsKept, WereLoaded, loaded_by};
-ghost use Rattle.bq_load_reload.specs.Same.{HasSameFrame, HaveStayed};
+ghost use Rattle.bq_load_changes.specs.Graph.{IsGraphOf};
+ghost use Rattle.bq_load_reload.specs.Kept.{AreOutcomes, IsKept, WereLoaded, loaded_by};
+ghost use Rattle.bq_load_changes.specs.Same.{HasSameFrame, HaveStayed};
 
 use crate::kept::{Kept, KeptOutcome, Past, PreviousLoad, Reloaded};
 use crate::outcomes::{all_outcomes, are_few_unknown, kept_after, outcomes_after, outcomes_from};
 use crate::renewal::{Renewal, renewed, with_statements};
-use crate::same::Change;
 use bq_base::Limits;
 use bq_base_takeable::Takeable;
-use bq_label::Workspace;
+use bq_label::{BuildFile, Workspace};
 use bq_load::{Gate, Loaded, Loading, ModuleOutcome, Sources, Workers};
+use bq_load_changes::Change;
 use bq_load_discover::{LoadErr, LoadGraph, discover_by_workers};
 use bq_load_workers::MAX_WORKERS;
 use std::alloc::{AllocError, Global};
@@ -97,6 +98,7 @@ fn load_anew<R: Threads + Wait + Sync, G: Gate>(
     requires workers { (0 < workers.now.count) × (workers.now.count ≤ MAX_WORKERS) }
     requires schema { schema_in sources.now.workspace.now ≡ Ok sources.now.schema.now }
     requires past { IfSome past (λ p. WereLoaded p.workspace.now limits.steps p.labels.now p.edges.now p.outcomes.now) }
+    requires frame { IfSome past (λ p. HasSameFrame p.workspace.now sources.now.workspace.now p.touched.now) }
     ensures loads { LoadsWithin sources.now.workspace.now sources.now.schema.now limits (loaded_by result) }
     ensures keeps { IfOk result (λ r. IsKept sources.now.workspace.now limits.steps r.kept) }
 {
@@ -127,6 +129,7 @@ fn outcomes_of<R: Threads + Wait + Sync, G: Gate>(
     workers: &Workers<'_, G>,
 ) -> Result<Vec<KeptOutcome>, AllocError>
     requires past { IfSome past (λ p. WereLoaded p.workspace.now limits.steps p.labels.now p.edges.now p.outcomes.now) }
+    requires frame { IfSome past (λ p. HasSameFrame p.workspace.now sources.now.workspace.now p.touched.now) }
     requires schema { schema_in sources.now.workspace.now ≡ Ok sources.now.schema.now }
     requires graph { IsReadGraph (inputs_of sources.now.workspace.now sources.now.schema.now) graph.now }
     requires workers { (0 < workers.now.count) × (workers.now.count ≤ MAX_WORKERS) }
@@ -168,11 +171,13 @@ fn evaluated<R: Threads + Wait + Sync, G: Gate>(
     Ok(reloaded) // PROOF: it is the same load graph
 }
 
-/// Loads a workspace of which texts alone have changed, and whose load graph this is, if few modules are to be evaluated.
+/// Loads a workspace with this load graph, if few modules are to be evaluated. Of its files texts have changed, and files of these packages
+/// came or went that are no modules.
 fn load_renewed<R: Threads + Wait + Sync, G: Gate>(
     rt: &R,
     alloc: Global,
     before: &Workspace,
+    touched: &[BuildFile],
     outcomes: &[KeptOutcome],
     renewal: Renewal,
     sources: &Sources<'_>,
@@ -181,8 +186,8 @@ fn load_renewed<R: Threads + Wait + Sync, G: Gate>(
 ) -> Result<Option<Reloaded>, AllocError>
     requires schema { schema_in sources.now.workspace.now ≡ Ok sources.now.schema.now }
     requires past { WereLoaded before.now limits.steps renewal.graph.labels renewal.graph.edges outcomes.now }
-    requires frame { HasSameFrame before.now sources.now.workspace.now }
-    requires stayed { HaveStayed before.now sources.now.workspace.now renewal.graph.labels renewal.graph.labels renewal.numbers.items }
+    requires frame { HasSameFrame before.now sources.now.workspace.now touched.now }
+    requires stayed { HaveStayed before.now sources.now.workspace.now touched.now renewal.graph.labels renewal.graph.labels renewal.numbers.items }
     requires graph { IsReadGraph (inputs_of sources.now.workspace.now sources.now.schema.now) renewal.graph }
     requires fits { Fits limits renewal.graph.edges }
     ensures loaded { IfOk result (λ o. IfSome o (λ r. IsLoaded (loading_in sources.now.workspace.now sources.now.schema.now limits.steps renewal.graph) renewal.graph.edges r.loaded)) }
@@ -195,6 +200,7 @@ fn load_renewed<R: Threads + Wait + Sync, G: Gate>(
     } = renewal;
     let past = Past {
         workspace: before,
+        touched,
         labels: graph.labels(),
         edges: graph.edges(),
         outcomes,
@@ -206,12 +212,14 @@ fn load_renewed<R: Threads + Wait + Sync, G: Gate>(
     Ok(Some(evaluated(rt, alloc, sources, limits, graph, found, workers.gate)?))
 }
 
-/// Loads a workspace of which texts alone have changed. It had this load graph, and its modules these outcomes.
+/// Loads a workspace that had this load graph, and whose modules had these outcomes. Of its files texts have changed, and files of these
+/// packages came or went that are no modules.
 #[tactic(auto, using(bq_load::proofs::Joined::loaded_is, crate::proofs::Along::fits_so))]
 fn load_changed<R: Threads + Wait + Sync, G: Gate>(
     rt: &R,
     alloc: Global,
     before: &Workspace,
+    touched: &[BuildFile],
     outcomes: &[KeptOutcome],
     graph: LoadGraph,
     sources: &Sources<'_>,
@@ -221,17 +229,18 @@ fn load_changed<R: Threads + Wait + Sync, G: Gate>(
     requires bounded { AreBounded limits }
     requires workers { (0 < workers.now.count) × (workers.now.count ≤ MAX_WORKERS) }
     requires schema { schema_in sources.now.workspace.now ≡ Ok sources.now.schema.now }
-    requires frame { HasSameFrame before.now sources.now.workspace.now }
+    requires frame { HasSameFrame before.now sources.now.workspace.now touched.now }
     requires graph { IsGraphOf before.now graph }
     requires past { WereLoaded before.now limits.steps graph.labels graph.edges outcomes.now }
     requires fits { Fits limits graph.edges }
     ensures loads { LoadsWithin sources.now.workspace.now sources.now.schema.now limits (loaded_by result) }
     ensures keeps { IfOk result (λ r. IsKept sources.now.workspace.now limits.steps r.kept) }
 {
-    let renewal = renewed(alloc, before, sources, graph)?;
+    let renewal = renewed(alloc, before, touched, sources, graph)?;
     if !renewal.same {
         let past = Past {
             workspace: before,
+            touched,
             labels: renewal.graph.labels(),
             edges: renewal.graph.edges(),
             outcomes,
@@ -239,7 +248,7 @@ fn load_changed<R: Threads + Wait + Sync, G: Gate>(
         return load_anew(rt, alloc, Some(past), sources, limits, workers);
     }
     match load_renewed(
-        rt, alloc, before, outcomes, renewal, sources, limits, workers,
+        rt, alloc, before, touched, outcomes, renewal, sources, limits, workers,
     )? {
         Some(reloaded) => Ok(reloaded),
         None => load_anew(rt, alloc, None, sources, limits, workers),
@@ -264,17 +273,17 @@ fn load_after<R: Threads + Wait + Sync, G: Gate>(
     ensures keeps { IfOk result (λ r. IsKept sources.now.workspace.now limits.steps r.kept) }
 {
     let kept = before.kept;
-    let change = Change {
-        before: before.workspace,
-        after: sources.workspace,
-    };
-    if !change.has_same_frame() {
-        return load_anew(rt, alloc, None, sources, limits, workers);
-    }
     if !are_within(kept.limits, limits) {
         return load_anew(rt, alloc, None, sources, limits, workers);
     }
     let Some(graph) = kept.graph.take() else {
+        return load_anew(rt, alloc, None, sources, limits, workers);
+    };
+    let change = Change {
+        before: before.workspace,
+        after: sources.workspace,
+    };
+    let Some(touched) = change.touched(alloc, &graph)? else {
         return load_anew(rt, alloc, None, sources, limits, workers);
     };
     let outcomes = kept.outcomes.as_slice();
@@ -282,6 +291,7 @@ fn load_after<R: Threads + Wait + Sync, G: Gate>(
         rt,
         alloc,
         before.workspace,
+        &touched,
         outcomes,
         graph,
         sources,
@@ -290,10 +300,10 @@ fn load_after<R: Threads + Wait + Sync, G: Gate>(
     )
 }
 
-/// Loads a workspace by several workers, as `bq_load::load_within` does, and keeps what it loads. If it was loaded before, a
-/// module isn't evaluated if the paths of all files and the schema are what they were, its file and those of all that it
-/// loads, directly or not, are, and these modules have the numbers that they had; but if many are to be evaluated, all are.
-/// A file isn't read if the paths, the schema and its text are what they were, and no file that changed loads other files.
+/// Loads a workspace by several workers, as `bq_load::load_within` does, and keeps what it loads. If it was loaded before, and the schema and
+/// the paths of BUILD files and .bzl files are what they were, a module isn't evaluated if its file and those of all that it loads, directly
+/// or not, are, and no file of its package came or went, if it is a BUILD file; but if many are to be evaluated, all are. Nor is a file read
+/// then, if no file that changed loads other files.
 pub fn load_again<R: Threads + Wait + Sync, G: Gate>(
     rt: &R,
     alloc: Global,

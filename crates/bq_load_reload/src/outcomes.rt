@@ -11,13 +11,14 @@ ghost use Rattle.bq_load.specs.Views.{module_view, failed_view};
 ghost use Rattle.bq_load.specs.Loading.{loading_in, loading_of};
 ghost use Rattle.bq_load.specs.Evaluation.{means};
 ghost use Rattle.bq_load_order.specs.Again.{had, AreUnchanged};
+ghost use Rattle.bq_load_changes.specs.Same.{HasSameFrame};
 ghost use Rattle.bq_load_reload.specs.Kept.{AreOutcomes, WereLoaded};
 
 use crate::kept::{KeptOutcome, Past};
-use crate::same::unchanged;
 use bq_base::Limits;
 use bq_board::Graph;
 use bq_load::{Gate, GateWatch, Loading, Sources, Workers};
+use bq_load_changes::Change;
 use bq_load_discover::LoadGraph;
 use bq_load_order::kept_outcomes;
 use bq_load_workers::{
@@ -177,6 +178,29 @@ pub(crate) fn outcomes_from<R: Threads + Wait + Sync, G: Gate>(
     Ok(changed_outcomes(rt, alloc, &loading, edges, found, gate)?)
 }
 
+/// Returns for each module of a load graph the number that it had, if it is unchanged.
+#[tactic(auto, using(crate::proofs::Unchanged::are_unchanged))]
+fn unchanged(
+    alloc: Global,
+    past: &Past<'_>,
+    sources: &Sources<'_>,
+    limits: Limits,
+    graph: &LoadGraph,
+) -> Result<Vec<Option<u32>>, AllocError>
+    requires past { WereLoaded past.now.workspace.now limits.steps past.now.labels.now past.now.edges.now past.now.outcomes.now }
+    requires schema { schema_in sources.now.workspace.now ≡ Ok sources.now.schema.now }
+    requires frame { HasSameFrame past.now.workspace.now sources.now.workspace.now past.now.touched.now }
+    requires graph { IsReadGraph (inputs_of sources.now.workspace.now sources.now.schema.now) graph.now }
+    ensures { IfOk result (λ was. AreUnchanged (had (map (shown module_view failed_view) past.now.outcomes.now)) past.now.edges.now (means (loading_in sources.now.workspace.now sources.now.schema.now limits.steps graph.now)) was.items) }
+{
+    let _ = limits; // contracts alone speak of them
+    let change = Change {
+        before: past.workspace,
+        after: sources.workspace,
+    };
+    change.numbers_before(alloc, past.touched, past.labels, graph.labels())
+}
+
 /// Returns the outcomes of all modules after a change. Those of unchanged modules are kept; the others are evaluated,
 /// or if these are many, all modules.
 pub(crate) fn outcomes_after<R: Threads + Wait + Sync, G: Gate>(
@@ -190,6 +214,7 @@ pub(crate) fn outcomes_after<R: Threads + Wait + Sync, G: Gate>(
 ) -> Result<Vec<KeptOutcome>, AllocError>
     requires past { WereLoaded past.now.workspace.now limits.steps past.now.labels.now past.now.edges.now past.now.outcomes.now }
     requires schema { schema_in sources.now.workspace.now ≡ Ok sources.now.schema.now }
+    requires frame { HasSameFrame past.now.workspace.now sources.now.workspace.now past.now.touched.now }
     requires graph { IsReadGraph (inputs_of sources.now.workspace.now sources.now.schema.now) graph.now }
     requires workers { (0 < workers.now.count) × (workers.now.count ≤ MAX_WORKERS) }
     ensures { IfOk result (λ v. AreOutcomes (loading_in sources.now.workspace.now sources.now.schema.now limits.steps graph.now) graph.now.edges v.items) }

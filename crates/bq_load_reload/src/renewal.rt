@@ -6,14 +6,14 @@ ghost use Rattle.bq_load_order.specs.Again.{number_at};
 ghost use Rattle.bq_load_discover.specs.LoadGraph.{IsReadGraph, inputs_of};
 ghost use Rattle.bq_load_discover.specs.Module.{module_of};
 ghost use Rattle.bq_load_discover.specs.Schema.{schema_in};
-ghost use Rattle.bq_load_reload.specs.Kept.{IsGraphOf};
+ghost use Rattle.bq_load_changes.specs.Graph.{IsGraphOf};
 ghost use Rattle.bq_load_reload.specs.Renewal.{AreAsRead, all_loaded, have_same_labels, loaded_by_one, modules_in};
-ghost use Rattle.bq_load_reload.specs.Same.{HasSameFrame, HaveStayed};
+ghost use Rattle.bq_load_changes.specs.Same.{HasSameFrame, HaveStayed};
 
 use crate::kept::KeptOutcome;
-use crate::same::{Change, is_same_label};
-use bq_label::{Label, Packages, Workspace};
+use bq_label::{BuildFile, Label, Packages, Workspace};
 use bq_load::Sources;
+use bq_load_changes::{Change, is_same_label};
 use bq_load_discover::{LoadGraph, Module};
 use bq_load_front::Inputs;
 use std::alloc::{AllocError, Global};
@@ -32,8 +32,8 @@ struct AllReadAgain {
     same: bool,
 }
 
-/// A load graph after a change, for each module the number that it had if its file is what it was, and whether all modules load what they
-/// loaded.
+/// A load graph after a change, for each module the number that it had if its outcome may be what it was, and whether all modules load
+/// what they loaded.
 #[derive(Drop)]
 pub(crate) struct Renewal {
     pub graph: LoadGraph,
@@ -132,26 +132,28 @@ fn modules_again(
     all_read_again(alloc, &inputs, numbers, modules)
 }
 
-/// Returns the load graph of a workspace, of which texts alone have changed, if all modules load what they loaded.
+/// Returns the load graph of a workspace, if all modules load what they loaded. Of its files texts have changed, and files of these packages
+/// came or went that are no modules.
 pub(crate) fn renewed(
     alloc: Global,
     before: &Workspace,
+    touched: &[BuildFile],
     sources: &Sources<'_>,
     graph: LoadGraph,
 ) -> Result<Renewal, AllocError>
-    requires frame { HasSameFrame before.now sources.now.workspace.now }
+    requires frame { HasSameFrame before.now sources.now.workspace.now touched.now }
     requires schema { schema_in sources.now.workspace.now ≡ Ok sources.now.schema.now }
     requires graph { IsGraphOf before.now graph }
     ensures labels { IfOk result (λ r. r.graph.labels ≡ graph.labels) }
     ensures edges { IfOk result (λ r. r.graph.edges ≡ graph.edges) }
-    ensures stayed { IfOk result (λ r. HaveStayed before.now sources.now.workspace.now graph.labels graph.labels r.numbers.items) }
+    ensures stayed { IfOk result (λ r. HaveStayed before.now sources.now.workspace.now touched.now graph.labels graph.labels r.numbers.items) }
     ensures read { IfOk result (λ r. r.same ≡ true → IsReadGraph (inputs_of sources.now.workspace.now sources.now.schema.now) r.graph) }
 {
     let change = Change {
         before,
         after: sources.workspace,
     };
-    let numbers = change.numbers_before(alloc, graph.labels(), graph.labels())?;
+    let numbers = change.numbers_before(alloc, touched, graph.labels(), graph.labels())?;
     let (labels, modules, edges, packages) = graph.into_all();
     let again = modules_again(alloc, sources, &packages, &numbers, modules)?;
     Ok(Renewal {

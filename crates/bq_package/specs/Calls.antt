@@ -43,13 +43,16 @@ pub data HeldPackage : Type 0 where
   outside : PackageParts → List BuildFile → HeldPackage
   declaring : Declaring → HeldPackage
 
+-- where the package is, and what the calls have declared in it
 abbrev pub declaring_of : Building → Declaring
 declaring_of b = record { place = place_of b.place; «package» = b.package }
 
+-- what is kept: of a BUILD file its package, else the package of the file and the packages of the workspace
 abbrev pub held_of : PackageScope → Option Building → HeldPackage
 held_of scope None = outside scope.own.now scope.packages.now
 held_of scope (Some b) = declaring (declaring_of b)
 
+-- what a host keeps, as contracts see it
 abbrev pub held_by : BuildHost → HeldPackage
 held_by h = held_of h.scope h.building
 

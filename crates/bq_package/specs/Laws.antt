@@ -41,10 +41,11 @@ RulesDeclareAlike =
     (d : Declaring) (number : ℕ) (rule : List ℕ) (class : Class) (passed : Passed) (s : State) → slice_get d.place.rules.names number ≡ Some rule → slice_get d.place.rules.classes number ≡ Some class
     → meaning.call (h.Rule number) passed (s, declaring d) ≡ meaning.call_rule rule class passed (s, declaring d)
 
--- it is said whether a BUILD file is evaluated
+-- a BUILD file is evaluated
 abbrev pub IsInBuild : HeldPackage → Type 0
 IsInBuild held = (d : Declaring) × (held ≡ declaring d)
 
+-- the host says that a BUILD file is evaluated exactly where one is
 abbrev pub InBuildIsSaid : Type 0
 InBuildIsSaid = (held : HeldPackage) → (meaning.in_build held ≡ true) ↔ IsInBuild held
 

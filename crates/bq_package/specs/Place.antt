@@ -13,5 +13,6 @@ pub record PlaceView : Type 0 where
   pub packages : List BuildFile
   pub rules : Rules
 
+-- the package, the paths and packages of its workspace, and the rules of the schema, as contracts see them
 abbrev pub place_of : Place → PlaceView
 place_of p = record { own = p.scope.own.now; paths = paths_of p.workspace.now; packages = p.scope.packages.now; rules = p.schema.now }

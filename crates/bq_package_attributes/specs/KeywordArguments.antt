@@ -10,9 +10,11 @@ use Rattle.bq_package_attributes.specs.declared.keyword_arguments.HeldArguments.
 abbrev pub pair_of : List ℕ × Datum → Datum × Datum
 pair_of a = (string a.0, a.1)
 
+-- arguments as the pairs of a dict, in their order
 abbrev pub pairs : List (List ℕ × Datum) → List (Datum × Datum)
 pairs named = map pair_of named
 
+-- keyword arguments as the pairs of a dict, whether few are held, as a list, or many, as a dict
 abbrev pub pairs_of : HeldArguments → List (Datum × Datum)
 pairs_of (held.Few named) = pairs named.items
 pairs_of (held.Many dict) = dict

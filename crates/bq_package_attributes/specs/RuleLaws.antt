@@ -21,6 +21,7 @@ rule_checks in_build store args =
     ∷ fault_then bound (λ b. fault_in (documented (argument b.values 2)))
     ∷ fault_then bound (λ b. fault_then (attributes_in store (argument b.values 1)) (λ x. when (not (are_named x)) BadValue)) ∷ when in_build BadValue ∷ []
 
+-- a call of `rule` is refused for the first of these checks that finds a fault, and declares a rule where none does
 abbrev pub RulesAreRefusedInOrder : Type 0
 RulesAreRefusedInOrder = (in_build : Bool) (store : StoreView) (args : Passed) → FailsForFirst (class in_build store args) (rule_checks in_build store args)
 
@@ -28,5 +29,6 @@ RulesAreRefusedInOrder = (in_build : Bool) (store : StoreView) (args : Passed) �
 abbrev pub ARuleHasTheAttributesOfItsDict : Type 0
 ARuleHasTheAttributesOfItsDict = (ps : List (Datum × Datum)) (x : Class) → entries ps ≡ Ok x → ps ≡ map (λ e. (datum.string e.0, datum.attribute e.1)) x
 
+-- while a BUILD file is evaluated no call of `rule` declares one
 abbrev pub NoRuleIsDeclaredInABuildFile : Type 0
 NoRuleIsDeclaredInABuildFile = (store : StoreView) (args : Passed) (x : Class) → class true store args ≢ Ok x

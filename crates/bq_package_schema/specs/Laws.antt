@@ -21,6 +21,7 @@ pub record IsFirstBad (text : List (List ℕ)) (fault : Fault FaultKind) : Type 
   pub bad : after rules (line_of line) ≡ None
   pub named : fault ≡ bad_line (length before)
 
+-- a schema that is refused has a fault at its first bad line
 abbrev pub FaultsNameTheFirstBadLine : Type 0
 FaultsNameTheFirstBadLine = (text : List ℕ) (fault : Fault FaultKind) → schema_of text ≡ Err fault → IsFirstBad (lines text) fault
 
@@ -35,9 +36,11 @@ abbrev pub NoneTwice : List (List ℕ) → Type 0
 NoneTwice [] = Unit {0}
 NoneTwice (name ∷ names) = (has names name ≡ false) × NoneTwice names
 
+-- the names of a rule's attributes, in their order
 abbrev pub names_of : Class → List (List ℕ)
 names_of class = map (λ e. e.0) class
 
+-- no rule has two attributes of one name
 abbrev pub EachNoneTwice : List Class → Type 0
 EachNoneTwice [] = Unit {0}
 EachNoneTwice (class ∷ classes) = NoneTwice (names_of class) × EachNoneTwice classes
@@ -48,6 +51,7 @@ pub record AreRules (rules : Rules) : Type 0 where
   pub attributes_differ : EachNoneTwice rules.classes
   pub as_many : length rules.classes ≡ length rules.names
 
+-- the rules of a schema that is read have different names, and each different attributes
 abbrev pub NamesDiffer : Type 0
 NamesDiffer = (text : List ℕ) (rules : Rules) → schema_of text ≡ Ok rules → AreRules rules
 

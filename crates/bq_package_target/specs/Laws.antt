@@ -32,11 +32,12 @@ abbrev pub after_calls : PackageTargets → List Call → PackageTargets
 after_calls p [] = p
 after_calls p (c ∷ cs) = after_calls (after p c) cs
 
--- a call declares a rule or a group
+-- a call exports files, or declares a rule or a group
 abbrev pub IsRuleOrGroup : Call → Type 0
 IsRuleOrGroup (exports ls line) = Unit {0}
 IsRuleOrGroup (rule_or_group t) = ((name : List ℕ) × ((class : Class) × (t.kind ≡ k.Rule name class))) ⊎ (t.kind ≡ k.Group)
 
+-- each of the calls exports files, or declares a rule or a group
 abbrev pub AreRulesOrGroups : List Call → Type 0
 AreRulesOrGroups [] = Unit {0}
 AreRulesOrGroups (c ∷ cs) = IsRuleOrGroup c × AreRulesOrGroups cs

@@ -22,5 +22,6 @@ abbrev pub IsWhatItIsCalled : List Name → Predeclared → Datum → Type 0
 IsWhatItIsCalled rules x (built_in f) = (function_of f ≡ x) × (function_named rules (built_in_name f) ≡ Some x)
 IsWhatItIsCalled rules x v = Unit {0}
 
+-- a built-in function prints a name that stands for it in a BUILD file, where the rules are those of a schema
 abbrev pub EachIsWhatItIsCalled : Type 0
 EachIsWhatItIsCalled = (rules : List Name) → AreRules rules → (x : Predeclared) → IsWhatItIsCalled rules x (predeclared_value rules x)

@@ -4,6 +4,7 @@ use Rattle.std.specs.Int.{is_in_range}
 use Rattle.std.specs.List.{All, flat_map}
 use Rattle.bstr.specs.Utf8.{decoded}
 
+-- each of the numbers is below 256
 abbrev pub AreBytes : List ℕ → Type 0
 AreBytes bs = All (λ b. b < 256) bs
 
@@ -23,6 +24,7 @@ points_after k [] = []
 points_after (suc k) (b ∷ bs) = points_after k bs
 points_after zero (b ∷ bs) = point_by (decoded (b ∷ bs)).char b ∷ points_after (further_by (decoded (b ∷ bs)).char (decoded (b ∷ bs)).size) bs
 
+-- the code points of a text: its characters, and for each byte of what is no UTF-8 one from U+DC80 to U+DCFF
 abbrev pub code_points : List ℕ → List ℕ
 code_points bs = points_after 0 bs
 

@@ -3,6 +3,7 @@
 use Rattle.std.specs.Prelude.{◌≡◌, [], ◌∷◌}
 use Rattle.bq_package_values.specs.JsonString.{json_string}
 
+-- each of these strings has the text that stands above it
 pub record Examples : Type 0 where
   -- b'': ""
   pub empty : json_string [] ≡ 34 ∷ 34 ∷ []

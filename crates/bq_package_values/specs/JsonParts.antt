@@ -3,9 +3,11 @@ use Rattle.std.specs.Prelude.{ℕ, List, [], ◌∷◌, ◌++◌, Bool, codes, i
 use Rattle.std.specs.List.{join_by}
 use Rattle.bq_package_values.specs.JsonString.{json_string}
 
+-- `true` or `false`
 abbrev pub json_bool : Bool → List ℕ
 json_bool b = if b then codes "true" else codes "false"
 
+-- the byte between two items, and between two members
 abbrev pub comma : List ℕ
 comma = 44 ∷ []
 
@@ -22,6 +24,7 @@ pub record Member : Type 0 where
   pub key : List ℕ
   pub value : List ℕ
 
+-- `"key":value`
 abbrev pub member_text : Member → List ℕ
 member_text m = json_key m.key ++ m.value
 

@@ -27,10 +27,12 @@ hex_value d = if nat_lt (digit_value d) 16 then Some (digit_value d) else None
 abbrev pub onto : ℕ → Option (List ℕ) → Option (List ℕ)
 onto u rest = option_map (λ us. u ∷ us) rest
 
+-- the same with a code unit that may be missing; None where it is
 abbrev pub onto_some : Option ℕ → Option (List ℕ) → Option (List ℕ)
 onto_some None rest = None
 onto_some (Some u) rest = onto u rest
 
+-- no code units, if nothing comes after the closing quote; None where something does
 abbrev pub at_end : List ℕ → Option (List ℕ)
 at_end [] = Some []
 at_end (c ∷ cs) = None
@@ -44,9 +46,11 @@ units after_escape (c ∷ cs) = if c == 0x75 then units (digits 3 0) cs else ont
 units (digits zero value) (c ∷ cs) = option_and_then (λ d. onto (value * 16 + d) (units between cs)) (hex_value c)
 units (digits (suc k) value) (c ∷ cs) = option_and_then (λ d. units (digits k (value * 16 + d)) cs) (hex_value c)
 
+-- a code unit from U+D800 to U+DBFF, the first one of a pair
 abbrev pub is_high : ℕ → Bool
 is_high u = is_in_range 0xD800 0xDBFF u
 
+-- a code unit from U+DC00 to U+DFFF, the second one of a pair
 abbrev pub is_low : ℕ → Bool
 is_low u = is_in_range 0xDC00 0xDFFF u
 
@@ -60,6 +64,7 @@ joined (u ∷ v ∷ us) = if is_high u && is_low v then (0x1_0000 + ((u - 0xD800
 abbrev pub has_bytes : ℕ → Bool
 has_bytes c = scalar c || is_escaped_byte c
 
+-- the bytes of code points; None where one of them has none
 abbrev pub bytes_if_all : List ℕ → Option (List ℕ)
 bytes_if_all cs = if list_all has_bytes cs then Some (bytes_of cs) else None
 

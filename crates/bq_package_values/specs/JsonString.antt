@@ -26,10 +26,12 @@ abbrev pub unicode_escape : ℕ → List ℕ
 unicode_escape c =
     0x5C ∷ 0x75 ∷ digit_char (c / 4096) ∷ digit_char (c / 256 % 16) ∷ digit_char (c / 16 % 16) ∷ digit_char (c % 16) ∷ []
 
+-- `\` and the letter; `\uXXXX` where there is none
 abbrev pub escape_by : Option ℕ → ℕ → List ℕ
 escape_by (Some letter) c = 0x5C ∷ letter ∷ []
 escape_by None c = unicode_escape c
 
+-- a code point below 0x10000 as it is escaped: by its letter if it has one, else by four hexadecimal digits
 unfoldable pub escape : ℕ → List ℕ
 escape c = escape_by (short_escape c) c
 

@@ -61,6 +61,7 @@ pub record Named : Type 0 where
   pub key : List ℕ
   pub value : Json
 
+-- the members of an object: these keys with their values, in their order
 abbrev pub fields_of : List Named → Fields
 fields_of [] = no_fields
 fields_of (n ∷ ns) = field n.key n.value (fields_of ns)

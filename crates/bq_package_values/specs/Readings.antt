@@ -100,6 +100,7 @@ unfolding text_in
 text_refused why (string t) e h = absurd (cc)
 text_refused why _ e h = cc
 
+-- `text_in` gives the string that a value is, and for any other value the fault `why`
 pub text_reads : (why : EvalFault) (v : Datum) → Reads why (text_in why v) (λ s. v ≡ string s)
 text_reads why v = record { found = λ s. (text_found why v s, text_given why v s); refused = text_refused why v }
 
@@ -116,6 +117,7 @@ int_refused : (why : EvalFault) (v : Datum) (e : EvalFault) → int_in why v ≡
 int_refused why (int m) e h = absurd (cc)
 int_refused why _ e h = cc
 
+-- `int_in` gives the integer that a value is, and for any other value the fault `why`
 pub int_reads : (why : EvalFault) (v : Datum) → Reads why (int_in why v) (λ n. v ≡ int n)
 int_reads why v = record { found = λ n. (int_found why v n, int_given why v n); refused = int_refused why v }
 
@@ -163,6 +165,7 @@ bool_refused why (int (pos n)) e h = number_refused why n e (bits why n) h
 bool_refused why (int (negsuc n)) e h = cc
 bool_refused why _ e h = cc
 
+-- `bool_in` gives true for `True` and 1, false for `False` and 0, and for any other value the fault `why`
 pub bool_reads : (why : EvalFault) (v : Datum) → Reads why (bool_in why v) (IsTruth v)
 bool_reads why v = record { found = λ b. (bool_found why v b, bool_given why v b); refused = bool_refused why v }
 
@@ -246,6 +249,7 @@ module _ (why : EvalFault) where
   unfolding all_texts
   all_texts_reads vs = record { found = λ ss. (texts_found vs ss, texts_given vs ss); refused = more_refused [] vs }
 
+-- `texts_in` gives the strings that a tuple or list has, and for any other value the fault `why`
 pub texts_reads : (why : EvalFault) (store : StoreView) (v : Datum) → Reads why (texts_in why store v) (IsListOfTexts store v)
 unfolding texts_in
 texts_reads why store v = reads_then why (elements_in why store v) (IsListOf store v) (all_texts why) (λ vs ss. vs ≡ map string ss) (elements_reads why store v) (all_texts_reads why)

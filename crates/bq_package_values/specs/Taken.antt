@@ -41,6 +41,7 @@ pub record CrossesInto (own : PackageParts) (packages : List BuildFile) (l : Lab
   pub owned : owner_of packages (label_path l) ≡ Some owner
   pub other : package_of l ≢ owner.id
 
+-- no other package owns the path that the label names, if the label is of this package
 abbrev pub StaysInside : PackageParts → List BuildFile → LabelParts → Type 0
 StaysInside own packages l = ¬ (CrossesInto own packages l)
 

@@ -67,5 +67,6 @@ value_json (a.LabelList ls) = labels_json ls
 value_json (a.Output l) = label_json l
 value_json (a.OutputList ls) = labels_json ls
 
+-- the text of an attribute value's JSON, without white space
 abbrev pub json_value : AttributeValue → List ℕ
 json_value x = json_text (value_json x)

@@ -14,6 +14,7 @@ abbrev pub at_line : List Lexeme → Result TopLevel StatementFault → Result T
 at_line ts (Ok x) = Ok x
 at_line ts (Err why) = Err (fault_at why (line_of ts))
 
+-- what is given, as it is
 abbrev pub itself : {A : Type 0} → A → A
 itself x = x
 

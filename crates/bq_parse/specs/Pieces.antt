@@ -9,5 +9,6 @@ rest_len line n [] = 0
 rest_len line n (t ∷ ts) =
     if line && (is_zero n && begins_statement t.kind) then 0 else suc (rest_len (ends_line t.kind) (indents_after t.kind n) ts)
 
+-- how many tokens the first statement has, from its first token on; 0 where there are no tokens
 abbrev pub piece_len : List Lexeme → ℕ
 piece_len ts = rest_len false 0 ts

@@ -23,6 +23,7 @@ ends_phrase k.Colon = true
 ends_phrase k.Newline = true
 ends_phrase _ = false
 
+-- there is a token, and its kind passes the test
 abbrev pub is_so : (TokenKind → Bool) → Option TokenKind → Bool
 is_so test None = false
 is_so test (Some q) = test q
@@ -34,6 +35,7 @@ begins_operand k.LeftBracket = true
 begins_operand k.LeftBrace = true
 begins_operand q = is_atom q
 
+-- there is a next token, and an operand begins with it
 abbrev pub begins_with_operand : List Lexeme → Bool
 begins_with_operand ts = is_so begins_operand (kind_ahead ts)
 

@@ -44,6 +44,7 @@ ends_test k.Or = false
 ends_test k.If = false
 ends_test _ = true
 
+-- there is no next token, or it can't go on with a test
 abbrev pub EndsTest : List Lexeme → Type 0
 EndsTest [] = Unit {0}
 EndsTest (t ∷ ts) = ends_test t.kind ≡ true
@@ -53,11 +54,12 @@ abbrev pub Complete : ℕ → List Lexeme → List Lexeme → Type 0
 Complete depth ts rest =
     (x : Expr) → IsTestTo depth ts rest x → EndsTest rest → (phrase (suc depth) Test ts ≡ Ok (x, rest)) ⊎ (phrase (suc depth) Test ts ≡ Err Lambda)
 
--- no `lambda` among the tokens
+-- the token is `lambda`
 abbrev pub is_lambda : TokenKind → Bool
 is_lambda k.Lambda = true
 is_lambda _ = false
 
+-- none of the tokens is `lambda`
 abbrev pub NoLambda : List Lexeme → Type 0
 NoLambda [] = Unit {0}
 NoLambda (t ∷ ts) = (is_lambda t.kind ≡ false) × NoLambda ts

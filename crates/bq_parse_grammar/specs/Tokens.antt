@@ -5,9 +5,11 @@ use Rattle.bq_source.specs.declared.token.TokenKind.{TokenKind}
 use Rattle.bq_parse_grammar.specs.Lexeme.{Lexeme, lexemes}
 use Rattle.bq_parse_grammar.specs.declared.tokens.Tokens.TheInside.{Inside}
 
+-- the tokens from this place on, each with its kind, line and spelling
 abbrev pub lexemes_ahead : Inside → List Lexeme
 lexemes_ahead t = lexemes t.text.now t.rest.now
 
+-- each token from this place on lies in the text, and each string literal among them has a value
 abbrev pub IsInText : Inside → Type 0
 IsInText t = All (Lies t.text.now) t.rest.now
 

@@ -88,6 +88,7 @@ commas f (x ∷ xs) more = token k.Comma ∷ f x ∷ commas f xs more
 
 -- ---- operators
 
+-- the token of a binary operator
 abbrev pub operator_kind : Operator → TokenKind
 operator_kind o.Multiply = k.Star
 operator_kind o.FloorDivide = k.SlashSlash
@@ -103,15 +104,18 @@ operator_kind o.BitOr = k.Pipe
 operator_kind o.And = k.And
 operator_kind o.Or = k.Or
 
+-- the token of a unary operator: `+`, `-`, `~` or `not`
 abbrev pub unary_kind : UnaryOperator → TokenKind
 unary_kind u.Plus = k.Plus
 unary_kind u.Minus = k.Minus
 unary_kind u.Invert = k.Tilde
 unary_kind u.Not = k.Not
 
+-- a unary operator, as the one token that it is
 abbrev pub unary : UnaryOperator → Part
 unary x = token (unary_kind x)
 
+-- the token of a comparison, or the two of `not in`
 abbrev pub comparison : Comparison → List Part → List Part
 comparison c.Equal more = token k.EqualEqual ∷ more
 comparison c.NotEqual more = token k.NotEqual ∷ more
@@ -138,15 +142,18 @@ assignment_kind o.BitOr = Some k.PipeAssign
 assignment_kind o.And = None
 assignment_kind o.Or = None
 
+-- the token, or nothing where there is none
 abbrev pub token_of : Option TokenKind → List Part → List Part
 token_of None more = more
 token_of (Some q) more = token q ∷ more
 
 -- ---- expressions
 
+-- an expression as one node, with its children as whole trees
 abbrev pub ExprLayer : Type 0
 ExprLayer = Expr-F Argument Clause Expr Suffix TargetExpr Choice Operation Pair
 
+-- an expression by its node: its own tokens, and its children
 abbrev pub expr_parts_by : ExprLayer → List Part → List Part
 expr_parts_by (Expr-F.Expr::Name n) more = word n ∷ more
 expr_parts_by (Expr-F.Int n) more = number n ∷ more
@@ -167,21 +174,27 @@ expr_parts_by (Expr-F.Conditional cs x) more = row choice cs (expr x ∷ more)
 -- nothing is said of the tokens after a `lambda`
 expr_parts_by Expr-F.Lambda more = token k.Lambda ∷ anything ∷ []
 
+-- an expression as one node writes it
 abbrev pub expr_parts : Expr → List Part → List Part
 expr_parts x more = expr_parts_by (out-Expr x) more
 
+-- `key: value` of a dict
 abbrev pub pair_parts : Pair → List Part → List Part
 pair_parts x more = expr (out-Pair x).key ∷ token k.Colon ∷ expr (out-Pair x).value ∷ more
 
+-- a binary operator and its right operand
 abbrev pub operation_parts : Operation → List Part → List Part
 operation_parts x more = token (operator_kind (out-Operation x).operator) ∷ expr (out-Operation x).operand ∷ more
 
+-- `value if condition else`, the first part of a conditional
 abbrev pub choice_parts : Choice → List Part → List Part
 choice_parts x more = expr (out-Choice x).value ∷ token k.If ∷ expr (out-Choice x).condition ∷ token k.Else ∷ more
 
+-- what is done to an operand, as one node: a call, a method, an attribute, an index or a slice
 abbrev pub SuffixLayer : Type 0
 SuffixLayer = Suffix-F Argument Clause Expr Suffix TargetExpr Choice Operation Pair
 
+-- the expression, or nothing where there is none
 abbrev pub optional_expr : Option Expr → List Part → List Part
 optional_expr None more = more
 optional_expr (Some x) more = expr x ∷ more
@@ -191,10 +204,12 @@ abbrev pub step_parts : Option Expr → List Part → List Part
 step_parts None more = maybe k.Colon ∷ more
 step_parts (Some x) more = token k.Colon ∷ expr x ∷ more
 
+-- the arguments in parentheses, after the last of which there may be a comma; `()` where there are none
 abbrev pub arguments : List Argument → List Part → List Part
 arguments [] more = token k.LeftParen ∷ token k.RightParen ∷ more
 arguments (x ∷ xs) more = argument true x ∷ row (argument false) xs (maybe k.Comma ∷ token k.RightParen ∷ more)
 
+-- what is done to an operand, by its node: `(..)`, `.name(..)`, `.name`, `[index]` or `[from:to:step]`
 abbrev pub suffix_parts_by : SuffixLayer → List Part → List Part
 suffix_parts_by (Suffix-F.Call xs) more = arguments xs more
 suffix_parts_by (Suffix-F.Method n xs) more = method n ∷ arguments xs more
@@ -203,38 +218,48 @@ suffix_parts_by (Suffix-F.Suffix::Index x) more = token k.LeftBracket ∷ open_e
 suffix_parts_by (Suffix-F.Slice x y z) more =
     token k.LeftBracket ∷ optional_expr x (token k.Colon ∷ optional_expr y (step_parts z (token k.RightBracket ∷ more)))
 
+-- what is done to an operand, as one node writes it
 abbrev pub suffix_parts : Suffix → List Part → List Part
 suffix_parts x more = suffix_parts_by (out-Suffix x) more
 
+-- an argument as one node, with its children as whole trees
 abbrev pub ArgumentLayer : Type 0
 ArgumentLayer = Argument-F Argument Clause Expr Suffix TargetExpr Choice Operation Pair
 
+-- the token before an argument: `(` before the first, a comma before each further one
 abbrev pub opening : Bool → TokenKind
 opening true = k.LeftParen
 opening false = k.Comma
 
+-- an argument by its node, after its `(` or comma: `value`, `name = value`, `*value` or `**value`
 abbrev pub argument_parts_by : Bool → ArgumentLayer → List Part → List Part
 argument_parts_by first (Argument-F.Positional x) more = token (opening first) ∷ expr x ∷ more
 argument_parts_by first (Argument-F.Named b x) more = token (opening first) ∷ spelled b ∷ token k.Assign ∷ expr x ∷ more
 argument_parts_by first (Argument-F.Star x) more = both (opening first) k.Star ∷ expr x ∷ more
 argument_parts_by first (Argument-F.StarStar x) more = both (opening first) k.StarStar ∷ expr x ∷ more
 
+-- an argument after its `(` or comma; `first` says which of the two
 abbrev pub argument_parts : Bool → Argument → List Part → List Part
 argument_parts first x more = argument_parts_by first (out-Argument x) more
 
+-- a clause of a comprehension as one node, with its children as whole trees
 abbrev pub ClauseLayer : Type 0
 ClauseLayer = Clause-F Argument Clause Expr Suffix TargetExpr Choice Operation Pair
 
+-- a clause by its node: `for variable in expression`, or `if condition`
 abbrev pub clause_parts_by : ClauseLayer → List Part → List Part
 clause_parts_by (Clause-F.For v x) more = token k.For ∷ open_target v ∷ token k.In ∷ expr x ∷ more
 clause_parts_by (Clause-F.If x) more = token k.If ∷ expr x ∷ more
 
+-- a clause of a comprehension, as one node writes it
 abbrev pub clause_parts : Clause → List Part → List Part
 clause_parts x more = clause_parts_by (out-Clause x) more
 
+-- what is assigned to, as one node, with its children as whole trees
 abbrev pub TargetLayer : Type 0
 TargetLayer = TargetExpr-F Argument Clause Expr Suffix TargetExpr Choice Operation Pair
 
+-- what is assigned to, by its node: a name, `expression[index]`, or targets in parentheses or in brackets
 abbrev pub target_parts_by : TargetLayer → List Part → List Part
 target_parts_by (TargetExpr-F.TargetExpr::Name n) more = word n ∷ more
 target_parts_by (TargetExpr-F.TargetExpr::Index x i) more = expr x ∷ token k.LeftBracket ∷ open_expr i ∷ token k.RightBracket ∷ more
@@ -242,11 +267,13 @@ target_parts_by (TargetExpr-F.TargetExpr::Tuple []) more = token k.LeftParen ∷
 target_parts_by (TargetExpr-F.TargetExpr::Tuple (x ∷ xs)) more = token k.LeftParen ∷ target x ∷ token k.Comma ∷ listed k.Comma target xs (token k.RightParen ∷ more)
 target_parts_by (TargetExpr-F.TargetExpr::List xs) more = token k.LeftBracket ∷ listed k.Comma target xs (token k.RightBracket ∷ more)
 
+-- what is assigned to, as one node writes it
 abbrev pub target_parts : TargetExpr → List Part → List Part
 target_parts x more = target_parts_by (out-TargetExpr x) more
 
 -- ---- statements
 
+-- `name`, `name = default`, `*`, `*name` or `**name`
 abbrev pub parameter_parts : Parameter → List Part → List Part
 parameter_parts (p.Plain n) more = word n ∷ more
 parameter_parts (p.Default n x) more = word n ∷ token k.Assign ∷ expr x ∷ more
@@ -259,6 +286,7 @@ abbrev pub load_parts : List LoadClause → List Part → List Part
 load_parts [] more = maybe k.Comma ∷ more
 load_parts (x ∷ xs) more = token k.Comma ∷ listed k.Comma load_clause (x ∷ xs) more
 
+-- a small statement without its line: an expression, `target = value`, `target += value`, or one that a keyword begins
 abbrev pub small_parts : SmallKind → List Part → List Part
 small_parts (small.Expr x) more = open_expr x ∷ more
 small_parts (small.Assign x v) more = open_target x ∷ token k.Assign ∷ open_expr v ∷ more
@@ -270,6 +298,7 @@ small_parts small.Continue more = token k.Continue ∷ more
 small_parts small.Pass more = token k.Pass ∷ more
 small_parts (small.Load l) more = token k.Load ∷ token k.LeftParen ∷ text l.label ∷ load_parts l.clauses (token k.RightParen ∷ more)
 
+-- a condition, a colon and a block, after `if` or `elif`
 abbrev pub branch_parts : Branch → List Part → List Part
 branch_parts x more = expr (out-Branch x).condition ∷ token k.Colon ∷ suite (out-Branch x).block ∷ more
 
@@ -278,10 +307,12 @@ abbrev pub else_parts : List Stmt → List Part → List Part
 else_parts [] more = more
 else_parts (x ∷ xs) more = token k.Else ∷ token k.Colon ∷ suite (x ∷ xs) ∷ more
 
+-- `if` with the first branch, an `elif` for each further one, and the `else` where there is one
 abbrev pub if_parts : List Branch → List Stmt → List Part → List Part
 if_parts [] zs more = else_parts zs more
 if_parts (x ∷ xs) zs more = token k.If ∷ branch x ∷ row elif xs (else_parts zs more)
 
+-- a statement by its node: small statements with a newline, `if`, `for` or `def`
 abbrev pub stmt_parts_by : Stmt-F Stmt Branch → List Part → List Part
 stmt_parts_by (Stmt-F.Simple xs) more = listed k.Semicolon small_stmt xs (token k.Newline ∷ more)
 stmt_parts_by (Stmt-F.If xs zs) more = if_parts xs zs more
@@ -289,5 +320,6 @@ stmt_parts_by (Stmt-F.For v x xs) more = token k.For ∷ open_target v ∷ token
 stmt_parts_by (Stmt-F.Def n ps xs) more =
     token k.Def ∷ word n ∷ token k.LeftParen ∷ listed k.Comma parameter ps (token k.RightParen ∷ token k.Colon ∷ suite xs ∷ more)
 
+-- a statement, as one node writes it
 abbrev pub stmt_parts : Stmt → List Part → List Part
 stmt_parts x more = stmt_parts_by (out-Stmt x) more

@@ -9,6 +9,7 @@ abbrev pub joined : List (List Lexeme) → List Lexeme
 joined [] = []
 joined (p ∷ ps) = p ++ joined ps
 
+-- the indents that are open after a token of this kind, and `n` before it; an outdent with none open leaves none
 abbrev pub with_indent : TokenKind → ℕ → ℕ
 with_indent k.Indent n = n + 1
 with_indent k.Outdent n = n - 1

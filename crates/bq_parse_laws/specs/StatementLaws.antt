@@ -37,6 +37,7 @@ ends_statement k.Elif = false
 ends_statement k.Else = false
 ends_statement _ = true
 
+-- there is no next token, or it can't go on with a statement
 abbrev pub EndsStatement : List Lexeme → Type 0
 EndsStatement [] = Unit {0}
 EndsStatement (t ∷ ts) = ends_statement t.kind ≡ true

@@ -32,6 +32,7 @@ use Rattle.bq_parse_grammar.specs.declared.tree.TopLevel.{TopLevel}
 use Rattle.bq_parse_laws.specs.Parts as parts
 use Rattle.bq_parse_laws.specs.Parts.{Part, row, commas}
 
+-- the tokens, to the last, are those that these parts are written as, in their order
 pub data Writes : List Part → List Lexeme → Type 0 where
   over : Writes [] []
   -- tokens

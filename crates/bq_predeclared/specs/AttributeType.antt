@@ -45,21 +45,26 @@ type_named name = find (λ k. bytes_eq name (type_name k)) types
 
 -- ---- types can be told apart
 
+-- the type at place n of these types, counted from 0; `String` past the last
 abbrev pub type_from : List AttributeType → ℕ → AttributeType
 type_from [] n = t.String
 type_from (k ∷ ks) zero = k
 type_from (k ∷ ks) (suc n) = type_from ks n
 
+-- the type of this number; `String` where no type has it
 abbrev pub type_at : ℕ → AttributeType
 type_at n = type_from types n
 
+-- the type of a type's number is the type itself
 pub type_at-type_number : (k : AttributeType) → type_at (type_number k) ≡ k
 type_at-type_number t.String = refl
 type_at-type_number _ = refl
 
+-- types are told apart by their numbers
 abbrev pub coded_type : Coded AttributeType
 coded_type = code_by ℕ coded_ℕ type_number type_at type_at-type_number
 
+-- the type of a type's name is the type itself
 pub type_named-type_name : (k : AttributeType) → type_named (type_name k) ≡ Some k
 unfolding type_named
 type_named-type_name t.String = refl
@@ -69,5 +74,6 @@ abbrev type_in : Option AttributeType → AttributeType
 type_in None = t.String
 type_in (Some k) = k
 
+-- no two types have one name
 pub names_differ : (k m : AttributeType) → type_name k ≡ type_name m → k ≡ m
 names_differ k m e = ap type_in (sym (type_named-type_name k) ∙ (ap type_named e ∙ type_named-type_name m))

@@ -24,5 +24,6 @@ pub record FollowsAPackage (p : PackageParts) (word : List ℕ) : Type 0 where
   pub rules : IsPattern form.RulesBeneath p word ↔ (IsDots p [] word ⊎ IsDots p (codes ":all") word)
   pub all : IsPattern form.AllBeneath p word ↔ (IsDots p (codes ":*") word ⊎ IsDots p (codes ":all-targets") word)
 
+-- each word that begins as patterns do is a pattern beneath a package exactly where the dots follow that package
 abbrev pub DotsFollowAPackage : Type 0
 DotsFollowAPackage = (p : PackageParts) (word : List ℕ) → IsPackage p → begins_pattern word ≡ true → FollowsAPackage p word

@@ -3,6 +3,7 @@ use Rattle.std.specs.Prelude.{◌≡◌, ◌≢◌, ℕ, List, [], Option, Some,
 use Rattle.bq_query_lex.specs.declared.query_error.QueryErr.{QueryErr}
 use Rattle.bq_query_lex.specs.declared.query_error.QueryErr.TheVariants.{Syntax, UnknownFunction, LeftOut, BadRegex, NoSuchTarget, NoSuchPackage, UnboundVariable, Arguments, Memory}
 
+-- the number and the name of an error, with a space between
 abbrev pub query_title : QueryErr → List ℕ
 query_title Syntax = codes "Q1 Syntax"
 query_title (UnknownFunction name) = codes "Q2 UnknownFunction"
@@ -14,6 +15,7 @@ query_title (UnboundVariable name) = codes "Q7 UnboundVariable"
 query_title Arguments = codes "Q8 Arguments"
 query_title Memory = codes "Q9 Memory"
 
+-- what is printed after the name: the function, word, label, pattern or variable at fault; empty for the others
 abbrev pub query_detail : QueryErr → List ℕ
 query_detail (UnknownFunction name) = name
 query_detail (LeftOut word) = word

@@ -14,6 +14,7 @@ pub record Lexeme : Type 0 where
 abbrev pub lexemes : List ℕ → List QueryToken → List Lexeme
 lexemes text ts = map (λ t. record { kind = t.kind; spelling = slice_range text t.start t.end }) ts
 
+-- the two kinds of tokens are equal
 unfoldable pub same_kind : QueryTokenKind → QueryTokenKind → Bool
 same_kind = sameb the_type
 

@@ -8,6 +8,7 @@ use Rattle.bq_query_parse.specs.declared.tree.Query.{Query}
 use Rattle.bq_query_parse.specs.Turns.{Reads}
 use Rattle.bq_query_parse.specs.Reading.{query_to}
 
+-- the call can be made for any tokens, and then reads a query as `query_to` does, with fewer than `depth` open
 pub record ReadsQuery (depth : ℕ) (pre : Global → MutBor (List Lexeme) → ℕ → Type 0)
     (post : Global → MutBor (List Lexeme) → ℕ → Result Query QuerySyntaxErr → MutBor (List Lexeme) → Type 0) : Type 0 where
   pub callable : (alloc : Global) (old : MutBor (List Lexeme)) → pre alloc old depth

@@ -23,6 +23,7 @@ Parses text (Err e) = e ≢ Memory → (x : Query) → IsQuery text x → ⊥
 
 -- ---- tokens
 
+-- what was read, if no tokens are left after it
 abbrev pub whole : Found Query → Option Query
 whole None = None
 whole (Some (x, [])) = Some x
@@ -32,5 +33,6 @@ whole (Some (x, t ∷ ts)) = None
 abbrev pub whole_query : List Lexeme → Option Query
 whole_query ts = whole (query_to (max_open + 1) ts)
 
+-- a text has one tree at most
 abbrev pub OneTree : List ℕ → Type 0
 OneTree text = (x y : Query) → IsQuery text x → IsQuery text y → x ≡ y

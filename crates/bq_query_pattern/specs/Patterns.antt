@@ -30,6 +30,7 @@ IsCause bytes Memory = Unit {0}
 unfoldable pub is_found : List ℕ → List ℕ → Bool
 is_found bytes text = is_some (option_and_then (λ (re, _). find re.value text 0) (read options (chars bytes)))
 
+-- why a pattern isn't taken, by the error of the library: for lack of memory, or for all else as a bad one (Q4)
 abbrev pub cause_of : Error → PatternErr
 cause_of OutOfMem = Memory
 cause_of (Syntax e) = BadRegex

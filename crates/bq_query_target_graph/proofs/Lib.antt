@@ -9,6 +9,7 @@ pub mod Files
 pub mod Danglings
 pub mod Parts
 pub mod Runs
+pub mod InOrder
 -- what may cross threads
 pub mod Crossing
 -- Parts of definitions, as words that proofs name.

@@ -146,27 +146,35 @@ pair_step x = max x.key x.value
 
 -- ---- whole trees, of each kind
 
+-- how many slots an argument needs
 abbrev pub argument_slots : Argument → ℕ
 argument_slots = fold-Argument ℕ ClauseSlots ℕ ℕ ℕ ℕ ℕ ℕ argument_step clause_step expr_step suffix_step target_step choice_step operation_step pair_step
 
+-- how many slots the iterable of a clause needs, and how many all else of it
 abbrev pub clause_slots : Clause → ClauseSlots
 clause_slots = fold-Clause ℕ ClauseSlots ℕ ℕ ℕ ℕ ℕ ℕ argument_step clause_step expr_step suffix_step target_step choice_step operation_step pair_step
 
+-- how many slots an expression needs in the frame that it is evaluated in
 abbrev pub expr_slots : Expr → ℕ
 expr_slots = fold-Expr ℕ ClauseSlots ℕ ℕ ℕ ℕ ℕ ℕ argument_step clause_step expr_step suffix_step target_step choice_step operation_step pair_step
 
+-- how many slots a call, a method, an attribute, an index or a slice after an operand needs
 abbrev pub suffix_slots : Suffix → ℕ
 suffix_slots = fold-Suffix ℕ ClauseSlots ℕ ℕ ℕ ℕ ℕ ℕ argument_step clause_step expr_step suffix_step target_step choice_step operation_step pair_step
 
+-- how many slots a target of an assignment needs
 abbrev pub target_slots : TargetExpr → ℕ
 target_slots = fold-TargetExpr ℕ ClauseSlots ℕ ℕ ℕ ℕ ℕ ℕ argument_step clause_step expr_step suffix_step target_step choice_step operation_step pair_step
 
+-- how many slots `value if condition else` needs
 abbrev pub choice_slots : Choice → ℕ
 choice_slots = fold-Choice ℕ ClauseSlots ℕ ℕ ℕ ℕ ℕ ℕ argument_step clause_step expr_step suffix_step target_step choice_step operation_step pair_step
 
+-- how many slots an operator and its right operand need
 abbrev pub operation_slots : Operation → ℕ
 operation_slots = fold-Operation ℕ ClauseSlots ℕ ℕ ℕ ℕ ℕ ℕ argument_step clause_step expr_step suffix_step target_step choice_step operation_step pair_step
 
+-- how many slots a key and its value in a dict need
 abbrev pub pair_slots : Pair → ℕ
 pair_slots = fold-Pair ℕ ClauseSlots ℕ ℕ ℕ ℕ ℕ ℕ argument_step clause_step expr_step suffix_step target_step choice_step operation_step pair_step
 

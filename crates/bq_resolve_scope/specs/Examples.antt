@@ -41,34 +41,43 @@ use Rattle.bq_resolve_scope.specs.Files.{resolved}
 
 -- ---- trees
 
+-- a .bzl file's kind, and a schema whose only rule is `filegroup`
 abbrev pub bzl : UniverseParts
 bzl = record { kind = kinds.Bzl; rules = codes "filegroup" ∷ [] }
 
+-- a BUILD file's kind, and the same schema
 abbrev pub build : UniverseParts
 build = record { kind = kinds.Build; rules = codes "filegroup" ∷ [] }
 
--- of a schema whose only rule is called `rule`, and of one whose only rule is called `attr`
+-- a .bzl file's kind, and a schema whose only rule has this name
 abbrev pub bzl_beside : List ℕ → UniverseParts
 bzl_beside name = record { kind = kinds.Bzl; rules = name ∷ [] }
 
+-- a BUILD file's kind, and a schema whose only rule has this name
 abbrev pub build_beside : List ℕ → UniverseParts
 build_beside name = record { kind = kinds.Build; rules = name ∷ [] }
 
+-- a name on this line, as it is parsed: not resolved yet
 abbrev pub word : ℕ → List ℕ → Identifier
 word line name = literals.named name line
 
+-- the use of such a name, as an expression
 abbrev pub named : ℕ → List ℕ → Expr
 named line name = e.Name (word line name)
 
+-- a small statement on this line, as the only one of its line
 abbrev pub simple : ℕ → SmallKind → Stmt
 simple line kind = stmt.Simple (record { line = line; kind = kind } ∷ [])
 
+-- a statement outside functions that begins on this line
 abbrev pub top : ℕ → Stmt → TopLevel
 top line s = record { line = line; statement = s }
 
+-- `name = x`, with the name on this line
 abbrev pub assign : ℕ → List ℕ → Expr → SmallKind
 assign line name x = small.Assign (target.Name (word line name)) x
 
+-- `load("label", "name")`, with the name on this line
 abbrev pub load : List ℕ → ℕ → List ℕ → SmallKind
 load label line name = small.Load (record { label = label; clauses = record { local = word line name; symbol = name } ∷ [] })
 
@@ -84,9 +93,11 @@ member_call line space name = e.Primary (named line space) (suffix.Method (word 
 abbrev pub parenthesized_call : ℕ → List ℕ → List ℕ → Expr
 parenthesized_call line space name = e.Primary (e.Primary (named line space) []) (suffix.Method (word line name) [] ∷ [])
 
+-- `native.name()`
 abbrev pub native_call : ℕ → List ℕ → Expr
 native_call line name = member_call line (codes "native") name
 
+-- `attr.name()`
 abbrev pub attr_call : ℕ → List ℕ → Expr
 attr_call line name = member_call line (codes "attr") name
 
@@ -96,12 +107,15 @@ each_of line name x = e.ListComprehension (named line name) (clause.For (target.
 
 -- ---- what comes of them
 
+-- a file that has this fault, on this line, at this name
 abbrev pub fault : NameFault → ℕ → List ℕ → Result ResolvedFile (Fault NameFault)
 fault kind line name = Err (record { kind = kind; line = line; detail = name })
 
+-- a line outside functions with one small statement, after it is resolved
 abbrev pub line_of : ℕ → SmallKind → FileLine
 line_of line kind = record { line = line; statement = outside.Simple (record { line = line; kind = kind } ∷ []) }
 
+-- a file that resolves to these lines and binds these names, without functions and loads
 abbrev pub of_lines : List FileLine → List (List ℕ) → Result ResolvedFile (Fault NameFault)
 of_lines ls globals = Ok (record { statements = ls; functions = []; globals = globals; loads = [] })
 
@@ -258,5 +272,6 @@ Parameters =
 abbrev pub FirstFault : Type 0
 FirstFault = resolved bzl (top 1 (simple 1 (small.Expr (named 1 (codes "b")))) ∷ top 2 (simple 2 (small.Expr (named 2 (codes "a")))) ∷ []) ≡ fault f.UnknownName 1 (codes "b")
 
+-- all examples of this page
 abbrev pub Examples : Type 0
 Examples = FirstIterable × OneNameThrice × Default × LoadedAndBound × Rules × Native × Attr × OwnAttr × OfRule × Rebound × LoadedTwice × Flow × Parameters × FirstFault

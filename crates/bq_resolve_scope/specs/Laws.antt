@@ -18,6 +18,7 @@ pub data StandsFor (file : FileParts) (name : Name) : List BlockParts → Option
       → StandsFor file name [] (Some (b.Predeclared x))
   of_none : has file.globals name ≡ false → has file.loaded name ≡ false → universe_has file.universe name ≡ None → StandsFor file name [] None
 
+-- a use stands for one thing exactly, the one that `use_of` gives; None is a name that is unknown there
 abbrev pub EachUseStandsForOne : Type 0
 EachUseStandsForOne = (file : FileParts) (blocks : List BlockParts) (name : Name) (x : Option Referent)
     → (StandsFor file name blocks x → use_of file blocks name ≡ x) × (use_of file blocks name ≡ x → StandsFor file name blocks x)

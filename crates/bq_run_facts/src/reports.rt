@@ -150,7 +150,7 @@ fn report_loaded<R: Threads + Sync>(
         dangling,
     };
     let report = report_over(alloc, before, told, &graph, asked);
-    drop_aside(rt, graph); // PROOF: one call lets the graph go
+    drop(drop_aside(rt, graph)); // PROOF: one call lets the graph go
     report
 }
 

@@ -12,11 +12,11 @@ use Rattle.bq_run_write.specs.declared.error.RunErr.{RunErr}
 use Rattle.bq_run_write.specs.declared.error.RunErr.TheVariants as run
 use Rattle.bq_run_session.specs.declared.ending.SessionStatus.{SessionStatus}
 use Rattle.bq_run_session.specs.declared.held.SessionState.{SessionState}
-use Rattle.bq_run_session.specs.declared.items.Request.{Request}
-use Rattle.bq_run_session.specs.Items.{AreItems, IsItem, ItemView}
+use Rattle.bq_run_commands.specs.declared.items.Request.{Request}
+use Rattle.bq_run_commands.specs.Items.{AreItems, IsItem, ItemView}
 use Rattle.bq_run_session.specs.Outcome.{Answers, Covers, session_status}
-use Rattle.bq_run_session.specs.Queries.{max_queries_bytes}
-use Rattle.bq_run_session.specs.Reading.{Known, ahead}
+use Rattle.bq_run_commands.specs.Queries.{max_queries_bytes}
+use Rattle.bq_run_commands.specs.Reading.{Known, ahead}
 use Rattle.bq_run_session.specs.State.{AreSteps, State}
 use Rattle.bq_run_session.specs.Steps.{Holds, IsStepIn, WritesOne}
 use Rattle.bq_run_session.proofs.States.{same_err}

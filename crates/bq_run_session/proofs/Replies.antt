@@ -13,7 +13,7 @@ use Rattle.bq_run_write.specs.declared.ending.NoAnswer.{NoAnswer}
 use Rattle.bq_run_write.specs.declared.ending.NoAnswer.TheVariants.{Query}
 use Rattle.bq_run_write.specs.declared.ending.Status.{Status}
 use Rattle.bq_run_session.specs.Answer.{IsAnswerTo}
-use Rattle.bq_run_session.specs.Queries.{max_query_bytes}
+use Rattle.bq_run_commands.specs.Queries.{max_query_bytes}
 use Rattle.bq_run_session.specs.Session.{IsAnswerIn}
 use Rattle.bq_run_report.specs.declared.session.Session.{Session}
 

@@ -19,12 +19,12 @@ use Rattle.bq_run_write.specs.Ending.{status_by}
 use Rattle.bq_run_write.specs.declared.ending.Status.{Status}
 use Rattle.bq_run_write.specs.declared.error.RunErr.{RunErr}
 use Rattle.bq_run_write.specs.declared.error.RunErr.TheVariants as run
-use Rattle.bq_run_session.specs.declared.edits.Edit.{Edit}
+use Rattle.bq_run_commands.specs.declared.edits.Edit.{Edit}
 use Rattle.bq_run_session.specs.declared.held.SessionState.{SessionState}
 use Rattle.bq_run_session.specs.declared.held.Opened.{Opened}
-use Rattle.bq_run_session.specs.declared.items.Request.TheVariants as request
+use Rattle.bq_run_commands.specs.declared.items.Request.TheVariants as request
 use Rattle.bq_run_session.specs.Block.{is_refused, run_block, run_end}
-use Rattle.bq_run_session.specs.Edits.{edited}
+use Rattle.bq_run_commands.specs.Edits.{edited}
 use Rattle.bq_run_session.specs.Outcome.{at_first}
 use Rattle.bq_run_session.specs.Session.{IsAnswerIn, IsOn}
 use Rattle.bq_run_session.specs.State.{AreRefused, IsStep, Reloads, State}

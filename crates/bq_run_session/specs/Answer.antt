@@ -15,7 +15,7 @@ use Rattle.bq_run_report.specs.Report.{Inside, ReplyView, fault_text}
 use Rattle.bq_run_write.specs.declared.ending.NoAnswer.TheVariants.{Query}
 use Rattle.bq_run.specs.WorkspaceRun.{IsReportOn, Loads, Fits, Fronts, AreFronts, loaded_in}
 use Rattle.bq_run.specs.declared.options.Options.{Options}
-use Rattle.bq_run_session.specs.Queries.{max_query_bytes}
+use Rattle.bq_run_commands.specs.Queries.{max_query_bytes}
 
 -- the workspace has this in it once it is loaded, by these limits
 pub record IsLoadedAs (files : List File) (limits : Limits) (i : Inside) : Type 0 where

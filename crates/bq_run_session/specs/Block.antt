@@ -6,7 +6,7 @@ use Rattle.bq_run_write.specs.declared.ending.Status.{Status}
 use Rattle.bq_run_write.specs.Error.{run_err}
 use Rattle.bq_run_write.specs.Status.{status_code, status_line}
 use Rattle.bq_run_write.specs.declared.error.RunErr.{RunErr}
-use Rattle.bq_run_session.specs.Queries.{max_query_bytes}
+use Rattle.bq_run_commands.specs.Queries.{max_query_bytes}
 
 -- how many newlines there are
 unfoldable pub line_count : List ℕ → ℕ

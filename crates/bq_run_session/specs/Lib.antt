@@ -1,13 +1,6 @@
-pub mod Queries
-pub mod Commands
-pub mod Edits
-pub mod Items
-pub mod Reading
 pub mod Block
 pub mod Answer
 pub mod Session
 pub mod State
 pub mod Steps
 pub mod Outcome
-pub mod Changes
-pub mod Laws

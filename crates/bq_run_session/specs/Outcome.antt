@@ -12,9 +12,9 @@ use Rattle.bq_run_write.specs.declared.error.RunErr.TheVariants as run
 use Rattle.bq_run.specs.declared.options.Options.{Options}
 use Rattle.bq_run_session.specs.declared.ending.SessionStatus.{SessionStatus}
 use Rattle.bq_run_session.specs.declared.ending.SessionStatus.TheVariants.{Answered, Refused, WithFaults}
-use Rattle.bq_run_session.specs.Queries.{max_queries_bytes}
+use Rattle.bq_run_commands.specs.Queries.{max_queries_bytes}
 use Rattle.bq_run_session.specs.Answer.{IsLoadedAs}
-use Rattle.bq_run_session.specs.Items.{AreItems, ItemView}
+use Rattle.bq_run_commands.specs.Items.{AreItems, ItemView}
 use Rattle.bq_run_session.specs.Session.{IsRefused}
 use Rattle.bq_run_session.specs.State.{AreSteps, State}
 

@@ -10,13 +10,13 @@ use Rattle.bq_run_write.specs.Deeds.{Run}
 use Rattle.bq_run_write.specs.Ending.{status_by}
 use Rattle.bq_run_write.specs.declared.error.RunErr.{RunErr}
 use Rattle.bq_run_write.specs.declared.error.RunErr.TheVariants as run
-use Rattle.bq_run_session.specs.declared.edits.Edit.{Edit}
-use Rattle.bq_run_session.specs.declared.items.Request.{Request}
-use Rattle.bq_run_session.specs.declared.items.Request.TheVariants as request
+use Rattle.bq_run_commands.specs.declared.edits.Edit.{Edit}
+use Rattle.bq_run_commands.specs.declared.items.Request.{Request}
+use Rattle.bq_run_commands.specs.declared.items.Request.TheVariants as request
 use Rattle.bq_run_session.specs.Answer.{IsAnswerTo, IsLoadedAs}
 use Rattle.bq_run_session.specs.Block.{block, is_refused, run_end, run_block}
-use Rattle.bq_run_session.specs.Edits.{edited}
-use Rattle.bq_run_session.specs.Items.{ItemView}
+use Rattle.bq_run_commands.specs.Edits.{edited}
+use Rattle.bq_run_commands.specs.Items.{ItemView}
 use Rattle.bq_run_session.specs.Session.{IsRefused}
 
 -- a session between two items: what was loaded last, and what was asked to change since

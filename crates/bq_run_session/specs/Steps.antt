@@ -16,11 +16,11 @@ use Rattle.bq_run_write.specs.declared.error.RunErr.{RunErr}
 use Rattle.bq_run_write.specs.declared.error.RunErr.TheVariants as run
 use Rattle.bq_run_session.specs.declared.held.SessionState.{SessionState}
 use Rattle.bq_run_session.specs.declared.held.Opened.{Opened}
-use Rattle.bq_run_session.specs.declared.items.Request.{Request}
+use Rattle.bq_run_commands.specs.declared.items.Request.{Request}
 use Rattle.bq_run_session.specs.declared.opening.Opening.{Opening}
 use Rattle.bq_run_session.specs.Answer.{IsLoadedAs}
 use Rattle.bq_run_session.specs.Block.{block, is_refused, run_block, run_end}
-use Rattle.bq_run_session.specs.Edits.{edited}
+use Rattle.bq_run_commands.specs.Edits.{edited}
 use Rattle.bq_run_session.specs.Session.{IsOn}
 use Rattle.bq_run_session.specs.State.{AreRefused, IsStep, Reloads, State}
 

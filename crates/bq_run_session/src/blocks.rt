@@ -7,13 +7,13 @@ ghost use Rattle.std.specs.List.{concat};
 ghost use Rattle.bq_run_device.specs.Device.{Begins};
 ghost use Rattle.bq_run_write.specs.Status.{status_code, status_line};
 ghost use Rattle.bq_run_session.specs.Block.{body, header, is_refused, line_count, run_block, run_end};
-ghost use Rattle.bq_run_session.specs.Queries.{max_query_bytes};
+ghost use Rattle.bq_run_commands.specs.Queries.{max_query_bytes};
 ghost use Rattle.bq_run_session.specs.Steps.{IsBlockOf, WritesOne};
 
-use crate::lines::MAX_QUERY_BYTES;
 use bq_base::Bytes;
 use bq_base_texts::Rope;
 use bq_run::{ByteSink, RunErr, status_of, write_all, write_rope};
+use bq_run_commands::MAX_QUERY_BYTES;
 use bq_run_device::WriteFault;
 use bq_run_report::{NoAnswer, Status};
 use std::alloc::{AllocError, Global};

@@ -3,22 +3,22 @@
 ghost use Rattle.std.specs.Prelude.{◌≡◌, [], IfOk};
 ghost use Rattle.bq_label.specs.Workspace.{workspace_within};
 ghost use Rattle.bq_run.specs.Run.{IsInRange};
-ghost use Rattle.bq_run_session.specs.Edits.{edited};
+ghost use Rattle.bq_run_commands.specs.Edits.{edited};
 ghost use Rattle.bq_load_reload.specs.Kept.{IsKept};
 ghost use Rattle.bq_run_session.specs.Steps.{KeepsIts, LoadsEdited};
 
-use crate::edits::{Edit, edited_files};
 use crate::opening::open_session;
 use bq_label::Workspace;
 use bq_load::Gate;
 use bq_load_reload::{Kept, PreviousLoad};
 use bq_run::{Options, RunErr};
+use bq_run_commands::{Edit, edited_files};
 use bq_run_report::{Session, drop_aside};
 use std::alloc::Global;
 use std::mem;
 use std::random::RandomSource;
 use std::sync::Wait;
-use std::thread::Threads;
+use std::thread::{JoinHandle, Threads};
 
 /// What a session has.
 #[derive(Drop)]
@@ -31,6 +31,8 @@ pub(crate) struct SessionState {
     pub session: Session,
     /// What is kept of the files since they were loaded last.
     pub kept: Kept,
+    /// The thread that drops the graph before this one, if there was one.
+    pub dropping: Option<JoinHandle<()>>,
 }
 
 /// A workspace that is loaded.
@@ -70,7 +72,8 @@ pub(crate) fn load_edited<T: Threads + Wait + RandomSource + Sync, G: Gate>(
     })
 }
 
-/// Puts a workspace that is loaded in the place of the one before it.
+/// Puts a workspace that is loaded in the place of the one before it. One graph at most is being dropped: where reloads come
+/// faster than graphs are dropped, this waits for the last one.
 pub(crate) fn take_over<T: Threads>(rt: &T, held: &mut SessionState, opened: Opened)
     ensures workspace { held.new.workspace ≡ opened.workspace }
     ensures session { held.new.session ≡ opened.session }
@@ -86,5 +89,8 @@ pub(crate) fn take_over<T: Threads>(rt: &T, held: &mut SessionState, opened: Ope
     held.workspace = workspace;
     held.kept = kept;
     let before = mem::replace(&mut held.session, session);
-    drop_aside(rt, before.graph);
+    if let Some(thread) = held.dropping.take() {
+        thread.join(rt);
+    }
+    held.dropping = drop_aside(rt, before.graph);
 }

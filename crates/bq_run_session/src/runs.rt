@@ -12,12 +12,12 @@ use crate::blocks::{BlockText, refusal, run_end, write_block, write_told};
 use crate::ending::{SessionStatus, session_status};
 use crate::facts::{facts_of, is_failed};
 use crate::held::{SessionState, load_edited, take_over};
-use crate::items::{Item, Request, next_item};
 use crate::opening::open_session;
 use crate::options::{SessionOptions, SessionRun};
 use crate::session::ask;
 use bq_load::{Gate, OpenGate};
 use bq_run::{ByteSink, ByteSource, Options, OutputForm, RunErr, Status, write_rope};
+use bq_run_commands::{Item, Request, next_item};
 use bq_run_report::{Reply, Session, drop_aside};
 use std::alloc::Global;
 use std::random::RandomSource;
@@ -187,11 +187,12 @@ pub fn run_queries_watched<
         edits: Vec::new(alloc),
         session: opening.session,
         kept: opening.kept,
+        dropping: None,
     };
     write_rope(faults_writer, &held.session.faults)?;
     let answered = answer_all(rt, alloc, by, &mut held, queries, writer, gate);
     let session = held.session;
-    drop_aside(rt, session.graph);
+    drop(drop_aside(rt, session.graph));
     answered
 }
 

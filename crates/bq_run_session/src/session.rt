@@ -2,14 +2,14 @@
 
 ghost use Rattle.std.specs.Prelude.{◌≡◌, ◌≤◌, [], Err, IfOk, length};
 ghost use Rattle.bq_run_report.specs.Report.{reply_view};
-ghost use Rattle.bq_run_session.specs.Queries.{max_query_bytes};
+ghost use Rattle.bq_run_commands.specs.Queries.{max_query_bytes};
 ghost use Rattle.bq_run_session.specs.Session.{IsAnswerIn};
 
-use crate::lines::MAX_QUERY_BYTES;
 use bq_base_texts::Rope;
 use bq_query::OutputForm;
 use bq_query_check::parse_query;
 use bq_query_lex::QueryErr;
+use bq_run_commands::MAX_QUERY_BYTES;
 use bq_run_report::{NoAnswer, Question, Reply, Session, refusal_of, reply_to};
 use std::alloc::{AllocError, Global};
 

@@ -76,6 +76,7 @@ abbrev pub first_bytes : List (List ℕ)
 first_bytes =
     [] ∷ [] ∷ codes "aio" ∷ codes "adfnt" ∷ codes "eflpw" ∷ codes "bcrwy" ∷ codes "aegilr" ∷ codes "f" ∷ codes "cn" ∷ []
 
+-- the byte is one of these first bytes; false where there are none, as for a word that is longer than all keywords
 abbrev pub is_first : ℕ → Option (List ℕ) → Bool
 is_first b None = false
 is_first b (Some bytes) = list_any (λ x. x == b) bytes

@@ -67,6 +67,7 @@ pub record IsPart (text : List ℕ) (extent : Extent) : Type 0 where
   pub within : extent.len ≤ length text
   pub lines : extent.lines ≤ extent.len
 
+-- the piece takes a byte at least and no more than the text has; a fault is no more lines further on than the text has bytes
 abbrev pub Fits : List ℕ → Piece → Type 0
 Fits text (Gap extent) = IsPart text extent
 Fits text (LineEnd extent) = IsPart text extent

@@ -14,10 +14,12 @@ use Rattle.bq_source.specs.Operators.{operators}
 use Rattle.bq_source.specs.Number.{begins_number, is_number_byte, int_value}
 use Rattle.bq_source.specs.StringLiteral.{begins_string, scan_string, string_value}
 
+-- there is a first byte, and it passes the test
 abbrev pub Begins : (ℕ → Bool) → List ℕ → Type 0
 Begins p [] = ⊥
 Begins p (b ∷ bs) = p b ≡ true
 
+-- there is no first byte, or it fails the test
 abbrev pub BeginsNot : (ℕ → Bool) → List ℕ → Type 0
 BeginsNot p [] = Unit {0}
 BeginsNot p (b ∷ bs) = p b ≡ false
@@ -33,6 +35,7 @@ pub data IsLineEnd : List ℕ → Type 0 where
   lf : IsLineEnd (10 ∷ [])
   cr_lf : IsLineEnd (13 ∷ 10 ∷ [])
 
+-- the text begins with a newline, or with a carriage return and a newline
 abbrev pub BeginsLineEnd : List ℕ → Type 0
 BeginsLineEnd text = (end : List ℕ) × (rest : List ℕ) × (text ≡ end ++ rest) × IsLineEnd end
 
@@ -69,6 +72,7 @@ abbrev pub NoneLonger : List ℕ → ℕ → List (List ℕ × Lexeme) → Type 
 NoneLonger text n [] = Unit {0}
 NoneLonger text n (e ∷ es) = (starts_with nat_eq text e.0 ≡ true → length e.0 ≤ n) × NoneLonger text n es
 
+-- the text begins with the spelling of none of these lexemes
 abbrev pub NoneBegins : List ℕ → List (List ℕ × Lexeme) → Type 0
 NoneBegins text [] = Unit {0}
 NoneBegins text (e ∷ es) = (starts_with nat_eq text e.0 ≡ false) × NoneBegins text es

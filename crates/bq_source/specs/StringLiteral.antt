@@ -160,20 +160,25 @@ BeginsWith front text = (rest : List ℕ) × (text ≡ front ++ rest)
 abbrev pub IsNewline : List ℕ → Type 0
 IsNewline n = (n ≡ 10 ∷ []) ⊎ (n ≡ 13 ∷ 10 ∷ [])
 
+-- the text begins with LF, or with CR LF
 abbrev pub BeginsNewline : List ℕ → Type 0
 BeginsNewline text = BeginsWith (10 ∷ []) text ⊎ BeginsWith (13 ∷ 10 ∷ []) text
 
+-- `r` for a raw literal, else nothing
 abbrev pub prefix_by : Bool → List ℕ
 prefix_by true = 114 ∷ []
 prefix_by false = []
 
+-- what a literal has before its opening quotes: `r` where it is raw
 abbrev pub prefix : Quoting → List ℕ
 prefix q = prefix_by q.raw
 
+-- the quote three times for a triple-quoted literal, else once
 abbrev pub quotes_by : Bool → ℕ → List ℕ
 quotes_by true quote = quote ∷ quote ∷ quote ∷ []
 quotes_by false quote = quote ∷ []
 
+-- the quotes before a literal's body, which are also those after it
 abbrev pub quotes : Quoting → List ℕ
 quotes q = quotes_by q.triple q.quote
 

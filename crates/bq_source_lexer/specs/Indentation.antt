@@ -14,6 +14,7 @@ abbrev pub width_before : List ℕ → ℕ
 width_before [] = 0
 width_before (v ∷ vs) = v
 
+-- the width is one of these
 abbrev pub IsAmong : ℕ → List ℕ → Type 0
 IsAmong u [] = ⊥
 IsAmong u (v ∷ vs) = (u ≡ v) ⊎ IsAmong u vs

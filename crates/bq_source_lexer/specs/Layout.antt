@@ -65,6 +65,7 @@ pub record Before : Type 0 where
   pub widths : List ℕ
   pub tokens : List Token
 
+-- before the first byte of this text: byte 0, line 1, no widths and no tokens
 abbrev pub beginning : List ℕ → Before
 beginning text = record { at = 0; line = 1; from = text; from_line = 1; widths = []; tokens = [] }
 
@@ -76,9 +77,11 @@ past bs b = record b { at = b.at + length bs; line = b.line + newlines bs }
 abbrev pub line_from : List ℕ → Before → Before
 line_from rest b = record b { from = rest; from_line = b.line }
 
+-- the token of this kind whose bytes come next: it starts at this place, on the line of its first byte
 abbrev pub token_of : TokenKind → List ℕ → Before → Token
 token_of kind bs b = record { kind = kind; start = b.at; end = b.at + length bs; line = b.line }
 
+-- with these tokens after those that there are
 abbrev pub with_tokens : List Token → Before → Before
 with_tokens ts b = record b { tokens = b.tokens ++ ts }
 
@@ -86,9 +89,11 @@ with_tokens ts b = record b { tokens = b.tokens ++ ts }
 abbrev pub width : Before → ℕ
 width b = prefix_len (λ c. c == 32) b.from
 
+-- a tab comes right after the spaces at the start of the logical line
 abbrev pub has_tab : Before → Type 0
 has_tab b = begins_with 9 (drop (width b) b.from) ≡ true
 
+-- the token has no bytes: it starts and ends at this place, on its line
 abbrev pub IsEmptyAt : Before → Token → Type 0
 IsEmptyAt b t = (t.start ≡ b.at) × (t.end ≡ b.at) × (t.line ≡ b.line)
 

@@ -13,6 +13,7 @@ abbrev pub IsRow : {A B : Type 0} → A → B → List (A × B) → Type 0
 IsRow a b [] = ⊥
 IsRow a b (row ∷ rows) = (row ≡ (a, b)) ⊎ IsRow a b rows
 
+-- the entry is in the list
 abbrev pub IsIn : {A : Type 0} → A → List A → Type 0
 IsIn a [] = ⊥
 IsIn a (x ∷ xs) = (a ≡ x) ⊎ IsIn a xs
@@ -75,6 +76,7 @@ bracket_table =
     ∷ (codes "}", k.RightBrace)
     ∷ []
 
+-- "Punctuation", all but the brackets: operators, assignments, the dot, the comma, the semicolon and the colon
 abbrev pub mark_table : List (List ℕ × TokenKind)
 mark_table =
     (codes "+", k.Plus)
@@ -130,6 +132,7 @@ escape_alone c = 34 ∷ 92 ∷ c ∷ 34 ∷ []
 abbrev pub letters : List ℕ
 letters = codes "abcdefghijklmnopqrstuvwxyzABCDEFGHIJKLMNOPQRSTUVWXYZ_"
 
+-- "Identifiers" and "Literals": the decimal digits
 abbrev pub digits : List ℕ
 digits = codes "0123456789"
 

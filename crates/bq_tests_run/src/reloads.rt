@@ -40,7 +40,7 @@ fn evaluated<R: Threads + Wait + RandomSource + Sync>(
     let mut writer = make_sip(alloc, 0, false);
     let mut faults = make_sip(alloc, 0, false);
     let by = SessionOptions {
-        version: b"1.9.3",
+        version: b"1.9.4",
         options: &asked,
     };
     let run = SessionRun { workspace, by };
@@ -107,10 +107,18 @@ const EDITS: &[(&[u8], u64)] = &[
         b"=== put 1 a.bzl\n)\n=== reload\n=== put 5 a.bzl\nA = 2\n=== reload\n",
         10,
     ),
-    // a source file that changes, and what changes everything: one that comes, one that goes, a package, and a .bzl file
+    // a source file that changes, one that comes, one that goes, one of another package, and two of one package
     (b"=== put 1 d/x.cc\nx\n=== reload\n", 6),
-    (b"=== put 0 d/f/y.cc\n\n=== reload\n", 12),
-    (b"=== remove d/x.cc\n=== reload\n", 12),
+    (b"=== put 0 d/f/y.cc\n\n=== reload\n", 7),
+    (b"=== remove d/x.cc\n=== reload\n", 7),
+    (b"=== put 0 d/e/y.cc\n\n=== reload\n", 7),
+    (b"=== put 0 d/w.cc\n\n=== put 0 d/y.cc\n\n=== reload\n", 7),
+    // one that comes beside a BUILD file that changes
+    (
+        b"=== put 0 c/x.cc\n\n=== put 0 d/e/BUILD\n\n=== reload\n",
+        8,
+    ),
+    // what changes everything: a package, and a .bzl file
     (b"=== put 0 f/BUILD\n\n=== reload\n", 13),
     (b"=== put 0 z.bzl\n\n=== reload\n", 12),
     // a reload that is refused, and the next one

@@ -48,7 +48,7 @@ fn is_session<R: Threads + Wait + RandomSource + Sync>(
     let mut writer = make_sip(alloc, writer, false);
     let mut faults = make_sip(alloc, 0, false);
     let by = SessionOptions {
-        version: b"1.9.3",
+        version: b"1.9.4",
         options: &asked,
     };
     let run = SessionRun { workspace, by };
@@ -73,7 +73,7 @@ fn are_facts<R: Threads + Wait + RandomSource + Sync>(
         workspace,
         options: &asked,
     };
-    let ended = run_facts(rt, alloc, b"1.9.3", &over, None, &mut writer, &mut faults);
+    let ended = run_facts(rt, alloc, b"1.9.4", &over, None, &mut writer, &mut faults);
     let is_written = faults.device.held.is_empty() && writer.device.held.as_slice() == wanted;
     Ok(status_code(&ended) == 5 && writer.failures() == 1 && is_written)
 }
@@ -153,7 +153,7 @@ fn are_turns<R: Threads + Wait + RandomSource + Sync>(
     let mut writer = make_counting(&written);
     let mut faults = make_sip(alloc, 0, false);
     let by = SessionOptions {
-        version: b"1.9.3",
+        version: b"1.9.4",
         options: &asked,
     };
     let run = SessionRun { workspace, by };

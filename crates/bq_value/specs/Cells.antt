@@ -59,6 +59,7 @@ HoldsRule s home number class = content_at s home number ≡ Some (rule class)
 unfoldable pub kind_of : StoreView → ℕ → ℕ → Option (List ℕ)
 kind_of s home number = cond (home == s.own) None (elim (module_at home s.loaded) [ Some c ↦ kind_at number c.kinds | None ↦ None ])
 
+-- what a cell of a frozen module holds, or of one that it reaches; `home` is the number of the cell's module
 unfoldable pub frozen_at : FrozenView → ℕ → ℕ → Option Contents
 frozen_at f home number = cond (home == f.own) (slice_get f.cells.cells number) (cell_of number (module_at home f.reached))
 
@@ -93,19 +94,23 @@ loading s f = record s { loaded = fold added s.loaded ((f.own, f.cells) ∷ f.re
 abbrev pub with_cells : List Contents → StoreView → StoreView
 with_cells cs s = record s { cells = cs }
 
+-- a code of a module's frozen cells, which no others have
 abbrev pub coded_cells : Coded FrozenCells
 coded_cells =
     code_by (List Contents × (List Datum × Kinds)) (coded× (coded_list coded_contents) (coded× (coded_list coded_datum) coded_kinds))
     (λ c. (c.cells, (c.globals, c.kinds))) (λ p. record { cells = p.0; globals = p.1.0; kinds = p.1.1 }) (λ _. refl)
 
+-- a code of each list of frozen modules, which no other list has
 abbrev pub coded_modules : Coded Modules
 coded_modules = coded_list (coded× coded_ℕ coded_cells)
 
+-- a code of each store, which no other store has
 abbrev pub coded_store : Coded StoreView
 coded_store =
     code_by (ℕ × (List Contents × Modules)) (coded× coded_ℕ (coded× (coded_list coded_contents) coded_modules))
     (λ s. (s.own, (s.cells, s.loaded))) (λ p. record { own = p.0; cells = p.1.0; loaded = p.1.1 }) (λ _. refl)
 
+-- a code of a frozen module with those that it reaches, which no other has
 abbrev pub coded_frozen : Coded FrozenView
 coded_frozen =
     code_by (ℕ × (FrozenCells × Modules)) (coded× coded_ℕ (coded× coded_cells coded_modules))

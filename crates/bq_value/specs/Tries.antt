@@ -96,6 +96,7 @@ abbrev number : Gv → ℕ
 number (gnum n) = n
 number _ = 0
 
+-- tries with the same code are one
 pub same_trie : (t u : Trie) → trie_gv t ≡ trie_gv u → t ≡ u
 same_trie bare bare e = refl
 same_trie (leaf c) (leaf d) e = ap leaf (coded_cells.inj c d (ap second e))
@@ -106,5 +107,6 @@ same_trie (fork k v l r) (fork j w m s) e =
     λ i. fork (known i) (words i) (same_trie l m (ap first halves) i) (same_trie r s (ap second halves) i)
 same_trie _ _ e = cc
 
+-- a code of each trie, which no other trie has
 abbrev pub coded_trie : Coded Trie
 coded_trie = record { code = trie_gv; inj = same_trie }

@@ -47,12 +47,14 @@ pub data Kind : Type 0 where
   rule_type : Kind
   no_type : Kind
 
+-- the type of what a cell holds; no type where there is no such cell
 abbrev pub content_kind : Option Contents → Kind
 content_kind (Some (items xs)) = list_type
 content_kind (Some (pairs ps)) = dict_type
 content_kind (Some (rule c)) = rule_type
 content_kind None = no_type
 
+-- the type of a value; of a list, a dict and a rule by its cell
 abbrev pub kind_of : StoreView → Datum → Kind
 kind_of s none = none_type
 kind_of s (boolean b) = bool_type

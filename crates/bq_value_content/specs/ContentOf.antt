@@ -5,6 +5,7 @@ use Rattle.bq_value_content.specs.declared.content.Body.TheVariants.{List, Dict,
 use Rattle.bq_value_content.specs.declared.content.Held.{Held}
 use Rattle.bq_value_content.specs.declared.content.Held.TheVariants.{Own, Shared}
 
+-- what a cell's body holds: a list's items, a dict's pairs or a rule's class
 abbrev pub contents_of : Body → Contents
 contents_of (List v) = items v.items
 contents_of (Dict d) = pairs d

@@ -34,11 +34,13 @@ from_sum (inl v) = items v
 from_sum (inr (inl v)) = pairs v
 from_sum (inr (inr c)) = rule c
 
+-- contents that are turned into a sum of the three kinds and back are themselves
 pub from_sum-to_sum : (c : Contents) → from_sum (to_sum c) ≡ c
 from_sum-to_sum (items v) = refl
 from_sum-to_sum (pairs v) = refl
 from_sum-to_sum (rule c) = refl
 
+-- a code of each cell's contents, which no other contents have
 abbrev pub coded_contents : Coded Contents
 coded_contents =
     code_by (List Datum ⊎ (List (Datum × Datum) ⊎ Class)) (coded⊎ (coded_list coded_datum) (coded⊎ coded_pairs coded_class)) to_sum from_sum from_sum-to_sum

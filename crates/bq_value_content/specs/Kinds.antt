@@ -12,6 +12,7 @@ use Rattle.bq_value_datum.specs.Same.{same}
 abbrev pub Kinds : Type 0
 Kinds = List (ℕ × List ℕ)
 
+-- a code of the kinds of a module's rules, which no other kinds have
 abbrev pub coded_kinds : Coded Kinds
 coded_kinds = coded_list (coded× coded_ℕ coded_text)
 

@@ -5,6 +5,7 @@ use Rattle.bq_value_datum.specs.declared.attribute.Attribute.{Attribute}
 use Rattle.bq_value_datum.specs.declared.attribute_value.AttributeValue.{AttributeValue}
 use Rattle.bq_value_datum.specs.AttributeValue.{same_bool, same_value}
 
+-- the defaults are the same value, or both are missing
 abbrev pub same_default : Option AttributeValue → Option AttributeValue → Bool
 same_default None None = true
 same_default (Some a) (Some b) = same_value a b

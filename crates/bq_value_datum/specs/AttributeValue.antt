@@ -43,6 +43,7 @@ names_outputs (v.Output l) = true
 names_outputs (v.OutputList ls) = true
 names_outputs _ = false
 
+-- a value that isn't of an output type names no files as outputs
 pub no_outputs_of : (x : AttributeValue) → names_outputs x ≡ false → outputs_of x ≡ []
 no_outputs_of (v.Output l) h = absurd (cc)
 no_outputs_of (v.OutputList ls) h = absurd (cc)
@@ -93,38 +94,48 @@ default_text _ = None
 
 -- ---- parts of values
 
+-- both are true, or both are false
 abbrev pub same_bool : Bool → Bool → Bool
 same_bool true b = b
 same_bool false true = false
 same_bool false false = true
 
+-- there are as many texts, and the same ones at the same places
 abbrev pub same_texts : List (List ℕ) → List (List ℕ) → Bool
 same_texts xs ys = pointwise bytes_eq xs ys
 
+-- the two labels have the same repository, package and name
 abbrev pub same_label : LabelParts → LabelParts → Bool
 same_label a b = bytes_eq a.repo b.repo && bytes_eq a.package b.package && bytes_eq a.name b.name
 
+-- there are as many labels, and the same ones at the same places
 abbrev pub same_labels : List LabelParts → List LabelParts → Bool
 same_labels xs ys = pointwise same_label xs ys
 
+-- where `a && b` is true, so are a and b
 pub both : (a b : Bool) → (a && b) ≡ true → (a ≡ true) × (b ≡ true)
 both true b h = (refl, h)
 both false b h = absurd (cc)
 
+-- where a and b are true, so is `a && b`
 pub all_true : {a b : Bool} → a ≡ true → b ≡ true → (a && b) ≡ true
 all_true {a} {b} h k = ap (λ c. c && b) h ∙ k
 
+-- texts that compare as equal are one
 pub text_true : (a b : List ℕ) → bytes_eq a b ≡ true → a ≡ b
 text_true a b = (bytes_decides a b).0
 
+-- a text compares as equal to itself
 pub text_refl : (a : List ℕ) → bytes_eq a a ≡ true
 text_refl a = (bytes_decides a a).1 refl
 
+-- truth values that compare as equal are one
 pub bool_true : (a b : Bool) → same_bool a b ≡ true → a ≡ b
 bool_true true b h = sym h
 bool_true false false h = refl
 bool_true false true h = absurd (cc)
 
+-- a truth value compares as equal to itself
 pub bool_refl : (a : Bool) → same_bool a a ≡ true
 bool_refl true = refl
 bool_refl false = refl
@@ -147,9 +158,11 @@ texts_decide = pointwise_decides bytes_decides
 labels_decide : (xs ys : List LabelParts) → (same_labels xs ys ≡ true → xs ≡ ys) × (xs ≡ ys → same_labels xs ys ≡ true)
 labels_decide = pointwise_decides (λ a b. (label_true a b, λ e. ap (same_label a) (sym e) ∙ label_refl a))
 
+-- a code of each text, which no other text has
 abbrev pub coded_text : Coded (List ℕ)
 coded_text = coded_list coded_ℕ
 
+-- a code of each label, by its repository, package and name; no other label has it
 abbrev pub coded_label : Coded LabelParts
 coded_label =
     code_by (List ℕ × (List ℕ × List ℕ)) (coded× coded_text (coded× coded_text coded_text)) (λ l. (l.repo, (l.package, l.name)))
@@ -157,6 +170,7 @@ coded_label =
 
 -- ---- when two are the same
 
+-- the values are of one type and equal in each part; values of two types never are the same
 abbrev pub same_value : AttributeValue → AttributeValue → Bool
 same_value (v.String a) (v.String b) = bytes_eq a b
 same_value (v.Int a) (v.Int b) = int_eq a b
@@ -168,6 +182,7 @@ same_value (v.Output a) (v.Output b) = same_label a b
 same_value (v.OutputList xs) (v.OutputList ys) = same_labels xs ys
 same_value _ _ = false
 
+-- values that are the same are one
 pub value_true : (a b : AttributeValue) → same_value a b ≡ true → a ≡ b
 value_true (v.String a) (v.String b) h = ap v.String (text_true a b h)
 value_true (v.Int a) (v.Int b) h = ap v.Int ((signed_Decides a b).0 h)
@@ -179,6 +194,7 @@ value_true (v.Output a) (v.Output b) h = ap v.Output (label_true a b h)
 value_true (v.OutputList xs) (v.OutputList ys) h = ap v.OutputList ((labels_decide xs ys).0 h)
 value_true _ _ h = absurd (cc)
 
+-- a value is the same as itself
 pub value_refl : (a : AttributeValue) → same_value a a ≡ true
 value_refl (v.String a) = text_refl a
 value_refl (v.Int a) = (signed_Decides a a).1 refl
@@ -213,6 +229,7 @@ value_of (inr (inl (inr ls))) = v.LabelList ls
 value_of (inr (inr (inl l))) = v.Output l
 value_of (inr (inr (inr ls))) = v.OutputList ls
 
+-- a value that is turned into a sum of its types and back is itself
 pub value_of-plain : (x : AttributeValue) → value_of (plain x) ≡ x
 value_of-plain (v.String s) = refl
 value_of-plain _ = refl
@@ -223,5 +240,6 @@ coded_labels = coded⊎ coded_label (coded_list coded_label)
 abbrev coded_plain : Coded Plain
 coded_plain = coded⊎ (coded⊎ coded_text (coded⊎ coded_ℤ (coded⊎ coded_bool (coded_list coded_text)))) (coded⊎ coded_labels coded_labels)
 
+-- a code of each attribute value, which no other value has
 abbrev pub coded_value : Coded AttributeValue
 coded_value = code_by Plain coded_plain plain value_of value_of-plain

@@ -19,6 +19,7 @@ pub use Rattle.bq_value_datum.specs.AttributeCodes.{coded_class}
 use Rattle.bq_value_datum.specs.Datum.{BuiltIn, predeclared, schema_rule, Datum, none, boolean, int, string, tuple, range, cell, function, built_in, rule_function, attribute, Data, end, datum}
 use Rattle.bq_value_datum.specs.Same.{rule_place}
 
+-- a code of each text, which no other text has
 abbrev pub coded_text : Coded (List ℕ)
 coded_text = coded_list coded_ℕ
 
@@ -37,9 +38,11 @@ part_gv (p.Host f) = gcons (coded_name.code (host_function_name f)) (gnum (rule_
 part_gv (p.RuleFunction f) = rule_function_gv f
 part_gv _ = gnil
 
+-- the code of what every file has: the number of its kind, and what tells it apart from others of the kind
 abbrev pub predeclared_gv : Predeclared → Gv
 predeclared_gv x = gcons (gnum (tag_of variants.the_type x)) (part_gv x)
 
+-- the code of a built-in function: 0 and what it is, or 1 and a schema rule's place and name
 abbrev pub built_in_gv : BuiltIn → Gv
 built_in_gv (predeclared x) = gcons (gnum 0) (predeclared_gv x)
 built_in_gv (schema_rule place name) = gcons (gnum 1) (gcons (gnum place) (coded_text.code name))
@@ -87,6 +90,7 @@ hosts_differ_by : (f g : HostFunction) (o : Option (List ℕ)) → host_function
 hosts_differ_by f g (Some name) e h place = ap host_in (sym (each_name (p.Host f) name e) ∙ each_name (p.Host g) name h)
 hosts_differ_by f g None e h place = nameless f e ∙ (ap host.Rule place ∙ sym (nameless g h))
 
+-- build functions of the same name, and rules of the same place in the schema, are one
 pub hosts_differ : (f g : HostFunction) → host_function_name f ≡ host_function_name g → rule_place f ≡ rule_place g → f ≡ g
 hosts_differ f g e place = hosts_differ_by f g (host_function_name g) e refl place
 
@@ -107,6 +111,7 @@ predeclared_differ (p.Host f) (p.Host g) e =
 predeclared_differ (p.RuleFunction f) (p.RuleFunction g) e = ap p.RuleFunction (functions_differ f g (ap right e))
 predeclared_differ _ _ e = absurd (omega (arith, ap (λ g. num (left g)) e))
 
+-- built-in functions with the same code are one
 pub same_coded : (x y : BuiltIn) → built_in_gv x ≡ built_in_gv y → x ≡ y
 same_coded (predeclared x) (predeclared y) e = ap predeclared (predeclared_differ x y (ap right e))
 same_coded (schema_rule m s) (schema_rule n t) e =
@@ -150,5 +155,6 @@ mutual
       λ i. datum (first i) (rest i)
   same_data _ _ e = cc
 
+-- a code of each value, which no other value has
 abbrev pub coded_datum : Coded Datum
 coded_datum = record { code = datum_gv; inj = same_datum }

@@ -64,6 +64,7 @@ abbrev pub list_of : Data → List Datum
 list_of end = []
 list_of (datum x xs) = x ∷ list_of xs
 
+-- a list that is turned into a tuple's values and back is itself
 pub list_of_data_of : (xs : List Datum) → list_of (data_of xs) ≡ xs
 list_of_data_of [] = refl
 list_of_data_of (x ∷ xs) = ap (λ t. x ∷ t) (list_of_data_of xs)

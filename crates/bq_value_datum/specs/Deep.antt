@@ -7,6 +7,7 @@ use Rattle.bq_value_datum.specs.declared.value.Node.{Node}
 use Rattle.bq_value_datum.specs.declared.value.Node.TheVariants as node
 use Rattle.bq_value_datum.specs.declared.value.Value.TheDeep.{deep-Node}
 
+-- each value right within a node weighs less than the value that the node stands for
 pub deep_le-weight : (n : Node) → deep-Node n ≤ weight (datum_of n)
 deep_le-weight node.NoneValue = omega arith
 deep_le-weight (node.Bool b) = omega arith

@@ -17,6 +17,7 @@ default_refl : (a : Option AttributeValue) → same_default a a ≡ true
 default_refl None = refl
 default_refl (Some a) = value_refl a
 
+-- attributes that are the same are one
 pub same_attribute_true : (a b : Attribute) → same_attribute a b ≡ true → a ≡ b
 same_attribute_true a b h =
     let p = both _ _ h in
@@ -26,8 +27,10 @@ same_attribute_true a b h =
     let default : a.default ≡ b.default = default_true a.default b.default p.1 in
     λ i. record { kind = kind i; is_mandatory = mandatory i; default = default i }
 
+-- an attribute is the same as itself
 pub same_attribute_refl : (a : Attribute) → same_attribute a a ≡ true
 same_attribute_refl a = all_true (all_true (text_refl (type_name a.kind)) (bool_refl a.is_mandatory)) (default_refl a.default)
 
+-- two attributes are the same exactly where they are equal
 pub same_attributes : SameAttributesAreEqual
 same_attributes a b = (same_attribute_true a b, λ e. ap (same_attribute a) (sym e) ∙ same_attribute_refl a)

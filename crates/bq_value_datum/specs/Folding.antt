@@ -19,6 +19,7 @@ read_u32 bs i = slice_index bs i + slice_index bs (i + 1) * 256 + slice_index bs
 abbrev pub shl : ℕ → ℕ → ℕ
 shl x by = (x * 2 ^ by) % 2 ^ 64
 
+-- the eight bytes from i on as one number, the lowest first
 unfoldable pub read_u64 : List ℕ → ℕ → ℕ
 read_u64 bs i = bit_or (read_u32 bs i) (shl (read_u32 bs (i + 4)) 32)
 

@@ -16,6 +16,7 @@ use Rattle.bq_predeclared.specs.declared.rule_function.RuleFunction.TheVariants 
 use Rattle.bq_value_datum.specs.AttributeSame.{same_attribute}
 use Rattle.bq_value_datum.specs.Datum.{BuiltIn, predeclared, schema_rule, Datum, none, boolean, int, string, tuple, range, cell, function, built_in, rule_function, attribute, Data, end, datum}
 
+-- both are true, or both are false
 abbrev pub bool_same : Bool → Bool → Bool
 bool_same true b = b
 bool_same false true = false
@@ -42,6 +43,7 @@ same_rule_function rules.Rule rules.Rule = true
 same_rule_function (rules.Attr kind) (rules.Attr other) = sameb the_type kind other
 same_rule_function _ _ = false
 
+-- two names that every file has: of one kind, and the same function where the kind has many
 abbrev pub same_predeclared : Predeclared → Predeclared → Bool
 same_predeclared p.None p.None = true
 same_predeclared p.True p.True = true
@@ -51,6 +53,7 @@ same_predeclared (p.Host f) (p.Host g) = same_host f g
 same_predeclared (p.RuleFunction f) (p.RuleFunction g) = same_rule_function f g
 same_predeclared _ _ = false
 
+-- two built-in functions: the same predeclared one, or rules of the same place and name in the schema
 abbrev pub same_built_in : BuiltIn → BuiltIn → Bool
 same_built_in (predeclared x) (predeclared y) = same_predeclared x y
 same_built_in (schema_rule m s) (schema_rule n t) = (m == n) && pointwise ◌==◌ s t

@@ -80,6 +80,7 @@ rule_function_refl : (f : RuleFunction) → same_rule_function f f ≡ true
 rule_function_refl rules.Rule = refl
 rule_function_refl (rules.Attr kind) = true_same the_type kind kind refl
 
+-- two functions that declare rules are the same exactly where they are equal
 pub rule_functions_decide : (f g : RuleFunction) → Decides (same_rule_function f g) (f ≡ g)
 rule_functions_decide f g = (rule_function_true f g, λ e. ap (same_rule_function f) (sym e) ∙ rule_function_refl f)
 
@@ -109,6 +110,7 @@ built_in_refl : (a : BuiltIn) → same_built_in a a ≡ true
 built_in_refl (predeclared x) = predeclared_refl x
 built_in_refl (schema_rule m s) = all_true (nat_refl m) (text_refl s)
 
+-- two built-in functions are the same exactly where they are equal
 pub built_ins_decide : (a b : BuiltIn) → Decides (same_built_in a b) (a ≡ b)
 built_ins_decide a b = (built_in_true a b, λ e. ap (same_built_in a) (sym e) ∙ built_in_refl a)
 
@@ -157,15 +159,19 @@ mutual
   same_all-refl end = refl
   same_all-refl (datum v vs) = all_true (same-refl v) (same_all-refl vs)
 
+-- two attributes are the same exactly where they are equal
 pub attributes_decide : (a b : Attribute) → Decides (same_attribute a b) (a ≡ b)
 attributes_decide a b = (same_attribute_true a b, λ e. ap (same_attribute a) (sym e) ∙ same_attribute_refl a)
 
+-- two values are the same exactly where they are equal as data
 pub same_decides : (x y : Datum) → Decides (same x y) (x ≡ y)
 same_decides x y = (same-true x y, λ e. ap (λ z. same x z) (sym e) ∙ same-refl x)
 
+-- `same` is reflexive, symmetric and transitive
 pub same_equivalence : IsEquivalence same
 same_equivalence = decided same same_decides
 
+-- values that are the same feed the same bytes to a hash
 pub same_feed : (x y : Datum) → same x y ≡ true → feed x ≡ feed y
 same_feed x y h = ap feed (same-true x y h)
 
@@ -173,5 +179,6 @@ same_by : (x y : Datum) (b : Bool) → same x y ≡ b → x ≢ y → b ≡ fals
 same_by x y true e apart = absurd (apart (same-true x y e))
 same_by x y false e apart = refl
 
+-- values that aren't equal as data aren't the same
 pub same_apart : (x y : Datum) → x ≢ y → same x y ≡ false
 same_apart x y apart = same_by x y (same x y) refl apart

@@ -7,6 +7,7 @@ use Rattle.bq_value_datum.specs.Datum.{Datum, none, boolean, int, string, tuple,
 use Rattle.bq_value_datum.specs.declared.value.Node.{Node}
 use Rattle.bq_value_datum.specs.declared.value.Node.TheVariants as node
 
+-- the value that a node stands for, as data: nothing of how it is shared
 abbrev pub datum_of : Node → Datum
 datum_of node.NoneValue = none
 datum_of (node.Bool b) = boolean b
@@ -22,6 +23,7 @@ datum_of node.Rule = rule_function rules.Rule
 datum_of (node.Attr kind) = rule_function (rules.Attr kind)
 datum_of (node.Attribute a) = attribute a.value
 
+-- each of these values weighs less than all of them in a row
 pub most_le-weights : (xs : List Datum) → most (λ x. weight x + 1) xs ≤ weights (data_of xs)
 most_le-weights [] = omega arith
 most_le-weights (x ∷ xs) = omega (arith, most_le-weights xs)

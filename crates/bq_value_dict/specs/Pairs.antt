@@ -6,6 +6,7 @@ use Rattle.bq_value_datum.specs.Datum.{Datum}
 use Rattle.bq_value_datum.specs.Codes.{coded_datum}
 use Rattle.bq_value_datum.specs.Same.{same}
 
+-- a code of each list of pairs, which no other list has
 abbrev pub coded_pairs : Coded (List (Datum × Datum))
 coded_pairs = coded_list (coded× coded_datum coded_datum)
 

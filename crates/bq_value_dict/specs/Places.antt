@@ -3,6 +3,7 @@ use Rattle.std.specs.Prelude.{ℕ, suc, ◌≤◌, cond, nat_lt, Bool, true, fal
 use Rattle.bq_value_datum.specs.Datum.{Datum}
 use Rattle.bq_value_datum.specs.Same.{same}
 
+-- the keys of a dict's places in their order, each with its value, or with None where the pair was taken out
 abbrev pub Places : Type 0
 Places = List (Datum × Option Datum)
 

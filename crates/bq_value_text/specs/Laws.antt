@@ -24,11 +24,12 @@ abbrev mutual
   AreKeysInRange end = Unit {0}
   AreKeysInRange (datum v vs) = IsKeyInRange v × AreKeysInRange vs
 
--- texts in a row, with a comma and a space between two of them
+-- each of these texts behind a comma and a space
 abbrev pub joined_on : List (List ℕ) → List ℕ
 joined_on [] = []
 joined_on (t ∷ ts) = codes ", " ++ (t ++ joined_on ts)
 
+-- texts in a row, with a comma and a space between two of them
 abbrev pub joined : List (List ℕ) → List ℕ
 joined [] = []
 joined (t ∷ ts) = t ++ joined_on ts
@@ -46,6 +47,7 @@ step_text step = cond (int_eq step (pos 1)) [] (codes ", " ++ signed_decimal ste
 abbrev pub HasTexts : Type 1
 HasTexts = Datum → List ℕ → Type 0
 
+-- there are as many texts as values, and each value has the text at its place
 abbrev pub AllHaveText : HasTexts → List Datum → List (List ℕ) → Type 0
 AllHaveText has [] [] = Unit {0}
 AllHaveText has (x ∷ xs) (t ∷ ts) = has x t × AllHaveText has xs ts
@@ -55,6 +57,7 @@ AllHaveText has _ _ = ⊥
 abbrev pub PairHasText : HasTexts → Datum × Datum → List ℕ → Type 0
 PairHasText has p t = (key : List ℕ) × ((value : List ℕ) × (has p.0 key × (has p.1 value × (t ≡ key ++ (codes ": " ++ value)))))
 
+-- there are as many texts as pairs, and each pair has the text at its place, as `KEY: VALUE`
 abbrev pub PairsHaveText : HasTexts → List (Datum × Datum) → List (List ℕ) → Type 0
 PairsHaveText has [] [] = Unit {0}
 PairsHaveText has (p ∷ ps) (t ∷ ts) = PairHasText has p t × PairsHaveText has ps ts

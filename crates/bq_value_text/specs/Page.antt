@@ -7,6 +7,7 @@ use Rattle.bq_base.specs.declared.fault.EvalFault.TheVariants.{TooLong}
 abbrev pub PageView : Type 0
 PageView = Option (List ℕ)
 
+-- what is written, by its bytes: none where they were too many
 abbrev pub page_of : Bool → List ℕ → PageView
 page_of true bytes = None
 page_of false bytes = Some bytes

@@ -7,8 +7,10 @@ use Rattle.bq_builtin_methods.specs.Dict as dict
 use Rattle.bq_builtin_methods.specs.Dict.{dict_changed}
 pub use Rattle.bq_builtin_methods.specs.Dict.{pop, setdefault, update}
 
+-- `d.clear()` with these arguments, where the dict is the cell `number` of the module `home`
 abbrev pub clear : ℕ → ℕ → List Datum → Action State Datum
 clear home number args = dict_changed dict.clear home number args
 
+-- `d.popitem()` with these arguments, where the dict is the cell `number` of the module `home`
 abbrev pub popitem : ℕ → ℕ → List Datum → Action State Datum
 popitem home number args = dict_changed dict.popitem home number args

@@ -47,15 +47,19 @@ no_key s k = fault_of (key k s)
 
 -- ---- lists
 
+-- an element to a list of `xs`: F47, F48, then F54
 abbrev pub appending : State → ℕ → ℕ → List Datum → List Check
 appending s home number xs = frozen s home ∷ walked s home number ∷ too_long (length xs + 1) ∷ []
 
+-- all elements of a list, or all pairs of a dict: F47, then F48
 abbrev pub clearing : State → ℕ → ℕ → List Check
 clearing s home number = frozen s home ∷ walked s home number ∷ []
 
+-- the elements of `x` to a list of `xs`: F40 where `x` has none, F47, F48, then F54
 abbrev pub extending : State → ℕ → ℕ → List Datum → Datum → List Check
 extending s home number xs x = not_iterable s x ∷ frozen s home ∷ walked s home number ∷ fault_then (elements_in s.store x) (λ ys. too_long (length xs + length ys)) ∷ []
 
+-- an element at an index of a list of `xs`: F40 where `at` is no integer, F47, F48, then F54
 abbrev pub inserting : State → ℕ → ℕ → List Datum → Datum → List Check
 inserting s home number xs at = not_integer at ∷ frozen s home ∷ walked s home number ∷ too_long (length xs + 1) ∷ []
 

@@ -13,11 +13,13 @@ pub record AreOpposite (s : StoreView) (n : ℕ) (a b : Datum) (first second : C
   pub answered : (so : Bool) (left : ℕ) → compared first s n a b ≡ Ok (so, left) → compared second s n a b ≡ Ok (not so, left)
   pub refused : (why : EvalFault) → compared first s n a b ≡ Err why → compared second s n a b ≡ Err why
 
+-- `==` and `!=`, `in` and `not in`, `<` and `>=`, `<=` and `>` of two values are opposite, where `n` steps are left
 pub record Opposites (s : StoreView) (n : ℕ) (a b : Datum) : Type 0 where
   pub equal : AreOpposite s n a b comparison.Equal comparison.NotEqual
   pub within : AreOpposite s n a b comparison.In comparison.NotIn
   pub less : AreOpposite s n a b comparison.Less comparison.GreaterEqual
   pub less_equal : AreOpposite s n a b comparison.LessEqual comparison.Greater
 
+-- so are these comparisons of any two values, in any store and with any number of steps
 abbrev pub OppositesDiffer : Type 0
 OppositesDiffer = (s : StoreView) (n : ℕ) (a b : Datum) → Opposites s n a b

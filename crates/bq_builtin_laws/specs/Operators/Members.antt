@@ -32,10 +32,12 @@ pub record IsNotEqual (s : StoreView) (v x : Datum) : Type 0 where
   pub left : ℕ
   pub unequal : looked_equal s steps v x ≡ Ok (false, left)
 
+-- `v in c` is true only where `v` is equal to one of these elements, and false only where it is equal to none
 pub record IsMember (s : StoreView) (n : ℕ) (v c : Datum) (xs : List Datum) : Type 0 where
   pub inside : (left : ℕ) → contained s n v c ≡ Ok (true, left) → IsEqualToOne s v xs left
   pub outside : (left : ℕ) → contained s n v c ≡ Ok (false, left) → AllByRecursion (IsNotEqual s v) xs
 
+-- what is in a tuple or a list is equal to an element, and what isn't is equal to none
 abbrev pub MembersAreEqualToAnElement : Type 0
 MembersAreEqualToAnElement = (s : StoreView) (n : ℕ) (v c : Datum) (xs : List Datum) → HasElements s c xs → IsMember s n v c xs
 
@@ -47,6 +49,7 @@ pub record IsKey (s : StoreView) (n : ℕ) (v c : Datum) : Type 0 where
   pub absent : (left : ℕ) → contained s n v c ≡ Ok (false, left) → item_of s n c v ≡ Err NoKey
   pub refused : (why : EvalFault) → contained s n v c ≡ Err why → item_of s n c v ≡ Err why
 
+-- `v in d` is true where `d[v]` is a value, false where that is F44, and refused for the same
 abbrev pub KeysHaveValues : Type 0
 KeysHaveValues =
     (s : StoreView) (n home number : ℕ) (v : Datum) (ps : List (Datum × Datum)) → content_at s home number ≡ Some (pairs ps) → IsKey s n v (cell home number)

@@ -7,6 +7,7 @@ use Rattle.bq_builtin_string_methods.specs.declared.cuts.Side.TheVariants.{Left,
 use Rattle.bq_value.specs.Datum.{Datum}
 use Rattle.bq_builtin_strings.specs.Class.{is_space}
 
+-- the separator stands at no place of the text
 abbrev pub IsNowhereIn : List ℕ → List ℕ → Type 0
 IsNowhereIn separator text = (at : ℕ) → ¬ StandsAt separator text at
 

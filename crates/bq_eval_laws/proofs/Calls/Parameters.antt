@@ -26,13 +26,13 @@ use Rattle.bq_eval_spec.specs.Primitives.{Primitives, given_by}
 use Rattle.bq_eval_spec.specs.Calls.{Filling, singles, placed_of, has_star, has_star_star, signature, keywords_of, with_value, with_default, fill_by, fill_parameter, fill_parameters, entry}
 use Rattle.bq_eval_spec.specs.Environment.{Scoping}
 use Rattle.bq_eval_spec.specs.Slots.{slot_of, by_slots}
-use Rattle.bq_eval_meaning_laws.specs.Frames.{goes_into}
+use Rattle.bq_eval_laws.specs.Frames.{goes_into}
 use Rattle.bq_eval_laws.specs.Calls.Parameters.{takes_one, has_default, is_star, is_for, bound_name, HasNoStar, count_of_one, IsParameter, from_place, from_name, from_default, from_rest, for_none, ParametersBegin, KeywordsBegin, BareStarsEndThem}
 use Rattle.bq_eval_laws.specs.Calls.Misfits.{left_over}
 use Rattle.bq_eval_laws.proofs.Calls.Misfits.{bound_to, same_bound, Steps, steps, Taken, by_parameter, by_rest, taken, and_done, came, placed_only, misfits_refused}
 use Rattle.bq_eval_laws.proofs.Calls.Refused.{length_placed, called_from}
-use Rattle.bq_eval_meaning_laws.proofs.Frames.{is_given, all_held}
-use Rattle.bq_eval_meaning_laws.proofs.InOrder.{ends}
+use Rattle.bq_eval_laws.proofs.Frames.{is_given, all_held}
+use Rattle.bq_eval_laws.proofs.InOrder.{ends}
 
 -- ---- lists
 

@@ -12,7 +12,7 @@ use Rattle.bq_eval_spec.specs.Slots.{module_meaning, frozen_units}
 use Rattle.bq_eval.specs.Calling.{HostCalls}
 use Rattle.bq_eval.specs.Runtime.{primitives}
 use Rattle.bq_eval.specs.Module.{Ended, evaluated, failed, first_store, frozen_values, ended, module_run}
-use Rattle.bq_eval_meaning_laws.proofs.ModuleRules.{module_rule}
+use Rattle.bq_eval_laws.proofs.ModuleRules.{module_rule}
 use Rattle.bq_eval_laws.specs.Evaluations.Files.{HostTakes, prints_of, EndsShort, FileTakes, FrozenAre, ends, FilesTakeTheirSteps, OtherModulesStay}
 use Rattle.bq_builtin_laws.specs.Steps.Steps.{hosted, leaving, printed, IsCutShort, Stays, Leaves, Takes}
 use Rattle.bq_eval_laws.proofs.Evaluations.Hosts.{TakesItsSteps, take_steps, lines_take}

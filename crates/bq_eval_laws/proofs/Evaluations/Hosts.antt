@@ -26,7 +26,7 @@ use Rattle.bq_package_attributes.specs.Call.{new_attribute, new_rule, declare, c
 use Rattle.bq_package_attributes.specs.Rule.{class}
 use Rattle.bq_eval.specs.Calling.{HostCalls, call_built_in}
 use Rattle.bq_eval.specs.Runtime.{primitives}
-use Rattle.bq_eval_meaning_laws.proofs.Respects.{Relation, Respects, OfLines, choosing}
+use Rattle.bq_eval_laws.proofs.Respects.{Relation, Respects, OfLines, choosing}
 use Rattle.bq_eval_laws.specs.Evaluations.Files.{HostTakes}
 use Rattle.bq_builtin_laws.specs.Steps.Steps.{machine, hosted, Begins, leaving, printed, IsCutShort, Leaves, Takes, InLine, TakesInLine}
 use Rattle.bq_builtin_laws.proofs.Steps.Owning.{begins_itself, stays_itself, at_state, followed, here_at_no_cost, here_at_state, here_followed}

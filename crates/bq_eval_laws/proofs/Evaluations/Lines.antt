@@ -16,7 +16,7 @@ use Rattle.bq_eval_spec.specs.Statements.{Flow, next, leave, again, answer, go_o
 use Rattle.bq_eval.specs.Calling.{HostCalls}
 use Rattle.bq_eval.specs.Runtime.{primitives}
 use Rattle.bq_eval.specs.Module.{first_store, fault_of, ended, module_run}
-use Rattle.bq_eval_meaning_laws.proofs.ModuleRules.{outside_rule, top_rule}
+use Rattle.bq_eval_laws.proofs.ModuleRules.{outside_rule, top_rule}
 use Rattle.bq_builtin_laws.specs.Steps.Steps.{hosted, InLine}
 use Rattle.bq_eval_laws.specs.Evaluations.Files.{HostTakes, IsAtStatement, FailsAtAStatement, FilesFailAtTheirStatements}
 use Rattle.bq_eval_laws.proofs.Evaluations.Hosts.{OwnsItsSteps, own_steps}

@@ -12,7 +12,7 @@ use Rattle.bq_eval_spec.specs.Calls.{calls}
 use Rattle.bq_eval_spec.specs.Slots.{by_slots}
 use Rattle.bq_eval.specs.Calling.{HostCalls}
 use Rattle.bq_eval.specs.Runtime.{primitives}
-use Rattle.bq_eval_meaning_laws.proofs.CallRules.{calls_rule}
+use Rattle.bq_eval_laws.proofs.CallRules.{calls_rule}
 use Rattle.bq_builtin_laws.specs.Steps.Steps.{hosted, leaving, printed, IsCutShort, Stays, Leaves, Takes}
 use Rattle.bq_eval_laws.specs.Evaluations.Files.{HostTakes, CallsKeepRules}
 use Rattle.bq_eval_laws.proofs.Evaluations.Hosts.{TakesItsSteps, take_steps}

@@ -17,7 +17,7 @@ use Rattle.bq_eval_spec.specs.Primitives.{Primitives}
 use Rattle.bq_eval_spec.specs.Calls.{entry}
 use Rattle.bq_eval_spec.specs.Environment.{Scoping}
 use Rattle.bq_eval_spec.specs.Slots.{slot_of, by_slots}
-use Rattle.bq_eval_meaning_laws.specs.Frames.{goes_into}
+use Rattle.bq_eval_laws.specs.Frames.{goes_into}
 
 -- a parameter takes one argument: it is none with a star
 abbrev pub takes_one : Formal → Bool

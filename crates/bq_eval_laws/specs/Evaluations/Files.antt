@@ -28,6 +28,7 @@ HostTakes {W = W} host =
     ((function : HostFunction) (args : Passed) (s : State × W) → TakesInLine hosted (host.call function args) s)
     × ((kind : List ℕ) (class : Class) (args : Passed) (s : State × W) → TakesInLine hosted (host.call_rule kind class args) s)
 
+-- what a file printed, whether it was evaluated or failed
 abbrev pub prints_of : Ended → List (List ℕ)
 prints_of (evaluated frozen prints) = prints
 prints_of (failed fault prints) = prints

@@ -43,8 +43,8 @@ use Rattle.bq_eval.specs.Making as making
 use Rattle.bq_eval.specs.Passing as passing
 use Rattle.bq_eval.specs.Unpacking as unpacking
 use Rattle.bq_eval.specs.Runtime.{primitives}
-use Rattle.bq_eval_meaning_laws.proofs.ModuleRules.{outside_rule, top_rule}
-use Rattle.bq_eval_meaning_laws.proofs.Respects.{Relation, Respects}
+use Rattle.bq_eval_laws.proofs.ModuleRules.{outside_rule, top_rule}
+use Rattle.bq_eval_laws.proofs.Respects.{Relation, Respects}
 
 module _ {W : Type 0} (P : W → Type 0) where
   -- what is kept after it has the property

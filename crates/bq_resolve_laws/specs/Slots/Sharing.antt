@@ -24,6 +24,7 @@ pub record WrittenDef : Type 0 where
   pub parameters : List Parameter
   pub body : List Stmt
 
+-- a statement's parameters and body where it is a `def`; nothing for any other
 abbrev pub def_by : Stmt-F Stmt Branch → List WrittenDef
 def_by (Stmt-F.Def n ps body) = record { parameters = ps; body = body } ∷ []
 def_by (Stmt-F.Simple xs) = []
@@ -39,5 +40,6 @@ defs_of (t ∷ ts) = def_by (out-Stmt t.statement) ++ defs_of ts
 abbrev pub SharesSlots : WrittenDef → Function → Type 0
 SharesSlots d f = AreShared (all (map stmt_slots f.body)) (body_uses (function_names d.parameters d.body) d.body)
 
+-- the functions of a file that resolves are, in order, those of its `def`s, each with its slots shared so
 abbrev pub SlotsAreShared : Type 0
 SlotsAreShared = (universe : UniverseParts) (ts : List TopLevel) (r : ResolvedFile) → resolved universe ts ≡ Ok r → InOrder SharesSlots (defs_of ts) r.functions

@@ -20,6 +20,7 @@ use Rattle.bq_parse_grammar.specs.declared.tree.TargetExpr.{TargetExpr, out-Targ
 use Rattle.bq_parse_grammar.specs.Targets.{ExprLayer, SuffixLayer}
 use Rattle.bq_resolve_scope.specs.Names.{Name, TargetLayer, ClauseLayer, max_layers, has, comprehension_names}
 
+-- a use: the number of the block that holds the name, and the name
 pub record Use : Type 0 where
   pub block : ℕ
   pub name : Name
@@ -38,20 +39,25 @@ use_among (b ∷ bs) name = if has b.names name then record { block = b.number; 
 abbrev pub Part : Type 0
 Part = ℕ → List Use × ℕ
 
+-- a part without uses, in which no block begins
 abbrev pub nothing : Part
 nothing = λ k. ([], k)
 
+-- one part and then another: their uses in a row, and the blocks that have begun after both
 abbrev pub both : Part → Part → Part
 both a b = λ k. ((a k).0 ++ (b (a k).1).0, (b (a k).1).1)
 
+-- one part for each of these, in their order
 abbrev pub all : {A : Type 0} → (A → Part) → List A → Part
 all one [] = nothing
 all one (x ∷ xs) = both (one x) (all one xs)
 
+-- the part of what may be missing; nothing where it is
 abbrev pub optional : {A : Type 0} → (A → Part) → Option A → Part
 optional one None = nothing
 optional one (Some x) = one x
 
+-- the use of a name among these blocks, innermost first; no block begins with it
 abbrev pub name_use : List Block → Name → Part
 name_use blocks name = λ k. (use_among blocks name, k)
 
@@ -132,14 +138,17 @@ unfoldable pub expr_to : ℕ → List Block → Expr → Part
 expr_to zero blocks x = nothing
 expr_to (suc layers) blocks x = expr_by (expr_to layers) blocks (out-Expr x)
 
+-- the uses of an expression among these blocks, innermost first
 abbrev pub expr : List Block → Expr → Part
 expr blocks x = expr_to max_layers blocks x
 
+-- the uses of a target of an assignment among these blocks, innermost first
 abbrev pub target : List Block → TargetExpr → Part
 target blocks t = target_to (expr_to max_layers) max_layers blocks t
 
 -- ---- statements of a function
 
+-- the uses of a small statement, those of its target before those of its value; none in a `load`
 abbrev pub small_by : List Block → SmallKind → Part
 small_by blocks (small.Expr x) = expr blocks x
 small_by blocks (small.Assign t x) = both (target blocks t) (expr blocks x)
@@ -150,9 +159,11 @@ small_by blocks small.Continue = nothing
 small_by blocks small.Pass = nothing
 small_by blocks (small.Load l) = nothing
 
+-- the uses of a small statement, whatever its line
 abbrev pub small_stmt : List Block → SmallStmt → Part
 small_stmt blocks x = small_by blocks x.kind
 
+-- the uses of a condition, and then those of its block's statements, which `inner` gives
 abbrev pub branch : (Stmt → Part) → List Block → Branch → Part
 branch inner blocks b = both (expr blocks (out-Branch b).condition) (all inner (out-Branch b).block)
 
@@ -163,6 +174,7 @@ stmt_by inner blocks (Stmt-F.If bs zs) = both (all (branch inner blocks) bs) (al
 stmt_by inner blocks (Stmt-F.For t x body) = both (target blocks t) (both (expr blocks x) (all inner body))
 stmt_by inner blocks (Stmt-F.Def n ps body) = nothing
 
+-- the uses of a statement that is at most this many layers deep; none of a deeper one
 unfoldable pub stmt_to : ℕ → List Block → Stmt → Part
 stmt_to zero blocks x = nothing
 stmt_to (suc layers) blocks x = stmt_by (stmt_to layers blocks) blocks (out-Stmt x)

@@ -1,7 +1,7 @@
 use Rattle.std.proofs.Common.{◌≡◌, ◌∙◌, List, refl, sym, subst}
 use Rattle.bq_board.specs.Graph.{Loads, Fits}
 use Rattle.bq_label.specs.Label.{LabelParts}
-use Rattle.bq_load_reload.specs.Same.{HaveStayed}
+use Rattle.bq_load_changes.specs.Same.{HaveStayed}
 use Rattle.bq_load_reload.proofs.Along.{past_is}
 use Rattle.bq_load_reload.proofs.load.load_changed.Goals as goal
 
@@ -11,7 +11,7 @@ load_renewed-requires-clause-past g c _ _ =
 
 pub load_renewed-requires-clause-stayed : goal.load_renewed-requires-clause-stayed
 load_renewed-requires-clause-stayed g c _ _ =
-    subst (λ (ls : List LabelParts). HaveStayed c.args.before.now c.args.sources.now.workspace.now ls ls c.in_ok-renewal.renewal.numbers.items) (sym c.in_ok-renewal.ensures.labels) c.in_ok-renewal.ensures.stayed
+    subst (λ (ls : List LabelParts). HaveStayed c.args.before.now c.args.sources.now.workspace.now c.args.touched.now ls ls c.in_ok-renewal.renewal.numbers.items) (sym c.in_ok-renewal.ensures.labels) c.in_ok-renewal.ensures.stayed
 
 pub load_renewed-requires-clause-fits : goal.load_renewed-requires-clause-fits
 load_renewed-requires-clause-fits g c _ _ = subst (λ (p : Loads). Fits c.args.limits p) (sym c.in_ok-renewal.ensures.edges) c.requires.fits

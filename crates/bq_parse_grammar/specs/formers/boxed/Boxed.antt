@@ -22,9 +22,11 @@ use Rattle.bq_parse_grammar.specs.declared.boxed.Boxed.TheView.{view, invariant}
 use Rattle.bq_parse_grammar.specs.contracts.boxed.Boxed as C
 use Rattle.bq_parse_grammar.specs.contracts.boxed.Boxed.TheInside as I
 
+-- a boxed value has the form of the value in it: nothing is said of the box itself
 abbrev pub the_former : Former {0} → Former {0}
 the_former g = g
 
+-- the measure of a boxed value is that of the value in it
 abbrev pub the_weighed : {g : Former {0}} → Weighed g → Weighed (the_former g)
 the_weighed w = w
 

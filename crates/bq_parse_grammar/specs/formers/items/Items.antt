@@ -19,9 +19,11 @@ use Rattle.bq_parse_grammar.specs.declared.items.Items.TheView.{view, invariant}
 use Rattle.bq_parse_grammar.specs.contracts.items.Items as C
 use Rattle.bq_parse_grammar.specs.contracts.items.Items.TheInside as I
 
+-- items have the form of a list of such values
 abbrev pub the_former : Former {0} → Former {0}
 the_former g = list g
 
+-- the measure of items is the largest among them
 abbrev pub the_weighed : {g : Former {0}} → Weighed g → Weighed (the_former g)
 the_weighed w = w_list w
 
@@ -33,6 +35,7 @@ the_empty = []
 abbrev pub the_items : (X : Type 0) → List X → List X
 the_items X d = d
 
+-- the children of a list of items are its items, in their order
 pub the_items_listed : (X : Type 0) (d : List X) → listed _ (children (the_former this) X d) ≡ the_items X d
 the_items_listed X d = list-listed X d
 

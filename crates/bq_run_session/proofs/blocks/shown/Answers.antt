@@ -1,5 +1,5 @@
 use Rattle.std.proofs.Common.{arith, length-take-le, sym, take_all}
-use Rattle.bq_run_session.specs.Queries.{max_query_bytes}
+use Rattle.bq_run_commands.specs.Queries.{max_query_bytes}
 use Rattle.bq_run_session.proofs.blocks.shown.Goals as goal
 
 pub slice_bounds-result-end : goal.slice_bounds-result-end

@@ -1,6 +1,6 @@
 use Rattle.std.proofs.Common.{◌∙◌, refl, rules}
 use Rattle.std.proofs.lemmas.Result.{err_from_is_err_and}
-use Rattle.bq_run_session.specs.Reading.{ahead}
+use Rattle.bq_run_commands.specs.Reading.{ahead}
 use Rattle.bq_run_session.proofs.Progress.{next_not_read, none_yet, not_err, one_more, one_not_done}
 use Rattle.bq_run_session.proofs.runs.answer_all.Goals as goal
 

@@ -1,5 +1,5 @@
 use Rattle.std.proofs.Common.{◌≡◌}
-use Rattle.bq_run_session.specs.Reading.{ahead}
+use Rattle.bq_run_commands.specs.Reading.{ahead}
 use Rattle.bq_run_session.specs.State.{State}
 use Rattle.bq_run_session.specs.Steps.{Holds, KeepsIts}
 use Rattle.bq_run_session.proofs.Progress.{Progress}

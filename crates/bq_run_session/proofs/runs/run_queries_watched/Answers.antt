@@ -1,4 +1,4 @@
-use Rattle.std.proofs.Common.{refl}
+use Rattle.std.proofs.Common.{None, refl}
 use Rattle.std.proofs.lemmas.Result.{err_from_is_err_and}
 use Rattle.bq_run_session.specs.Outcome.{DoesAnswer, at_first}
 use Rattle.bq_run_session.proofs.Outcomes.{all_written, faults_cut, keeps_itself}
@@ -25,7 +25,7 @@ returns-clause-does g c =
     let opening = c.in_ok-opening.opening in
     let session = opening.session in
     let on = c.in_ok-opening.ensures.opens in
-    let holds = holds_first o.limits files (record { workspace = files; edits = c.new.result; session = session; kept = opening.kept }) on refl c.new.ensures.items in
+    let holds = holds_first o.limits files (record { workspace = files; edits = c.new.result; session = session; kept = opening.kept; dropping = None }) on refl c.new.ensures.items in
     all_written version o files session on (g.Q.ByteSource.remaining c.args.queries.now)
     (g.F.ByteSink.contents c.args.faults_writer.now) (g.F.ByteSink.contents c.write_rope.new.writer) (g.W.ByteSink.contents c.args.writer.now) (g.W.ByteSink.contents c.answer_all-answered.new.writer)
     c.answer_all-answered.result c.in_ok-write_rope.ensures.whole (c.answer_all-answered.ensures.does (at_first files on.inside) holds)

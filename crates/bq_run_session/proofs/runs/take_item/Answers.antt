@@ -3,8 +3,8 @@ use Rattle.bq_run_write.specs.declared.ending.Status.{Status}
 use Rattle.bq_run_write.specs.declared.error.RunErr.{RunErr}
 use Rattle.bq_run_write.specs.declared.error.RunErr.TheVariants as run
 use Rattle.bq_run_session.specs.declared.held.SessionState.{SessionState}
-use Rattle.bq_run_session.specs.declared.items.Request.{Request}
-use Rattle.bq_run_session.specs.declared.items.Request.TheVariants as request
+use Rattle.bq_run_commands.specs.declared.items.Request.{Request}
+use Rattle.bq_run_commands.specs.declared.items.Request.TheVariants as request
 use Rattle.bq_run_session.specs.Session.{IsAnswerIn}
 use Rattle.bq_run_session.specs.Steps.{IsBlock, IsBlockOf, IsStepIn, ReloadsIn, WritesOne}
 use Rattle.bq_run_session.proofs.States.{are_facts, is_answer, is_bad, is_edit, writes_as, writes_none}
@@ -30,7 +30,7 @@ returns-in-Edit-clause-does g c =
     let held = c.args.held.now in
     let line = c.args.item.line.items in
     let known = g.W.ByteSink.contents c.args.writer.now in
-    let next : SessionState = record { workspace = held.workspace; edits = c.push.new.self; session = held.session; kept = held.kept } in
+    let next : SessionState = record { workspace = held.workspace; edits = c.push.new.self; session = held.session; kept = held.kept; dropping = held.dropping } in
     subst (λ (r : Request). WritesOne (IsStepIn version o held line r next) (Ok false) known known) (sym c.in-Edit.is)
     (writes_none (IsStepIn version o held line (request.Edit c.in-Edit.edit) next) false known (is_edit version o held line next c.in-Edit.edit refl refl c.in_ok-push-in-Edit.ensures.items))
 

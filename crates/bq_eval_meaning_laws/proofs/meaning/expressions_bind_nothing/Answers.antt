@@ -1,5 +1,0 @@
-use Rattle.bq_eval_meaning_laws.proofs.Frames.{expressions}
-use Rattle.bq_eval_meaning_laws.proofs.meaning.expressions_bind_nothing.Goals as goal
-
-pub returns : goal.returns
-returns c k m scoping = expressions m scoping

@@ -1,5 +1,0 @@
-use Rattle.bq_eval_meaning_laws.proofs.Loading.{loaded_globals}
-use Rattle.bq_eval_meaning_laws.proofs.meaning.names_that_are_loaded_and_bound_begin_loaded.Goals as goal
-
-pub returns : goal.returns
-returns c k m = loaded_globals m

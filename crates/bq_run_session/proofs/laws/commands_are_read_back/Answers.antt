@@ -1,5 +1,0 @@
-use Rattle.bq_run_session.proofs.ReadBack.{read_back}
-use Rattle.bq_run_session.proofs.laws.commands_are_read_back.Goals as goal
-
-pub returns : goal.returns
-returns c = read_back

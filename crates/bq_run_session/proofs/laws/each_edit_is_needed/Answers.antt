@@ -1,5 +1,0 @@
-use Rattle.bq_run_session.proofs.Changed.{each_is_needed}
-use Rattle.bq_run_session.proofs.laws.each_edit_is_needed.Goals as goal
-
-pub returns : goal.returns
-returns c = each_is_needed

@@ -1,5 +1,0 @@
-use Rattle.bq_run_session.proofs.Once.{one_edit_each}
-use Rattle.bq_run_session.proofs.laws.each_path_has_one_edit.Goals as goal
-
-pub returns : goal.returns
-returns c = one_edit_each

@@ -1,5 +1,0 @@
-use Rattle.bq_run_session.proofs.PlainTexts.{plain_texts_ask_queries}
-use Rattle.bq_run_session.proofs.laws.plain_texts_ask_queries.Goals as goal
-
-pub returns : goal.returns
-returns c = plain_texts_ask_queries

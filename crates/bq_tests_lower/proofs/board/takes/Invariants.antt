@@ -1,5 +1,0 @@
-use Rattle.bq_board.specs.Seats.{IsSeatOf}
-use Rattle.bq_tests_lower.proofs.board.takes.Given as goal
-
-abbrev pub invariant-loop : goal.invariant-loop
-invariant-loop l = IsSeatOf l.board l.seat

@@ -1,8 +1,0 @@
-use Rattle.bq_board.specs.Seats.{IsSeatOf}
-use Rattle.bq_tests_lower.proofs.board.work.Given as goal
-
-abbrev pub invariant-loop : goal.invariant-loop
-invariant-loop l = IsSeatOf l.board l.seat
-
-abbrev pub invariant-loop-m : goal.invariant-loop-m
-invariant-loop-m l = IsSeatOf l.board l.seat

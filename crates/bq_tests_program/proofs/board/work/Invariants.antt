@@ -1,0 +1,8 @@
+use Rattle.bq_board.specs.Seats.{IsSeatOf}
+use Rattle.bq_tests_program.proofs.board.work.Given as goal
+
+abbrev pub invariant-loop : goal.invariant-loop
+invariant-loop l = IsSeatOf l.board l.seat
+
+abbrev pub invariant-loop-m : goal.invariant-loop-m
+invariant-loop-m l = IsSeatOf l.board l.seat
