@@ -9,7 +9,7 @@ from bzlq.overlay.extra_targets import text_of
 from bzlq.overlay.global_names import VALUE, GlobalNames
 from bzlq.overlay.guesses import by_values
 from bzlq.overlay.lost_values import lost_names
-from bzlq.overlay.reading import BUILD_FUNCTIONS, BUILT_INS, LEFT_OUT, MEMBER, OTHER_NAMES, PROVIDER, Statement, read
+from bzlq.overlay.reading import BUILD_FUNCTIONS, BUILT_INS, LEFT_OUT, MEMBER, OTHER_NAMES, Statement, is_provider, read
 from bzlq.overlay.replaced import Replaced
 from bzlq.overlay.replacements import EXISTING, NATIVE_VALUES
 from bzlq.overlay.rule_attributes import RuleAttributes
@@ -352,7 +352,7 @@ class Facts:
     def is_unbound(file, name):
         """Whether nothing binds a name that a .bzl file uses, nor does Bazel."""
         is_known = name in file.globals or name in BUILT_INS or name in BUILD_FUNCTIONS or name in LEFT_OUT or name in OTHER_NAMES
-        return not file.is_build and not is_known and not PROVIDER.fullmatch(name)
+        return not file.is_build and not is_known and not is_provider(name)
 
     def unbound(self, file):
         """The lines of a .bzl file with names that nothing binds, each with the first of these, in order."""

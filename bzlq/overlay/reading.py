@@ -31,7 +31,12 @@ LEFT_OUT = set("""read_config abs analysis_test_transition apple_common apple_su
 # other names that .bzl files have in some release of Bazel, or in Buck, and what providers are called
 OTHER_NAMES = set("""android_common builtins cc_internal config_common exec_transition host_info java_internal materializer_rule objc_internal PACKAGE_NAME
     proto_common proto_common_do_not_use py_internal repository_ctx REPOSITORY_NAME rule_extension select subrule use_extension use_repo use_repo_rule""".split())
-PROVIDER = re.compile(r"_*[A-Z]\w*[a-z]\w*|_builtins")
+PROVIDER = re.compile(r"_*[A-Z][A-Z\d_]*[a-z]\w*|_builtins")
+
+
+def is_provider(name):
+    """Whether a name looks like that of a provider, which Bazel may bind."""
+    return PROVIDER.fullmatch(name) is not None
 
 
 # attributes that are numbers, and may be given True and False
